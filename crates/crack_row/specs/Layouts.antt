@@ -1,0 +1,17 @@
+-- What every layout of a partition meets.
+use Rattle.std.specs.Prelude.{◌≡◌, ℕ, ◌+◌, List, [], ◌∷◌, sum_by}
+use Rattle.crack_row.specs.Ranges.{Range}
+use Rattle.crack_row.specs.declared.layout.PieceSize.{PieceSize}
+use Rattle.crack_row.specs.declared.layout.Layout.{Layout}
+
+-- the pieces lead from one end to the other, each from where the one before it ends
+abbrev pub AreJoined : ℕ → ℕ → List PieceSize → Type 0
+AreJoined low high [] = low ≡ high
+AreJoined low high (p ∷ ps) = (p.low.0 ≡ low) × AreJoined p.high.0 high ps
+
+-- the layout equations: each cell is counted once, each row once, and the pieces make up the column
+pub record IsLayout (keys : Range) (layout : Layout) : Type 0 where
+  pub sizes : sum_by (λ (p : PieceSize). p.size) layout.pieces ≡ layout.column
+  pub cells : layout.column + layout.pending_in + layout.free ≡ layout.cells
+  pub rows : layout.rows + layout.pending_out ≡ layout.column + layout.pending_in
+  pub joined : AreJoined keys.low keys.high layout.pieces

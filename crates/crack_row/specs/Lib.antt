@@ -1,0 +1,4 @@
+pub mod Devices
+pub mod Layouts
+pub mod Ranges
+pub mod Refusals

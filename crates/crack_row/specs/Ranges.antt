@@ -1,0 +1,23 @@
+-- A half open range of keys.
+use Rattle.std.specs.Prelude.{ℕ, ◌<◌, ◌≤◌, Bool, ◌&&◌, nat_lt, nat_le, min, max, cond}
+use Rattle.crack_row.specs.declared.Bound.{Bound}
+
+-- from `low` on, up to and without `high`
+pub record Range : Type 0 where
+  pub low : ℕ
+  pub high : ℕ
+
+-- the key lies in the range
+abbrev pub IsIn : Range → ℕ → Type 0
+IsIn r key = (r.low ≤ key) × (key < r.high)
+
+-- whether the key lies in the range
+abbrev pub is_in : Range → ℕ → Bool
+is_in r key = nat_le r.low key && nat_lt key r.high
+
+-- the keys that lie in both ranges; where there is none, the empty range at the low end of the second
+abbrev pub clipped : Range → Range → Range
+clipped r s =
+    let low = max r.low s.low in
+    let high = min r.high s.high in
+    record { low = cond (nat_lt low high) low s.low; high = cond (nat_lt low high) high s.low }

@@ -1,0 +1,51 @@
+//! What is asked of a partition, and what it answers.
+ghost use Rattle.std.specs.Prelude.{◌≡◌, IfOk, IfErr};
+
+use crate::{Key, KeyRange, Payload, Refusal, Serial};
+use std::alloc::Global;
+
+/// What a worker asks of a partition.
+#[derive(Clone, Copy, Debug)]
+pub enum Command {
+    /// Places a row.
+    Insert { key: Key, payload: Payload },
+    /// Counts the rows whose key is in the range.
+    Count(KeyRange),
+}
+
+/// Which pending rows a range command merges into the column ("Updating a Cracked Database", SIGMOD 2007).
+#[derive(Clone, Copy, PartialEq, Eq, Debug)]
+pub enum Policy {
+    /// All of them, once the range needs one.
+    Complete,
+}
+
+/// What a partition answers.
+#[derive(Drop, Debug)]
+pub enum Reply {
+    /// The serial of the row that was placed.
+    Placed(Serial),
+    /// The number of rows in the range.
+    Counted(u64),
+}
+
+impl Reply {
+    /// A copy, as for a receipt. Refused with 8 where it finds no memory.
+    pub fn copy(&self, _alloc: Global) -> Result<Reply, Refusal>
+        ensures ok { IfOk result (λ r. r ≡ self.now) }
+        ensures err { IfErr result (λ e. e ≡ Refusal.OutOfMemory) }
+    {
+        match self {
+            Reply::Placed(serial) => Ok(Reply::Placed(*serial)),
+            Reply::Counted(count) => Ok(Reply::Counted(*count)),
+        }
+    }
+}
+
+/// One answered command of a history: who asked, what, and what was replied.
+#[derive(Drop, Debug)]
+pub struct Entry {
+    pub worker: u32,
+    pub command: Command,
+    pub reply: Reply,
+}

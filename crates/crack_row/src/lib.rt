@@ -1,0 +1,57 @@
+//! The values that the crates of the cracked table speak of: numbers, ranges, commands, replies, refusals and layouts.
+#![tactic(auto)]
+
+pub mod command;
+pub mod layout;
+pub mod range;
+pub mod refusal;
+pub mod watched;
+
+pub use command::{Command, Entry, Policy, Reply};
+pub use layout::{Layout, PieceList, PieceSize};
+pub use range::KeyRange;
+pub use refusal::Refusal;
+pub use watched::Watched;
+
+/// The greatest key.
+pub const GREATEST_KEY: u32 = 4294967295;
+
+/// The greatest bound, one above the greatest key: the high end of the range of all keys.
+pub const GREATEST_BOUND: u64 = 4294967296;
+
+/// The greatest payload.
+pub const GREATEST_PAYLOAD: u32 = 4294967295;
+
+/// The greatest number of entries that a partition's history may be limited to.
+pub const GREATEST_LIMIT: u64 = 1000000;
+
+/// What a row is found by: 0 to `GREATEST_KEY`.
+#[derive(Clone, Copy, PartialEq, Eq, PartialOrd, Ord, Hash, Debug)]
+pub struct Key(pub u32);
+
+/// What a row carries: 0 to `GREATEST_PAYLOAD`.
+#[derive(Clone, Copy, PartialEq, Eq, PartialOrd, Ord, Hash, Debug)]
+pub struct Payload(pub u32);
+
+/// The count of insertions that a partition accepted before a row. It is never given twice.
+#[derive(Clone, Copy, PartialEq, Eq, PartialOrd, Ord, Hash, Debug)]
+pub struct Serial(pub u64);
+
+/// An end of a range: it stands between the keys below it and the keys at or above it.
+#[derive(Clone, Copy, PartialEq, Eq, PartialOrd, Ord, Hash, Debug)]
+pub struct Bound(pub u64);
+
+/// A row's number: its partition, and its serial there.
+#[derive(Clone, Copy, PartialEq, Eq, PartialOrd, Ord, Hash, Debug)]
+pub struct RowNo {
+    pub part: u32,
+    pub serial: Serial,
+}
+
+/// A row of a partition.
+#[derive(Clone, Copy, PartialEq, Eq, Hash, Debug)]
+pub struct Row {
+    pub serial: Serial,
+    pub key: Key,
+    pub payload: Payload,
+}

@@ -1,0 +1,107 @@
+//! Ranges of keys.
+ghost use Rattle.std.specs.Prelude.{◌≡◌, ℕ, ◌<◌, ◌≤◌, ◌↔◌, IsTrue, IfOk, IfErr};
+ghost use Rattle.crack_row.specs.Ranges.{IsIn, clipped};
+
+use crate::{Bound, GREATEST_BOUND, Key, Refusal};
+use std::marker::Model;
+
+/// A half open range of keys: from its low end on, up to and without its high end.
+/// Its ends are in order and at most `GREATEST_BOUND`.
+#[derive(Clone, Copy, Debug)]
+pub struct KeyRange {
+    low: Bound,
+    high: Bound,
+}
+
+impl Model for KeyRange {
+    ghost use Rattle.std.specs.Prelude.{◌≤◌};
+    ghost use Rattle.crack_row.specs.Ranges.{Range};
+    ghost use Rattle.crack_row.specs.declared.TheConstants.{GREATEST_BOUND};
+
+    ghost Value = { Range };
+
+    ghost view = { λ r. record { low = r.low.0; high = r.high.0 } };
+
+    ghost invariant = { λ r. (r.low.0 ≤ r.high.0) × (r.high.0 ≤ GREATEST_BOUND) };
+
+    ghost inverse = { λ v. record { low = record { 0 = v.low }; high = record { 0 = v.high } } };
+}
+
+impl KeyRange {
+    /// The range between two numbers of at most 20 digits; refused with 2 where they are no ends of one.
+    pub fn new(low: u128, high: u128) -> Result<KeyRange, Refusal>
+        ensures ok { IfOk result (λ r. (r.low ≡ low) × (r.high ≡ high) × (low ≤ high) × (high ≤ GREATEST_BOUND)) }
+        ensures err { IfErr result (λ e. (e ≡ Refusal.BadRange) × ((low ≤ high) × (high ≤ GREATEST_BOUND) → ⊥)) }
+    {
+        if low <= high && high <= GREATEST_BOUND as u128 {
+            Ok(KeyRange {
+                low: Bound(low as u64),
+                high: Bound(high as u64),
+            })
+        } else {
+            Err(Refusal::BadRange)
+        }
+    }
+
+    /// The range of all keys.
+    pub fn all() -> KeyRange
+        ensures low { result.low ≡ 0 }
+        ensures high { result.high ≡ GREATEST_BOUND }
+    {
+        KeyRange {
+            low: Bound(0),
+            high: Bound(GREATEST_BOUND),
+        }
+    }
+
+    /// The low end.
+    pub fn low(&self) -> Bound
+        ensures value { result.0 ≡ self.now.low }
+        ensures ordered { self.now.low ≤ self.now.high }
+    {
+        self.low
+    }
+
+    /// The high end.
+    pub fn high(&self) -> Bound
+        ensures value { result.0 ≡ self.now.high }
+        ensures bounded { self.now.high ≤ GREATEST_BOUND }
+    {
+        self.high
+    }
+
+    /// Whether no key is in the range.
+    pub fn is_empty(&self) -> bool
+        ensures { IsTrue result ↔ (self.now.high ≤ self.now.low) }
+    {
+        self.high <= self.low
+    }
+
+    /// Whether the key is in the range.
+    pub fn contains(&self, key: Key) -> bool
+        ensures { IsTrue result ↔ IsIn self.now key.0 }
+    {
+        self.low.0 <= key.0 as u64 && (key.0 as u64) < self.high.0
+    }
+
+    /// The common part of two ranges; where there is none, the empty range at the low end of `other`.
+    pub fn clip(&self, other: KeyRange) -> KeyRange
+        ensures value { result ≡ clipped self.now other }
+        ensures keys { (k : ℕ) → IsIn result k ↔ (IsIn self.now k × IsIn other k) }
+        ensures none { result.high ≤ result.low → (result.low ≡ other.low) × (result.high ≡ other.low) }
+    {
+        let low = self.low.0.max(other.low.0);
+        let high = self.high.0.min(other.high.0);
+        if low < high {
+            KeyRange {
+                low: Bound(low),
+                high: Bound(high),
+            }
+        } else {
+            KeyRange {
+                low: other.low,
+                high: other.low,
+            }
+        }
+    }
+}
