@@ -1,0 +1,13 @@
+.PHONY: run test try
+
+# proves what changed, builds, and answers the statements of standard input
+run:
+	@cd crates/crackd && rt run -- script
+
+# the same without a proof, in half a minute
+try:
+	@cd crates/crackd && rt try -- script
+
+# the gate, and then the acceptance cases
+test:
+	@python3 acceptance/test.py

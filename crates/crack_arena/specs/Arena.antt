@@ -1,0 +1,127 @@
+-- What a contract sees of an arena and its handles.
+use Rattle.std.specs.Prelude.{◌≡◌, ℕ, ◌+◌, ◌-◌, ◌<◌, ◌≤◌, ◌^◌, ◌==◌, ◌&&◌, Bool, List, length, [], ◌∷◌, ◌++◌, Option, Some, None, is_some, is_none, slice_index_or, slice_set, refl, sum_by, count_by, cond, nat_lt, drop}
+use Rattle.std.specs.Coded.{Coded, code_by, coded×, coded_ℕ, coded_list, coded_option}
+
+-- the cell's number, and the generation of the cell that the handle was made at
+pub record Handle : Type 0 where
+  pub slot : ℕ
+  pub generation : ℕ
+
+-- whether two handles name the same cell at the same generation
+abbrev pub same_handle : Handle → Handle → Bool
+same_handle h k = (h.slot == k.slot) && (h.generation == k.generation)
+
+abbrev pub handle_code : Coded Handle
+handle_code =
+    code_by (ℕ × ℕ) (coded× coded_ℕ coded_ℕ) (λ h. (h.slot, h.generation)) (λ p. record { slot = p.0; generation = p.1 }) (λ _. refl)
+
+-- a cell: how often it was freed, and its value, if it has one
+pub record Cell (T : Type 0) : Type 0 where
+  pub generation : ℕ
+  pub value : Option T
+
+-- the cells by number, the numbers of the free cells, the next to be used first, and how many puts need no memory
+pub record Arena (T : Type 0) : Type 0 where
+  pub cells : List (Cell T)
+  pub free : List ℕ
+  pub room : ℕ
+
+abbrev pub cell_code : {T : Type 0} → Coded T → Coded (Cell T)
+cell_code {T} code =
+    code_by (ℕ × Option T) (coded× coded_ℕ (coded_option code)) (λ c. (c.generation, c.value)) (λ p. record { generation = p.0; value = p.1 }) (λ _. refl)
+
+abbrev pub arena_code : {T : Type 0} → Coded T → Coded (Arena T)
+arena_code {T} code =
+    code_by
+    (List (Cell T) × (List ℕ × ℕ))
+    (coded× (coded_list (cell_code code)) (coded× (coded_list coded_ℕ) coded_ℕ))
+    (λ a. (a.cells, (a.free, a.room)))
+    (λ p. record { cells = p.0; free = p.1.0; room = p.1.1 })
+    (λ _. refl)
+
+abbrev pub empty_cell : {T : Type 0} → Cell T
+empty_cell = record { generation = 0; value = None }
+
+-- the cell with this number
+abbrev pub cell_at : {T : Type 0} → List (Cell T) → ℕ → Cell T
+cell_at cells n = slice_index_or cells n empty_cell
+
+-- what a handle reads
+abbrev pub read : {T : Type 0} → List (Cell T) → Handle → Option T
+read cells h = cond ((cell_at cells h.slot).generation == h.generation) (cell_at cells h.slot).value None
+
+-- the cell was freed since the handle was made
+pub record IsSpent {T : Type 0} (cells : List (Cell T)) (h : Handle) : Type 0 where
+  pub within : h.slot < length cells
+  pub older : h.generation < (cell_at cells h.slot).generation
+
+-- handles that are spent in the first cells are spent in the second
+abbrev pub KeepsSpent : {T : Type 0} → List (Cell T) → List (Cell T) → Type 0
+KeepsSpent old new = (h : Handle) → IsSpent old h → IsSpent new h
+
+-- how often the number stands in the list
+unfoldable pub times : ℕ → List ℕ → ℕ
+times n xs = sum_by (λ x. cond (x == n) 1 0) xs
+
+-- how often cells were freed
+abbrev pub freed : {T : Type 0} → Arena T → ℕ
+freed a = sum_by (λ c. c.generation) a.cells
+
+-- 1 where the number is that of a cell without a value, else 0
+abbrev pub vacancy_at : {T : Type 0} → List (Cell T) → ℕ → ℕ
+vacancy_at cells n = cond (nat_lt n (length cells)) (cond (is_none (cell_at cells n).value) 1 0) 0
+
+-- the free numbers are those of the cells without a value, each once
+pub record IsWhole {T : Type 0} (a : Arena T) : Type 0 where
+  pub free_once : (n : ℕ) → times n a.free ≡ vacancy_at a.cells n
+  pub free_counted : length a.free ≡ count_by (λ c. is_none c.value) a.cells
+  pub cells_bounded : length a.cells ≤ 4294967295
+
+-- a put has a cell to use: a free one, or one more
+abbrev pub CanPut : {T : Type 0} → Arena T → Type 0
+CanPut a = length a.cells < 2 ^ 32 - 1 + length a.free
+
+-- the handle that the next put gives
+abbrev pub handle_for : {T : Type 0} → List (Cell T) → List ℕ → Handle
+handle_for cells [] = record { slot = length cells; generation = 0 }
+handle_for cells (n ∷ ns) = record { slot = n; generation = (cell_at cells n).generation }
+
+-- the cells once a value was put
+abbrev pub cells_with : {T : Type 0} → T → List (Cell T) → List ℕ → List (Cell T)
+cells_with v cells [] = cells ++ record { generation = 0; value = Some v } ∷ []
+cells_with v cells (n ∷ ns) = slice_set cells n (record { generation = (cell_at cells n).generation; value = Some v })
+
+-- the arena once a value was put
+abbrev pub put_in : {T : Type 0} → T → Arena T → Arena T
+put_in v a = record { cells = cells_with v a.cells a.free; free = drop 1 a.free; room = a.room - 1 }
+
+-- the arena once the handle's cell was given another value
+abbrev pub set_at : {T : Type 0} → T → Handle → Arena T → Arena T
+set_at v h a = record a { cells = slice_set a.cells h.slot (record { generation = h.generation; value = Some v }) }
+
+-- the arena once the handle's cell was freed
+abbrev pub freed_at : {T : Type 0} → Handle → Arena T → Arena T
+freed_at h a = record {
+  cells = slice_set a.cells h.slot (record { generation = h.generation + 1; value = None });
+  free = h.slot ∷ a.free;
+  room = a.room + 1;
+}
+
+-- one call that may change an arena
+pub data Call (T : Type 0) : Type 0 where
+  Put : T → Call T
+  Set : Handle → T → Call T
+  Free : Handle → Call T
+  Reserve : ℕ → Call T
+
+-- the arena after a call, room aside; a call that is refused, or whose handle reads nothing, leaves it
+abbrev pub after_call : {T : Type 0} → Call T → Arena T → Arena T
+after_call (Put v) a = put_in v a
+after_call (Set h v) a = cond (is_some (read a.cells h)) (set_at v h a) a
+after_call (Free h) a = cond (is_some (read a.cells h)) (freed_at h a) a
+after_call (Reserve n) a = a
+
+-- the arena after one call and then the next, refused ones left out
+abbrev pub after : {T : Type 0} → List (Call T) → Arena T → Arena T
+after [] a = a
+after (c ∷ cs) a = after cs (after_call c a)

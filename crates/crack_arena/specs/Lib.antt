@@ -1,0 +1,4 @@
+pub mod Arena
+pub mod Times
+pub mod Laws
+pub mod Layout

@@ -1,0 +1,4 @@
+pub mod Column
+pub mod Divisions
+pub mod Remembering
+pub mod Cracking

@@ -1,0 +1,6 @@
+//! The cracker column of a partition ("Database Cracking", CIDR 2007): handles of rows in cracked order.
+#![tactic(auto)]
+
+pub mod column;
+
+pub use column::CrackerColumn;

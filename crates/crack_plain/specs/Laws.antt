@@ -1,0 +1,111 @@
+-- What follows from the definitions of the plain table.
+use Rattle.std.specs.Prelude.{◌≡◌, ℕ, ◌+◌, ◌<◌, ◌≤◌, List, [], ◌∷◌, ◌++◌, length, if◌then◌else◌}
+use Rattle.std.proofs.Common.{arith, length-append, ap, refl, ◌∙◌}
+use Rattle.std.proofs.lemmas.List.Elements.{All-nil, All-push}
+use Rattle.std.proofs.lemmas.List.Quantifiers.{all_pairs_push}
+use Rattle.crack_row.specs.Ranges.{Range}
+use Rattle.crack_row.specs.declared.Row.{Row}
+use Rattle.crack_row.specs.declared.command.Command.{Command}
+use Rattle.crack_row.specs.declared.command.Command.TheVariants.{Insert, Count}
+use Rattle.crack_row.specs.declared.command.Entry.{Entry}
+use Rattle.crack_plain.specs.Plain.{PlainState, no_rows, IsNumbered, reply_to, after, replay_from, replay, AreReplies, IsWithin, AreWithin, IsLegal}
+use Rattle.crack_plain.specs.Totals.{is_placed, is_gone, accepted, inserted, deleted, held, inserted-cons, deleted-cons, inserted-le-accepted}
+
+-- one list of entries after another
+pub replay_from-append : (s : PlainState) (xs ys : List Entry) → replay_from s (xs ++ ys) ≡ replay_from (replay_from s xs) ys
+replay_from-append s [] ys = refl
+replay_from-append s (x ∷ xs) ys = replay_from-append (after s x.command) xs ys
+
+-- one more entry
+pub replay_from-push : (s : PlainState) (es : List Entry) (e : Entry) → replay_from s (es ++ e ∷ []) ≡ after (replay_from s es) e.command
+replay_from-push s es e = replay_from-append s es (e ∷ [])
+
+pub replay-push : (es : List Entry) (e : Entry) → replay (es ++ e ∷ []) ≡ after (replay es) e.command
+replay-push es e = replay_from-push no_rows es e
+
+pub AreReplies-push : (s : PlainState) (es : List Entry) (e : Entry) → AreReplies s es → e.reply ≡ reply_to (replay_from s es) e.command → AreReplies s (es ++ e ∷ [])
+AreReplies-push s [] e replies reply = (reply, tt)
+AreReplies-push s (x ∷ es) e replies reply = (replies.0, AreReplies-push (after s x.command) es e replies.1 reply)
+
+pub AreWithin-push : (keys : Range) (es : List Entry) (e : Entry) → AreWithin keys es → IsWithin keys e.command → AreWithin keys (es ++ e ∷ [])
+AreWithin-push keys [] e within new = (new, tt)
+AreWithin-push keys (x ∷ es) e within new = (within.0, AreWithin-push keys es e within.1 new)
+
+pub IsLegal-push : (keys : Range) (limit : ℕ) (es : List Entry) (e : Entry) → IsLegal keys limit es → length es < limit → IsWithin keys e.command → e.reply ≡ reply_to (replay es) e.command → IsLegal keys limit (es ++ e ∷ [])
+IsLegal-push keys limit es e legal room within reply = record {
+  replies = AreReplies-push no_rows es e legal.replies reply;
+  within = AreWithin-push keys es e legal.within within;
+  short = omega (arith, length-append es (e ∷ []));
+}
+
+-- no entry
+pub IsLegal-nil : (keys : Range) (limit : ℕ) → IsLegal keys limit []
+IsLegal-nil keys limit = record { replies = tt; within = tt; short = omega arith }
+
+-- no row
+pub IsNumbered-no_rows : IsNumbered no_rows
+IsNumbered-no_rows = record { rising = λ i j d i_lt_j j_lt. omega arith; below = All-nil _ }
+
+-- each command keeps the serials in order
+pub IsNumbered-after : (s : PlainState) (command : Command) → IsNumbered s → IsNumbered (after s command)
+IsNumbered-after s (Insert key payload) numbered =
+    let row : Row = record { serial = record { 0 = s.next }; key = key; payload = payload } in
+    record {
+      rising = all_pairs_push (λ (earlier later : Row). earlier.serial.0 < later.serial.0) s.rows row numbered.rising (λ k d k_lt. numbered.below k d k_lt);
+      below = All-push (λ (r : Row). r.serial.0 < s.next + 1) s.rows row (λ k d k_lt. let earlier = numbered.below k d k_lt in omega (arith, earlier)) (omega arith);
+    }
+IsNumbered-after s (Count range) numbered = numbered
+
+pub IsNumbered-replay_from : (s : PlainState) (es : List Entry) → IsNumbered s → IsNumbered (replay_from s es)
+IsNumbered-replay_from s [] numbered = numbered
+IsNumbered-replay_from s (e ∷ es) numbered = IsNumbered-replay_from (after s e.command) es (IsNumbered-after s e.command numbered)
+
+pub IsNumbered-replay : (es : List Entry) → IsNumbered (replay es)
+IsNumbered-replay es = IsNumbered-replay_from no_rows es IsNumbered-no_rows
+
+-- the next serial is raised by 1 where a row was placed
+pub next-after : (s : PlainState) (command : Command) → (after s command).next ≡ s.next + (if is_placed (reply_to s command) then 1 else 0)
+next-after s (Insert key payload) = refl
+next-after s (Count range) = omega arith
+
+pub next-replay_from : (s : PlainState) (es : List Entry) → AreReplies s es → (replay_from s es).next ≡ s.next + inserted es
+next-replay_from s [] replies = omega arith
+next-replay_from s (e ∷ es) replies =
+    let later = next-replay_from (after s e.command) es replies.1 in
+    let now = next-after s e.command in
+    let first : inserted (e ∷ es) ≡ (if is_placed (reply_to s e.command) then 1 else 0) + inserted es = inserted-cons e es ∙ ap (λ reply. (if is_placed reply then 1 else 0) + inserted es) replies.0 in
+    omega (arith, later, now, first)
+
+-- the next serial is the number of rows that were placed
+pub next-replay : (es : List Entry) → AreReplies no_rows es → (replay es).next ≡ inserted es
+next-replay es replies = omega (arith, next-replay_from no_rows es replies)
+
+-- a row more where one was placed, a row fewer where one went
+pub length_rows-after : (s : PlainState) (command : Command) → length (after s command).rows + (if is_gone (reply_to s command) then 1 else 0) ≡ length s.rows + (if is_placed (reply_to s command) then 1 else 0)
+length_rows-after s (Insert key payload) = omega (arith, length-append s.rows (record { serial = record { 0 = s.next }; key = key; payload = payload } ∷ []))
+length_rows-after s (Count range) = refl
+
+pub length_rows-replay_from : (s : PlainState) (es : List Entry) → AreReplies s es → length (replay_from s es).rows + deleted es ≡ length s.rows + inserted es
+length_rows-replay_from s [] replies = omega arith
+length_rows-replay_from s (e ∷ es) replies =
+    let later = length_rows-replay_from (after s e.command) es replies.1 in
+    let now = length_rows-after s e.command in
+    let placed : inserted (e ∷ es) ≡ (if is_placed (reply_to s e.command) then 1 else 0) + inserted es = inserted-cons e es ∙ ap (λ reply. (if is_placed reply then 1 else 0) + inserted es) replies.0 in
+    let gone : deleted (e ∷ es) ≡ (if is_gone (reply_to s e.command) then 1 else 0) + deleted es = deleted-cons e es ∙ ap (λ reply. (if is_gone reply then 1 else 0) + deleted es) replies.0 in
+    omega (arith, later, now, placed, gone)
+
+-- what went had been placed
+pub deleted-le-inserted : (es : List Entry) → AreReplies no_rows es → deleted es ≤ inserted es
+deleted-le-inserted es replies = omega (arith, length_rows-replay_from no_rows es replies)
+
+-- the rows are those that were placed, less those that went
+pub length_rows-replay : (es : List Entry) → AreReplies no_rows es → length (replay es).rows ≡ held es
+length_rows-replay es replies = omega (arith, length_rows-replay_from no_rows es replies)
+
+-- there are no more rows than entries
+pub length_rows-le-accepted : (es : List Entry) → AreReplies no_rows es → length (replay es).rows ≤ accepted es
+length_rows-le-accepted es replies = omega (arith, length_rows-replay es replies, inserted-le-accepted es)
+
+-- the next serial is at most the number of entries
+pub next-le-accepted : (es : List Entry) → AreReplies no_rows es → (replay es).next ≤ accepted es
+next-le-accepted es replies = omega (arith, next-replay es replies, inserted-le-accepted es)

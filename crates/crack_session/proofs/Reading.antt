@@ -1,0 +1,125 @@
+-- How far a line has come while it is read.
+use Rattle.std.proofs.Common.{◌≡◌, ℕ, ◌<◌, true, false, eqb, Option, Some, None, List, [], ◌∷◌, ◌++◌, length, refl, sym, ap, ◌∙◌, arith, ⊎_elim, append_assoc, length-append, length-take, append-nil}
+use Rattle.std.proofs.lemmas.Bool.{cases_Bool, false≢true}
+use Rattle.std.specs.Io.KnownBytes.{prepend_known, Keeps}
+use Rattle.crack_session.specs.declared.TheConstants.{MOST_READS}
+use Rattle.crack_session.specs.Lines.{first_line, after_line, has_feed, kept_of, Input, IsNextLine, IsPaid}
+use Rattle.crack_session.proofs.Feeds.{first_line-append, after_line-append, has_feed-append, first_line-in, after_line-in, all_first_line, none_after, take-take-append}
+
+-- what is ahead is what is unread, and what the reader has
+pub ahead_parts : (xs : List ℕ) (known : Option (List ℕ)) (u : List ℕ) → prepend_known xs known ≡ Some u → (v : List ℕ) × (known ≡ Some v) × (u ≡ xs ++ v)
+ahead_parts xs None u e = absurd (let h : ◌≡◌ {A = Option (List ℕ)} None (Some u) = e in cc)
+ahead_parts xs (Some v) u e = (v, refl, (let h : ◌≡◌ {A = Option (List ℕ)} (Some (xs ++ v)) (Some u) = e in cc))
+
+-- u are the bytes that were ahead, of which a front without line feed is taken into the line
+pub record SoFar (u : List ℕ) (new : Option (List ℕ)) (line : List ℕ) : Type 0 where
+  pub front : List ℕ
+  pub rest : List ℕ
+  pub split : u ≡ front ++ rest
+  pub none : has_feed front ≡ false
+  pub kept : line ≡ kept_of front
+  pub new_is : new ≡ Some rest
+
+has_feed_some : (xs : List ℕ) → has_feed xs ≡ true → 0 < length xs
+has_feed_some [] e = absurd (false≢true e)
+has_feed_some (x ∷ xs) e = omega arith
+
+no_length : (xs : List ℕ) → length xs ≡ 0 → xs ≡ []
+no_length [] e = refl
+no_length (x ∷ xs) e = absurd (omega arith)
+
+pub SoFar-start : (u : List ℕ) (new : Option (List ℕ)) → new ≡ Some u → SoFar u new []
+SoFar-start u new e = record { front = []; rest = u; split = refl; none = refl; kept = refl; new_is = e }
+
+-- more that has no line feed
+pub SoFar-more : {u line : List ℕ} (xs : List ℕ) (known : Option (List ℕ)) (line' : List ℕ) → SoFar u (prepend_known xs known) line → has_feed xs ≡ false → line' ≡ kept_of (line ++ xs) → SoFar u known line'
+SoFar-more {u} {line} xs known line' s none grown =
+    let parts = ahead_parts xs known s.rest s.new_is in
+    record {
+      front = s.front ++ xs;
+      rest = parts.0;
+      split = s.split ∙ ap (λ z. s.front ++ z) parts.2 ∙ sym (append_assoc s.front xs parts.0);
+      none = has_feed-append s.front xs s.none ∙ none;
+      kept = grown ∙ ap (λ z. kept_of (z ++ xs)) s.kept ∙ take-take-append 202 s.front xs;
+      new_is = parts.1
+    }
+
+-- a line feed came
+pub SoFar-found : {u line : List ℕ} (xs : List ℕ) (known : Option (List ℕ)) (line' xs' : List ℕ) → SoFar u (prepend_known xs known) line → has_feed xs ≡ true → line' ≡ kept_of (line ++ first_line xs) → xs' ≡ after_line xs → IsNextLine u (Some line') (prepend_known xs' known)
+SoFar-found {u} {line} xs known line' xs' s found grown left =
+    let parts = ahead_parts xs known s.rest s.new_is in
+    let whole : u ≡ s.front ++ (xs ++ parts.0) = s.split ∙ ap (λ z. s.front ++ z) parts.2 in
+    let first : first_line u ≡ s.front ++ first_line xs = ap first_line whole ∙ first_line-append s.front (xs ++ parts.0) s.none ∙ ap (λ z. s.front ++ z) (first_line-in xs parts.0 found) in
+    let after : after_line u ≡ after_line xs ++ parts.0 = ap after_line whole ∙ after_line-append s.front (xs ++ parts.0) s.none ∙ after_line-in xs parts.0 found in
+    let some : 0 < length xs = has_feed_some xs found in
+    let l1 = ap length whole in
+    let l2 = length-append s.front (xs ++ parts.0) in
+    let l3 = length-append xs parts.0 in
+    (omega (arith, l1, l2, l3, some),
+     grown ∙ ap (λ z. kept_of (z ++ first_line xs)) s.kept ∙ take-take-append 202 s.front (first_line xs) ∙ ap kept_of (sym first),
+     rw (parts.1, left, after) refl)
+
+-- the input has ended with nothing taken
+pub SoFar-none : {u line : List ℕ} (known : Option (List ℕ)) → SoFar u known line → ((v : List ℕ) → known ≡ Some v → v ≡ []) → length line ≡ 0 → u ≡ []
+SoFar-none {u} {line} known s ended empty =
+    let e : s.rest ≡ [] = ended s.rest s.new_is in
+    let l = ap length s.kept ∙ length-take 202 s.front in
+    no_length u (omega (arith, l, ap length s.split, length-append s.front s.rest, ap length e, empty))
+
+-- the input has ended in a line
+pub SoFar-last : {u line : List ℕ} (known : Option (List ℕ)) → SoFar u known line → ((v : List ℕ) → known ≡ Some v → v ≡ []) → 0 < length line → IsNextLine u (Some line) (prepend_known [] known)
+SoFar-last {u} {line} known s ended some =
+    let e : s.rest ≡ [] = ended s.rest s.new_is in
+    let whole : u ≡ s.front = s.split ∙ ap (λ z. s.front ++ z) e ∙ append-nil s.front in
+    let none : has_feed u ≡ false = ap has_feed whole ∙ s.none in
+    let l = ap length s.kept ∙ length-take 202 s.front in
+    (omega (arith, l, ap length whole, some),
+     s.kept ∙ ap kept_of (sym whole) ∙ ap kept_of (sym (all_first_line u none)),
+     ap (prepend_known []) (s.new_is ∙ ap Some (e ∙ sym (none_after u none))))
+
+-- what is behind a line feed is shorter
+pub after_line-shorter : (xs : List ℕ) → has_feed xs ≡ true → length (after_line xs) < length xs
+after_line-shorter [] e = absurd (false≢true e)
+after_line-shorter (b ∷ bs) e = ⊎_elim
+    (λ (h : eqb b 10 ≡ true). rw h (omega arith))
+    (λ (h : eqb b 10 ≡ false). let more : has_feed bs ≡ true = rw h at e in rw h (let r = after_line-shorter bs more in omega (arith, r)))
+    (cases_Bool (eqb b 10))
+
+-- a read keeps what is ahead
+pub SoFar-read : {u line : List ℕ} (known new : Option (List ℕ)) → SoFar u known line → ((v : List ℕ) → known ≡ Some v → new ≡ Some v) → SoFar u new line
+SoFar-read {u} {line} known new s goes = record { front = s.front; rest = s.rest; split = s.split; none = s.none; kept = s.kept; new_is = goes s.rest s.new_is }
+
+-- the input of a session that begins
+abbrev pub start_input : Input
+start_input = record { unread = []; reads = MOST_READS; ended = false }
+
+-- the same input
+pub IsPaid-start : (input : Input) (known : Option (List ℕ)) → IsPaid input input known known
+IsPaid-start input known = λ goes_on. (goes_on, λ bytes e. (bytes, e, omega arith))
+
+-- a line is taken
+pub IsPaid-taken : (start old new : Input) (known0 known : Option (List ℕ)) → IsPaid start old known0 known → new.reads ≡ old.reads → new.ended ≡ old.ended → IsPaid start new known0 known
+IsPaid-taken start old new known0 known paid reads ended = λ goes_on.
+    let was = paid (sym ended ∙ goes_on) in
+    (was.0, λ bytes e. let held = was.1 bytes e in (held.0, held.1, omega (arith, held.2, reads)))
+
+-- one read after another
+pub IsPaid-then : (start old new : Input) (known0 known known' : Option (List ℕ)) → IsPaid start old known0 known → IsPaid old new known known' → IsPaid start new known0 known'
+IsPaid-then start old new known0 known known' first second = λ goes_on.
+    let now = second goes_on in
+    let was = first now.0 in
+    (was.0, λ bytes e.
+      let held = was.1 bytes e in
+      let more = now.1 held.0 held.1 in
+      (more.0, more.1, omega (arith, held.2, more.2)))
+
+-- known bytes stay as they are
+pub Keeps-start : (known : Option (List ℕ)) → Keeps known known
+Keeps-start None = tt
+Keeps-start (Some xs) = refl
+
+pub Keeps-then : (a b c : Option (List ℕ)) → Keeps a b → Keeps b c → Keeps a c
+Keeps-then None b c h k = tt
+Keeps-then (Some x) None c h k = absurd h
+Keeps-then (Some x) (Some y) None h k = absurd k
+Keeps-then (Some x) (Some y) (Some z) h k = k ∙ h

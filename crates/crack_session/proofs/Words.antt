@@ -1,0 +1,104 @@
+-- Words and numbers.
+use Rattle.std.proofs.Common.{◌≡◌, ℕ, ◌+◌, ◌-◌, ◌*◌, ◌^◌, ◌<◌, ◌≤◌, true, false, eqb, ltb, leb, List, [], ◌∷◌, ◌++◌, length, take, drop, get_or, refl, sym, ap, ◌∙◌, subst, arith, ⊎_elim, append-nil, lit<, length-take, pow-suc, add-one}
+use Rattle.std.proofs.lemmas.Bool.{or_parts, and_parts, cases_Bool, false≢true, ne_eqb, leb-true, ltb-true, cases_lt}
+use Rattle.std.proofs.lemmas.List.{take_more, at_drop_more, take-append-drop, drop_all, drop_more}
+use Rattle.std.proofs.lemmas.List.Folds.{list_all_at}
+use Rattle.std.proofs.Math.Nat.{pow-le-pow_right}
+use Rattle.std.proofs.Math.Seq.{drop-nil}
+use Rattle.std.specs.List.{list_all}
+use Rattle.crack_session.specs.Grammar.{parts, words, is_word, has_space, is_digit, value_on, IsFirstWord}
+
+-- a space more at the front
+pub words_space : (xs : List ℕ) (i : ℕ) → i < length xs → get_or xs i 0 ≡ 32 → words (drop i xs) ≡ words xs → words (drop (i + 1) xs) ≡ words xs
+words_space xs i below here so_far =
+    let step : words (drop i xs) ≡ words (get_or xs i 0 ∷ drop (i + 1) xs) = at_drop_more words xs i 0 below in
+    let space : words (get_or xs i 0 ∷ drop (i + 1) xs) ≡ words (drop (i + 1) xs) = ap (λ b. words (b ∷ drop (i + 1) xs)) here in
+    sym space ∙ sym step ∙ so_far
+
+pub words_all : (xs : List ℕ) (i : ℕ) → length xs ≤ i → words (drop i xs) ≡ words xs → words [] ≡ words xs
+words_all xs i past so_far = ap words (sym (drop_all i xs past)) ∙ so_far
+
+-- a front without spaces
+has_space-append : (xs ys : List ℕ) → has_space xs ≡ false → has_space (xs ++ ys) ≡ has_space ys
+has_space-append [] ys h = refl
+has_space-append (b ∷ bs) ys h =
+    let each = or_parts (eqb b 32) (has_space bs) h in
+    let other : eqb b 32 ≡ false = each.0 in
+    rw (other, has_space-append bs ys each.1) refl
+
+pub no_space_more : (xs : List ℕ) (i : ℕ) → i < length xs → has_space (take i xs) ≡ false → (get_or xs i 0 ≡ 32 → ⊥) → has_space (take (i + 1) xs) ≡ false
+no_space_more xs i below none here =
+    let other : eqb (get_or xs i 0) 32 ≡ false = ne_eqb _ _ here in
+    rw (take_more xs i 0 below, has_space-append (take i xs) (get_or xs i 0 ∷ []) none, other) refl
+
+parts_word : (w : List ℕ) → has_space w ≡ false → parts w ≡ w ∷ []
+parts_word [] h = refl
+parts_word (b ∷ bs) h =
+    let each = or_parts (eqb b 32) (has_space bs) h in
+    let other : eqb b 32 ≡ false = each.0 in
+    rw (other, parts_word bs each.1) refl
+
+parts_space : (w more : List ℕ) → has_space w ≡ false → parts (w ++ 32 ∷ more) ≡ w ∷ parts more
+parts_space [] more h = refl
+parts_space (b ∷ bs) more h =
+    let each = or_parts (eqb b 32) (has_space bs) h in
+    let other : eqb b 32 ≡ false = each.0 in
+    rw (other, parts_space bs more each.1) refl
+
+-- a word, and the end or a space behind it
+words_end : (w : List ℕ) → has_space w ≡ false → is_word w ≡ true → words w ≡ w ∷ []
+words_end w h some = rw (parts_word w h, some) refl
+
+words_front : (w more : List ℕ) → has_space w ≡ false → is_word w ≡ true → words (w ++ 32 ∷ more) ≡ w ∷ words (32 ∷ more)
+words_front w more h some = rw (parts_space w more h, some) refl
+
+no_text : (w : List ℕ) → is_word w ≡ false → w ≡ []
+no_text [] e = refl
+no_text (b ∷ bs) e = absurd (false≢true (sym e))
+
+nothing_left : (xs : List ℕ) (n : ℕ) → n ≤ length xs → take n xs ≡ [] → (get_or xs 0 0 ≡ 32 → ⊥) → (n < length xs → get_or xs n 0 ≡ 32) → xs ≡ []
+nothing_left [] n within empty front space = refl
+nothing_left (x ∷ xs) n within empty front space =
+    let cut = ap length empty in
+    let len = length-take n (x ∷ xs) in
+    let none : n ≡ 0 = omega (arith, cut, len) in
+    let first : 0 < length (x ∷ xs) = omega arith in
+    absurd (front (subst (λ (m : ℕ). get_or (x ∷ xs) m 0 ≡ 32) none (space (omega (arith, none, first)))))
+
+-- what was split off is the first word
+pub first_word : (bytes xs : List ℕ) (n : ℕ) → words xs ≡ words bytes → (get_or xs 0 0 ≡ 32 → ⊥) → n ≤ length xs → has_space (take n xs) ≡ false → (n < length xs → get_or xs n 0 ≡ 32) → IsFirstWord bytes (take n xs) (drop n xs)
+first_word bytes xs n same front within none space = record {
+  some = λ some. ⊎_elim
+    (λ (below : n < length xs).
+      let rest : drop n xs ≡ 32 ∷ drop (n + 1) xs = drop_more xs n 0 below ∙ ap (λ b. b ∷ drop (n + 1) xs) (space below) in
+      let whole : xs ≡ take n xs ++ 32 ∷ drop (n + 1) xs = sym (take-append-drop n xs) ∙ ap (λ r. take n xs ++ r) rest in
+      sym same ∙ ap words whole ∙ words_front (take n xs) (drop (n + 1) xs) none some ∙ ap (λ r. take n xs ∷ words r) (sym rest))
+    (λ (past : length xs ≤ n).
+      let rest : drop n xs ≡ [] = drop_all n xs past in
+      let whole : xs ≡ take n xs = sym (take-append-drop n xs) ∙ ap (λ r. take n xs ++ r) rest ∙ append-nil (take n xs) in
+      sym same ∙ ap words whole ∙ words_end (take n xs) none some ∙ ap (λ r. take n xs ∷ words r) (sym rest))
+    (cases_lt n (length xs));
+  none = λ none'.
+    let empty : take n xs ≡ [] = no_text (take n xs) none' in
+    let nothing = nothing_left xs n within empty front space in
+    (sym same ∙ ap words nothing, ap (λ z. words (drop n z)) nothing ∙ ap words (drop-nil n))
+}
+
+-- digits
+pub digit_at : (xs : List ℕ) (i : ℕ) → i < length xs → list_all is_digit xs ≡ true → (48 ≤ get_or xs i 0) × (get_or xs i 0 < 58)
+digit_at xs i below all = ⊎_elim
+    (λ (e : is_digit (get_or xs i 0) ≡ true). let both = and_parts (leb 48 (get_or xs i 0)) (ltb (get_or xs i 0) 58) e in (leb-true _ _ both.0, ltb-true _ _ both.1))
+    (λ (e : is_digit (get_or xs i 0) ≡ false). absurd (false≢true (sym (list_all_at is_digit xs i 0 below e) ∙ all)))
+    (cases_Bool (is_digit (get_or xs i 0)))
+
+pub value_more : (v : ℕ) (xs : List ℕ) (i : ℕ) → i < length xs → value_on v (drop i xs) ≡ value_on (v * 10 + (get_or xs i 0 - 48)) (drop (i + 1) xs)
+value_more v xs i below = at_drop_more (value_on v) xs i 0 below
+
+pub value_all : (v : ℕ) (xs : List ℕ) (i : ℕ) → length xs ≤ i → value_on v (drop i xs) ≡ v
+value_all v xs i past = ap (value_on v) (drop_all i xs past)
+
+pub bound_more : (v i d : ℕ) → v < 10 ^ i → d < 10 → v * 10 + d < 10 ^ (i + 1)
+bound_more v i d small digit = rw (add-one, pow-suc) (omega (arith, small, digit))
+
+pub bound_wide : (v i : ℕ) → v < 10 ^ i → i ≤ 20 → v < 100000000000000000000
+bound_wide v i small few = let wide : 10 ^ i ≤ 10 ^ 20 = pow-le-pow_right (lit< tt) few in omega (arith, small, wide)

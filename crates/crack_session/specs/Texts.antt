@@ -1,0 +1,21 @@
+-- The texts of replies and refusals: a line each.
+use Rattle.std.specs.Prelude.{ℕ, List, [], ◌++◌, codes, decimal}
+use Rattle.crack_row.specs.declared.command.Reply.{Reply}
+use Rattle.crack_row.specs.declared.command.Reply.TheVariants.{Placed, Counted}
+use Rattle.crack_row.specs.declared.refusal.Refusal.{Refusal}
+use Rattle.crack_row.specs.declared.refusal.Refusal.TheVariants.{HistoryFull}
+use Rattle.crack_row.specs.Refusals.{code_of}
+
+-- the reply of a partition
+abbrev pub reply_text : ℕ → Reply → List ℕ
+reply_text part (Placed serial) = codes "row " ++ decimal part ++ codes "." ++ decimal serial.0 ++ codes "\n"
+reply_text part (Counted count) = codes "count " ++ decimal count ++ codes "\n"
+
+-- what a refusal carries, behind a space
+abbrev pub carried_text : Refusal → List ℕ
+carried_text (HistoryFull entries) = codes " " ++ decimal entries
+carried_text _ = []
+
+-- a refusal's number, and what it carries
+abbrev pub refusal_text : Refusal → List ℕ
+refusal_text refusal = codes "refused " ++ decimal (code_of refusal) ++ carried_text refusal ++ codes "\n"

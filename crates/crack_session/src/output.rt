@@ -1,0 +1,33 @@
+//! Bytes to a writer.
+ghost use Rattle.std.specs.Prelude.{◌≡◌, ℕ, ◌+◌, ◌-◌, ◌<◌, ◌≤◌, ◌++◌, true, List, [], length, take, IfErr, OnOk};
+ghost use Rattle.std.specs.Io.KnownBytes.{Keeps, Appends};
+ghost use Rattle.crack_row.specs.Devices.{device, has_failed};
+
+use crack_row::{Refusal, Watched};
+use std::io::Write;
+
+/// Writes all of the bytes. Where the writer fails a front of them may be written.
+pub fn send<W: Write>(writer: &mut Watched<W>, bytes: &[u8]) -> Result<(), Refusal>
+    ensures ok { OnOk result (Appends (W.contents (device writer.old)) (W.contents (device writer.new)) bytes.now) }
+    ensures unfailed { OnOk result (has_failed writer.new ≡ has_failed writer.old) }
+    ensures err { IfErr result (λ e. (e ≡ Refusal.WriteFault) × (has_failed writer.new ≡ true)) }
+    ensures front { IfErr result (λ _. (n : ℕ) × Appends (W.contents (device writer.old)) (W.contents (device writer.new)) (take n bytes.now)) }
+{
+    let mut done = 0;
+    'sending: while done < bytes.len() {
+        match writer.write(&bytes[done..]) {
+            Ok(0) | Err(_) => return Err(Refusal::WriteFault),
+            Ok(count) => done += count,
+        }
+    }
+    Ok(())
+}
+
+/// Hands on what is written.
+pub fn flush<W: Write>(writer: &mut Watched<W>) -> Result<(), Refusal>
+    ensures bytes { Keeps (W.contents (device writer.old)) (W.contents (device writer.new)) }
+    ensures unfailed { OnOk result (has_failed writer.new ≡ has_failed writer.old) }
+    ensures err { IfErr result (λ e. (e ≡ Refusal.WriteFault) × (has_failed writer.new ≡ true)) }
+{
+    writer.flush().map_err(|_| Refusal::WriteFault)
+}

@@ -1,0 +1,11 @@
+//! Tests that run through the public calls of several crates: what no clause says.
+#![tactic(auto)]
+
+#[cfg(test)]
+mod arena;
+#[cfg(test)]
+mod column;
+#[cfg(test)]
+mod part;
+#[cfg(test)]
+mod plain;
