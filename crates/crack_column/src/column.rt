@@ -95,7 +95,11 @@ impl CrackerColumn {
     /// Puts the handle at the end, into room that was reserved. Its key isn't known. O(1).
     pub fn append(&mut self, handle: Handle<Row>)
         requires { 0 < self.old.room }
-        ensures after { self.new ≡ record { handles = self.old.handles ++ handle ∷ []; keys = self.old.keys ++ unknown ∷ []; room = self.old.room - 1 } }
+        ensures after { self.new ≡ record {
+          handles = self.old.handles ++ handle ∷ [];
+          keys = self.old.keys ++ unknown ∷ [];
+          room = self.old.room - 1;
+        } }
         ensures remembered { StillRemembers self.old self.new }
     {
         self.handles.push_reserved(handle);
@@ -106,7 +110,10 @@ impl CrackerColumn {
     pub fn swap_in(&mut self, place: usize, handle: Handle<Row>) -> Handle<Row>
         requires { place < length self.old.handles }
         ensures result { slice_get self.old.handles place ≡ Some result }
-        ensures after { self.new ≡ record self.old { handles = slice_set self.old.handles place handle; keys = slice_set self.old.keys place unknown } }
+        ensures after { self.new ≡ record self.old {
+          handles = slice_set self.old.handles place handle;
+          keys = slice_set self.old.keys place unknown;
+        } }
         ensures remembered { StillRemembers self.old self.new }
     {
         self.keys[place] = UNKNOWN;
@@ -115,7 +122,9 @@ impl CrackerColumn {
 
     /// Takes the last handle out. O(1).
     pub fn pop(&mut self) -> Option<Handle<Row>>
-        ensures handles { MatchOption result ((self.old.handles ≡ []) × (self.new ≡ self.old)) (λ h. self.old.handles ≡ self.new.handles ++ h ∷ []) }
+        ensures handles { MatchOption result
+            ((self.old.handles ≡ []) × (self.new ≡ self.old))
+            (λ h. self.old.handles ≡ self.new.handles ++ h ∷ []) }
         ensures keys { self.new.keys ≡ take (length self.new.handles) self.old.keys }
         ensures room { MatchOption result (self.new.room ≡ self.old.room) (λ _. self.new.room ≡ self.old.room + 1) }
         ensures remembered { StillRemembers self.old self.new }
@@ -131,7 +140,8 @@ impl CrackerColumn {
         requires order { from ≤ to }
         requires within { to ≤ length self.old.handles }
         requires remembered { Remembers arena.now.cells self.old.handles self.old.keys }
-        ensures cracked { Cracks arena.now.cells bound.0 from to self.old.handles self.old.keys self.new.handles self.new.keys result }
+        ensures cracked { Cracks arena.now.cells bound.0 from to
+            self.old.handles self.old.keys self.new.handles self.new.keys result }
         ensures length { length self.new.handles ≡ length self.old.handles }
         ensures room { self.new.room ≡ self.old.room }
         ensures remembered { Remembers arena.now.cells self.new.handles self.new.keys }

@@ -6,6 +6,10 @@ mod arena;
 #[cfg(test)]
 mod column;
 #[cfg(test)]
+mod index;
+#[cfg(test)]
 mod part;
+#[cfg(test)]
+mod pending;
 #[cfg(test)]
 mod plain;

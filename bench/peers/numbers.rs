@@ -1,0 +1,20 @@
+//! The numbers that steer a run, the same in each language.
+
+/// A linear congruential generator (Knuth's MMIX), of which the high bits are used.
+pub struct Numbers(pub u64);
+
+impl Numbers {
+    /// The next number below `bound`, which is at most 2^31.
+    pub fn below(&mut self, bound: u64) -> u64 {
+        self.0 = self
+            .0
+            .wrapping_mul(6364136223846793005)
+            .wrapping_add(1442695040888963407);
+        (self.0 >> 33) % bound
+    }
+}
+
+/// A checksum: order matters.
+pub fn mixed(sum: u64, value: u64) -> u64 {
+    (sum ^ value).wrapping_mul(1099511628211)
+}

@@ -1,0 +1,90 @@
+//! Puts, gets and frees on the arena.
+ghost use Rattle.std.specs.Prelude.{◌<◌, ◌^◌, length, IfOk, IfSome};
+
+use crate::numbers::{Numbers, mixed};
+use crack_arena::{Arena, Handle};
+use crack_row::{Key, Payload, Refusal, Row, Serial};
+use std::alloc::Global;
+
+/// An arena with rows, and handles that read them.
+#[derive(Drop)]
+pub struct Filled {
+    pub arena: Arena<Row>,
+    pub handles: Vec<Handle<Row>>,
+}
+
+/// An arena with this many rows of random keys, and their handles in order.
+pub fn fill(alloc: Global, rows: u32, numbers: &mut Numbers) -> Result<Filled, Refusal> {
+    let mut arena = Arena::new(alloc);
+    arena.reserve(rows as usize)?;
+    let mut handles = Vec::new(alloc);
+    handles.reserve(rows as usize)?;
+    for serial in 0..rows {
+        let key = numbers.below(1 << 31) as u32;
+        let row = Row {
+            serial: Serial(serial as u64),
+            key: Key(key),
+            payload: Payload(1),
+        };
+        put(&mut arena, &mut handles, row)?;
+    }
+    Ok(Filled { arena, handles })
+}
+
+/// Puts a row, and keeps its handle.
+fn put(arena: &mut Arena<Row>, handles: &mut Vec<Handle<Row>>, row: Row) -> Result<(), Refusal> {
+    if arena.cells() >= 4294967295 {
+        return Err(Refusal::OutOfMemory);
+    }
+    handles.push(arena.put(row)?)?;
+    Ok(())
+}
+
+/// Gets the row of the handle at the place.
+fn get(filled: &Filled, at: usize) -> Option<Row>
+    requires { at < length filled.now.handles.items }
+{
+    filled.arena.get(filled.handles[at]).copied()
+}
+
+/// Frees the row of the handle at the place, and drops the handle.
+fn free(filled: &mut Filled, at: usize) -> Option<Row>
+    requires { at < length filled.old.handles.items }
+{
+    if filled.arena.freed() == u64::MAX {
+        return None;
+    }
+    filled.arena.free(filled.handles.swap_remove(at))
+}
+
+/// One step: a put, a get or a free, a third each, but for a put where there is no handle.
+fn step(filled: &mut Filled, number: u64, numbers: &mut Numbers) -> Result<Option<Row>, Refusal> {
+    let which = numbers.below(3);
+    let len = filled.handles.len();
+    if which == 0 || len == 0 {
+        let row = Row {
+            serial: Serial(number),
+            key: Key(1),
+            payload: Payload(2),
+        };
+        put(&mut filled.arena, &mut filled.handles, row)?;
+        return Ok(None);
+    }
+    let at = numbers.below(len as u64) as usize;
+    if which == 1 {
+        Ok(get(filled, at))
+    } else {
+        Ok(free(filled, at))
+    }
+}
+
+/// As many steps at random handles. A checksum of the rows that they met.
+pub fn steps(filled: &mut Filled, count: u64, numbers: &mut Numbers) -> Result<u64, Refusal> {
+    let mut sum = 0;
+    for number in 0..count {
+        if let Some(row) = step(filled, number, numbers)? {
+            sum = mixed(sum, row.serial.0);
+        }
+    }
+    Ok(sum)
+}

@@ -1,0 +1,72 @@
+//! Cracks of a column whose handles stand in random order.
+ghost use Rattle.std.specs.Prelude.{◌≡◌, length, IfOk};
+ghost use Rattle.crack_column.specs.Column.{Remembers};
+
+use crate::numbers::{Numbers, mixed};
+use crack_arena::{Arena, Handle};
+use crack_column::CrackerColumn;
+use crack_row::{Bound, Refusal, Row};
+use std::alloc::Global;
+
+/// The bound of the first crack, which reads each key through the arena.
+pub const FIRST: Bound = Bound(1073741824);
+
+/// How many later cracks there are, over keys that are remembered.
+const LATER_CRACKS: u64 = 16;
+
+/// How far their bounds lie apart.
+const LATER_STEP: u64 = 134217728;
+
+/// Puts the handles into random order.
+pub fn shuffle(handles: &mut [Handle<Row>], numbers: &mut Numbers) {
+    'places: for i in 1..handles.len() {
+        let other = numbers.below(i as u64 + 1) as usize;
+        handles.swap(i, other);
+    }
+}
+
+/// A column of the handles, in their order. It remembers no key.
+pub fn column_of(
+    alloc: Global,
+    handles: &[Handle<Row>],
+    arena: &Arena<Row>,
+) -> Result<CrackerColumn, Refusal>
+    ensures { IfOk result (λ c. Remembers arena.now.cells c.handles c.keys) }
+{
+    let mut column = CrackerColumn::new(alloc);
+    column.reserve(handles.len())?;
+    'handles: for i in 0..handles.len() {
+        column.append(handles[i]);
+    }
+    Ok(column)
+}
+
+/// Cracks the whole column at the bound. The place between.
+pub fn crack(column: &mut CrackerColumn, bound: Bound, arena: &Arena<Row>) -> usize
+    requires { Remembers arena.now.cells column.old.handles column.old.keys }
+    ensures { Remembers arena.now.cells column.new.handles column.new.keys }
+{
+    let len = column.len();
+    column.crack_two(0, len, bound, arena)
+}
+
+/// Cracks the whole column at bounds that rise. A checksum of the places between.
+pub fn crack_on(column: &mut CrackerColumn, arena: &Arena<Row>) -> u64
+    requires { Remembers arena.now.cells column.old.handles column.old.keys }
+{
+    let mut sum = 0;
+    'cracks: for i in 0..LATER_CRACKS {
+        let place = crack(column, Bound(i * LATER_STEP), arena);
+        sum = mixed(sum, place as u64);
+    }
+    sum
+}
+
+/// A checksum of the order of the handles.
+pub fn sum(column: &CrackerColumn) -> u64 {
+    let mut sum = 0;
+    'places: for place in 0..column.len() {
+        sum = mixed(sum, column.at(place).slot() as u64);
+    }
+    sum
+}

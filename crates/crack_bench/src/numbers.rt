@@ -1,0 +1,31 @@
+//! The numbers that steer a run, the same in each language.
+ghost use Rattle.std.specs.Prelude.{◌<◌};
+
+/// A linear congruential generator (Knuth's MMIX), of which the high bits are used.
+#[derive(Drop)]
+pub struct Numbers {
+    state: u64,
+}
+
+impl Numbers {
+    pub fn new(state: u64) -> Numbers {
+        Numbers { state }
+    }
+
+    /// The next number below `bound`, which is at most 2^31.
+    pub fn below(&mut self, bound: u64) -> u64
+        requires { 0 < bound }
+        ensures { result < bound }
+    {
+        self.state = self
+            .state
+            .wrapping_mul(6364136223846793005)
+            .wrapping_add(1442695040888963407);
+        (self.state >> 33) % bound
+    }
+}
+
+/// A checksum: order matters.
+pub fn mixed(sum: u64, value: u64) -> u64 {
+    (sum ^ value).wrapping_mul(1099511628211)
+}

@@ -1,0 +1,286 @@
+-- How the bounds at one place are found and moved.
+use Rattle.std.proofs.Common.{◌≡◌, ◌≢◌, ℕ, zero, suc, ◌+◌, ◌-◌, ◌<◌, ◌≤◌, List, [], ◌∷◌, ◌++◌, map, take, drop, length, get_or, append_assoc, leb, eqb, Some, None, refl, sym, ap, ◌∙◌, inl, inr, arith}
+use Rattle.std.specs.List.{All, between, insert, slice_get}
+use Rattle.std.specs.List.Sorted.{IsNonDecreasingBy, IsPartitionPoint}
+use Rattle.std.proofs.lemmas.Bool.{cases_eq, cases_lt, lt-ltb, le-ltb, lt-leb, le-leb, eq-eqb, ne_eqb, and_right}
+use Rattle.std.proofs.lemmas.List.{ext_get_or, get_or_default, length-map, get_or-map, map-append, get_or-take, get_or-drop, length-take-le, length-drop, drop-drop, drop_more, take_at}
+use Rattle.std.proofs.lemmas.List.Elements.{All-contains}
+use Rattle.std.proofs.lemmas.Option.{slice_get-get_or}
+use Rattle.std.proofs.lemmas.List.Edits.{split_between, length-between, get_or-between}
+use Rattle.crack_row.specs.declared.Bound.{Bound}
+use Rattle.crack_row.specs.declared.layout.PieceSize.{PieceSize}
+use Rattle.crack_index.specs.declared.mark.Mark.{Mark}
+use Rattle.crack_index.specs.MarkLaws.{last_mark-is, last_mark-none, HasBound-mark, HasBound-contains, place_of-mark}
+use Rattle.crack_index.specs.Marks.{no_mark, Rising, HasBound, place_of, raised, lowered, lowered_at, one_up, one_down, next_mark, last_mark, added, size_between, pieces_from}
+
+pub bounds_rise : (marks : List Mark) → Rising marks → IsNonDecreasingBy (λ (m : Mark). m.bound.0) marks
+bounds_rise marks rising = λ i j d h k. elim (cases_eq i j) [
+  | inl e ↦ rw e (omega arith)
+  | inr ne ↦ omega (arith, (rising i j d (omega arith) k).bounds)
+]
+
+pub positions_rise : (marks : List Mark) → Rising marks → IsNonDecreasingBy (λ (m : Mark). m.position) marks
+positions_rise marks rising = λ i j d h k. elim (cases_eq i j) [
+  | inl e ↦ rw e (omega arith)
+  | inr ne ↦ (rising i j d (omega arith) k).positions
+]
+
+-- two functions that agree on each element of a list give the same list
+map_agree : (f g : Mark → Mark) (xs : List Mark) → All (λ x. f x ≡ g x) xs → map f xs ≡ map g xs
+map_agree f g xs same =
+    ext_get_or no_mark (map f xs) (map g xs) (length-map xs f ∙ sym (length-map xs g)) (λ k h.
+    let short : k < length xs = omega (arith, length-map xs f) in
+    rw (get_or-map f xs k no_mark no_mark short, get_or-map g xs k no_mark no_mark short) (same k no_mark short))
+
+map_same : (f : Mark → Mark) (xs : List Mark) → All (λ x. f x ≡ x) xs → map f xs ≡ xs
+map_same f xs same =
+    ext_get_or no_mark (map f xs) xs (length-map xs f) (λ k h.
+    let short : k < length xs = omega (arith, length-map xs f) in
+    rw (get_or-map f xs k no_mark no_mark short) (same k no_mark short))
+
+-- a function that moves the marks of a stretch alone
+pub moved_between : (f g : Mark → Mark) (xs : List Mark) (i j : ℕ) → i ≤ j → j ≤ length xs
+    → ((k : ℕ) (d : Mark) → k < i → f (get_or xs k d) ≡ get_or xs k d)
+    → ((k : ℕ) (d : Mark) → i ≤ k → k < j → f (get_or xs k d) ≡ g (get_or xs k d))
+    → ((k : ℕ) (d : Mark) → j ≤ k → k < length xs → f (get_or xs k d) ≡ get_or xs k d)
+    → map f xs ≡ take i xs ++ (map g (between i j xs) ++ drop j xs)
+moved_between f g xs i j h within before inside behind =
+    let front : map f (take i xs) ≡ take i xs = map_same f (take i xs) (λ k d l.
+    let short : k < i = omega (arith, length-take-le i xs (omega arith)) in
+    rw (get_or-take i xs k d short) (before k d short)) in
+    let middle : map f (between i j xs) ≡ map g (between i j xs) = map_agree f g (between i j xs) (λ k d l.
+    let short : i + k < j = omega (arith, length-between xs i j within) in
+    rw (get_or-between xs i j k d short) (inside (i + k) d (omega arith) short)) in
+    let back : map f (drop j xs) ≡ drop j xs = map_same f (drop j xs) (λ k d l.
+    rw (get_or-drop j xs k d) (behind (j + k) d (omega arith) (omega (arith, length-drop j xs)))) in
+    ap (λ ys. map f ys) (split_between xs i j h) ∙ rw (map-append f (take i xs) (between i j xs ++ drop j xs), map-append f (between i j xs) (drop j xs), front, middle, back) refl
+
+-- the marks from `start` to `end` all stand at the place; `f` moves them as `g` does, and no other
+pub record Moves (f g : Mark → Mark) (marks : List Mark) (place start end : ℕ) : Type 0 where
+  pub order : start ≤ end
+  pub level : All (λ m. m.position ≡ place) (between start end marks)
+  pub moved : map f marks ≡ take start marks ++ (map g (between start end marks) ++ drop (end - start) (drop start marks))
+
+Moves-from : (f g : Mark → Mark) (marks : List Mark) (place start end : ℕ) → start ≤ end → end ≤ length marks
+    → ((k : ℕ) (d : Mark) → k < start → f (get_or marks k d) ≡ get_or marks k d)
+    → ((k : ℕ) (d : Mark) → start ≤ k → k < end → (get_or marks k d).position ≡ place)
+    → ((k : ℕ) (d : Mark) → start ≤ k → k < end → f (get_or marks k d) ≡ g (get_or marks k d))
+    → ((k : ℕ) (d : Mark) → end ≤ k → k < length marks → f (get_or marks k d) ≡ get_or marks k d)
+    → Moves f g marks place start end
+Moves-from f g marks place start end order within before level inside behind =
+    let gap : start + (end - start) ≡ end = omega arith in
+    record {
+      order = order;
+      level = λ k d l.
+          let short : start + k < end = omega (arith, length-between marks start end within) in
+          rw (get_or-between marks start end k d short) (level (start + k) d (omega arith) short);
+      moved = rw (drop-drop (end - start) start marks, gap) (moved_between f g marks start end order within before inside behind);
+    }
+
+-- a bound that is there, by its number among the marks
+HasBound-at : (marks : List Mark) (b : ℕ) → HasBound marks b → (k : ℕ) × (k < length marks) × ((get_or marks k no_mark).bound.0 ≡ b)
+HasBound-at marks b there =
+    let bound : Mark → ℕ = λ m. m.bound.0 in
+    let short : there.0 < length marks = omega (arith, there.1, length-map marks bound) in
+    (there.0, short, sym (get_or-map bound marks there.0 no_mark b short) ∙ there.2)
+
+-- the first mark at or above a bound that is there has that bound
+found_below : (marks : List Mark) (b start : ℕ) → Rising marks → HasBound marks b → IsPartitionPoint (λ (m : Mark). m.bound.0 < b) (λ m. b ≤ m.bound.0) marks start → (start < length marks) × ((get_or marks start no_mark).bound.0 ≡ b)
+found_below marks b start rising there split =
+    let at = HasBound-at marks b there in
+    let before : start ≤ at.0 = elim (cases_lt at.0 start) [ inl l ↦ absurd (let below = split.0 at.0 no_mark (omega arith) l in omega (arith, at.2)) | inr l ↦ l ] in
+    let inside : start < length marks = omega (arith, at.1) in
+    let above = split.1 start no_mark (omega arith) inside in
+    let order = bounds_rise marks rising start at.0 no_mark before at.1 in
+    (inside, omega (arith, order, at.2, above))
+
+-- the last mark at or below a bound that is there has that bound
+found_up_to : (marks : List Mark) (b end : ℕ) → Rising marks → HasBound marks b → end ≤ length marks → IsPartitionPoint (λ (m : Mark). m.bound.0 ≤ b) (λ m. b < m.bound.0) marks end → (0 < end) × ((get_or marks (end - 1) no_mark).bound.0 ≡ b)
+found_up_to marks b end rising there within split =
+    let at = HasBound-at marks b there in
+    let before : at.0 < end = elim (cases_lt at.0 end) [ inl l ↦ l | inr l ↦ absurd (let above = split.1 at.0 no_mark l at.1 in omega (arith, at.2)) ] in
+    let below = split.0 (end - 1) no_mark (omega arith) (omega arith) in
+    let order = bounds_rise marks rising at.0 (end - 1) no_mark (omega arith) (omega arith) in
+    (omega arith, omega (arith, order, at.2, below))
+
+-- where a bound that is there stands
+place_of-at : (b : ℕ) (marks : List Mark) (i : ℕ) → Rising marks → i < length marks → (get_or marks i no_mark).bound.0 ≡ b → place_of b marks ≡ (get_or marks i no_mark).position
+place_of-at b [] i rising h e = absurd (omega arith)
+place_of-at b (m ∷ ms) zero rising h e = rw (eq-eqb m.bound.0 b e) refl
+place_of-at b (m ∷ ms) (suc i) rising h e =
+    let o = rising zero (suc i) no_mark (omega arith) h in
+    rw (ne_eqb m.bound.0 b (λ s. absurd (omega (arith, o.bounds)))) (place_of-at b ms i (λ a b d p q. rising (suc a) (suc b) d (omega arith) (omega arith)) (omega arith) e)
+
+pub raised_below : (low place : ℕ) (m : Mark) → m.bound.0 < low → raised low place m ≡ m
+raised_below low place m h = rw (lt-leb low m.bound.0 h) refl
+
+pub raised_apart : (low place : ℕ) (m : Mark) → m.position ≢ place → raised low place m ≡ m
+raised_apart low place m ne = rw (and_right (leb low m.bound.0) (eqb m.position place) (ne_eqb m.position place ne)) refl
+
+pub raised_at : (low place : ℕ) (m : Mark) → low ≤ m.bound.0 → m.position ≡ place → raised low place m ≡ one_up m
+raised_at low place m h e = rw (le-leb low m.bound.0 h, eq-eqb m.position place e) refl
+
+pub lowered_above : (high place : ℕ) (m : Mark) → high < m.bound.0 → lowered high place m ≡ m
+lowered_above high place m h = rw (lt-leb m.bound.0 high h) refl
+
+pub lowered_apart : (high place : ℕ) (m : Mark) → m.position ≢ place → lowered high place m ≡ m
+lowered_apart high place m ne = rw (and_right (leb m.bound.0 high) (eqb m.position place) (ne_eqb m.position place ne)) refl
+
+pub lowered_same : (high place : ℕ) (m : Mark) → m.bound.0 ≤ high → m.position ≡ place → lowered high place m ≡ one_down m
+lowered_same high place m h e = rw (le-leb m.bound.0 high h, eq-eqb m.position place e) refl
+
+pub lowered_at_apart : (place : ℕ) (m : Mark) → m.position ≢ place → lowered_at place m ≡ m
+lowered_at_apart place m ne = rw (ne_eqb m.position place ne) refl
+
+pub lowered_at_same : (place : ℕ) (m : Mark) → m.position ≡ place → lowered_at place m ≡ one_down m
+lowered_at_same place m e = rw (eq-eqb m.position place e) refl
+
+-- what is found of a bound that is there, and of its place
+pub record IsFound (marks : List Mark) (b at : ℕ) : Type 0 where
+  pub within : at < length marks
+  pub bound : (get_or marks at no_mark).bound.0 ≡ b
+  pub place : place_of b marks ≡ (get_or marks at no_mark).position
+
+pub IsFound-below : (marks : List Mark) (b start : ℕ) → Rising marks → HasBound marks b → IsPartitionPoint (λ (m : Mark). m.bound.0 < b) (λ m. b ≤ m.bound.0) marks start → IsFound marks b start
+IsFound-below marks b start rising there split =
+    let found = found_below marks b start rising there split in
+    record { within = found.0; bound = found.1; place = place_of-at b marks start rising found.0 found.1 }
+
+pub IsFound-up_to : (marks : List Mark) (b end : ℕ) → Rising marks → HasBound marks b → end ≤ length marks → IsPartitionPoint (λ (m : Mark). m.bound.0 ≤ b) (λ m. b < m.bound.0) marks end → (0 < end) × IsFound marks b (end - 1)
+IsFound-up_to marks b end rising there within split =
+    let found = found_up_to marks b end rising there within split in
+    let short : end - 1 < length marks = omega (arith, found.0) in
+    (found.0, record { within = short; bound = found.1; place = place_of-at b marks (end - 1) rising short found.1 })
+
+-- a raise moves the marks from its own on, as long as they stand at its place
+pub Moves-raised : (marks : List Mark) (b start end : ℕ) → Rising marks → HasBound marks b → end ≤ length marks
+    → IsPartitionPoint (λ (m : Mark). m.bound.0 < b) (λ m. b ≤ m.bound.0) marks start
+    → IsPartitionPoint (λ (m : Mark). m.position ≤ (get_or marks start no_mark).position) (λ m. (get_or marks start no_mark).position < m.position) marks end
+    → Moves (raised b (place_of b marks)) one_up marks (place_of b marks) start end
+Moves-raised marks b start end rising there within low high =
+    let found = IsFound-below marks b start rising there low in
+    let place = place_of b marks in
+    let is : place ≡ (get_or marks start no_mark).position = found.place in
+    let before : start < end = elim (cases_lt start end) [ inl l ↦ l | inr l ↦ absurd (let past = high.1 start no_mark l found.within in omega arith) ] in
+    let level : (k : ℕ) (d : Mark) → start ≤ k → k < end → (get_or marks k d).position ≡ place = λ k d h j.
+    let up = positions_rise marks rising start k d h (omega arith) in
+    let first : (get_or marks start d).position ≡ (get_or marks start no_mark).position = ap (λ (m : Mark). m.position) (get_or_default marks start d no_mark found.within) in
+    omega (arith, up, first, is, high.0 k d (omega arith) j) in
+    Moves-from (raised b place) one_up marks place start end (omega arith) within
+    (λ k d h. raised_below b place (get_or marks k d) (low.0 k d (omega arith) h))
+    level
+    (λ k d h j. raised_at b place (get_or marks k d) (low.1 k d h (omega arith)) (level k d h j))
+    (λ k d h j. raised_apart b place (get_or marks k d) (λ e. absurd (let past = high.1 k d h j in omega arith)))
+
+-- a lowering moves the marks up to its own, from where they stand at its place
+pub Moves-lowered : (marks : List Mark) (b start end : ℕ) → Rising marks → HasBound marks b → end ≤ length marks
+    → IsPartitionPoint (λ (m : Mark). m.bound.0 ≤ b) (λ m. b < m.bound.0) marks end
+    → IsPartitionPoint (λ (m : Mark). m.position < (get_or marks (end - 1) no_mark).position) (λ m. (get_or marks (end - 1) no_mark).position ≤ m.position) marks start
+    → Moves (lowered b (place_of b marks)) one_down marks (place_of b marks) start end
+Moves-lowered marks b start end rising there within high low =
+    let at = IsFound-up_to marks b end rising there within high in
+    let some : 0 < end = at.0 in
+    let found = at.1 in
+    let place = place_of b marks in
+    let is : place ≡ (get_or marks (end - 1) no_mark).position = found.place in
+    let before : start < end = elim (cases_lt start end) [ inl l ↦ l | inr l ↦ absurd (let past = low.0 (end - 1) no_mark (omega arith) (omega arith) in omega arith) ] in
+    let level : (k : ℕ) (d : Mark) → start ≤ k → k < end → (get_or marks k d).position ≡ place = λ k d h j.
+    let up = positions_rise marks rising k (end - 1) d (omega arith) found.within in
+    let last : (get_or marks (end - 1) d).position ≡ (get_or marks (end - 1) no_mark).position = ap (λ (m : Mark). m.position) (get_or_default marks (end - 1) d no_mark found.within) in
+    omega (arith, up, last, is, low.1 k d h (omega arith)) in
+    Moves-from (lowered b place) one_down marks place start end (omega arith) within
+    (λ k d h. lowered_apart b place (get_or marks k d) (λ e. absurd (let past = low.0 k d (omega arith) h in omega arith)))
+    level
+    (λ k d h j. lowered_same b place (get_or marks k d) (high.0 k d (omega arith) j) (level k d h j))
+    (λ k d h j. lowered_above b place (get_or marks k d) (high.1 k d h j))
+
+-- a lowering at a place moves the marks that stand there
+pub Moves-lowered_at : (marks : List Mark) (place start end : ℕ) → start ≤ length marks → end ≤ length marks
+    → IsPartitionPoint (λ (m : Mark). m.position < place) (λ m. place ≤ m.position) marks start
+    → IsPartitionPoint (λ (m : Mark). m.position ≤ place) (λ m. place < m.position) marks end
+    → Moves (lowered_at place) one_down marks place start end
+Moves-lowered_at marks place start end inside within low high =
+    let order : start ≤ end = elim (cases_lt end start) [ inl l ↦ absurd (let below = low.0 end no_mark (omega arith) l in let above = high.1 end no_mark (omega arith) (omega arith) in omega arith) | inr l ↦ l ] in
+    let level : (k : ℕ) (d : Mark) → start ≤ k → k < end → (get_or marks k d).position ≡ place = λ k d h j.
+    omega (arith, low.1 k d h (omega arith), high.0 k d (omega arith) j) in
+    Moves-from (lowered_at place) one_down marks place start end order within
+    (λ k d h. lowered_at_apart place (get_or marks k d) (λ e. absurd (let past = low.0 k d (omega arith) h in omega arith)))
+    level
+    (λ k d h j. lowered_at_same place (get_or marks k d) (level k d h j))
+    (λ k d h j. lowered_at_apart place (get_or marks k d) (λ e. absurd (let past = high.1 k d h j in omega arith)))
+
+-- the first mark above a number stands behind all that aren't
+-- the first mark above a number stands behind all that aren't
+pub next_mark-split : (marks : List Mark) (number at : ℕ) → at ≤ length marks → IsPartitionPoint (λ (m : Mark). m.bound.0 ≤ number) (λ m. number < m.bound.0) marks at → next_mark number marks ≡ slice_get (drop at marks) 0
+next_mark-split [] number zero h split = refl
+next_mark-split [] number (suc at) h split = absurd (omega arith)
+next_mark-split (m ∷ ms) number zero h split = rw (lt-ltb number m.bound.0 (split.1 zero no_mark (omega arith) (omega arith))) refl
+next_mark-split (m ∷ ms) number (suc at) h split =
+    rw (le-ltb number m.bound.0 (split.0 zero no_mark (omega arith) (omega arith)))
+    (next_mark-split ms number at (omega arith) (λ k d i j. split.0 (suc k) d (omega arith) (omega arith), λ k d i j. split.1 (suc k) d (omega arith) (omega arith)))
+
+last_mark-past : (marks : List Mark) (number : ℕ) → All (λ m. number < m.bound.0) marks → last_mark number marks ≡ None
+last_mark-past [] number above = refl
+last_mark-past (m ∷ ms) number above = rw (lt-leb m.bound.0 number (above zero no_mark (omega arith))) refl
+
+last_mark-at : (marks : List Mark) (number at : ℕ) → at < length marks → IsPartitionPoint (λ (m : Mark). m.bound.0 ≤ number) (λ m. number < m.bound.0) marks (at + 1) → last_mark number marks ≡ Some (get_or marks at no_mark)
+last_mark-at [] number at h split = absurd (omega arith)
+last_mark-at (m ∷ ms) number zero h split =
+    rw (le-leb m.bound.0 number (split.0 zero no_mark (omega arith) (omega arith)), last_mark-past ms number (λ k d j. split.1 (suc k) d (omega arith) (omega arith))) refl
+last_mark-at (m ∷ ms) number (suc at) h split =
+    rw (le-leb m.bound.0 number (split.0 zero no_mark (omega arith) (omega arith)), last_mark-at ms number at (omega arith) (λ k d i j. split.0 (suc k) d (omega arith) (omega arith), λ k d i j. split.1 (suc k) d (omega arith) (omega arith))) refl
+
+-- the last mark that isn't above a number stands at the end of those
+pub last_mark-split : (marks : List Mark) (number at : ℕ) → at ≤ length marks → IsPartitionPoint (λ (m : Mark). m.bound.0 ≤ number) (λ m. number < m.bound.0) marks at → last_mark number marks ≡ slice_get (take at marks) (length (take at marks) - 1)
+last_mark-split marks number zero h split = last_mark-past marks number (λ k d j. split.1 k d (omega arith) j)
+last_mark-split marks number (suc at) h split =
+    let long : length (take (suc at) marks) ≡ suc at = length-take-le (suc at) marks h in
+    let end : length (take (suc at) marks) - 1 ≡ at = omega arith in
+    let next : suc at ≡ at + 1 = omega arith in
+    rw (end, slice_get-get_or (take (suc at) marks) at no_mark (omega arith), get_or-take (suc at) marks at no_mark (omega arith))
+    (last_mark-at marks number at (omega arith) (rw next at split))
+
+-- a mark is added where those that aren't above it end
+pub insert-added : (marks : List Mark) (m : Mark) (at : ℕ) → at ≤ length marks → IsPartitionPoint (λ (n : Mark). n.bound.0 ≤ m.bound.0) (λ n. m.bound.0 < n.bound.0) marks at → insert marks at m ≡ added m marks
+insert-added [] m zero h split = refl
+insert-added [] m (suc at) h split = absurd (omega arith)
+insert-added (n ∷ ns) m zero h split = rw (lt-ltb m.bound.0 n.bound.0 (split.1 zero no_mark (omega arith) (omega arith))) refl
+insert-added (n ∷ ns) m (suc at) h split =
+    rw (le-ltb m.bound.0 n.bound.0 (split.0 zero no_mark (omega arith) (omega arith)))
+    (ap (λ xs. n ∷ xs) (insert-added ns m at (omega arith) (λ k d i j. split.0 (suc k) d (omega arith) (omega arith), λ k d i j. split.1 (suc k) d (omega arith) (omega arith))))
+
+-- a bound that is there is that of the last mark at or below it
+pub position-found : (b : ℕ) (marks : List Mark) (m : Mark) → Rising marks → last_mark b marks ≡ Some m → m.bound.0 ≡ b → HasBound marks b × (m.position ≡ place_of b marks)
+position-found b marks m rising found same =
+    let last = last_mark-is b marks m rising found in
+    (rw same at (HasBound-mark marks m last.listed), rw same at (sym (place_of-mark marks m rising last.listed)))
+
+pub position-apart : (b : ℕ) (marks : List Mark) (m : Mark) → Rising marks → last_mark b marks ≡ Some m → m.bound.0 ≢ b → HasBound marks b → ⊥
+position-apart b marks m rising found apart there =
+    let last = last_mark-is b marks m rising found in
+    let at = HasBound-contains marks b there in
+    let up = All-contains (λ n. n.bound.0 ≤ b → n.bound.0 ≤ m.bound.0) marks at.0 last.greatest at.1 (omega (arith, at.2)) in
+    apart (omega (arith, up, at.2, last.below))
+
+pub position-none : (b : ℕ) (marks : List Mark) → Rising marks → last_mark b marks ≡ None → HasBound marks b → ⊥
+position-none b marks rising none there =
+    let at = HasBound-contains marks b there in
+    let above = All-contains (λ n. b < n.bound.0) marks at.0 (last_mark-none b marks rising none) at.1 in
+    omega (arith, above, at.2)
+
+-- the marks behind a slice that was lent
+pub with_slice : (old new back : List Mark) (f : Mark → Mark) (len : ℕ) → len ≡ length old → new ≡ map f old → Rising (map f old) → Rising (take len (new ++ back))
+with_slice old new back f len long is rising = rw (take_at new back len (omega (arith, ap (λ (l : List Mark). length l) is, length-map old f)), is) rising
+
+-- one more piece
+pub pieces_more : (made : List PieceSize) (low : Bound) (from : ℕ) (marks : List Mark) (i : ℕ) (high : Bound) (to : ℕ) → i < length marks → made ++ pieces_from low from (drop i marks) high to ≡ (made ++ size_between low from (get_or marks i no_mark).bound (get_or marks i no_mark).position ∷ []) ++ pieces_from (get_or marks i no_mark).bound (get_or marks i no_mark).position (drop (i + 1) marks) high to
+pieces_more made low from marks i high to h =
+    let m = get_or marks i no_mark in
+    rw (drop_more marks i no_mark h) (sym (append_assoc made (size_between low from m.bound m.position ∷ []) (pieces_from m.bound m.position (drop (i + 1) marks) high to)))
+
+-- the marks behind one stand at or behind it
+pub behind_mark : (marks : List Mark) (i : ℕ) → i < length marks → Rising marks → All (λ (m : Mark). (get_or marks i no_mark).position ≤ m.position) (drop (i + 1) marks)
+behind_mark marks i h rising = λ k d l.
+    let inside : i + 1 + k < length marks = omega (arith, length-drop (i + 1) marks) in
+    let same : (get_or marks i no_mark).position ≡ (get_or marks i d).position = ap (λ (m : Mark). m.position) (get_or_default marks i no_mark d h) in
+    rw (get_or-drop (i + 1) marks k d, same) (rising i (i + 1 + k) d (omega arith) inside).positions

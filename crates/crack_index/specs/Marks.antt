@@ -1,0 +1,108 @@
+-- The bounds that divide a cracked column, each with the place at which it does.
+use Rattle.std.specs.Prelude.{ℕ, ◌+◌, ◌-◌, ◌<◌, ◌≤◌, ◌&&◌, ◌==◌, nat_lt, nat_le, cond, List, All, AllPairs, Contains, map, Option, Some, None, unwrap_or, [], ◌∷◌}
+use Rattle.std.specs.Option.{option_map}
+use Rattle.crack_row.specs.declared.Bound.{Bound}
+use Rattle.crack_row.specs.declared.layout.PieceSize.{PieceSize}
+use Rattle.crack_index.specs.declared.mark.Mark.{Mark}
+use Rattle.crack_index.specs.declared.index.Piece.{Piece}
+
+-- what contracts see of an index: its marks in rising order, and for how many more it has room
+pub record Index : Type 0 where
+  pub marks : List Mark
+  pub room : ℕ
+
+-- what stands beyond the last mark, where a list has to answer something
+abbrev pub no_mark : Mark
+no_mark = record { bound = record { 0 = 0 }; position = 0 }
+
+-- the first mark's bound is below the second's, and its place isn't behind the second's
+pub record InOrder (m n : Mark) : Type 0 where
+  pub bounds : m.bound.0 < n.bound.0
+  pub positions : m.position ≤ n.position
+
+-- the bounds rise strictly, and the places don't fall
+abbrev pub Rising : List Mark → Type 0
+Rising marks = AllPairs InOrder marks
+
+-- the mark's place lies between those of the bounds below and above its own
+pub record Fits (m : Mark) (marks : List Mark) : Type 0 where
+  pub behind : All (λ n. n.bound.0 < m.bound.0 → n.position ≤ m.position) marks
+  pub before : All (λ n. m.bound.0 < n.bound.0 → m.position ≤ n.position) marks
+
+-- the bounds alone, in their order
+abbrev pub bounds_of : List Mark → List ℕ
+bounds_of marks = map (λ (m : Mark). m.bound.0) marks
+
+-- the bound is there
+abbrev pub HasBound : List Mark → ℕ → Type 0
+HasBound marks bound = Contains (bounds_of marks) bound
+
+-- where the bound stands
+abbrev pub place_of : ℕ → List Mark → ℕ
+place_of bound [] = 0
+place_of bound (m ∷ ms) = cond (m.bound.0 == bound) m.position (place_of bound ms)
+
+-- the first mark whose bound is above the number
+abbrev pub next_mark : ℕ → List Mark → Option Mark
+next_mark number [] = None
+next_mark number (m ∷ ms) = cond (nat_lt number m.bound.0) (Some m) (next_mark number ms)
+
+-- the last mark before the first whose bound is above the number
+abbrev pub last_mark : ℕ → List Mark → Option Mark
+last_mark number [] = None
+last_mark number (m ∷ ms) = cond (nat_le m.bound.0 number) (Some (unwrap_or (last_mark number ms) m)) None
+
+-- a mark as a pair
+abbrev pub pair_of : Mark → Bound × ℕ
+pair_of m = (m.bound, m.position)
+
+-- where a piece begins: at the place of the mark below it, or at the column's front
+abbrev pub start_of : Option Mark → ℕ
+start_of None = 0
+start_of (Some m) = m.position
+
+-- where a piece ends: at the place of the mark above it, or at the end of a column of `len` rows
+abbrev pub end_of : ℕ → Option Mark → ℕ
+end_of len None = len
+end_of len (Some m) = m.position
+
+-- the piece whose keys hold the key, in a column of `len` rows
+abbrev pub piece_at : ℕ → ℕ → List Mark → Piece
+piece_at key len marks =
+    let low = last_mark key marks in
+    let high = next_mark key marks in
+    record { low = option_map (λ (m : Mark). m.bound) low; high = option_map (λ (m : Mark). m.bound) high; from = start_of low; to = end_of len high }
+
+-- the piece between two bounds that stand at these places
+abbrev pub size_between : Bound → ℕ → Bound → ℕ → PieceSize
+size_between low from high to = record { low = low; high = high; size = to - from }
+
+-- the pieces from a bound and its place on, by way of the marks, up to another
+abbrev pub pieces_from : Bound → ℕ → List Mark → Bound → ℕ → List PieceSize
+pieces_from low from [] high to = size_between low from high to ∷ []
+pieces_from low from (m ∷ ms) high to = size_between low from m.bound m.position ∷ pieces_from m.bound m.position ms high to
+
+-- the marks with one more, before the first whose bound is above its own
+abbrev pub added : Mark → List Mark → List Mark
+added m [] = m ∷ []
+added m (n ∷ ns) = cond (nat_lt m.bound.0 n.bound.0) (m ∷ n ∷ ns) (n ∷ added m ns)
+
+-- the mark one place further up
+abbrev pub one_up : Mark → Mark
+one_up m = record m { position = m.position + 1 }
+
+-- the mark one place further down
+abbrev pub one_down : Mark → Mark
+one_down m = record m { position = m.position - 1 }
+
+-- a bound at or above `low` that stands at the place moves up by one
+abbrev pub raised : ℕ → ℕ → Mark → Mark
+raised low place m = record m { position = cond (nat_le low m.bound.0 && (m.position == place)) (m.position + 1) m.position }
+
+-- a bound at or below `high` that stands at the place moves down by one
+abbrev pub lowered : ℕ → ℕ → Mark → Mark
+lowered high place m = record m { position = cond (nat_le m.bound.0 high && (m.position == place)) (m.position - 1) m.position }
+
+-- a bound that stands at the place moves down by one
+abbrev pub lowered_at : ℕ → Mark → Mark
+lowered_at place m = record m { position = cond (m.position == place) (m.position - 1) m.position }

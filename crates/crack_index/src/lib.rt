@@ -1,0 +1,10 @@
+//! The index of a cracked column: the bounds that divide it, each with the place at which it does
+//! ("Database Cracking", CIDR 2007).
+#![tactic(auto)]
+
+pub mod index;
+pub mod mark;
+mod sorted;
+
+pub use index::{CrackerIndex, Piece};
+pub use mark::Mark;

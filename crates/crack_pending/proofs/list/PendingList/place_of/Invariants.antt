@@ -1,0 +1,6 @@
+use Rattle.std.proofs.Common.{ℕ, ◌<◌}
+use Rattle.crack_pending.specs.Pending.{StandsAt}
+use Rattle.crack_pending.proofs.list.PendingList.place_of.Given as goal
+
+abbrev pub invariant-places : goal.invariant-places
+invariant-places g l = (k : ℕ) → k < l.place → ¬ StandsAt l.self-inside.list.handles k l.handle

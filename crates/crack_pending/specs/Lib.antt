@@ -1,0 +1,5 @@
+pub mod Gap
+pub mod Laws
+pub mod Marks
+pub mod Pending
+pub mod Searches

@@ -1,0 +1,199 @@
+//! The lists of pending rows.
+ghost use Rattle.std.specs.Prelude.{◌≡◌, ℕ, ◌+◌, ◌<◌, ◌≤◌, ◌↔◌, ◌∷◌, [], ◌++◌, length, All, IsTrue, IfSome, IfNone, IfErr, OnOk, OnErr, max, nat_lt};
+ghost use Rattle.std.specs.List.{remove};
+ghost use Rattle.crack_arena.specs.Arena.{times};
+ghost use Rattle.crack_pending.specs.Pending.{slots, AreApart, StandsAt, key_at, keys_at, Finds};
+
+use crate::gap::GapList;
+use crack_arena::{Arena, Handle};
+use crack_row::{Key, KeyRange, Refusal, Row};
+use std::alloc::Global;
+use std::marker::{Model, PhantomData};
+
+/// Says of a list that its rows are to be inserted.
+#[derive(Drop)]
+pub struct Insertions;
+
+/// Says of a list that its rows are to be deleted.
+#[derive(Drop)]
+pub struct Deletions;
+
+/// The rows that wait for a command to merge them into the cracker column.
+pub type PendingIn = PendingList<Insertions>;
+
+/// The rows that wait for a command to take them out of the cracker column.
+pub type PendingOut = PendingList<Deletions>;
+
+/// The handles of pending rows in the order of their arrival, each of a cell of its own, with a mark for each cell that
+/// says whether one of them names it (the pending columns of Idreos, Kersten and Manegold, Updating a cracked database,
+/// SIGMOD 2007).
+#[derive(Drop)]
+pub struct PendingList<Kind> {
+    list: GapList,
+    marks: Vec<bool>,
+    kind: PhantomData<Kind>,
+}
+
+impl<Kind> Model for PendingList<Kind> {
+    ghost use Rattle.std.specs.Prelude.{vec_len};
+    ghost use Rattle.crack_pending.specs.Pending.{Pending};
+    ghost use Rattle.crack_pending.specs.Marks.{AreMarked};
+
+    ghost Value = { Pending };
+
+    ghost view = { λ p. record { handles = p.list.handles; room = p.list.room; known = vec_len p.marks } };
+
+    ghost invariant = { λ p. AreMarked p.marks.items p.list.handles };
+}
+
+impl<Kind> PendingList<Kind> {
+    /// An empty list. It takes no memory.
+    pub fn new(alloc: Global) -> Self
+        ensures { result ≡ record { handles = []; room = 0; known = 0 } }
+    {
+        PendingList {
+            list: GapList::new(alloc),
+            marks: Vec::new(alloc),
+            kind: PhantomData,
+        }
+    }
+
+    /// Makes room for as many pushes; amortised O(1) for each of them. Refused with 8 alone.
+    pub fn reserve(&mut self, additional: usize) -> Result<(), Refusal>
+        ensures same { self.new ≡ record self.old { room = self.new.room } }
+        ensures room { OnOk result (additional ≤ self.new.room) }
+        ensures kept { self.old.room ≤ self.new.room }
+        ensures full { OnErr result (self.old.room < additional) }
+        ensures err { IfErr result (λ e. e ≡ Refusal.OutOfMemory) }
+    {
+        self.list.reserve(additional)
+    }
+
+    /// Gives each cell with a number below `cells` a mark; amortised O(1) for each new one. Refused with 8 alone.
+    pub fn cover(&mut self, cells: usize) -> Result<(), Refusal>
+        ensures ok { OnOk result (self.new ≡ record self.old { known = max self.old.known cells }) }
+        ensures same { OnErr result (self.new ≡ self.old) }
+        ensures full { OnErr result (self.old.known < cells) }
+        ensures err { IfErr result (λ e. e ≡ Refusal.OutOfMemory) }
+    {
+        if cells > self.marks.len() {
+            self.marks.resize(cells, false)?;
+        }
+        Ok(())
+    }
+
+    /// Puts the handle behind all others. Its cell has a mark, and no handle of the list names that cell. O(1).
+    pub fn push(&mut self, handle: Handle<Row>)
+        requires room { 0 < self.old.room }
+        requires known { handle.slot < self.old.known }
+        requires apart { times handle.slot (slots self.old.handles) ≡ 0 }
+        ensures handles { self.new.handles ≡ self.old.handles ++ handle ∷ [] }
+        ensures room { self.new.room + 1 ≡ self.old.room }
+        ensures known { self.new.known ≡ self.old.known }
+    {
+        self.list.push(handle);
+        let slot = handle.slot() as usize;
+        self.marks[slot] = true;
+    }
+
+    /// The handle at the place, counted from the first arrival. O(1).
+    pub fn at(&self, place: usize) -> Handle<Row>
+        requires { place < length self.now.handles }
+        ensures { StandsAt self.now.handles place result }
+    {
+        self.list.at(place)
+    }
+
+    /// Takes the handle at the place; the later ones close up, and its cell's mark is cleared. It takes no memory.
+    /// O(1) at the place of the last take, so taking k of i rows at rising places costs O(i + k) in all.
+    pub fn take(&mut self, place: usize) -> Handle<Row>
+        requires { place < length self.old.handles }
+        ensures value { StandsAt self.old.handles place result }
+        ensures handles { self.new.handles ≡ remove self.old.handles place }
+        ensures room { self.new.room ≡ self.old.room + 1 }
+        ensures known { self.new.known ≡ self.old.known }
+    {
+        let handle = self.list.take(place);
+        let slot = handle.slot() as usize;
+        self.marks[slot] = false;
+        handle
+    }
+
+    /// The first place whose row has its key in the range. O(len).
+    pub fn first_in(&self, range: KeyRange, arena: &Arena<Row>) -> Option<usize>
+        ensures { Finds range (keys_at arena.now.cells self.now.handles) 0 result }
+    {
+        self.next_in(range, 0, arena)
+    }
+
+    /// The first place at or after `from` whose row has its key in the range; O(1) for each place that it passes.
+    /// A command that takes rows goes on from where it took the last one, and so passes over the list once.
+    pub fn next_in(&self, range: KeyRange, from: usize, arena: &Arena<Row>) -> Option<usize>
+        ensures { Finds range (keys_at arena.now.cells self.now.handles) from result }
+    {
+        'places: for place in from..self.list.len() {
+            if range.contains(key_of(arena, self.list.at(place))) {
+                return Some(place);
+            }
+        }
+        None
+    }
+
+    /// The place of the handle. O(len) where a handle of its cell is in the list, else O(1).
+    pub fn place_of(&self, handle: Handle<Row>) -> Option<usize>
+        ensures found { IfSome result (λ place. StandsAt self.now.handles place handle) }
+        ensures none { IfNone result ((place : ℕ) → ¬ StandsAt self.now.handles place handle) }
+    {
+        if !self.contains(handle.slot()) {
+            return None;
+        }
+        'places: for place in 0..self.list.len() {
+            if self.list.at(place) == handle {
+                return Some(place);
+            }
+        }
+        None
+    }
+
+    /// Whether a handle of this cell is in the list. O(1).
+    pub fn contains(&self, slot: u32) -> bool
+        ensures { result ≡ nat_lt 0 (times slot (slots self.now.handles)) }
+    {
+        match self.marks.get(slot as usize) {
+            Some(mark) => *mark,
+            None => false,
+        }
+    }
+
+    /// How many handles.
+    pub fn len(&self) -> usize
+        ensures { result ≡ length self.now.handles }
+    {
+        self.list.len()
+    }
+
+    /// Whether there is no handle.
+    pub fn is_empty(&self) -> bool
+        ensures { IsTrue result ↔ (length self.now.handles ≡ 0) }
+    {
+        self.list.len() == 0
+    }
+
+    /// Does nothing. Its contract says what is so of every list.
+    pub fn facts(&self)
+        ensures apart { AreApart self.now.handles }
+        ensures known { All (λ h. h.slot < self.now.known) self.now.handles }
+    {
+        let _ = &self.list;
+    }
+}
+
+/// The key of the row that the handle reads, 0 where it reads none.
+fn key_of(arena: &Arena<Row>, handle: Handle<Row>) -> Key
+    ensures { result.0 ≡ key_at arena.now.cells handle }
+{
+    match arena.get(handle) {
+        Some(row) => row.key,
+        None => Key(0),
+    }
+}

@@ -1,0 +1,170 @@
+//! Pending rows stand in the order of their arrival, the later ones close up, and a mark says of each cell whether one of
+//! them names it.
+
+use crack_arena::{Arena, Handle};
+use crack_pending::{PendingIn, PendingList, PendingOut};
+use crack_row::{Key, KeyRange, Payload, Row, Serial};
+use std::alloc::Global;
+use std::process::Abort;
+use std::test::Fail;
+
+/// The handle of a new row with this key.
+fn put(rt: &impl Abort, arena: &mut Arena<Row>, key: u32) -> Result<Handle<Row>, Fail> {
+    let cells = arena.cells();
+    assert!(rt; cells < 2000);
+    Ok(arena.put(Row {
+        serial: Serial(key as u64),
+        key: Key(key),
+        payload: Payload(0),
+    })?)
+}
+
+fn push<Kind>(
+    rt: &impl Abort,
+    pending: &mut PendingList<Kind>,
+    handle: Handle<Row>,
+) -> Result<(), Fail> {
+    pending.reserve(1)?;
+    pending.cover(handle.slot() as usize + 1)?;
+    let there = pending.contains(handle.slot());
+    assert!(rt; !there);
+    pending.push(handle);
+    Ok(())
+}
+
+fn push_keys<Kind>(
+    rt: &impl Abort,
+    arena: &mut Arena<Row>,
+    pending: &mut PendingList<Kind>,
+    keys: &[u32],
+) -> Result<(), Fail> {
+    for key in keys {
+        let handle = put(rt, arena, *key)?;
+        push(rt, pending, handle)?;
+    }
+    Ok(())
+}
+
+fn at<Kind>(rt: &impl Abort, pending: &PendingList<Kind>, place: usize) -> Handle<Row> {
+    let length = pending.len();
+    assert!(rt; place < length);
+    pending.at(place)
+}
+
+fn take<Kind>(rt: &impl Abort, pending: &mut PendingList<Kind>, place: usize) -> Handle<Row> {
+    let length = pending.len();
+    assert!(rt; place < length);
+    pending.take(place)
+}
+
+fn key_of(arena: &Arena<Row>, handle: Handle<Row>) -> Option<u32> {
+    arena.get(handle).map(|row| row.key.0)
+}
+
+/// Asserts that the rows have these keys, in this order.
+fn assert_keys<Kind>(
+    rt: &impl Abort,
+    arena: &Arena<Row>,
+    pending: &PendingList<Kind>,
+    keys: &[u32],
+) {
+    assert_eq!(rt; pending.len(), keys.len());
+    for (place, key) in keys.iter().enumerate() {
+        assert_eq!(rt;
+            key_of(arena, at(rt, pending, place)),
+            Some(*key),
+            "at {place}"
+        );
+    }
+}
+
+fn finds<Kind: Drop>(
+    rt: &impl Abort,
+    alloc: Global,
+    mut pending: PendingList<Kind>,
+) -> Result<(), Fail> {
+    let mut arena = Arena::new(alloc);
+    push_keys(rt, &mut arena, &mut pending, &[40, 10, 30, 20])?;
+    for (low, high, first) in [(15, 35, Some(2)), (15, 30, Some(3)), (41, 50, None)] {
+        let range = KeyRange::new(low, high)?;
+        assert_eq!(rt; pending.first_in(range, &arena), first, "{low} {high}");
+    }
+    let range = KeyRange::new(15, 35)?;
+    for (from, next) in [(2, Some(2)), (3, Some(3)), (4, None)] {
+        assert_eq!(rt; pending.next_in(range, from, &arena), next, "from {from}");
+    }
+    Ok(())
+}
+
+fn closes_up<Kind: Drop>(
+    rt: &impl Abort,
+    alloc: Global,
+    mut pending: PendingList<Kind>,
+) -> Result<(), Fail> {
+    let mut arena = Arena::new(alloc);
+    push_keys(rt, &mut arena, &mut pending, &[40, 10, 30, 20])?;
+    let thirty = take(rt, &mut pending, 2);
+    assert_eq!(rt; key_of(&arena, thirty), Some(30));
+    assert_keys(rt, &arena, &pending, &[40, 10, 20]);
+    let forty = take(rt, &mut pending, 0);
+    assert_eq!(rt; key_of(&arena, forty), Some(40));
+    push(rt, &mut pending, thirty)?;
+    assert_keys(rt, &arena, &pending, &[10, 20, 30]);
+    Ok(())
+}
+
+fn marks<Kind: Drop>(
+    rt: &impl Abort,
+    alloc: Global,
+    mut pending: PendingList<Kind>,
+) -> Result<(), Fail> {
+    let mut arena = Arena::new(alloc);
+    assert!(rt; pending.is_empty());
+    push_keys(rt, &mut arena, &mut pending, &[40, 10])?;
+    assert!(rt; !pending.is_empty());
+    let ten = at(rt, &pending, 1);
+    assert!(rt; pending.contains(ten.slot()));
+    assert_eq!(rt; pending.place_of(ten), Some(1));
+    take(rt, &mut pending, 1);
+    assert!(rt; !pending.contains(ten.slot()));
+    assert_eq!(rt; pending.place_of(ten), None);
+    Ok(())
+}
+
+#[test]
+fn first_in_a_range(rt: HostRuntime) -> Result<(), Fail> {
+    finds(&rt, rt.alloc(), PendingIn::new(rt.alloc()))?;
+    finds(&rt, rt.alloc(), PendingOut::new(rt.alloc()))
+}
+
+#[test]
+fn later_ones_close_up(rt: HostRuntime) -> Result<(), Fail> {
+    closes_up(&rt, rt.alloc(), PendingIn::new(rt.alloc()))?;
+    closes_up(&rt, rt.alloc(), PendingOut::new(rt.alloc()))
+}
+
+#[test]
+fn a_mark_goes_with_its_row(rt: HostRuntime) -> Result<(), Fail> {
+    marks(&rt, rt.alloc(), PendingIn::new(rt.alloc()))?;
+    marks(&rt, rt.alloc(), PendingOut::new(rt.alloc()))
+}
+
+/// Of a thousand rows, taken at rising places, every second one stays.
+#[test]
+fn every_second_is_taken(rt: HostRuntime) -> Result<(), Fail> {
+    let mut arena = Arena::new(rt.alloc());
+    let mut pending = PendingIn::new(rt.alloc());
+    for key in 0..1000u32 {
+        push_keys(&rt, &mut arena, &mut pending, &[key])?;
+    }
+    for place in 0..500usize {
+        let handle = take(&rt, &mut pending, place);
+        assert_eq!(rt; key_of(&arena, handle), Some(2 * place as u32));
+    }
+    assert_eq!(rt; pending.len(), 500);
+    for place in 0..500usize {
+        let handle = at(&rt, &pending, place);
+        assert_eq!(rt; key_of(&arena, handle), Some(2 * place as u32 + 1));
+    }
+    Ok(())
+}
