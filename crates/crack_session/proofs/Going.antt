@@ -74,7 +74,7 @@ Going-start splits all s out = record {
   ends = refl;
   few = λ j e. absurd (let h : ◌≡◌ {A = Option ℕ} None (Some j) = e in cc);
   exact = λ _ x o e f. record { texts = []; left = x; are = refl; known_is = e; written_is = f ∙ ap Some (sym (append-nil o)) };
-  begins = λ j e. absurd (let h : ◌≡◌ {A = Option ℕ} None (Some j) = e in cc)
+  begins = λ j e. absurd (let h : ◌≡◌ {A = Option ℕ} None (Some j) = e in cc);
 }
 
 -- the bytes are as they were
@@ -89,7 +89,7 @@ Going-kept out out' g h = record {
   ends = g.ends;
   few = g.few;
   exact = λ n x o e f. let was = g.exact n x o e f in record { texts = was.texts; left = was.left; are = was.are; known_is = was.known_is; written_is = kept_known out out' _ h was.written_is };
-  begins = λ j b x o e f. Begins-kept out out' (g.begins j b x o e f) h
+  begins = λ j b x o e f. Begins-kept out out' (g.begins j b x o e f) h;
 }
 
 -- the same statements left
@@ -115,7 +115,7 @@ Begins-more {splits} {x} rs qs {j} {o} out out' more b h = record {
   refusal = b.refusal;
   short = b.short;
   more = b.more ++ more;
-  begins = appended out _ out' more b.begins h ∙ ap Some (append_assoc o (concat b.texts ++ (refusal_text b.refusal ++ b.more)) more ∙ ap (λ z. o ++ z) (append_assoc (concat b.texts) (refusal_text b.refusal ++ b.more) more ∙ ap (λ z. concat b.texts ++ z) (append_assoc (refusal_text b.refusal) b.more more)))
+  begins = appended out _ out' more b.begins h ∙ ap Some (append_assoc o (concat b.texts ++ (refusal_text b.refusal ++ b.more)) more ∙ ap (λ z. o ++ z) (append_assoc (concat b.texts) (refusal_text b.refusal ++ b.more) more ∙ ap (λ z. concat b.texts ++ z) (append_assoc (refusal_text b.refusal) b.more more)));
 }
 
 -- a want of room at the next statement
@@ -129,27 +129,29 @@ Begins-here {splits} {x} rs r {j} {o} out out' e a is short h = record {
   refusal = e;
   short = short;
   more = [];
-  begins = appended out _ out' (refusal_text e) a.written_is h ∙ ap Some (append_assoc o (concat a.texts) (refusal_text e) ∙ ap (λ z. o ++ (concat a.texts ++ z)) (sym (append-nil (refusal_text e))))
+  begins = appended out _ out' (refusal_text e) a.written_is h ∙ ap Some (append_assoc o (concat a.texts) (refusal_text e) ∙ ap (λ z. o ++ (concat a.texts ++ z)) (sym (append-nil (refusal_text e))));
 }
 
 -- where the first want of room stands, after one more statement
 begun : {splits : List Bound} {s0 s : Option (List PlainState)} {out0 out : Option (List ℕ)} (r : Reading) (old new : Progress) (s' : Option (List PlainState)) (out' : Option (List ℕ)) {all left : List Reading} (g : Going splits all (r ∷ left) old.statements old.first_short InputEnded s0 s out0 out) → Responds splits r old new (Ok tt) s s' out out' → new.statements ≡ old.statements + 1 → (o' : Option ℕ) → old.first_short ≡ o' → (j : ℕ) → new.first_short ≡ Some j → (j ≤ new.statements) × ((x : List PlainState) (o : List ℕ) → s0 ≡ Some x → out0 ≡ Some o → BeginsShort splits x (g.done ++ r ∷ []) j o out')
 begun {splits} {s0} {s} {out0} {out} r old new s' out' g a n None was j is =
     let at : new.first_short ≡ Some (old.statements + 1) = ⊎_elim
-        (λ (e : new.first_short ≡ None). let bad : ◌≡◌ {A = Option ℕ} None (Some j) = sym e ∙ is in cc)
-        (λ (e : new.first_short ≡ Some (old.statements + 1)). e)
-        (a.marked.1 was) in
-    let here : old.statements + 1 ≡ j = let both : ◌≡◌ {A = Option ℕ} (Some (old.statements + 1)) (Some j) = sym at ∙ is in cc in
-    (omega (arith, here, n),
-     λ x o e f.
-       let said = a.refused was at in
-       Begins-here g.done r out out' said.0 (g.exact was x o e f) (let c = g.count in omega (arith, c, here)) said.1 said.2)
+    (λ (e : new.first_short ≡ None). let bad : ◌≡◌ {A = Option ℕ} None (Some j) = sym e ∙ is in cc)
+    (λ (e : new.first_short ≡ Some (old.statements + 1)). e)
+    (a.marked.1 was) in
+    let here : old.statements + 1 ≡ j = let both : ◌≡◌ {A = Option ℕ} (Some (old.statements + 1)) (Some j) = sym at ∙ is in cc in (
+      omega (arith, here, n),
+      λ x o e f.
+          let said = a.refused was at in
+          Begins-here g.done r out out' said.0 (g.exact was x o e f) (let c = g.count in omega (arith, c, here)) said.1 said.2,
+    )
 begun {splits} {s0} {s} {out0} {out} r old new s' out' g a n (Some k) was j is =
     let at : new.first_short ≡ Some k = a.marked.0 k was in
     let same : k ≡ j = let both : ◌≡◌ {A = Option ℕ} (Some k) (Some j) = sym at ∙ is in cc in
-    let old_at : old.first_short ≡ Some j = was ∙ ap Some same in
-    (let h = g.few j old_at in omega (arith, h, n),
-     λ x o e f. Begins-more g.done (r ∷ []) out out' a.adds.0 (g.begins j old_at x o e f) a.adds.1)
+    let old_at : old.first_short ≡ Some j = was ∙ ap Some same in (
+      let h = g.few j old_at in omega (arith, h, n),
+      λ x o e f. Begins-more g.done (r ∷ []) out out' a.adds.0 (g.begins j old_at x o e f) a.adds.1,
+    )
 
 -- one more statement
 pub Going-more : {splits : List Bound} {all left : List Reading} {s0 s : Option (List PlainState)} {out0 out : Option (List ℕ)} (r : Reading) (old new : Progress) (s' : Option (List PlainState)) (out' : Option (List ℕ)) → Going splits all (r ∷ left) old.statements old.first_short InputEnded s0 s out0 out → Responds splits r old new (Ok tt) s s' out out' → new.statements ≡ old.statements + 1 → Going splits all left new.statements new.first_short (cond (is_quit r) Quit InputEnded) s0 s' out0 out'
@@ -160,16 +162,16 @@ Going-more {splits} {all} {left} {s0} {s} {out0} {out} r old new s' out' g a n =
   ends = ending-push g.done r;
   few = λ j is. (begun r old new s' out' g a n old.first_short refl j is).0;
   exact = λ none x o e f.
-    let was = g.exact (none_before old.first_short new.first_short a.marked.0 none) x o e f in
-    let now = a.exact none was.left was.known_is in
-    record {
-      texts = was.texts ++ now.1 ∷ [];
-      left = tables_then splits was.left r;
-      are = AreTexts-push splits x g.done was.texts was.left r now.1 was.are now.2;
-      known_is = now.0;
-      written_is = appended out _ out' now.1 was.written_is now.3 ∙ ap Some (append_assoc o (concat was.texts) now.1 ∙ ap (λ z. o ++ z) (sym (concat-push was.texts now.1)))
-    };
-  begins = λ j is. (begun r old new s' out' g a n old.first_short refl j is).1
+      let was = g.exact (none_before old.first_short new.first_short a.marked.0 none) x o e f in
+      let now = a.exact none was.left was.known_is in
+      record {
+        texts = was.texts ++ now.1 ∷ [];
+        left = tables_then splits was.left r;
+        are = AreTexts-push splits x g.done was.texts was.left r now.1 was.are now.2;
+        known_is = now.0;
+        written_is = appended out _ out' now.1 was.written_is now.3 ∙ ap Some (append_assoc o (concat was.texts) now.1 ∙ ap (λ z. o ++ z) (sym (concat-push was.texts now.1)));
+      };
+  begins = λ j is. (begun r old new s' out' g a n old.first_short refl j is).1;
 }
 
 -- a session that ended
@@ -183,9 +185,9 @@ Going-served bytes o x end {splits} {k} {short} {how} {s0} {s} {out0} {out} g fs
     let all : g.done ≡ statements bytes = sym (g.split ∙ append-nil g.done) in
     record {
       exact = λ none.
-        let was = g.exact (sym fs ∙ none) x o e f in
-        (was.texts, was.left, subst (λ (rs : List Reading). AreTexts splits x rs was.texts was.left) all was.are, was.written_is, was.known_is);
-      begins = λ j is. subst (λ (rs : List Reading). BeginsShort splits x rs j o out) all (g.begins j (sym fs ∙ is) x o e f)
+          let was = g.exact (sym fs ∙ none) x o e f in
+          (was.texts, was.left, subst (λ (rs : List Reading). AreTexts splits x rs was.texts was.left) all was.are, was.written_is, was.known_is);
+      begins = λ j is. subst (λ (rs : List Reading). BeginsShort splits x rs j o out) all (g.begins j (sym fs ∙ is) x o e f);
     }
 
 -- the first statements are those that are done, and the others are left
@@ -208,7 +210,7 @@ fault_begins bytes o x {splits} done left j d out split few b =
       refusal = b.refusal;
       short = b.short;
       more = b.more;
-      begins = b.begins
+      begins = b.begins;
     }
 
 -- a session that was cut off between two answers
@@ -218,12 +220,16 @@ Going-cut bytes o x fault {splits} {left} {k} {short} {how} {s0} {s} {out0} {out
     record {
       within = let l = ap length g.split in let l2 = length-append g.done left in let c = g.count in omega (arith, l, l2, c, d);
       exact = λ none.
-        let was = g.exact (sym fs ∙ none) x o e f in
-        (was.texts, was.left, subst (λ (rs : List Reading). AreTexts splits x rs was.texts was.left) first.0 was.are, [],
-         was.written_is ∙ ap (λ z. Some (o ++ z)) (sym (append-nil (concat was.texts))),
-         inl (refl, was.known_is));
+          let was = g.exact (sym fs ∙ none) x o e f in (
+            was.texts,
+            was.left,
+            subst (λ (rs : List Reading). AreTexts splits x rs was.texts was.left) first.0 was.are,
+            [],
+            was.written_is ∙ ap (λ z. Some (o ++ z)) (sym (append-nil (concat was.texts))),
+            inl (refl, was.known_is),
+          );
       next = λ at. let h = g.few (fault.done + 1) (sym fs ∙ at) in absurd (omega (arith, h, d));
-      begins = λ j is. fault_begins bytes o x g.done left j fault.done out g.split (let h = g.few j (sym fs ∙ is) in omega (arith, h, d)) (g.begins j (sym fs ∙ is) x o e f)
+      begins = λ j is. fault_begins bytes o x g.done left j fault.done out g.split (let h = g.few j (sym fs ∙ is) in omega (arith, h, d)) (g.begins j (sym fs ∙ is) x o e f);
     }
 
 -- and within one
@@ -237,9 +243,9 @@ old_none (Some k) m n d h l e is =
 cut_begins : (bytes o : List ℕ) (x : List PlainState) (fault : Fault) {splits : List Bound} {left : List Reading} {s0 s : Option (List PlainState)} {out0 out : Option (List ℕ)} (r : Reading) (old new : Progress) (problem : Refusal) (s' : Option (List PlainState)) (out' : Option (List ℕ)) → Going splits (statements bytes) (r ∷ left) old.statements old.first_short InputEnded s0 s out0 out → Responds splits r old new (Err problem) s s' out out' → fault.done ≡ old.statements → s0 ≡ Some x → out0 ≡ Some o → (o' : Option ℕ) → old.first_short ≡ o' → (j : ℕ) → new.first_short ≡ Some j → (j ≡ fault.done + 1) ⊎ ((j ≤ fault.done) × BeginsShort splits x (statements bytes) j o out')
 cut_begins bytes o x fault {splits} {left} {s0} {s} {out0} {out} r old new problem s' out' g a d e f None was j is =
     inl (⊎_elim
-        (λ (h : new.first_short ≡ None). let bad : ◌≡◌ {A = Option ℕ} None (Some j) = sym h ∙ is in cc)
-        (λ (h : new.first_short ≡ Some (old.statements + 1)). let same : old.statements + 1 ≡ j = (let both : ◌≡◌ {A = Option ℕ} (Some (old.statements + 1)) (Some j) = sym h ∙ is in cc) in omega (arith, same, d))
-        (a.marked.1 was))
+    (λ (h : new.first_short ≡ None). let bad : ◌≡◌ {A = Option ℕ} None (Some j) = sym h ∙ is in cc)
+    (λ (h : new.first_short ≡ Some (old.statements + 1)). let same : old.statements + 1 ≡ j = (let both : ◌≡◌ {A = Option ℕ} (Some (old.statements + 1)) (Some j) = sym h ∙ is in cc) in omega (arith, same, d))
+    (a.marked.1 was))
 cut_begins bytes o x fault {splits} {left} {s0} {s} {out0} {out} r old new problem s' out' g a d e f (Some k) was j is =
     let at : new.first_short ≡ Some k = a.marked.0 k was in
     let same : k ≡ j = let both : ◌≡◌ {A = Option ℕ} (Some k) (Some j) = sym at ∙ is in cc in
@@ -253,20 +259,31 @@ Going-cut_in bytes o x fault {splits} {left} {s0} {s} {out0} {out} r old new pro
     record {
       within = let l = ap length g.split in let l2 = length-append g.done (r ∷ left) in let c = g.count in omega (arith, l, l2, c, d);
       exact = λ none.
-        let new_none : new.first_short ≡ None = sym fs ∙ none in
-        let was = g.exact (none_before old.first_short new.first_short a.marked.0 new_none) x o e f in
-        let now = a.exact new_none was.left was.known_is in
-        (was.texts, was.left, subst (λ (rs : List Reading). AreTexts splits x rs was.texts was.left) first.0 was.are, take now.3.0 now.1,
-         appended out _ out' _ was.written_is now.3.1 ∙ ap Some (append_assoc o (concat was.texts) (take now.3.0 now.1)),
-         inr (w, r, left, sym first.1, now.1, now.2, now.3.0, refl, now.0));
+          let new_none : new.first_short ≡ None = sym fs ∙ none in
+          let was = g.exact (none_before old.first_short new.first_short a.marked.0 new_none) x o e f in
+          let now = a.exact new_none was.left was.known_is in (
+            was.texts,
+            was.left,
+            subst (λ (rs : List Reading). AreTexts splits x rs was.texts was.left) first.0 was.are,
+            take now.3.0 now.1,
+            appended out _ out' _ was.written_is now.3.1 ∙ ap Some (append_assoc o (concat was.texts) (take now.3.0 now.1)),
+            inr (w, r, left, sym first.1, now.1, now.2, now.3.0, refl, now.0),
+          );
       next = λ at.
-        let new_at : new.first_short ≡ Some (fault.done + 1) = sym fs ∙ at in
-        let none = old_none old.first_short new.first_short old.statements fault.done a.marked.0 g.few d new_at in
-        let was = g.exact none x o e f in
-        let said = a.refused none (new_at ∙ ap (λ n. Some (n + 1)) d) in
-        (was.texts, was.left, subst (λ (rs : List Reading). AreTexts splits x rs was.texts was.left) first.0 was.are, w, said.0, said.1, said.2.0,
-         appended out _ out' _ was.written_is said.2.1 ∙ ap Some (append_assoc o (concat was.texts) (take said.2.0 (refusal_text said.0))));
-      begins = λ j is. cut_begins bytes o x fault r old new problem s' out' g a d e f old.first_short refl j (sym fs ∙ is)
+          let new_at : new.first_short ≡ Some (fault.done + 1) = sym fs ∙ at in
+          let none = old_none old.first_short new.first_short old.statements fault.done a.marked.0 g.few d new_at in
+          let was = g.exact none x o e f in
+          let said = a.refused none (new_at ∙ ap (λ n. Some (n + 1)) d) in (
+            was.texts,
+            was.left,
+            subst (λ (rs : List Reading). AreTexts splits x rs was.texts was.left) first.0 was.are,
+            w,
+            said.0,
+            said.1,
+            said.2.0,
+            appended out _ out' _ was.written_is said.2.1 ∙ ap Some (append_assoc o (concat was.texts) (take said.2.0 (refusal_text said.0))),
+          );
+      begins = λ j is. cut_begins bytes o x fault r old new problem s' out' g a d e f old.first_short refl j (sym fs ∙ is);
     }
 
 -- a session goes on behind a statement, or ends at a quit

@@ -1,4 +1,5 @@
 pub mod Feeds
+pub mod Finishing
 pub mod Following
 pub mod Going
 pub mod Reading

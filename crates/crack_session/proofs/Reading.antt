@@ -41,7 +41,7 @@ SoFar-more {u} {line} xs known line' s none grown =
       split = s.split ∙ ap (λ z. s.front ++ z) parts.2 ∙ sym (append_assoc s.front xs parts.0);
       none = has_feed-append s.front xs s.none ∙ none;
       kept = grown ∙ ap (λ z. kept_of (z ++ xs)) s.kept ∙ take-take-append 202 s.front xs;
-      new_is = parts.1
+      new_is = parts.1;
     }
 
 -- a line feed came
@@ -54,10 +54,11 @@ SoFar-found {u} {line} xs known line' xs' s found grown left =
     let some : 0 < length xs = has_feed_some xs found in
     let l1 = ap length whole in
     let l2 = length-append s.front (xs ++ parts.0) in
-    let l3 = length-append xs parts.0 in
-    (omega (arith, l1, l2, l3, some),
-     grown ∙ ap (λ z. kept_of (z ++ first_line xs)) s.kept ∙ take-take-append 202 s.front (first_line xs) ∙ ap kept_of (sym first),
-     rw (parts.1, left, after) refl)
+    let l3 = length-append xs parts.0 in (
+      omega (arith, l1, l2, l3, some),
+      grown ∙ ap (λ z. kept_of (z ++ first_line xs)) s.kept ∙ take-take-append 202 s.front (first_line xs) ∙ ap kept_of (sym first),
+      rw (parts.1, left, after) refl,
+    )
 
 -- the input has ended with nothing taken
 pub SoFar-none : {u line : List ℕ} (known : Option (List ℕ)) → SoFar u known line → ((v : List ℕ) → known ≡ Some v → v ≡ []) → length line ≡ 0 → u ≡ []
@@ -72,10 +73,11 @@ SoFar-last {u} {line} known s ended some =
     let e : s.rest ≡ [] = ended s.rest s.new_is in
     let whole : u ≡ s.front = s.split ∙ ap (λ z. s.front ++ z) e ∙ append-nil s.front in
     let none : has_feed u ≡ false = ap has_feed whole ∙ s.none in
-    let l = ap length s.kept ∙ length-take 202 s.front in
-    (omega (arith, l, ap length whole, some),
-     s.kept ∙ ap kept_of (sym whole) ∙ ap kept_of (sym (all_first_line u none)),
-     ap (prepend_known []) (s.new_is ∙ ap Some (e ∙ sym (none_after u none))))
+    let l = ap length s.kept ∙ length-take 202 s.front in (
+      omega (arith, l, ap length whole, some),
+      s.kept ∙ ap kept_of (sym whole) ∙ ap kept_of (sym (all_first_line u none)),
+      ap (prepend_known []) (s.new_is ∙ ap Some (e ∙ sym (none_after u none))),
+    )
 
 -- what is behind a line feed is shorter
 pub after_line-shorter : (xs : List ℕ) → has_feed xs ≡ true → length (after_line xs) < length xs
@@ -107,11 +109,13 @@ IsPaid-taken start old new known0 known paid reads ended = λ goes_on.
 pub IsPaid-then : (start old new : Input) (known0 known known' : Option (List ℕ)) → IsPaid start old known0 known → IsPaid old new known known' → IsPaid start new known0 known'
 IsPaid-then start old new known0 known known' first second = λ goes_on.
     let now = second goes_on in
-    let was = first now.0 in
-    (was.0, λ bytes e.
-      let held = was.1 bytes e in
-      let more = now.1 held.0 held.1 in
-      (more.0, more.1, omega (arith, held.2, more.2)))
+    let was = first now.0 in (
+      was.0,
+      λ bytes e.
+          let held = was.1 bytes e in
+          let more = now.1 held.0 held.1 in
+          (more.0, more.1, omega (arith, held.2, more.2)),
+    )
 
 -- known bytes stay as they are
 pub Keeps-start : (known : Option (List ℕ)) → Keeps known known

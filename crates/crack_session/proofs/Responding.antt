@@ -59,9 +59,9 @@ pub Responds-from : (splits : List Bound) (reading : Reading) (a : Answer) (old 
 Responds-from splits reading a old new r s s' out out' m plain sends = record {
   marked = (stays _ _ _ _ m, one_of _ _ _ _ m);
   exact = λ none x is.
-    let long : is_short_answer a ≡ false = unmarked old.first_short (old.statements + 1) (is_short_answer a) (sym m ∙ none) in
-    let both = plain x is long in
-    (both.1, answer_text a, (a, both.0, refl), sends);
+      let long : is_short_answer a ≡ false = unmarked old.first_short (old.statements + 1) (is_short_answer a) (sym m ∙ none) in
+      let both = plain x is long in
+      (both.1, answer_text a, (a, both.0, refl), sends);
   refused = λ none here. cut_refusal a r out out' (was_short _ _ _ _ m none here) sends;
-  adds = adds_some (answer_text a) r out out' sends
+  adds = adds_some (answer_text a) r out out' sends;
 }

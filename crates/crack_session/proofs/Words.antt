@@ -69,19 +69,19 @@ nothing_left (x ∷ xs) n within empty front space =
 pub first_word : (bytes xs : List ℕ) (n : ℕ) → words xs ≡ words bytes → (get_or xs 0 0 ≡ 32 → ⊥) → n ≤ length xs → has_space (take n xs) ≡ false → (n < length xs → get_or xs n 0 ≡ 32) → IsFirstWord bytes (take n xs) (drop n xs)
 first_word bytes xs n same front within none space = record {
   some = λ some. ⊎_elim
-    (λ (below : n < length xs).
+      (λ (below : n < length xs).
       let rest : drop n xs ≡ 32 ∷ drop (n + 1) xs = drop_more xs n 0 below ∙ ap (λ b. b ∷ drop (n + 1) xs) (space below) in
       let whole : xs ≡ take n xs ++ 32 ∷ drop (n + 1) xs = sym (take-append-drop n xs) ∙ ap (λ r. take n xs ++ r) rest in
       sym same ∙ ap words whole ∙ words_front (take n xs) (drop (n + 1) xs) none some ∙ ap (λ r. take n xs ∷ words r) (sym rest))
-    (λ (past : length xs ≤ n).
+      (λ (past : length xs ≤ n).
       let rest : drop n xs ≡ [] = drop_all n xs past in
       let whole : xs ≡ take n xs = sym (take-append-drop n xs) ∙ ap (λ r. take n xs ++ r) rest ∙ append-nil (take n xs) in
       sym same ∙ ap words whole ∙ words_end (take n xs) none some ∙ ap (λ r. take n xs ∷ words r) (sym rest))
-    (cases_lt n (length xs));
+      (cases_lt n (length xs));
   none = λ none'.
-    let empty : take n xs ≡ [] = no_text (take n xs) none' in
-    let nothing = nothing_left xs n within empty front space in
-    (sym same ∙ ap words nothing, ap (λ z. words (drop n z)) nothing ∙ ap words (drop-nil n))
+      let empty : take n xs ≡ [] = no_text (take n xs) none' in
+      let nothing = nothing_left xs n within empty front space in
+      (sym same ∙ ap words nothing, ap (λ z. words (drop n z)) nothing ∙ ap words (drop-nil n));
 }
 
 -- digits

@@ -16,8 +16,8 @@ pub fn send<W: Write>(writer: &mut Watched<W>, bytes: &[u8]) -> Result<(), Refus
     let mut done = 0;
     'sending: while done < bytes.len() {
         match writer.write(&bytes[done..]) {
-            Ok(0) | Err(_) => return Err(Refusal::WriteFault),
-            Ok(count) => done += count,
+            Ok(count) if count > 0 => done += count,
+            _ => return Err(Refusal::WriteFault),
         }
     }
     Ok(())

@@ -57,9 +57,7 @@ struct Progress {
 impl Progress {
     /// A session that ends here.
     fn end(self, how: How) -> End
-        ensures how { result.how ≡ how }
-        ensures statements { result.statements ≡ self.statements }
-        ensures short { result.first_short ≡ self.first_short }
+        ensures { result ≡ record { how = how; statements = self.statements; first_short = self.first_short } }
     {
         End {
             how,
@@ -70,9 +68,7 @@ impl Progress {
 
     /// A session that is cut off here.
     fn fault(self, refusal: Refusal) -> Fault
-        ensures refusal { result.refusal ≡ refusal }
-        ensures done { result.done ≡ self.statements }
-        ensures short { result.first_short ≡ self.first_short }
+        ensures { result ≡ record { refusal = refusal; done = self.statements; first_short = self.first_short } }
     {
         Fault {
             refusal,
@@ -120,6 +116,20 @@ fn respond<D: Desk, W: Write>(
     }
 }
 
+/// Ends a session, once what is written is handed on.
+fn finish<W: Write>(writer: &mut Watched<W>, progress: Progress, how: How) -> Result<End, Fault>
+    ensures end { IfOk result (λ end. end ≡ record { how = how; statements = progress.statements; first_short = progress.first_short }) }
+    ensures fault { IfErr result (λ fault. fault ≡ record { refusal = Refusal.WriteFault; done = progress.statements; first_short = progress.first_short }) }
+    ensures bytes { Keeps (W.contents (device writer.old)) (W.contents (device writer.new)) }
+    ensures unfailed { OnOk result (has_failed writer.new ≡ has_failed writer.old) }
+    ensures failed { OnErr result (has_failed writer.new ≡ true) }
+{
+    match flush(writer) {
+        Ok(()) => Ok(progress.end(how)),
+        Err(refusal) => Err(progress.fault(refusal)),
+    }
+}
+
 /// Answers the statements of a reader, each whole line before it reads again, until its input ends or a statement
 /// is `quit`; what was read beyond that is dropped. Every statement goes to partition 0 of the desk.
 /// What is written is handed on (`flush`) before each read and at the end.
@@ -147,7 +157,7 @@ pub fn serve<D: Desk, R: Read, W: Write>(
     // It is cut off only where a device failed, or behind the last read that it may make, each of which brought a byte.
     ensures causes { IfErr result (λ fault. ((fault.refusal ≡ Refusal.WriteFault) × (has_failed writer.new ≡ true))
         ⊎ ((fault.refusal ≡ Refusal.ReadFault) × ((bytes : List ℕ) → R.remaining (device reader.old) ≡ Some bytes →
-            (has_failed reader.new ≡ true) ⊎ (MOST_READS ≤ length bytes)))) }
+        (has_failed reader.new ≡ true) ⊎ (MOST_READS ≤ length bytes)))) }
 {
     let mut input = LineReader::new();
     let mut progress = Progress {
@@ -157,7 +167,7 @@ pub fn serve<D: Desk, R: Read, W: Write>(
     'lines: loop {
         let line = match next_line(&mut input, reader, writer) {
             Err(refusal) => return Err(progress.fault(refusal)),
-            Ok(None) => return Ok(progress.end(How::InputEnded)),
+            Ok(None) => return finish(writer, progress, How::InputEnded),
             Ok(Some(line)) => line,
         };
         if let Some(reading) = read_line(line.as_slice()) {
@@ -165,10 +175,7 @@ pub fn serve<D: Desk, R: Read, W: Write>(
                 return Err(progress.fault(refusal));
             }
             if says_quit(&reading) {
-                if let Err(refusal) = flush(writer) {
-                    return Err(progress.fault(refusal));
-                }
-                return Ok(progress.end(How::Quit));
+                return finish(writer, progress, How::Quit);
             }
         }
     }

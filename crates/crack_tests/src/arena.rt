@@ -30,7 +30,10 @@ fn freed_cell_is_used_again(rt: HostRuntime) -> Result<(), Fail> {
     assert_eq!(rt; arena.get(a).copied(), None);
     assert_eq!(rt; arena.get(b).copied(), Some('b'));
     assert_eq!(rt; arena.get(c).copied(), Some('c'));
-    assert_eq!(rt; (arena.cells(), arena.free_cells(), arena.freed()), (2, 0, 1));
+    assert_eq!(rt;
+        (arena.cells(), arena.free_cells(), arena.freed()),
+        (2, 0, 1)
+    );
     Ok(())
 }
 
@@ -42,10 +45,17 @@ fn last_freed_is_used_first(rt: HostRuntime) -> Result<(), Fail> {
     put(&rt, &mut arena, 'c')?;
     assert_eq!(rt; free(&rt, &mut arena, b), Some('b'));
     assert_eq!(rt; free(&rt, &mut arena, a), Some('a'));
-    assert_eq!(rt; (arena.cells(), arena.free_cells(), arena.freed()), (3, 2, 2));
+    assert_eq!(rt;
+        (arena.cells(), arena.free_cells(), arena.freed()),
+        (3, 2, 2)
+    );
     for (value, slot, generation) in [('d', 0, 1), ('e', 1, 1), ('f', 3, 0)] {
         let handle = put(&rt, &mut arena, value)?;
-        assert_eq!(rt; (handle.slot(), handle.generation()), (slot, generation), "of {value}");
+        assert_eq!(rt;
+            (handle.slot(), handle.generation()),
+            (slot, generation),
+            "of {value}"
+        );
     }
     Ok(())
 }
@@ -60,7 +70,10 @@ fn set_on_a_spent_handle_changes_nothing(rt: HostRuntime) -> Result<(), Fail> {
     let b = put(&rt, &mut arena, 'b')?;
     assert_eq!(rt; arena.set(a, 'z'), Err('z'));
     assert_eq!(rt; arena.get(b).copied(), Some('b'));
-    assert_eq!(rt; (arena.cells(), arena.free_cells(), arena.freed()), (1, 0, 1));
+    assert_eq!(rt;
+        (arena.cells(), arena.free_cells(), arena.freed()),
+        (1, 0, 1)
+    );
     Ok(())
 }
 
@@ -69,8 +82,12 @@ fn reserved_puts_succeed(rt: HostRuntime) -> Result<(), Fail> {
     let mut arena = Arena::new(rt.alloc());
     arena.reserve(3)?;
     let a = arena.put_reserved('a');
-    let Ok(b) = arena.put('b') else { unreachable!() };
-    let Ok(c) = arena.put('c') else { unreachable!() };
+    let Ok(b) = arena.put('b') else {
+        unreachable!()
+    };
+    let Ok(c) = arena.put('c') else {
+        unreachable!()
+    };
     assert_eq!(rt; (a.slot(), b.slot(), c.slot()), (0, 1, 2));
     assert_eq!(rt; arena.get(b).copied(), Some('b'));
     Ok(())

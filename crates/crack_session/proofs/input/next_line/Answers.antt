@@ -32,15 +32,15 @@ reading-preserved g c =
     let refilled = c.in_ok-refill.ensures.reads in
     record {
       so_far = λ u e.
-        let more = SoFar-more c.reading.input.unread (g.R.Read.remaining (device c.reading.reader)) c.take_line.new.line (c.reading.invariant.so_far u e) (sym c.if-take_line.ensures.found) c.if-take_line.ensures.line in
-        SoFar-read (g.R.Read.remaining (device c.reading.reader)) _ more c.in_ok-refill.ensures.bytes;
+          let more = SoFar-more c.reading.input.unread (g.R.Read.remaining (device c.reading.reader)) c.take_line.new.line (c.reading.invariant.so_far u e) (sym c.if-take_line.ensures.found) c.if-take_line.ensures.line in
+          SoFar-read (g.R.Read.remaining (device c.reading.reader)) _ more c.in_ok-refill.ensures.bytes;
       falls = omega (arith, refilled, c.refill.ensures.few, c.if-take_line.ensures.reads.0, c.reading.invariant.falls);
       some = λ _. omega (arith, refilled, c.refill.ensures.few, c.if-take_line.ensures.reads.0, c.reading.invariant.falls);
       end = c.refill.ensures.end;
       paid = IsPaid-then c.args.input.now c.take_line.new.self c.refill.new.self _ _ _
-        (IsPaid-taken c.args.input.now c.reading.input c.take_line.new.self _ _ c.reading.invariant.paid c.if-take_line.ensures.reads.0 c.if-take_line.ensures.reads.1)
-        c.refill.ensures.paid;
+          (IsPaid-taken c.args.input.now c.reading.input c.take_line.new.self _ _ c.reading.invariant.paid c.if-take_line.ensures.reads.0 c.if-take_line.ensures.reads.1)
+          c.refill.ensures.paid;
       bytes = Keeps-then _ _ _ c.reading.invariant.bytes c.flush.ensures.bytes;
       reader = c.in_ok-refill.ensures.unfailed ∙ c.reading.invariant.reader;
-      writer = c.in_ok.ensures.unfailed ∙ c.reading.invariant.writer
+      writer = c.in_ok-flush.ensures.unfailed ∙ c.reading.invariant.writer;
     }

@@ -1,6 +1,6 @@
-use Rattle.std.proofs.Common.{length, ◌-◌, ◌≤◌, take}
+use Rattle.std.proofs.Common.{◌≡◌, length, ◌-◌, ◌≤◌, take}
 use Rattle.std.specs.Io.KnownBytes.{Appends}
-use Rattle.crack_row.specs.Devices.{device}
+use Rattle.crack_row.specs.Devices.{device, has_failed}
 use Rattle.crack_session.proofs.output.send.Given as goal
 
 abbrev pub invariant-sending : goal.invariant-sending

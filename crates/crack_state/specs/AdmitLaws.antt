@@ -1,0 +1,268 @@
+-- A new row at the back of the pending insertions keeps a store intact, and is the one more that commands see.
+use Rattle.std.proofs.Common.{◌≡◌, ◌≢◌, ℕ, ◌+◌, ◌-◌, ◌<◌, ◌≤◌, ◌^◌, Bool, true, false, eqb, ltb, List, [], ◌∷◌, ◌++◌, length, get_or, set, drop, cond, Some, None, refl, sym, ap, ◌∙◌, inl, inr, arith, length-set, zero-add}
+use Rattle.std.specs.Prelude.{◌==◌, IfSome}
+use Rattle.std.specs.List.{All}
+use Rattle.std.specs.List.Sorted.{IsPermutation}
+use Rattle.std.proofs.lemmas.List.Sorted.{IsPermutation-sym, IsPermutation-to_front}
+use Rattle.std.proofs.lemmas.List.Sums.{sum_by-set, sum_by_push}
+use Rattle.std.proofs.lemmas.List.{get_or-set_other, get_or-set_same, get_or_past, get_or_push, get_or_append_left, length_push}
+use Rattle.std.proofs.lemmas.List.Elements.{All-nil, All-cons, All-push, All-set, All-head, All-tail}
+use Rattle.std.proofs.lemmas.Bool.{cases_eq, cases_lt, ne_eqb, eq-eqb, eqb-true, lt-ltb, le-ltb}
+use Rattle.crack_row.specs.Ranges.{IsIn}
+use Rattle.crack_row.specs.declared.Row.{Row}
+use Rattle.crack_arena.specs.Arena.{Cell, Handle, times, read, cell_at, empty_cell, handle_for, cells_with}
+use Rattle.crack_arena.specs.Times.{times-nil, times-cons, times_one, times_other, times_head, times_apart, times-append}
+use Rattle.crack_state.specs.State.{State, slots, places, Reads, IsOwned, IsIntact, IsKeyed, IsLiveAt, AreEmpty, AreWithin, handle_of, freed_of, live_from, live_rows}
+use Rattle.crack_state.specs.Steps.{next_handle, admitted, IsAdmissible}
+use Rattle.crack_state.specs.OwnedLaws.{times-places, times-pushed}
+use Rattle.crack_state.specs.CellLaws.{AgreeOff, read-off, Reads-off, keys-off, Remembers-off, read-value}
+use Rattle.crack_state.specs.LiveLaws.{live_from-less, live_from-push}
+
+-- one cell got a value, and no other changed
+pub record Filled (cells after : List (Cell Row)) (h : Handle) (r : Row) : Type 0 where
+  pub cell : cell_at after h.slot ≡ record { generation = h.generation; value = Some r }
+  pub others : AgreeOff h.slot cells after
+
+-- no list but that of the free numbers has the number
+pub record IsUnused (s : State) (slot : ℕ) : Type 0 where
+  pub column : times slot (slots s.column) ≡ 0
+  pub pending : times slot (slots s.pending_in) ≡ 0
+  pub doomed : times slot (slots s.pending_out) ≡ 0
+
+-- a free number is that of a cell
+free_within : (s : State) (n : ℕ) → 0 < times n s.free → IsOwned s.cells s.free s.column s.pending_in s.pending_out [] → n < length s.cells
+free_within s n listed owned = elim (cases_lt n (length s.cells)) [
+  | inl l ↦ l
+  | inr l ↦ let none : times n (places s []) ≡ 0 = owned.once n ∙ rw (le-ltb n (length s.cells) l) refl in absurd (omega (arith, times-places n s.column s.pending_in s.free []))
+]
+
+pub filled : (s : State) (r : Row) (free : List ℕ) → s.free ≡ free → IsOwned s.cells s.free s.column s.pending_in s.pending_out [] → Filled s.cells (cells_with r s.cells free) (handle_for s.cells free) r
+filled s r [] is owned =
+    let c : Cell Row = record { generation = 0; value = Some r } in
+    record {
+      cell = get_or_push s.cells c empty_cell (length s.cells) refl;
+      others = λ m ne. elim (cases_lt m (length s.cells)) [
+        | inl l ↦ get_or_append_left s.cells (c ∷ []) empty_cell m l
+        | inr l ↦ get_or_past (s.cells ++ c ∷ []) m empty_cell (omega (arith, length_push s.cells c, ne)) ∙ sym (get_or_past s.cells m empty_cell l)
+      ];
+    }
+filled s r (n ∷ ns) is owned =
+    let c : Cell Row = record { generation = (cell_at s.cells n).generation; value = Some r } in
+    let within = free_within s n (rw is (omega (arith, times_head n ns))) owned in
+    record {
+      cell = get_or-set_same s.cells n c empty_cell within;
+      others = λ m ne. get_or-set_other s.cells n m c empty_cell ne;
+    }
+
+pub unused : (s : State) (free : List ℕ) → s.free ≡ free → IsOwned s.cells s.free s.column s.pending_in s.pending_out [] → IsUnused s (handle_for s.cells free).slot
+unused s [] is owned =
+    let n = length s.cells in
+    let none : times n (places s []) ≡ 0 = owned.once n ∙ rw (le-ltb n n (omega arith)) refl in
+    let all = times-places n s.column s.pending_in s.free [] in
+    record { column = omega arith; pending = omega arith; doomed = omega (arith, owned.doomed_once n, times-append n (slots s.column) [], times-nil n) }
+unused s (n ∷ ns) is owned =
+    let listed : 0 < times n s.free = rw is (omega (arith, times_head n ns)) in
+    let most : times n (places s []) ≤ 1 = rw (owned.once n) (at_most (ltb n (length s.cells))) in
+    let all = times-places n s.column s.pending_in s.free [] in
+    record { column = omega arith; pending = omega arith; doomed = omega (arith, owned.doomed_once n, times-append n (slots s.column) [], times-nil n) }
+  where
+    at_most : (b : Bool) → cond {A = ℕ} b 1 0 ≤ 1
+    at_most true = omega arith
+    at_most false = omega arith
+
+read-new : (cells after : List (Cell Row)) (h : Handle) (r : Row) → Filled cells after h r → read after h ≡ Some r
+read-new cells after h r fill = rw (fill.cell, eq-eqb h.generation h.generation refl) refl
+
+handle_same : (g h : Handle) → g.slot ≡ h.slot → g.generation ≡ h.generation → g ≡ h
+handle_same g h slots_same generations = λ i. record { slot = slots_same i; generation = generations i }
+
+record SameHandle (g h : Handle) (q r : Row) : Type 0 where
+  handle : g ≡ h
+  row : q ≡ r
+
+read_same : (cells after : List (Cell Row)) (h g : Handle) (r q : Row) → Filled cells after h r → g.slot ≡ h.slot → read after g ≡ Some q → SameHandle g h q r
+read_same cells after h g r q fill e found =
+    let at : cell_at after g.slot ≡ record { generation = h.generation; value = Some r } = ap (cell_at after) e ∙ fill.cell in
+    by_test (eqb h.generation g.generation) refl (rw at at found)
+  where
+    by_test : (b : Bool) → eqb h.generation g.generation ≡ b → cond b (Some r) None ≡ Some q → SameHandle g h q r
+    by_test true equal is = record { handle = handle_same g h e (sym (eqb-true h.generation g.generation equal)); row = cc }
+    by_test false equal is = absurd (cc)
+
+once_filled : (s : State) (r : Row) (free : List ℕ) → s.free ≡ free → IsOwned s.cells s.free s.column s.pending_in s.pending_out [] → (n : ℕ) → times n (slots s.column) + times n (slots s.pending_in) + times n ((handle_for s.cells free).slot ∷ []) + times n (drop 1 free) ≡ cond (ltb n (length (cells_with r s.cells free))) 1 0
+once_filled s r [] is owned n =
+    let c : Cell Row = record { generation = 0; value = Some r } in
+    let total = times-places n s.column s.pending_in s.free [] in
+    let before = owned.once n in
+    let free_none : times n s.free ≡ 0 = rw is (times-nil n) in
+    elim (cases_eq (length s.cells) n) [
+      | inl e ↦
+          let none : times n (places s []) ≡ 0 = before ∙ rw (le-ltb n (length s.cells) (omega arith)) refl in
+          rw (lt-ltb n (length (s.cells ++ c ∷ [])) (omega (arith, length_push s.cells c)), e) (omega (arith, times_head n [], times-nil n))
+      | inr ne ↦ elim (cases_lt n (length s.cells)) [
+        | inl l ↦
+            let one : times n (places s []) ≡ 1 = before ∙ rw (lt-ltb n (length s.cells) l) refl in
+            rw (lt-ltb n (length (s.cells ++ c ∷ [])) (omega (arith, length_push s.cells c))) (omega (arith, times_other n (length s.cells) ne, times-nil n))
+        | inr l ↦
+            let none : times n (places s []) ≡ 0 = before ∙ rw (le-ltb n (length s.cells) l) refl in
+            rw (le-ltb n (length (s.cells ++ c ∷ [])) (omega (arith, length_push s.cells c, ne))) (omega (arith, times_other n (length s.cells) ne, times-nil n))
+      ]
+    ]
+once_filled s r (m ∷ ns) is owned n =
+    let c : Cell Row = record { generation = (cell_at s.cells m).generation; value = Some r } in
+    let free_is : times n s.free ≡ times n (m ∷ ns) = ap (times n) is in
+    rw (length-set s.cells m c) (omega (arith, owned.once n, times-places n s.column s.pending_in s.free [], free_is, times-cons n m ns, times_one n m, times-nil n))
+
+-- the admitted row's cell is read by its handle
+pub read-admitted : (row : Row) (s : State) → IsIntact s [] → read (admitted row s).cells (next_handle s) ≡ Some row
+read-admitted row s intact = read-new s.cells (admitted row s).cells (next_handle s) row (filled s row s.free refl intact.owned)
+
+-- the cell that the next row gets has none now
+pub vacant : (s : State) (free : List ℕ) → s.free ≡ free → AreEmpty s.cells s.free → (cell_at s.cells (handle_for s.cells free).slot).value ≡ None
+vacant s [] is empty = ap (λ (c : Cell Row). c.value) (get_or_past s.cells (length s.cells) empty_cell (omega arith))
+vacant s (n ∷ ns) is empty = All-head (λ m. (cell_at s.cells m).value ≡ None) n ns (rw is at empty)
+
+-- a serial that is put behind the others is found, and every other as before
+pub handle_of-push : (serials : List (ℕ × Handle)) (serial : ℕ) (h : Handle) → handle_of serials serial ≡ None → (p : ℕ) → handle_of (serials ++ (serial, h) ∷ []) p ≡ cond (serial == p) (Some h) (handle_of serials p)
+handle_of-push [] serial h fresh p = elim (cases_eq serial p) [
+  | inl e ↦ rw (eq-eqb serial p e, eq-eqb p serial (sym e)) refl
+  | inr ne ↦ rw (ne_eqb serial p ne, ne_eqb p serial (λ e. ne (sym e))) refl
+]
+handle_of-push (e ∷ es) serial h fresh p = elim (cases_eq serial e.0) [
+  | inl same ↦ let found : handle_of (e ∷ es) serial ≡ Some e.1 = rw (eq-eqb serial e.0 same) refl in absurd (cc)
+  | inr apart ↦
+      let rest : handle_of es serial ≡ None = rw (ne_eqb serial e.0 apart) at fresh in
+      let later = handle_of-push es serial h rest p in
+      elim (cases_eq p e.0) [
+        | inl here ↦
+            let other : serial ≢ p = λ same. apart (same ∙ here) in
+            rw (eq-eqb p e.0 here, ne_eqb serial p other) refl
+        | inr away ↦ rw (ne_eqb p e.0 away) later
+      ]
+]
+
+IsKeyed-admitted : (row : Row) (s : State) (h : Handle) (after : List (Cell Row)) → Filled s.cells after h row → IsUnused s h.slot → (cell_at s.cells h.slot).value ≡ None → handle_of s.serials row.serial.0 ≡ None → IsKeyed s.cells (slots s.pending_out) s.serials → IsKeyed after (slots s.pending_out) (s.serials ++ (row.serial.0, h) ∷ [])
+IsKeyed-admitted row s h after fill off empty fresh keyed =
+    let serials = s.serials ++ (row.serial.0, h) ∷ [] in
+    let updates = handle_of-push s.serials row.serial.0 h fresh in
+    record {
+      leads = λ p g found. elim (cases_eq row.serial.0 p) [
+        | inl e ↦
+            let new : handle_of serials p ≡ Some h = updates p ∙ rw (eq-eqb row.serial.0 p e) refl in
+            let same : h ≡ g = cc in
+            record { row = row; reads = rw (← same) (read-new s.cells after h row fill); same = e; kept = rw (← same) off.doomed }
+        | inr ne ↦
+            let old : handle_of serials p ≡ handle_of s.serials p = updates p ∙ rw (ne_eqb row.serial.0 p ne) refl in
+            let live : IsLiveAt s.cells (slots s.pending_out) p g = keyed.leads p g (sym old ∙ found) in
+            let apart : g.slot ≢ h.slot = λ e.
+            let value = read-value s.cells g live.row live.reads in
+            let at : (cell_at s.cells g.slot).value ≡ (cell_at s.cells h.slot).value = ap (λ (n : ℕ). (cell_at s.cells n).value) e in
+            absurd (cc) in
+            record { row = live.row; reads = read-off h.slot s.cells after g fill.others apart ∙ live.reads; same = live.same; kept = live.kept }
+      ];
+      lists = λ g q found kept. elim (cases_eq g.slot h.slot) [
+        | inl e ↦
+            let same = read_same s.cells after h g row q fill e found in
+            rw (same.handle, same.row) (updates row.serial.0 ∙ rw (eq-eqb row.serial.0 row.serial.0 refl) refl)
+        | inr ne ↦
+            let old = keyed.lists g q (sym (read-off h.slot s.cells after g fill.others ne) ∙ found) kept in
+            let differs : row.serial.0 ≢ q.serial.0 = λ e. let a = ap (handle_of s.serials) e in absurd (cc) in
+            updates q.serial.0 ∙ rw (ne_eqb row.serial.0 q.serial.0 differs) old
+      ];
+    }
+
+-- numbers that aren't in a list are none of its elements
+apart_numbers : (ns : List ℕ) (n : ℕ) → times n ns ≡ 0 → All (λ m. m ≢ n) ns
+apart_numbers [] n none = All-nil (λ m. m ≢ n)
+apart_numbers (m ∷ ns) n none =
+    let apart = times_apart n m ns none in
+    All-cons (λ k. k ≢ n) m ns apart.0 (apart_numbers ns n apart.1)
+
+AreEmpty-admitted : (row : Row) (s : State) (free : List ℕ) → s.free ≡ free → IsOwned s.cells s.free s.column s.pending_in s.pending_out [] → AreEmpty s.cells s.free → AreEmpty (cells_with row s.cells free) (drop 1 free)
+AreEmpty-admitted row s [] is owned empty = All-nil (λ m. (cell_at (cells_with row s.cells []) m).value ≡ None)
+AreEmpty-admitted row s (n ∷ ns) is owned empty =
+    let most : times n (places s []) ≤ 1 = rw (owned.once n) (at_most (ltb n (length s.cells))) in
+    let listed : times n s.free ≡ 1 + times n ns = rw is (times_head n ns) in
+    let none : times n ns ≡ 0 = omega (arith, times-places n s.column s.pending_in s.free []) in
+    let fill = filled s row (n ∷ ns) is owned in
+    let old : AreEmpty s.cells ns = All-tail (λ m. (cell_at s.cells m).value ≡ None) n ns (rw is at empty) in
+    λ k d h. rw (fill.others (get_or ns k d) (apart_numbers ns n none k d h)) (old k d h)
+  where
+    at_most : (b : Bool) → cond {A = ℕ} b 1 0 ≤ 1
+    at_most true = omega arith
+    at_most false = omega arith
+
+AreWithin-admitted : (row : Row) (s : State) (free : List ℕ) → IsIn s.keys row.key.0 → AreWithin s.keys s.cells → AreWithin s.keys (cells_with row s.cells free)
+AreWithin-admitted row s [] new within = All-push (λ (c : Cell Row). IfSome c.value (λ r. IsIn s.keys r.key.0)) s.cells (record { generation = 0; value = Some row }) within new
+AreWithin-admitted row s (n ∷ ns) new within = All-set (λ (c : Cell Row). IfSome c.value (λ r. IsIn s.keys r.key.0)) s.cells n (record { generation = (cell_at s.cells n).generation; value = Some row }) new within
+
+-- no cell is freed
+freed_of-admitted : (row : Row) (s : State) (free : List ℕ) → s.free ≡ free → IsOwned s.cells s.free s.column s.pending_in s.pending_out [] → freed_of (cells_with row s.cells free) ≡ freed_of s.cells
+freed_of-admitted row s [] is owned = omega (arith, sum_by_push (λ (c : Cell Row). c.generation) s.cells (record { generation = 0; value = Some row }))
+freed_of-admitted row s (n ∷ ns) is owned =
+    let within = free_within s n (rw is (omega (arith, times_head n ns))) owned in
+    omega (arith, sum_by-set (λ (c : Cell Row). c.generation) s.cells n (record { generation = (cell_at s.cells n).generation; value = Some row }) empty_cell within)
+
+-- a cell more only where none was free
+length_cells-admitted : (row : Row) (s : State) (free : List ℕ) → s.free ≡ free → length s.cells < 2 ^ 32 - 1 + length s.free → length s.cells < 2 ^ 32 → length (cells_with row s.cells free) < 2 ^ 32
+length_cells-admitted row s [] is room few = omega (arith, ap length is, length_push s.cells (record { generation = 0; value = Some row }))
+length_cells-admitted row s (n ∷ ns) is room few = omega (arith, length-set s.cells n (record { generation = (cell_at s.cells n).generation; value = Some row }))
+
+pub IsIntact-admitted : (row : Row) (s : State) → IsAdmissible row s → IsIntact s [] → IsIntact (admitted row s) []
+IsIntact-admitted row s may intact =
+    let owned = intact.owned in
+    let h = next_handle s in
+    let cells = cells_with row s.cells s.free in
+    let fill : Filled s.cells cells h row = filled s row s.free refl owned in
+    let off : IsUnused s h.slot = unused s s.free refl owned in
+    record {
+      owned = record {
+        once = λ n. omega (arith, once_filled s row s.free refl owned n, times-places n s.column (s.pending_in ++ h ∷ []) (drop 1 s.free) [], times-pushed n s.pending_in h, times-nil n);
+        column_reads = Reads-off h.slot s.cells cells s.column fill.others off.column owned.column_reads;
+        pending_reads = All-push (Reads cells) s.pending_in h (Reads-off h.slot s.cells cells s.pending_in fill.others off.pending owned.pending_reads) (rw (read-new s.cells cells h row fill) refl);
+        hand_reads = All-nil (Reads cells);
+        doomed_reads = Reads-off h.slot s.cells cells s.pending_out fill.others off.doomed owned.doomed_reads;
+        doomed_once = owned.doomed_once;
+      };
+      obeyed = rw (keys-off h.slot s.cells cells s.column fill.others off.column) intact.obeyed;
+      rising = intact.rising;
+      inside = intact.inside;
+      keyed = IsKeyed-admitted row s h cells fill off (vacant s s.free refl intact.empty) may.fresh intact.keyed;
+      empty = AreEmpty-admitted row s s.free refl owned intact.empty;
+      within = AreWithin-admitted row s s.free may.within intact.within;
+      remembers = Remembers-off h.slot s.cells cells s.column s.remembered fill.others off.column intact.remembers;
+      few_cells = length_cells-admitted row s s.free refl may.cell intact.few_cells;
+      few_freed = omega (arith, intact.few_freed, freed_of-admitted row s s.free refl owned);
+      counted = intact.counted;
+    }
+
+-- commands see the admitted row besides
+pub live_rows-admitted : (row : Row) (s : State) → IsIntact s [] → IsPermutation (row ∷ live_rows s) (live_rows (admitted row s))
+live_rows-admitted row s intact = by_free s.free refl
+  where
+    by_free : (free : List ℕ) → s.free ≡ free → IsPermutation (row ∷ live_rows s) (live_from (slots s.pending_out) 0 (cells_with row s.cells free))
+    by_free [] is =
+        let off : IsUnused s (length s.cells) = unused s [] is intact.owned in
+        let c : Cell Row = record { generation = 0; value = Some row } in
+        let longer : live_from (slots s.pending_out) 0 (s.cells ++ c ∷ []) ≡ live_rows s ++ row ∷ [] = live_from-push (slots s.pending_out) 0 s.cells c row (rw (zero-add, off.doomed) refl) in
+        rw longer (IsPermutation-sym (live_rows s ++ row ∷ []) (row ∷ live_rows s) (IsPermutation-to_front (live_rows s) row))
+    by_free (n ∷ ns) is =
+        let off : IsUnused s n = unused s (n ∷ ns) is intact.owned in
+        let c : Cell Row = record { generation = (cell_at s.cells n).generation; value = Some row } in
+        let within = free_within s n (rw is (omega (arith, times_head n ns))) intact.owned in
+        let none = vacant s (n ∷ ns) is intact.empty in
+        IsPermutation-sym (live_from (slots s.pending_out) 0 (set s.cells n c)) (row ∷ live_rows s) (live_from-less (slots s.pending_out) (slots s.pending_out) 0 n row (set s.cells n c) s.cells (length-set s.cells n c) (omega (arith, length-set s.cells n c))
+        (rw (zero-add, off.doomed, get_or-set_same s.cells n c empty_cell within) refl)
+        (rw (zero-add, off.doomed) none)
+        (λ k h ne. rw (zero-add, get_or-set_other s.cells n k c empty_cell ne) refl))
+
+-- no cell is freed, and at most one is new
+pub freed-admitted : (row : Row) (s : State) → IsIntact s [] → freed_of (admitted row s).cells ≡ freed_of s.cells
+freed-admitted row s intact = freed_of-admitted row s s.free refl intact.owned
+
+pub cells-admitted : (row : Row) (s : State) → length (admitted row s).cells ≤ length s.cells + 1
+cells-admitted row s = by_free s.free
+  where
+    by_free : (free : List ℕ) → length (cells_with row s.cells free) ≤ length s.cells + 1
+    by_free [] = omega (arith, length_push s.cells (record { generation = 0; value = Some row }))
+    by_free (n ∷ ns) = omega (arith, length-set s.cells n (record { generation = (cell_at s.cells n).generation; value = Some row }))

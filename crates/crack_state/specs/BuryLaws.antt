@@ -1,0 +1,190 @@
+-- Bury: the doomed hand's cell is freed. It keeps a store intact, and commands see the same rows.
+use Rattle.std.proofs.Common.{◌≡◌, ◌≢◌, ℕ, ◌+◌, ◌*◌, ◌<◌, ◌≤◌, eqb, List, [], ◌∷◌, length, get_or, set, None, refl, sym, ap, ◌∙◌, inl, inr, arith, length-set, zero-add}
+use Rattle.std.specs.Prelude.{◌==◌, IfSome}
+use Rattle.std.specs.List.{remove}
+use Rattle.std.proofs.lemmas.List.{get_or-set_same, get_or-set_other, get_or_default}
+use Rattle.std.proofs.lemmas.List.Sums.{sum_by-set}
+use Rattle.std.proofs.lemmas.List.Elements.{All-nil, All-cons, All-set}
+use Rattle.std.proofs.lemmas.Bool.{cases_eq}
+use Rattle.crack_row.specs.Ranges.{IsIn}
+use Rattle.crack_row.specs.declared.Row.{Row}
+use Rattle.crack_row.specs.declared.command.Policy.{Policy}
+use Rattle.crack_row.specs.declared.command.Policy.TheVariants.{Complete}
+use Rattle.crack_arena.specs.Arena.{Cell, Handle, times, read, cell_at, empty_cell}
+use Rattle.crack_arena.specs.Times.{times-nil, times-cons, times_one, times_other, times_head, times-append}
+use Rattle.crack_state.specs.State.{State, Carried, slots, Reads, IsIntact, IsKeyed, IsLiveAt, AreEmpty, freed_of, live_rows, greatest}
+use Rattle.crack_state.specs.Steps.{hand_key, place_in, IsDoomed, lifted, buried}
+use Rattle.crack_state.specs.Merge.{Follows, Tallies, MayEvict}
+use Rattle.crack_state.specs.OwnedLaws.{times-removed, times-places, All-removed, place_in-within, place_in-found, HandApart, hand_apart}
+use Rattle.crack_state.specs.CellLaws.{AgreeOff-set, read-off, Reads-off, keys-off, Remembers-off, generation_of_read}
+use Rattle.crack_state.specs.LiveLaws.{live_from-agree, live_value-none}
+use Rattle.crack_state.specs.StepLaws.{IsCounted-taken_out}
+use Rattle.crack_state.specs.FollowLaws.{raised_counter, length-remove, bounds_above-few, Pushes}
+
+-- what is known of a doomed hand
+pub record DoomedHand (s : State) (hand : Handle) : Type 0 where
+  pub apart : HandApart s.cells s.free s.column s.pending_in hand.slot
+  pub once : times hand.slot (slots s.pending_out) ≡ 1
+  pub place : place_in s.pending_out hand.slot < length s.pending_out
+  pub taken : (n : ℕ) → times n (slots s.pending_out) ≡ times n (slots (remove s.pending_out (place_in s.pending_out hand.slot))) + times n (hand.slot ∷ [])
+
+pub doomed_hand : (c : Carried) → IsDoomed c → IsIntact c.store (c.hand ∷ []) → DoomedHand c.store c.hand
+doomed_hand c doomed intact =
+    let s = c.store in
+    let hand = c.hand in
+    let owned = intact.owned in
+    let apart = hand_apart s.cells s.free s.column s.pending_in s.pending_out hand owned in
+    let place = place_in-within s.pending_out hand.slot doomed in
+    let met = get_or s.pending_out (place_in s.pending_out hand.slot) hand in
+    let found : met ≡ get_or s.pending_out (place_in s.pending_out hand.slot) met = get_or_default s.pending_out (place_in s.pending_out hand.slot) hand met place in
+    let same : met.slot ≡ hand.slot = place_in-found s.pending_out hand.slot met place found in
+    record {
+      apart = apart;
+      once = omega (arith, doomed, owned.doomed_once hand.slot, times-append hand.slot (slots s.column) (slots (hand ∷ [])), times_head hand.slot [], times-nil hand.slot, apart.off_column);
+      place = place;
+      taken = λ n. let split = times-removed n s.pending_out (place_in s.pending_out hand.slot) met place found in rw same at split;
+    }
+
+-- a cell without a value is read by no handle
+pub read-set_none : (cells : List (Cell Row)) (n g : ℕ) (h : Handle) → n < length cells → h.slot ≡ n → read (set cells n (record { generation = g; value = None })) h ≡ None
+read-set_none cells n g h within same = rw (same, get_or-set_same cells n (record { generation = g; value = None }) empty_cell within) (live_value-none (eqb g h.generation))
+
+IsKeyed-buried : (cells : List (Cell Row)) (doomed left : List ℕ) (serials : List (ℕ × Handle)) (slot g : ℕ) → slot < length cells → ((n : ℕ) → times n doomed ≡ times n left + times n (slot ∷ [])) → IsKeyed cells doomed serials → IsKeyed (set cells slot (record { generation = g; value = None })) left serials
+IsKeyed-buried cells doomed left serials slot g within taken keyed =
+    let c : Cell Row = record { generation = g; value = None } in
+    record {
+      leads = λ serial h found.
+          let live : IsLiveAt cells doomed serial h = keyed.leads serial h found in
+          let other : h.slot ≢ slot = λ e.
+          let one : times h.slot (slot ∷ []) ≡ 1 = rw e (times_head slot [] ∙ omega (arith, times-nil slot)) in
+          absurd (omega (arith, live.kept, taken h.slot)) in
+          record { row = live.row; reads = read-off slot cells (set cells slot c) h (AgreeOff-set cells slot c) other ∙ live.reads; same = live.same; kept = omega (arith, taken h.slot, live.kept) };
+      lists = λ h r found kept.
+          elim (cases_eq h.slot slot) [
+            | inl e ↦ absurd (let none = read-set_none cells slot g h within e in cc)
+            | inr other ↦ keyed.lists h r (sym (read-off slot cells (set cells slot c) h (AgreeOff-set cells slot c) other) ∙ found) (omega (arith, taken h.slot, times_other h.slot slot (λ e. other (sym e)), kept))
+          ];
+    }
+
+-- a free cell stays empty, and so is the cell that was freed
+AreEmpty-freed : (cells : List (Cell Row)) (n g : ℕ) (free : List ℕ) → n < length cells → AreEmpty cells free → AreEmpty (set cells n (record { generation = g; value = None })) (n ∷ free)
+AreEmpty-freed cells n g free within empty =
+    let c : Cell Row = record { generation = g; value = None } in
+    let mine : (cell_at (set cells n c) n).value ≡ None = ap (λ (x : Cell Row). x.value) (get_or-set_same cells n c empty_cell within) in
+    All-cons (λ m. (cell_at (set cells n c) m).value ≡ None) n free mine (λ k d h. elim (cases_eq (get_or free k d) n) [
+      | inl e ↦ rw e mine
+      | inr ne ↦ rw (get_or-set_other cells n (get_or free k d) c empty_cell ne) (empty k d h)
+    ])
+
+-- what was freed and what is doomed are together as many as before
+pub freed-buried : (c : Carried) → IsDoomed c → IsIntact c.store (c.hand ∷ []) → freed_of (buried c).cells + length (buried c).pending_out ≡ freed_of c.store.cells + length c.store.pending_out
+freed-buried c doomed intact =
+    let s = c.store in
+    let known = doomed_hand c doomed intact in
+    let g = generation_of_read s.cells c.hand (intact.owned.hand_reads 0 c.hand (omega arith)) in
+    let y : Cell Row = record { generation = c.hand.generation + 1; value = None } in
+    let sums = sum_by-set (λ (x : Cell Row). x.generation) s.cells c.hand.slot y empty_cell known.apart.within in
+    let gone = length-remove s.pending_out (place_in s.pending_out c.hand.slot) known.place in
+    omega (arith, sums, g, gone)
+
+-- a generation that is to be raised is below its greatest number
+pub freed-doomed : (s : State) (hand : List Handle) → 0 < length s.pending_out → IsIntact s hand → freed_of s.cells < greatest
+freed-doomed s hand some intact = omega (arith, intact.few_freed)
+
+pub IsIntact-buried : (c : Carried) → IsDoomed c → IsIntact c.store (c.hand ∷ []) → IsIntact (buried c) []
+IsIntact-buried c doomed intact =
+    let s = c.store in
+    let hand = c.hand in
+    let owned = intact.owned in
+    let known = doomed_hand c doomed intact in
+    let apart = known.apart in
+    let cell : Cell Row = record { generation = hand.generation + 1; value = None } in
+    let left = remove s.pending_out (place_in s.pending_out hand.slot) in
+    let cells = set s.cells hand.slot cell in
+    let agree = AgreeOff-set s.cells hand.slot cell in
+    let off_left : times hand.slot (slots left) ≡ 0 = omega (arith, known.taken hand.slot, known.once, times_head hand.slot [], times-nil hand.slot) in
+    record {
+      owned = record {
+        once = λ n. rw (length-set s.cells hand.slot cell) (omega (arith, owned.once n, times-places n s.column s.pending_in s.free (hand ∷ []), times-places n s.column s.pending_in (hand.slot ∷ s.free) [], times-nil n, times-cons n hand.slot s.free, times_one n hand.slot));
+        column_reads = Reads-off hand.slot s.cells cells s.column agree apart.off_column owned.column_reads;
+        pending_reads = Reads-off hand.slot s.cells cells s.pending_in agree apart.off_pending owned.pending_reads;
+        hand_reads = All-nil (Reads cells);
+        doomed_reads = Reads-off hand.slot s.cells cells left agree off_left (All-removed (Reads s.cells) s.pending_out (place_in s.pending_out hand.slot) owned.doomed_reads);
+        doomed_once = λ n. elim (cases_eq hand.slot n) [
+          | inl e ↦ rw (← e) (omega (arith, off_left))
+          | inr ne ↦ omega (arith, owned.doomed_once n, known.taken n, times-append n (slots s.column) (slots (hand ∷ [])), times-append n (slots s.column) [], times-nil n, times_other n hand.slot ne)
+        ];
+      };
+      obeyed = rw (keys-off hand.slot s.cells cells s.column agree apart.off_column) intact.obeyed;
+      rising = intact.rising;
+      inside = intact.inside;
+      keyed = IsKeyed-buried s.cells (slots s.pending_out) (slots left) s.serials hand.slot (hand.generation + 1) apart.within known.taken intact.keyed;
+      empty = AreEmpty-freed s.cells hand.slot (hand.generation + 1) s.free apart.within intact.empty;
+      within = All-set (λ (x : Cell Row). IfSome x.value (λ r. IsIn s.keys r.key.0)) s.cells hand.slot cell tt intact.within;
+      remembers = Remembers-off hand.slot s.cells cells s.column s.remembered agree apart.off_column intact.remembers;
+      few_cells = omega (arith, intact.few_cells, length-set s.cells hand.slot cell);
+      few_freed = omega (arith, intact.few_freed, freed-buried c doomed intact);
+      counted = IsCounted-taken_out s.tally intact.counted;
+    }
+
+-- commands see the same rows
+pub live_rows-buried : (c : Carried) → IsDoomed c → IsIntact c.store (c.hand ∷ []) → live_rows (buried c) ≡ live_rows c.store
+live_rows-buried c doomed intact =
+    let s = c.store in
+    let slot = c.hand.slot in
+    let known = doomed_hand c doomed intact in
+    let cell : Cell Row = record { generation = c.hand.generation + 1; value = None } in
+    let left = slots (buried c).pending_out in
+    sym (live_from-agree (slots s.pending_out) left 0 s.cells (set s.cells slot cell) (sym (length-set s.cells slot cell)) (λ k h.
+    elim (cases_eq k slot) [
+      | inl e ↦ rw (zero-add, e, known.once, get_or-set_same s.cells slot cell empty_cell known.apart.within) (sym (live_value-none (times slot left == 0)))
+      | inr ne ↦
+          let same : times k (slots s.pending_out) ≡ times k left = omega (arith, known.taken k, times_other k slot (λ e. ne (sym e))) in
+          rw (zero-add, same, get_or-set_other s.cells slot k cell empty_cell ne) refl
+    ]))
+
+pub Follows-buried : (c : Carried) → IsDoomed c → IsIntact c.store (c.hand ∷ []) → Follows c.store (buried c)
+Follows-buried c doomed intact = record {
+  keys = refl;
+  live = live_rows-buried c doomed intact;
+  bounds = refl;
+  cells = length-set c.store.cells c.hand.slot (record { generation = c.hand.generation + 1; value = None });
+  freed = freed-buried c doomed intact;
+}
+
+-- a whole carry that ends at a doomed row: lifted, pushed on, buried
+pub Tallies-carried_buried : (policy : Policy) (s : State) (i : ℕ) (c : Carried) → i < length s.pending_in → IsDoomed c → IsIntact s [] → IsIntact c.store (c.hand ∷ []) → Pushes (lifted i s) c → Tallies policy s (buried c)
+Tallies-carried_buried policy s i c inside doomed intact now pushes =
+    let counter = raised_counter s.tally.put_in in
+    let risen = counter.rises intact.counted.put_in in
+    let out = raised_counter c.store.tally.taken_out in
+    let out_risen = out.rises now.counted.taken_out in
+    let gone = length-remove s.pending_in i inside in
+    let out_gone = length-remove c.store.pending_out (place_in c.store.pending_out c.hand.slot) (doomed_hand c doomed now).place in
+    let few = bounds_above-few (hand_key (lifted i s)) s.marks in
+    record {
+      put_in_rises = omega (arith, pushes.put_in, risen);
+      taken_out_rises = omega (arith, pushes.taken_out, out_risen);
+      evicted_rises = omega (arith, pushes.evicted);
+      moved_rises = omega (arith, pushes.moved_rises);
+      pulled_rises = omega (arith, pushes.pulled);
+      counts = λ exact.
+          let one : c.store.tally.put_in ≡ s.tally.put_in + 1 = let e = pushes.put_in in e ∙ counter.exact (omega (arith, exact.put_in, e)) in
+          let two : (buried c).tally.taken_out ≡ c.store.tally.taken_out + 1 = out.exact exact.taken_out in
+          record {
+            put_in = omega (arith, one, gone, pushes.evicted, ap length pushes.pending_in);
+            taken_out = omega (arith, two, out_gone, pushes.taken_out, ap length pushes.pending_out);
+            moved = more_moved c.store.tally.moved s.tally.moved s.tally.put_in c.store.tally.put_in (length s.marks) one (omega (arith, pushes.moved, few));
+            pulled = more_pulled c.store.tally.pulled s.tally.pulled s.tally.taken_out (buried c).tally.taken_out (length s.marks) (two ∙ ap (λ n. n + 1) pushes.taken_out) pushes.pulled;
+          };
+      evicts = by_policy policy;
+    }
+  where
+    by_policy : (p : Policy) → MayEvict p s (buried c)
+    by_policy Complete = pushes.evicted
+
+    more_moved : (moved before put_in after q : ℕ) → after ≡ put_in + 1 → moved ≤ before + q → moved + put_in * (q + 1) ≤ before + after * (q + 1)
+    more_moved moved before put_in after q one few = rw one (grind arith)
+
+    more_pulled : (pulled before out after q : ℕ) → after ≡ out + 1 → pulled ≡ before → pulled + out * (q + 1) ≤ before + after * (q + 1)
+    more_pulled pulled before out after q one same = rw (one, same) (grind arith)

@@ -1,0 +1,73 @@
+-- What handles read, and what is remembered of keys, as a cell or a place changes.
+use Rattle.std.proofs.Common.{◌≡◌, ◌≢◌, ℕ, ◌<◌, List, [], ◌∷◌, map, length, get_or, set, cond, Bool, true, false, eqb, Some, None, IsSome, refl, sym, ap, inl, inr}
+use Rattle.std.specs.List.{All}
+use Rattle.std.proofs.lemmas.List.{get_or-set_other, get_or_past}
+use Rattle.std.proofs.lemmas.List.Elements.{All-head, All-tail}
+use Rattle.std.proofs.lemmas.Bool.{cases_lt, true≢false, eqb-true}
+use Rattle.crack_row.specs.declared.Row.{Row}
+use Rattle.crack_arena.specs.Arena.{Cell, Handle, times, read, cell_at, empty_cell}
+use Rattle.crack_column.specs.Column.{key_of_row, key_at, Remembers}
+use Rattle.crack_state.specs.State.{slots, Reads}
+use Rattle.crack_state.specs.OwnedLaws.{apart_from_times}
+
+-- what a handle reads is its cell's value
+pub read-value : (cells : List (Cell Row)) (h : Handle) (r : Row) → read cells h ≡ Some r → (cell_at cells h.slot).value ≡ Some r
+read-value cells h r reads = by_test (eqb (cell_at cells h.slot).generation h.generation) reads
+  where
+    by_test : (b : Bool) → cond b (cell_at cells h.slot).value None ≡ Some r → (cell_at cells h.slot).value ≡ Some r
+    by_test true e = e
+    by_test false e = absurd (cc)
+
+pub read_is_value : (cells : List (Cell Row)) (h : Handle) → Reads cells h → read cells h ≡ (cell_at cells h.slot).value
+read_is_value cells h reads = by_test (eqb (cell_at cells h.slot).generation h.generation) reads
+  where
+    by_test : (b : Bool) → IsSome (cond b (cell_at cells h.slot).value None) → cond b (cell_at cells h.slot).value None ≡ (cell_at cells h.slot).value
+    by_test true some = refl
+    by_test false some = absurd (true≢false (sym some))
+
+-- a cell that a handle reads has the handle's generation
+pub generation_of_read : (cells : List (Cell Row)) (h : Handle) → Reads cells h → (cell_at cells h.slot).generation ≡ h.generation
+generation_of_read cells h reads = by_test (eqb (cell_at cells h.slot).generation h.generation) refl reads
+  where
+    by_test : (b : Bool) → eqb (cell_at cells h.slot).generation h.generation ≡ b → IsSome (cond b (cell_at cells h.slot).value None) → (cell_at cells h.slot).generation ≡ h.generation
+    by_test true is some = eqb-true (cell_at cells h.slot).generation h.generation is
+    by_test false is some = absurd (true≢false (sym some))
+
+-- a handle that reads names a cell
+pub cell_within : (cells : List (Cell Row)) (h : Handle) (r : Row) → read cells h ≡ Some r → h.slot < length cells
+cell_within cells h r reads = elim (cases_lt h.slot (length cells)) [
+  | inl l ↦ l
+  | inr l ↦
+      let value = read-value cells h r reads in
+      let empty : (cell_at cells h.slot).value ≡ None = ap (λ (c : Cell Row). c.value) (get_or_past cells h.slot empty_cell l) in
+      absurd (cc)
+]
+
+pub map_agree : {X Y : Type 0} (f g : X → Y) (xs : List X) → All (λ x. f x ≡ g x) xs → map f xs ≡ map g xs
+map_agree f g [] all = refl
+map_agree f g (x ∷ xs) all = let first = All-head (λ y. f y ≡ g y) x xs all in let rest = map_agree f g xs (All-tail (λ y. f y ≡ g y) x xs all) in cc
+
+-- cells that are the same but for one number
+abbrev pub AgreeOff : ℕ → List (Cell Row) → List (Cell Row) → Type 0
+AgreeOff n cells after = (m : ℕ) → m ≢ n → cell_at after m ≡ cell_at cells m
+
+pub AgreeOff-set : (cells : List (Cell Row)) (n : ℕ) (c : Cell Row) → AgreeOff n cells (set cells n c)
+AgreeOff-set cells n c = λ m ne. get_or-set_other cells n m c empty_cell ne
+
+pub read-off : (n : ℕ) (cells after : List (Cell Row)) (h : Handle) → AgreeOff n cells after → h.slot ≢ n → read after h ≡ read cells h
+read-off n cells after h agree ne = rw (agree h.slot ne) refl
+
+pub Reads-off : (n : ℕ) (cells after : List (Cell Row)) (hs : List Handle) → AgreeOff n cells after → times n (slots hs) ≡ 0 → All (Reads cells) hs → All (Reads after) hs
+Reads-off n cells after hs agree none reads = λ k d j. rw (read-off n cells after (get_or hs k d) agree (apart_from_times hs n none k d j)) (reads k d j)
+
+pub key_at-off : (n : ℕ) (cells after : List (Cell Row)) (h : Handle) → AgreeOff n cells after → h.slot ≢ n → key_at after h ≡ key_at cells h
+key_at-off n cells after h agree ne = ap key_of_row (read-off n cells after h agree ne)
+
+pub keys-off : (n : ℕ) (cells after : List (Cell Row)) (hs : List Handle) → AgreeOff n cells after → times n (slots hs) ≡ 0 → map (key_at after) hs ≡ map (key_at cells) hs
+keys-off n cells after hs agree none = map_agree (key_at after) (key_at cells) hs (λ k d h. key_at-off n cells after (get_or hs k d) agree (apart_from_times hs n none k d h))
+
+pub Remembers-off : (n : ℕ) (cells after : List (Cell Row)) (hs : List Handle) (keys : List ℕ) → AgreeOff n cells after → times n (slots hs) ≡ 0 → Remembers cells hs keys → Remembers after hs keys
+Remembers-off n cells after hs keys agree none remembers = record {
+  beside = remembers.beside;
+  right = λ k d h. rw (key_at-off n cells after (get_or hs k d) agree (apart_from_times hs n none k d h)) (remembers.right k d h);
+}

@@ -1,0 +1,290 @@
+-- A crack keeps a store intact and refines it; and one refinement after another is one.
+use Rattle.std.proofs.Common.{◌≡◌, ◌⊎◌, ℕ, ◌<◌, ◌≤◌, List, [], ◌∷◌, ◌++◌, map, length, get_or, Option, Some, None, refl, sym, ap, ◌∙◌, subst, inl, inr, arith}
+use Rattle.std.specs.List.{All, Contains, between}
+use Rattle.std.specs.List.Sorted.{IsPermutation}
+use Rattle.std.proofs.lemmas.Bool.{cases_lt}
+use Rattle.std.proofs.lemmas.List.{length-map, get_or-map}
+use Rattle.std.proofs.lemmas.List.Elements.{All-contains, All-cons, All-push, All-map, Contains-get_or, Contains-append_left, Contains-append_right}
+use Rattle.std.proofs.lemmas.List.Sorted.{IsPermutation-refl, IsPermutation-trans, All-permutation}
+use Rattle.crack_row.specs.Ranges.{Range, IsIn}
+use Rattle.crack_row.specs.declared.Bound.{Bound}
+use Rattle.crack_row.specs.declared.Row.{Row}
+use Rattle.crack_arena.specs.Arena.{Cell, Handle, read, cell_at, empty_cell}
+use Rattle.crack_arena.specs.Times.{times-append, times-map-IsPermutation}
+use Rattle.crack_index.specs.declared.mark.Mark.{Mark}
+use Rattle.crack_index.specs.Marks.{Rising, Fits, HasBound, added, next_mark, last_mark, start_of, end_of}
+use Rattle.crack_index.specs.MarkLaws.{next_mark-is, last_mark-is, All-added, Contains-kept, HasBound-added, Rising-added, HasBound-mark, HasBound-contains}
+use Rattle.crack_column.specs.Column.{key_of_row, key_at, IsDividedAt}
+use Rattle.crack_column.specs.Divisions.{IsDividedAt-zero, IsDividedAt-end}
+use Rattle.crack_column.specs.Cracking.{length-Cracks, Cracks-apart, Cracks-around, Cracks-whole, Cracks-divides, Cracks-keeps, Cracks-remembers}
+use Rattle.crack_state.specs.State.{State, slots, Reads, Divides, IsObeyed, AreWithin, IsOwned, IsIntact, column_keys, live_rows}
+use Rattle.crack_state.specs.Steps.{piece_start, piece_end, CracksAt}
+use Rattle.crack_state.specs.Merge.{IsInner, IsCracked, cuts, RefinesBy, RefinesAt, Refines}
+use Rattle.crack_state.specs.OwnedLaws.{times-places}
+use Rattle.crack_state.specs.CellLaws.{read_is_value, cell_within}
+use Rattle.crack_state.specs.PieceLaws.{Divides-listed, piece_end-le, piece_end-before, piece_start-behind}
+
+-- the key of what a handle reads is the partition's
+pub key_within : (keys : Range) (cells : List (Cell Row)) (h : Handle) → AreWithin keys cells → Reads cells h → IsIn keys (key_at cells h)
+key_within keys cells h within reads = by_value (read cells h) refl reads
+  where
+    by_value : (o : Option Row) → read cells h ≡ o → Reads cells h → IsIn keys (key_of_row o)
+    by_value None is some = absurd (let a : read cells h ≡ None = is in cc)
+    by_value (Some r) is some =
+        let value : (cell_at cells h.slot).value ≡ Some r = sym (read_is_value cells h some) ∙ is in
+        rw value at (within h.slot empty_cell (cell_within cells h r is))
+
+-- the keys of the column's rows are the partition's
+pub column_keys-within : (s : State) (hand : List Handle) → IsIntact s hand → All (λ k. IsIn s.keys k) (column_keys s)
+column_keys-within s hand intact = All-map (λ k. IsIn s.keys k) (key_at s.cells) s.column (λ k d h. key_within s.keys s.cells (get_or s.column k d) intact.within (intact.owned.column_reads k d h))
+
+-- the column in another order
+pub IsOwned-permuted : (cells : List (Cell Row)) (free : List ℕ) (column after pending_in pending_out hand : List Handle) → IsPermutation column after → IsOwned cells free column pending_in pending_out hand → IsOwned cells free after pending_in pending_out hand
+IsOwned-permuted cells free column after pending_in pending_out hand same owned = record {
+  once = λ n. omega (arith, owned.once n, times-places n column pending_in free hand, times-places n after pending_in free hand, times-map-IsPermutation n (λ (h : Handle). h.slot) column after same);
+  column_reads = All-permutation (Reads cells) column after same owned.column_reads;
+  pending_reads = owned.pending_reads;
+  hand_reads = owned.hand_reads;
+  doomed_reads = owned.doomed_reads;
+  doomed_once = λ n. omega (arith, owned.doomed_once n, times-append n (slots column) (slots hand), times-append n (slots after) (slots hand), times-map-IsPermutation n (λ (h : Handle). h.slot) column after same);
+}
+
+-- a bound at or below another divides the keys at the place
+record Before (keys : List ℕ) (bound place : ℕ) : Type 0 where
+  number : ℕ
+  less : number ≤ bound
+  divides : IsDividedAt number keys place
+
+-- a bound at or above another divides the keys at the place
+record Behind (keys : List ℕ) (bound place : ℕ) : Type 0 where
+  number : ℕ
+  more : bound ≤ number
+  divides : IsDividedAt number keys place
+
+piece_before : (s : State) (bound : ℕ) → Rising s.marks → IsObeyed s.marks (column_keys s) → Before (column_keys s) bound (piece_start s bound)
+piece_before s bound rising obeyed = by_last (last_mark bound s.marks) refl
+  where
+    by_last : (last : Option Mark) → last_mark bound s.marks ≡ last → Before (column_keys s) bound (start_of last)
+    by_last None none = record { number = 0; less = omega arith; divides = IsDividedAt-zero (column_keys s) }
+    by_last (Some m) found =
+        let is_last = last_mark-is bound s.marks m rising found in
+        record { number = m.bound.0; less = is_last.below; divides = Divides-listed (column_keys s) s.marks m obeyed is_last.listed }
+
+piece_behind : (s : State) (hand : List Handle) (bound : ℕ) → bound < s.keys.high → IsIntact s hand → Behind (column_keys s) bound (piece_end s bound)
+piece_behind s hand bound high intact = by_next (next_mark bound s.marks) refl
+  where
+    by_next : (next : Option Mark) → next_mark bound s.marks ≡ next → Behind (column_keys s) bound (end_of (length s.column) next)
+    by_next None none =
+        let all = column_keys-within s hand intact in
+        record {
+          number = s.keys.high;
+          more = omega arith;
+          divides = rw (length-map s.column (key_at s.cells)) at (IsDividedAt-end s.keys.high (column_keys s) (λ k d h. (all k d h).1));
+        }
+    by_next (Some m) found =
+        let is_next = next_mark-is bound s.marks m intact.rising found in
+        record { number = m.bound.0; more = omega (arith, is_next.above); divides = Divides-listed (column_keys s) s.marks m intact.obeyed is_next.listed }
+
+-- a mark of another bound stands outside the bound's own piece, or at an end of it
+mark_outside : (s : State) (bound k : ℕ) (d : Mark) → Rising s.marks → IsObeyed s.marks (column_keys s) → k < length s.marks → ((get_or s.marks k d).position ≤ piece_start s bound) ⊎ (piece_end s bound ≤ (get_or s.marks k d).position)
+mark_outside s bound k d rising obeyed h = elim (cases_lt bound (get_or s.marks k d).bound.0) [
+  | inl l ↦ inr (piece_end-before s bound k d rising obeyed h l)
+  | inr l ↦ inl (piece_start-behind s bound k d rising obeyed h l)
+]
+
+-- every mark divides the cracked column, the new one too
+Obeyed-cracked : (s u : State) (hand : List Handle) (bound : Bound) → IsIntact s hand → (c : CracksAt s u bound) → IsObeyed (added (record { bound = bound; position = c.place }) s.marks) (map (key_at s.cells) u.column)
+Obeyed-cracked s u hand bound intact c =
+    let from = piece_start s bound.0 in
+    let to = piece_end s bound.0 in
+    let low = piece_before s bound.0 intact.rising intact.obeyed in
+    let high = piece_behind s hand bound.0 c.high intact in
+    let keys = map (key_at s.cells) u.column in
+    All-added (Divides keys) (record { bound = bound; position = c.place }) s.marks
+    (Cracks-divides s.cells bound.0 from to s.column s.remembered u.column u.remembered c.place c.cracks low.number high.number low.less high.more low.divides high.divides)
+    (λ k d h. Cracks-keeps s.cells bound.0 from to s.column s.remembered u.column u.remembered c.place c.cracks (get_or s.marks k d).bound.0 (get_or s.marks k d).position (mark_outside s bound.0 k d intact.rising intact.obeyed h) (intact.obeyed k d h))
+
+-- the new mark stands in order
+Fits-cracked : (s u : State) (hand : List Handle) (bound : Bound) → IsIntact s hand → (c : CracksAt s u bound) → Fits (record { bound = bound; position = c.place }) s.marks
+Fits-cracked s u hand bound intact c =
+    let from = piece_start s bound.0 in
+    let to = piece_end s bound.0 in
+    record {
+      behind = λ k d h less. omega (arith, c.cracks.low, piece_start-behind s bound.0 k d intact.rising intact.obeyed h (omega arith));
+      before = λ k d h more. omega (arith, c.cracks.high, piece_end-before s bound.0 k d intact.rising intact.obeyed h more);
+    }
+
+-- a crack keeps a store intact
+pub IsIntact-cracked : (s u : State) (hand : List Handle) (bound : Bound) → CracksAt s u bound → IsIntact s hand → IsIntact u hand
+IsIntact-cracked s u hand bound c intact =
+    let from = piece_start s bound.0 in
+    let to = piece_end s bound.0 in
+    let m : Mark = record { bound = bound; position = c.place } in
+    rw c.after (record {
+      owned = IsOwned-permuted s.cells s.free s.column u.column s.pending_in s.pending_out hand (Cracks-whole s.cells bound.0 from to s.column s.remembered u.column u.remembered c.place c.cracks) intact.owned;
+      obeyed = Obeyed-cracked s u hand bound intact c;
+      rising = Rising-added m s.marks intact.rising c.missing (Fits-cracked s u hand bound intact c);
+      inside = All-added (λ (x : Mark). (s.keys.low < x.bound.0) × (x.bound.0 < s.keys.high)) m s.marks (c.low, c.high) intact.inside;
+      keyed = intact.keyed;
+      empty = intact.empty;
+      within = intact.within;
+      remembers = Cracks-remembers s.cells bound.0 from to s.column s.remembered u.column u.remembered c.place c.cracks intact.remembers;
+      few_cells = intact.few_cells;
+      few_freed = intact.few_freed;
+      counted = intact.counted;
+    })
+
+-- where pieces begin and end is outside the bound's own piece, or at an end of it
+cuts_outside : (s : State) (bound : ℕ) → Rising s.marks → IsObeyed s.marks (column_keys s) → All (λ p. ((p ≤ piece_start s bound) ⊎ (piece_end s bound ≤ p)) × (p ≤ length s.column)) (cuts s)
+cuts_outside s bound rising obeyed =
+    let Out : ℕ → Type 0 = λ p. ((p ≤ piece_start s bound) ⊎ (piece_end s bound ≤ p)) × (p ≤ length s.column) in
+    let positions : All Out (map (λ (m : Mark). m.position) s.marks) = All-map Out (λ (m : Mark). m.position) s.marks (λ k d h. (mark_outside s bound k d rising obeyed h, omega (arith, (obeyed k d h).within, length-map s.column (key_at s.cells)))) in
+    All-cons Out 0 (map (λ (m : Mark). m.position) s.marks ++ length s.column ∷ []) (inl (omega arith), omega arith) (All-push Out (map (λ (m : Mark). m.position) s.marks) (length s.column) positions (inr (piece_end-le s bound rising obeyed), omega arith))
+
+-- a crack refines a store
+pub RefinesAt-cracked : (s u : State) (hand : List Handle) (bound : Bound) → CracksAt s u bound → IsIntact s hand → RefinesAt s u bound.0
+RefinesAt-cracked s u hand bound c intact =
+    let from = piece_start s bound.0 in
+    let to = piece_end s bound.0 in
+    let m : Mark = record { bound = bound; position = c.place } in
+    let outside = cuts_outside s bound.0 intact.rising intact.obeyed in
+    let Out : ℕ → Type 0 = λ p. ((p ≤ from) ⊎ (to ≤ p)) × (p ≤ length s.column) in
+    let marks : u.marks ≡ added m s.marks = ap (λ (x : State). x.marks) c.after in
+    record {
+      same = rw c.after refl;
+      long = length-Cracks s.cells bound.0 from to s.column s.remembered u.column u.remembered c.place c.cracks;
+      pieces = λ p q is_p is_q.
+          let out_p = All-contains Out (cuts s) p outside is_p in
+          let out_q = All-contains Out (cuts s) q outside is_q in
+          let apart : (q ≤ from) ⊎ (to ≤ p) → IsPermutation (between p q s.column) (between p q u.column) = λ o. rw (Cracks-apart s.cells bound.0 from to s.column s.remembered u.column u.remembered c.place c.cracks p q out_q.1 o) (IsPermutation-refl (between p q s.column)) in
+          elim out_q.0 [
+            | inl l ↦ apart (inl l)
+            | inr l ↦ elim out_p.0 [
+              | inl k ↦ Cracks-around s.cells bound.0 from to s.column s.remembered u.column u.remembered c.place c.cracks p q k l out_q.1
+              | inr k ↦ apart (inr k)
+            ]
+          ];
+      kept = λ n is. rw marks (Contains-kept m s.marks n is);
+      added = λ b is. rw marks ((HasBound-added m s.marks b).1 (inl is.0));
+      only = λ b has. elim ((HasBound-added m s.marks b).0 (rw marks at has)) [
+        | inl is ↦ inr (is, omega (arith, c.low), omega (arith, c.high))
+        | inr there ↦ inl there
+      ];
+    }
+
+-- a store refines itself, where the bounds are there
+pub RefinesBy-refl : (IsNew : ℕ → Type 0) (s : State) → ((b : ℕ) → IsNew b → HasBound s.marks b) → RefinesBy IsNew s s
+RefinesBy-refl IsNew s there = record {
+  same = refl;
+  long = refl;
+  pieces = λ p q is_p is_q. IsPermutation-refl (between p q s.column);
+  kept = λ m is. is;
+  added = there;
+  only = λ b has. inl has;
+}
+
+-- room alone
+pub RefinesBy-room : (IsNew : ℕ → Type 0) (s u : State) (column_room in_room : ℕ) → RefinesBy IsNew s u → RefinesBy IsNew s (record u { column_room = column_room; in_room = in_room })
+RefinesBy-room IsNew s u column_room in_room refined = record {
+  same = ap (λ (x : State). let y : State = record x { column_room = column_room; in_room = in_room } in y) refined.same;
+  long = refined.long;
+  pieces = refined.pieces;
+  kept = refined.kept;
+  added = refined.added;
+  only = refined.only;
+}
+
+-- the place of a mark is one where pieces begin and end
+cut_of : (s : State) (m : Mark) → Contains s.marks m → Contains (cuts s) m.position
+cut_of s m is =
+    let position : Mark → ℕ = λ x. x.position in
+    let at : Contains (map position s.marks) m.position = (is.0, omega (arith, length-map s.marks position, is.1), get_or-map position s.marks is.0 m m.position is.1 ∙ ap position is.2) in
+    Contains-append_right (0 ∷ []) (map position s.marks ++ length s.column ∷ []) m.position (Contains-append_left (map position s.marks) (length s.column ∷ []) m.position at)
+
+-- where pieces begin and end, they still do after a refinement
+cuts_kept : (IsNew : ℕ → Type 0) (s u : State) → RefinesBy IsNew s u → (p : ℕ) → Contains (cuts s) p → Contains (cuts u) p
+cuts_kept IsNew s u refined p is =
+    let In : ℕ → Type 0 = λ n. Contains (cuts u) n in
+    let position : Mark → ℕ = λ x. x.position in
+    let positions : All In (map position s.marks) = All-map In position s.marks (λ k d h. cut_of u (get_or s.marks k d) (refined.kept (get_or s.marks k d) (Contains-get_or s.marks k d h))) in
+    let front : In 0 = (0, omega arith, refl) in
+    let back : In (length u.column) = Contains-append_right (0 ∷ map position u.marks) (length u.column ∷ []) (length u.column) (0, omega arith, refl) in
+    All-contains In (cuts s) p (All-cons In 0 (map position s.marks ++ length s.column ∷ []) front (All-push In (map position s.marks) (length s.column) positions (subst In refined.long back))) is
+
+-- one refinement after another
+pub RefinesBy-trans : (IsNew IsNewer : ℕ → Type 0) (s u v : State) → RefinesBy IsNew s u → RefinesBy IsNewer u v → RefinesBy (λ b. IsNew b ⊎ IsNewer b) s v
+RefinesBy-trans IsNew IsNewer s u v a b = record {
+  same = b.same ∙ ap (λ (x : State). let y : State = record x { column = v.column; remembered = v.remembered; marks = v.marks; column_room = v.column_room; in_room = v.in_room } in y) a.same;
+  long = b.long ∙ a.long;
+  pieces = λ p q is_p is_q. IsPermutation-trans (between p q s.column) (between p q u.column) (between p q v.column) (a.pieces p q is_p is_q) (b.pieces p q (cuts_kept IsNew s u a p is_p) (cuts_kept IsNew s u a q is_q));
+  kept = λ m is. b.kept m (a.kept m is);
+  added = λ n is. elim is [
+    | inl new ↦
+        let at = HasBound-contains u.marks n (a.added n new) in
+        rw at.2 at (HasBound-mark v.marks at.0 (b.kept at.0 at.1))
+    | inr newer ↦ b.added n newer
+  ];
+  only = λ n has. elim (b.only n has) [
+    | inl before ↦ elim (a.only n before) [ inl first ↦ inl first | inr new ↦ inr (inl new) ]
+    | inr newer ↦ inr (inr newer)
+  ];
+}
+
+-- the bounds that may be new, said otherwise
+pub RefinesBy-as : (IsNew IsNewer : ℕ → Type 0) (s u : State) → ((b : ℕ) → IsNew b → IsNewer b) → ((b : ℕ) → IsNewer b → IsNew b) → RefinesBy IsNew s u → RefinesBy IsNewer s u
+RefinesBy-as IsNew IsNewer s u more fewer a = record {
+  same = a.same;
+  long = a.long;
+  pieces = a.pieces;
+  kept = a.kept;
+  added = λ b is. a.added b (fewer b is);
+  only = λ b has. elim (a.only b has) [ inl before ↦ inl before | inr new ↦ inr (more b new) ];
+}
+
+pub keys-refined : (IsNew : ℕ → Type 0) (s u : State) → RefinesBy IsNew s u → u.keys ≡ s.keys
+keys-refined IsNew s u refined = ap (λ (x : State). x.keys) refined.same
+
+-- refined at the one end of a range, and then at the other
+pub Refines-both : (s u v : State) (r : Range) → RefinesAt s u r.low → RefinesAt u v r.high → Refines s v r
+Refines-both s u v r a b =
+    let keys = keys-refined (λ n. (n ≡ r.low) × (s.keys.low < n) × (n < s.keys.high)) s u a in
+    RefinesBy-as (λ n. ((n ≡ r.low) × (s.keys.low < n) × (n < s.keys.high)) ⊎ ((n ≡ r.high) × (u.keys.low < n) × (n < u.keys.high))) (IsInner s.keys r) s v
+    (λ n is. elim is [
+      | inl l ↦ (inl l.0, l.1, l.2)
+      | inr l ↦ (inr l.0, omega (arith, ap (λ (x : Range). x.low) keys, l.1), omega (arith, ap (λ (x : Range). x.high) keys, l.2))
+    ])
+    (λ n is. elim is.0 [
+      | inl l ↦ inl (l, is.1, is.2)
+      | inr l ↦ inr (l, omega (arith, ap (λ (x : Range). x.low) keys, is.1), omega (arith, ap (λ (x : Range). x.high) keys, is.2))
+    ])
+    (RefinesBy-trans (λ n. (n ≡ r.low) × (s.keys.low < n) × (n < s.keys.high)) (λ n. (n ≡ r.high) × (u.keys.low < n) × (n < u.keys.high)) s u v a b)
+
+-- at an end of the partition, or at a bound that is there, nothing is cracked
+pub RefinesAt-end : (s : State) (bound : ℕ) → (bound ≤ s.keys.low) ⊎ (s.keys.high ≤ bound) → RefinesAt s s bound
+RefinesAt-end s bound end = RefinesBy-refl (λ b. (b ≡ bound) × (s.keys.low < b) × (b < s.keys.high)) s (λ b is. elim end [ inl l ↦ absurd (omega (arith, is.0, is.1)) | inr l ↦ absurd (omega (arith, is.0, is.2)) ])
+
+pub RefinesAt-there : (s : State) (bound : ℕ) → HasBound s.marks bound → RefinesAt s s bound
+RefinesAt-there s bound there = RefinesBy-refl (λ b. (b ≡ bound) × (s.keys.low < b) × (b < s.keys.high)) s (λ b is. rw is.0 there)
+
+-- commands see the same rows
+pub live_rows-refined : (IsNew : ℕ → Type 0) (s u : State) → RefinesBy IsNew s u → live_rows u ≡ live_rows s
+live_rows-refined IsNew s u refined = ap live_rows refined.same
+
+-- the cells stay, and the pending columns, and the tally
+pub cells-refined : (IsNew : ℕ → Type 0) (s u : State) → RefinesBy IsNew s u → u.cells ≡ s.cells
+cells-refined IsNew s u refined = ap (λ (x : State). x.cells) refined.same
+
+pub pending_in-refined : (IsNew : ℕ → Type 0) (s u : State) → RefinesBy IsNew s u → u.pending_in ≡ s.pending_in
+pending_in-refined IsNew s u refined = ap (λ (x : State). x.pending_in) refined.same
+
+pub pending_out-refined : (IsNew : ℕ → Type 0) (s u : State) → RefinesBy IsNew s u → u.pending_out ≡ s.pending_out
+pending_out-refined IsNew s u refined = ap (λ (x : State). x.pending_out) refined.same
+
+pub tally-refined : (IsNew : ℕ → Type 0) (s u : State) → RefinesBy IsNew s u → u.tally ≡ s.tally
+tally-refined IsNew s u refined = ap (λ (x : State). x.tally) refined.same
+
+-- what was refined by a range is cracked by it
+pub IsCracked-refined : (s u : State) (r : Range) → Refines s u r → IsCracked u r
+IsCracked-refined s u r refined = λ b is.
+    let keys = keys-refined (IsInner s.keys r) s u refined in
+    refined.added b (is.0, omega (arith, ap (λ (x : Range). x.low) keys, is.1), omega (arith, ap (λ (x : Range). x.high) keys, is.2))

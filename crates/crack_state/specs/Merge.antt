@@ -1,0 +1,141 @@
+-- What a refinement and a merge may change of a store, and what they leave.
+use Rattle.std.specs.Prelude.{◌≡◌, ◌⊎◌, ℕ, Bool, ◌+◌, ◌-◌, ◌*◌, ◌<◌, ◌≤◌, ◌||◌, nat_le, if◌then◌else◌, List, [], ◌∷◌, ◌++◌, length, map, filter, Contains}
+use Rattle.std.specs.List.{All, filter_map, between, list_any}
+use Rattle.std.specs.List.Sorted.{IsPermutation}
+use Rattle.crack_row.specs.Ranges.{Range, is_in}
+use Rattle.crack_row.specs.declared.Row.{Row}
+use Rattle.crack_row.specs.declared.command.Policy.{Policy}
+use Rattle.crack_row.specs.declared.command.Policy.TheVariants.{Complete}
+use Rattle.crack_arena.specs.Arena.{Cell, Handle, read}
+use Rattle.crack_index.specs.declared.mark.Mark.{Mark}
+use Rattle.crack_index.specs.Marks.{HasBound, bounds_of, place_of}
+use Rattle.crack_column.specs.Column.{key_at}
+use Rattle.crack_state.specs.declared.MergeReport.{MergeReport}
+use Rattle.crack_state.specs.State.{State, Reads, IsIntact, live_rows, freed_of, greatest}
+
+-- whether the row's key is in the range
+abbrev pub in_range : Range → Row → Bool
+in_range r row = is_in r row.key.0
+
+-- the key is outside the range
+abbrev pub IsOutside : Range → ℕ → Type 0
+IsOutside r key = (key < r.low) ⊎ (r.high ≤ key)
+
+-- what the handle reads has its key outside the range
+abbrev pub ReadsOutside : List (Cell Row) → Range → Handle → Type 0
+ReadsOutside cells r h = IsOutside r (key_at cells h)
+
+-- an end of the range that isn't the partition's own
+abbrev pub IsInner : Range → Range → ℕ → Type 0
+IsInner keys r bound = ((bound ≡ r.low) ⊎ (bound ≡ r.high)) × (keys.low < bound) × (bound < keys.high)
+
+-- the place at which the rows at or above a bound begin: the column's front or end for the partition's ends, else where the
+-- index has the bound
+abbrev pub edge : State → ℕ → ℕ
+edge s bound = if nat_le bound s.keys.low then 0 else if nat_le s.keys.high bound then length s.column else place_of bound s.marks
+
+-- the column's handles between the places of a range's ends
+abbrev pub stretch : State → Range → List Handle
+stretch s r = between (edge s r.low) (edge s r.high) s.column
+
+-- the inner ends of the range stand in the index
+abbrev pub IsCracked : State → Range → Type 0
+IsCracked s r = (bound : ℕ) → IsInner s.keys r bound → HasBound s.marks bound
+
+-- where pieces begin and end: the column's front, the place of each bound, and the column's end
+abbrev pub cuts : State → List ℕ
+cuts s = 0 ∷ map (λ (m : Mark). m.position) s.marks ++ length s.column ∷ []
+
+-- between any two bounds, the ends counted, the column has the same handles, in some order; the marks stay, and the bounds of
+-- which `IsNew` holds are added where they were missing, and no other; all else but what is remembered of keys, and room, is the same
+pub record RefinesBy (IsNew : ℕ → Type 0) (s u : State) : Type 0 where
+  pub same : u ≡ record s { column = u.column; remembered = u.remembered; marks = u.marks; column_room = u.column_room; in_room = u.in_room }
+  pub long : length u.column ≡ length s.column
+  pub pieces : (from to : ℕ) → Contains (cuts s) from → Contains (cuts s) to → IsPermutation (between from to s.column) (between from to u.column)
+  pub kept : (m : Mark) → Contains s.marks m → Contains u.marks m
+  pub added : (bound : ℕ) → IsNew bound → HasBound u.marks bound
+  pub only : (bound : ℕ) → HasBound u.marks bound → HasBound s.marks bound ⊎ IsNew bound
+
+-- refined at one bound: it is added where it is missing, unless it is the partition's own end
+abbrev pub RefinesAt : State → State → ℕ → Type 0
+RefinesAt s u bound = RefinesBy (λ b. (b ≡ bound) × (s.keys.low < b) × (b < s.keys.high)) s u
+
+-- refined: what a range's crack does, which adds the inner ends of the range
+abbrev pub Refines : State → State → Range → Type 0
+Refines s u r = RefinesBy (IsInner s.keys r) s u
+
+-- settled: no row of either pending column has its key in the range, the range's inner ends stand in the index, and the
+-- column between the two places holds just the live rows of the range
+pub record IsSettled (t : State) (r : Range) : Type 0 where
+  pub cracked : IsCracked t r
+  pub pending : All (ReadsOutside t.cells r) t.pending_in
+  pub doomed : All (ReadsOutside t.cells r) t.pending_out
+  pub order : edge t r.low ≤ edge t r.high
+  pub within : edge t r.high ≤ length t.column
+  pub reads : All (Reads t.cells) (stretch t r)
+  pub holds : IsPermutation (filter (in_range r) (live_rows t)) (filter_map (read t.cells) (stretch t r))
+
+-- what no step of any merge changes: the partition's keys, the live rows, the bounds, the number of cells, and how often cells
+-- were freed or are still to be
+pub record Follows (s t : State) : Type 0 where
+  pub keys : t.keys ≡ s.keys
+  pub live : live_rows t ≡ live_rows s
+  pub bounds : bounds_of t.marks ≡ bounds_of s.marks
+  pub cells : length t.cells ≡ length s.cells
+  pub freed : freed_of t.cells + length t.pending_out ≡ freed_of s.cells + length s.pending_out
+
+-- whether a row of either pending column has its key in the range
+abbrev pub is_touched : State → Range → Bool
+is_touched s r = list_any (λ h. is_in r (key_at s.cells h)) s.pending_in || list_any (λ h. is_in r (key_at s.cells h)) s.pending_out
+
+-- which pending rows are left by a merge of this policy
+abbrev pub Leaves : Policy → State → State → Range → Type 0
+Leaves Complete s t r = (t.pending_in ≡ (if is_touched s r then [] else s.pending_in)) × (t.pending_out ≡ (if is_touched s r then [] else s.pending_out))
+
+-- merged: the range is settled, the pending rows that the policy takes are gone, and commands see the same rows as before
+pub record Merges (policy : Policy) (s t : State) (r : Range) : Type 0 where
+  pub follows : Follows s t
+  pub intact : IsIntact t []
+  pub settled : IsSettled t r
+  pub leaves : Leaves policy s t r
+
+-- the report from one store to another: what was counted between
+abbrev pub report_from : State → State → MergeReport
+report_from s t = record {
+  put_in = t.tally.put_in - s.tally.put_in;
+  taken_out = t.tally.taken_out - s.tally.taken_out;
+  evicted = t.tally.evicted - s.tally.evicted;
+  moved = t.tally.moved - s.tally.moved;
+  pulled = t.tally.pulled - s.tally.pulled;
+}
+
+-- no counter has reached its greatest number
+pub record IsExact (tally : MergeReport) : Type 0 where
+  pub put_in : tally.put_in < greatest
+  pub taken_out : tally.taken_out < greatest
+  pub evicted : tally.evicted < greatest
+  pub moved : tally.moved < greatest
+  pub pulled : tally.pulled < greatest
+
+-- what the report from s to t says, where every counter is exact: with q pieces, what was put in and not evicted is gone from
+-- the pending insertions, what was taken out is gone from the pending deletions, each row put in moved at most q rows, and
+-- each row taken out pulled at most q
+pub record Counts (s t : State) (q : ℕ) : Type 0 where
+  pub put_in : t.tally.put_in + length t.pending_in + s.tally.evicted ≡ s.tally.put_in + length s.pending_in + t.tally.evicted
+  pub taken_out : t.tally.taken_out + length t.pending_out ≡ s.tally.taken_out + length s.pending_out
+  pub moved : t.tally.moved + s.tally.put_in * q ≤ s.tally.moved + t.tally.put_in * q
+  pub pulled : t.tally.pulled + s.tally.taken_out * q ≤ s.tally.pulled + t.tally.taken_out * q
+
+-- what a policy may have evicted: complete nothing
+abbrev pub MayEvict : Policy → State → State → Type 0
+MayEvict Complete s t = t.tally.evicted ≡ s.tally.evicted
+
+-- what a merge of this policy counts: no counter falls, and the report is right unless one is at its greatest number
+pub record Tallies (policy : Policy) (s t : State) : Type 0 where
+  pub put_in_rises : s.tally.put_in ≤ t.tally.put_in
+  pub taken_out_rises : s.tally.taken_out ≤ t.tally.taken_out
+  pub evicted_rises : s.tally.evicted ≤ t.tally.evicted
+  pub moved_rises : s.tally.moved ≤ t.tally.moved
+  pub pulled_rises : s.tally.pulled ≤ t.tally.pulled
+  pub counts : IsExact t.tally → Counts s t (length s.marks + 1)
+  pub evicts : MayEvict policy s t

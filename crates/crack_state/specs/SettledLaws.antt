@@ -1,0 +1,205 @@
+-- When a range is settled, and what its stretch of the column then answers.
+use Rattle.std.proofs.Common.{◌≡◌, ℕ, suc, ◌+◌, ◌-◌, ◌<◌, ◌≤◌, Bool, true, false, leb, ltb, List, [], ◌∷◌, ◌++◌, length, get_or, take, drop, cond, Option, Some, None, IsSome, refl, sym, ap, ◌∙◌, inl, inr, arith, zero-add}
+use Rattle.std.specs.Prelude.{◌==◌}
+use Rattle.std.specs.List.{All, cons_option, filter_map, filter, between, count_by}
+use Rattle.std.specs.List.Sorted.{IsPermutation}
+use Rattle.std.proofs.lemmas.List.{append-nil, map-append, length-map, get_or-map, get_or-take, get_or-drop, length-take-le, length-drop, get_or_default}
+use Rattle.std.proofs.lemmas.List.Elements.{filter_map-append, All-head, All-tail}
+use Rattle.std.proofs.lemmas.List.Edits.{split_between, get_or-between, length-between}
+use Rattle.std.proofs.lemmas.List.Sorted.{length_permutation, sum_by-IsPermutation}
+use Rattle.std.proofs.lemmas.List.Sums.{length-filter}
+use Rattle.std.proofs.lemmas.Bool.{cases_lt, lt-ltb, le-ltb, le-leb, lt-leb, true≢false, and_left, and_right}
+use Rattle.crack_row.specs.Ranges.{Range}
+use Rattle.crack_row.specs.declared.Row.{Row}
+use Rattle.crack_arena.specs.Arena.{Cell, Handle, times, read, cell_at}
+use Rattle.crack_index.specs.Marks.{HasBound, place_of}
+use Rattle.crack_index.specs.MarkLaws.{HasBound-contains, place_of-mark}
+use Rattle.crack_column.specs.Column.{key_of_row, key_at, IsDividedAt}
+use Rattle.crack_column.specs.Divisions.{IsDividedAt-end, IsDividedAt-order}
+use Rattle.crack_state.specs.State.{State, slots, places, Reads, IsOwned, IsIntact, column_keys, live_rows}
+use Rattle.crack_state.specs.Steps.{place_in}
+use Rattle.crack_state.specs.Merge.{in_range, IsOutside, ReadsOutside, IsCracked, edge, stretch, IsSettled}
+use Rattle.crack_state.specs.OwnedLaws.{place_in-within, place_in-found}
+use Rattle.crack_state.specs.CellLaws.{read_is_value}
+use Rattle.crack_state.specs.LiveLaws.{live_at, live_value-none, numbers, times-numbers, live_from-numbers, IsPermutation-filter_map_times}
+use Rattle.crack_state.specs.CrackLaws.{column_keys-within}
+use Rattle.crack_state.specs.PieceLaws.{Divides-listed}
+
+-- a bound that stands, or is an end of the partition, divides the column at its edge
+pub edge-divides : (s : State) (hand : List Handle) (bound : ℕ) → IsIntact s hand → s.keys.low ≤ bound → bound ≤ s.keys.high → (s.keys.low < bound → bound < s.keys.high → HasBound s.marks bound) → IsDividedAt bound (column_keys s) (edge s bound)
+edge-divides s hand bound intact above below stands =
+    let all = column_keys-within s hand intact in
+    elim (cases_lt s.keys.low bound) [
+      | inl l ↦ elim (cases_lt bound s.keys.high) [
+        | inl h ↦
+            let at = HasBound-contains s.marks bound (stands l h) in
+            let place : place_of bound s.marks ≡ at.0.position = rw at.2 at (place_of-mark s.marks at.0 intact.rising at.1) in
+            rw (lt-leb bound s.keys.low l, lt-leb s.keys.high bound h, place) (rw at.2 at (Divides-listed (column_keys s) s.marks at.0 intact.obeyed at.1))
+        | inr h ↦
+            let same : bound ≡ s.keys.high = omega arith in
+            rw (lt-leb bound s.keys.low l, le-leb s.keys.high bound h) (rw (length-map s.column (key_at s.cells)) at (IsDividedAt-end bound (column_keys s) (λ k d h'. omega (arith, (all k d h').1))))
+      ]
+      | inr l ↦ rw (le-leb bound s.keys.low l) (record { within = omega arith; below = λ k h. absurd (omega arith); above = λ k h j. omega (arith, (all k 0 j).0) })
+    ]
+
+-- a row that a test lets by, if there is one
+abbrev kept_by : (Row → Bool) → Option Row → Option Row
+kept_by test None = None
+kept_by test (Some r) = cond (test r) (Some r) None
+
+filter-filter_map : (test : Row → Bool) (g : ℕ → Option Row) (ns : List ℕ) → filter test (filter_map g ns) ≡ filter_map (λ n. kept_by test (g n)) ns
+filter-filter_map test g [] = refl
+filter-filter_map test g (n ∷ ns) = rw (← filter-filter_map test g ns) (by_value (g n) (filter_map g ns))
+  where
+    by_test : (b : Bool) (r : Row) (rs : List Row) → cond b (r ∷ rs) rs ≡ cons_option (cond b (Some r) None) rs
+    by_test true r rs = refl
+    by_test false r rs = refl
+
+    by_value : (o : Option Row) (rs : List Row) → filter test (cons_option o rs) ≡ cons_option (kept_by test o) (filter test rs)
+    by_value None rs = refl
+    by_value (Some r) rs = by_test (test r) r (filter test rs)
+
+filter-live_rows : (test : Row → Bool) (s : State) (hand : List Handle) → IsOwned s.cells s.free s.column s.pending_in s.pending_out hand → IsPermutation (filter test (live_rows s)) (filter_map (λ n. kept_by test (live_at s n)) (places s hand))
+filter-live_rows test s hand owned =
+    let whole : live_rows s ≡ filter_map (live_at s) (numbers 0 (length s.cells)) = live_from-numbers (slots s.pending_out) (live_at s) 0 s.cells (λ k h. rw zero-add refl) in
+    rw (whole, filter-filter_map test (live_at s) (numbers 0 (length s.cells))) (IsPermutation-filter_map_times (λ n. kept_by test (live_at s n)) (numbers 0 (length s.cells)) (places s hand) (λ n. times-numbers n 0 (length s.cells) (omega arith) ∙ rw zero-add (sym (owned.once n))))
+
+none_kept : (g : ℕ → Option Row) (hs : List Handle) → All (λ (h : Handle). g h.slot ≡ None) hs → filter_map g (slots hs) ≡ []
+none_kept g [] none = refl
+none_kept g (h ∷ hs) none = let rest = none_kept g hs (All-tail (λ (x : Handle). g x.slot ≡ None) h hs none) in rw (All-head (λ (x : Handle). g x.slot ≡ None) h hs none, rest) refl
+
+none_kept_free : (g : ℕ → Option Row) (ns : List ℕ) → All (λ n. g n ≡ None) ns → filter_map g ns ≡ []
+none_kept_free g [] none = refl
+none_kept_free g (n ∷ ns) none = let rest = none_kept_free g ns (All-tail (λ x. g x ≡ None) n ns none) in rw (All-head (λ x. g x ≡ None) n ns none, rest) refl
+
+all_kept : (g : ℕ → Option Row) (cells : List (Cell Row)) (hs : List Handle) → All (λ (h : Handle). g h.slot ≡ read cells h) hs → filter_map g (slots hs) ≡ filter_map (read cells) hs
+all_kept g cells [] same = refl
+all_kept g cells (h ∷ hs) same = let rest = all_kept g cells hs (All-tail (λ (x : Handle). g x.slot ≡ read cells x) h hs same) in rw (All-head (λ (x : Handle). g x.slot ≡ read cells x) h hs same, rest) refl
+
+-- a row outside the range isn't let by
+pub outside_false : (r : Range) (row : Row) → IsOutside r row.key.0 → in_range r row ≡ false
+outside_false r row out = elim out [
+  | inl l ↦ and_left (leb r.low row.key.0) (ltb row.key.0 r.high) (lt-leb r.low row.key.0 l)
+  | inr l ↦ and_right (leb r.low row.key.0) (ltb row.key.0 r.high) (le-ltb row.key.0 r.high l)
+]
+
+kept_outside : (r : Range) (s : State) (h : Handle) → Reads s.cells h → ReadsOutside s.cells r h → kept_by (in_range r) (live_at s h.slot) ≡ None
+kept_outside r s h reads out =
+    let value = read_is_value s.cells h reads in
+    by_value (read s.cells h) (times h.slot (slots s.pending_out) == 0) (sym value) out
+  where
+    by_value : (o : Option Row) (b : Bool) → (cell_at s.cells h.slot).value ≡ o → IsOutside r (key_of_row o) → kept_by (in_range r) (cond b (cell_at s.cells h.slot).value None) ≡ None
+    by_value None true is out = rw is refl
+    by_value (Some row) true is out = rw (is, outside_false r row out) refl
+    by_value o false is out = refl
+
+kept_inside : (r : Range) (s : State) (h : Handle) → Reads s.cells h → r.low ≤ key_at s.cells h → key_at s.cells h < r.high → times h.slot (slots s.pending_out) ≡ 0 → kept_by (in_range r) (live_at s h.slot) ≡ read s.cells h
+kept_inside r s h reads above below kept =
+    let value = read_is_value s.cells h reads in
+    rw (kept) (by_value (read s.cells h) (sym value) above below)
+  where
+    by_value : (o : Option Row) → (cell_at s.cells h.slot).value ≡ o → r.low ≤ key_of_row o → key_of_row o < r.high → kept_by (in_range r) (cell_at s.cells h.slot).value ≡ o
+    by_value None is above below = rw is refl
+    by_value (Some row) is above below = rw (is, le-leb r.low row.key.0 above, lt-ltb row.key.0 r.high below) refl
+
+-- a row of the range isn't doomed, where no doomed row is in the range
+not_doomed : (r : Range) (s : State) (h : Handle) → Reads s.cells h → r.low ≤ key_at s.cells h → key_at s.cells h < r.high → All (Reads s.cells) s.pending_out → All (ReadsOutside s.cells r) s.pending_out → times h.slot (slots s.pending_out) ≡ 0
+not_doomed r s h reads above below all out = elim (cases_lt 0 (times h.slot (slots s.pending_out))) [
+  | inl some ↦
+      let place = place_in-within s.pending_out h.slot some in
+      let met = get_or s.pending_out (place_in s.pending_out h.slot) h in
+      let same : met.slot ≡ h.slot = place_in-found s.pending_out h.slot met place (get_or_default s.pending_out (place_in s.pending_out h.slot) h met place) in
+      let value = read_is_value s.cells met (all (place_in s.pending_out h.slot) h place) in
+      let mine = read_is_value s.cells h reads in
+      let keys : key_at s.cells met ≡ key_at s.cells h = ap key_of_row (value ∙ ap (λ (n : ℕ). (cell_at s.cells n).value) same ∙ sym mine) in
+      elim (out (place_in s.pending_out h.slot) h place) [ inl l ↦ absurd (omega arith) | inr l ↦ absurd (omega arith) ]
+  | inr none ↦ omega arith
+]
+
+-- what divides the keys divides the handles
+record Parts (s : State) (bound place : ℕ) : Type 0 where
+  within : place ≤ length s.column
+  below : (k : ℕ) (d : Handle) → k < place → key_at s.cells (get_or s.column k d) < bound
+  above : (k : ℕ) (d : Handle) → place ≤ k → k < length s.column → bound ≤ key_at s.cells (get_or s.column k d)
+
+parts : (s : State) (bound place : ℕ) → IsDividedAt bound (column_keys s) place → Parts s bound place
+parts s bound place divides =
+    let len = length-map s.column (key_at s.cells) in
+    record {
+      within = omega (arith, divides.within);
+      below = λ k d h. rw (← get_or-map (key_at s.cells) s.column k d 0 (omega (arith, divides.within))) (divides.below k h);
+      above = λ k d h j. rw (← get_or-map (key_at s.cells) s.column k d 0 j) (divides.above k h (omega arith));
+    }
+
+-- the column between two places holds just the live rows of the range
+holds_between : (s : State) (r : Range) (from to : ℕ) → from ≤ to → Parts s r.low from → Parts s r.high to → All (ReadsOutside s.cells r) s.pending_in → All (ReadsOutside s.cells r) s.pending_out → IsIntact s [] → IsPermutation (filter (in_range r) (live_rows s)) (filter_map (read s.cells) (between from to s.column))
+holds_between s r from to order low high pending doomed intact =
+    let owned = intact.owned in
+    let g : ℕ → Option Row = λ n. kept_by (in_range r) (live_at s n) in
+    let front = take from s.column in
+    let mid = between from to s.column in
+    let back = drop to s.column in
+    let whole : s.column ≡ front ++ (mid ++ back) = split_between s.column from to order in
+    let front_none : filter_map g (slots front) ≡ [] = none_kept g front (λ k d h.
+    let short : length front ≡ from = length-take-le from s.column (omega (arith, high.within)) in
+    let at : get_or front k d ≡ get_or s.column k d = get_or-take from s.column k d (omega arith) in
+    rw at (kept_outside r s (get_or s.column k d) (owned.column_reads k d (omega (arith, high.within))) (inl (low.below k d (omega arith))))) in
+    let mid_all : filter_map g (slots mid) ≡ filter_map (read s.cells) mid = all_kept g s.cells mid (λ k d h.
+    let len : length mid ≡ to - from = length-between s.column from to high.within in
+    let below : from + k < to = omega arith in
+    let at : get_or mid k d ≡ get_or s.column (from + k) d = get_or-between s.column from to k d below in
+    let reads = owned.column_reads (from + k) d (omega (arith, high.within)) in
+    let above = low.above (from + k) d (omega arith) (omega (arith, high.within)) in
+    let under = high.below (from + k) d below in
+    rw at (kept_inside r s (get_or s.column (from + k) d) reads above under (not_doomed r s (get_or s.column (from + k) d) reads above under owned.doomed_reads doomed))) in
+    let back_none : filter_map g (slots back) ≡ [] = none_kept g back (λ k d h.
+    let len : length back ≡ length s.column - to = length-drop to s.column in
+    let at : get_or back k d ≡ get_or s.column (to + k) d = get_or-drop to s.column k d in
+    rw at (kept_outside r s (get_or s.column (to + k) d) (owned.column_reads (to + k) d (omega arith)) (inr (high.above (to + k) d (omega arith) (omega arith))))) in
+    let pending_none : filter_map g (slots s.pending_in) ≡ [] = none_kept g s.pending_in (λ k d h. kept_outside r s (get_or s.pending_in k d) (owned.pending_reads k d h) (pending k d h)) in
+    let free_none : filter_map g s.free ≡ [] = none_kept_free g s.free (λ k d h. rw (intact.empty k d h, live_value-none (times (get_or s.free k d) (slots s.pending_out) == 0)) refl) in
+    let slot : Handle → ℕ = λ h. h.slot in
+    let column : filter_map g (slots s.column) ≡ filter_map (read s.cells) mid =
+    ap (λ hs. filter_map g (slots hs)) whole ∙ rw (map-append slot front (mid ++ back), map-append slot mid back, filter_map-append g (slots front) (slots mid ++ slots back), filter_map-append g (slots mid) (slots back), front_none, mid_all, back_none, append-nil) refl in
+    let all : filter_map g (places s []) ≡ filter_map (read s.cells) mid =
+    rw (append-nil, filter_map-append g (slots s.column ++ slots s.pending_in) s.free, filter_map-append g (slots s.column) (slots s.pending_in), column, pending_none, free_none, append-nil (filter_map (read s.cells) mid ++ []), append-nil (filter_map (read s.cells) mid)) refl in
+    rw all at (filter-live_rows (in_range r) s [] owned)
+
+-- a range that was cracked is settled, once no pending row of either column has its key in it
+pub IsSettled-of : (s : State) (r : Range) → r.low ≤ r.high → s.keys.low ≤ r.low → r.high ≤ s.keys.high → IsCracked s r → All (ReadsOutside s.cells r) s.pending_in → All (ReadsOutside s.cells r) s.pending_out → IsIntact s [] → IsSettled s r
+IsSettled-of s r order low high cracked pending doomed intact =
+    let low_divides = edge-divides s [] r.low intact low (omega arith) (λ a b. cracked r.low (inl refl, a, b)) in
+    let high_divides = edge-divides s [] r.high intact (omega arith) high (λ a b. cracked r.high (inr refl, a, b)) in
+    let low_parts = parts s r.low (edge s r.low) low_divides in
+    let high_parts = parts s r.high (edge s r.high) high_divides in
+    let rising : edge s r.low ≤ edge s r.high = IsDividedAt-order r.low r.high (column_keys s) (edge s r.low) (edge s r.high) order low_divides high_divides in
+    record {
+      cracked = cracked;
+      pending = pending;
+      doomed = doomed;
+      order = rising;
+      within = high_parts.within;
+      reads = λ k d h.
+          let len : length (stretch s r) ≡ edge s r.high - edge s r.low = length-between s.column (edge s r.low) (edge s r.high) high_parts.within in
+          let below : edge s r.low + k < edge s r.high = omega arith in
+          rw (get_or-between s.column (edge s r.low) (edge s r.high) k d below) (intact.owned.column_reads (edge s r.low + k) d (omega (arith, high_parts.within)));
+      holds = holds_between s r (edge s r.low) (edge s r.high) rising low_parts high_parts pending doomed intact;
+    }
+
+-- as many rows as handles that read
+pub length-read : (cells : List (Cell Row)) (hs : List Handle) → All (Reads cells) hs → length (filter_map (read cells) hs) ≡ length hs
+length-read cells [] reads = refl
+length-read cells (h ∷ hs) reads = by_value (read cells h) (filter_map (read cells) hs) (All-head (Reads cells) h hs reads) (length-read cells hs (All-tail (Reads cells) h hs reads))
+  where
+    by_value : (o : Option Row) (rs : List Row) → IsSome o → length rs ≡ length hs → length (cons_option o rs) ≡ suc (length hs)
+    by_value None rs some rest = absurd (true≢false (sym some))
+    by_value (Some r) rs some rest = ap suc rest
+
+-- a settled range has as many places as a list of the same rows has rows of the range
+pub count-settled : (s : State) (r : Range) (plain : List Row) → IsSettled s r → IsPermutation (live_rows s) plain → edge s r.high - edge s r.low ≡ count_by (in_range r) plain
+count-settled s r plain settled same =
+    let size : length (filter_map (read s.cells) (stretch s r)) ≡ edge s r.high - edge s r.low = length-read s.cells (stretch s r) settled.reads ∙ length-between s.column (edge s r.low) (edge s r.high) settled.within in
+    let counted : length (filter_map (read s.cells) (stretch s r)) ≡ length (filter (in_range r) (live_rows s)) = length_permutation (filter (in_range r) (live_rows s)) (filter_map (read s.cells) (stretch s r)) settled.holds in
+    let live : length (filter (in_range r) (live_rows s)) ≡ count_by (in_range r) (live_rows s) = length-filter (in_range r) (live_rows s) in
+    let both : count_by (in_range r) plain ≡ count_by (in_range r) (live_rows s) = sum_by-IsPermutation (λ x. cond (in_range r x) 1 0) (live_rows s) plain same in
+    sym size ∙ counted ∙ live ∙ sym both

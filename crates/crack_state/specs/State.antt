@@ -1,0 +1,148 @@
+-- A store as lists: what stands where, and what has to hold of it.
+use Rattle.std.specs.Prelude.{◌≡◌, ℕ, ◌+◌, ◌<◌, ◌≤◌, ◌^◌, ◌-◌, ◌==◌, nat_lt, nat_eq, if◌then◌else◌, sum_by, List, [], ◌∷◌, ◌++◌, length, map, Option, Some, None, IsSome, IfSome}
+use Rattle.std.specs.List.{All, cons_option, filter_map}
+use Rattle.std.specs.Map.{lookup}
+use Rattle.crack_row.specs.Ranges.{Range, IsIn}
+use Rattle.crack_row.specs.declared.Row.{Row}
+use Rattle.crack_arena.specs.Arena.{Cell, Handle, read, cell_at, times}
+use Rattle.crack_index.specs.declared.mark.Mark.{Mark}
+use Rattle.crack_index.specs.Marks.{Rising}
+use Rattle.crack_column.specs.Column.{key_at, Remembers, IsDividedAt}
+use Rattle.crack_state.specs.declared.MergeReport.{MergeReport}
+
+-- the partition's keys; the cells of the arena and its free numbers; the column, with what is remembered of its keys; the
+-- pending columns; the marks of the index; the handle of each live serial; the tally; and how many handles more fit in
+-- column and pending insertions without memory
+pub record State : Type 0 where
+  pub keys : Range
+  pub cells : List (Cell Row)
+  pub free : List ℕ
+  pub column : List Handle
+  pub remembered : List ℕ
+  pub pending_in : List Handle
+  pub pending_out : List Handle
+  pub marks : List Mark
+  pub serials : List (ℕ × Handle)
+  pub tally : MergeReport
+  pub column_room : ℕ
+  pub in_room : ℕ
+
+-- a store with a cell in hand, which stands in no list
+pub record Carried : Type 0 where
+  pub store : State
+  pub hand : Handle
+
+-- the cells that handles name
+abbrev pub slots : List Handle → List ℕ
+slots hs = map (λ (h : Handle). h.slot) hs
+
+-- where the cells' numbers stand
+abbrev pub places_in : List Handle → List Handle → List ℕ → List Handle → List ℕ
+places_in column pending_in free hand = slots column ++ slots pending_in ++ free ++ slots hand
+
+abbrev pub places : State → List Handle → List ℕ
+places s hand = places_in s.column s.pending_in s.free hand
+
+-- the handle reads a row
+abbrev pub Reads : List (Cell Row) → Handle → Type 0
+Reads cells h = IsSome (read cells h)
+
+-- each cell stands in exactly one place; what stands in column, pending insertions or hand reads a row; the doomed are
+-- distinct, and each is in the column or is the hand
+pub record IsOwned (cells : List (Cell Row)) (free : List ℕ) (column pending_in pending_out hand : List Handle) : Type 0 where
+  pub once : (n : ℕ) → times n (places_in column pending_in free hand) ≡ (if nat_lt n (length cells) then 1 else 0)
+  pub column_reads : All (Reads cells) column
+  pub pending_reads : All (Reads cells) pending_in
+  pub hand_reads : All (Reads cells) hand
+  pub doomed_reads : All (Reads cells) pending_out
+  pub doomed_once : (n : ℕ) → times n (slots pending_out) ≤ times n (slots column ++ slots hand)
+
+-- the keys of the column's rows, in their order
+abbrev pub column_keys : State → List ℕ
+column_keys s = map (key_at s.cells) s.column
+
+-- a mark divides keys: those below its bound stand first, and its position is their number
+abbrev pub Divides : List ℕ → Mark → Type 0
+Divides keys m = IsDividedAt m.bound.0 keys m.position
+
+-- every mark divides the keys
+abbrev pub IsObeyed : List Mark → List ℕ → Type 0
+IsObeyed marks keys = All (Divides keys) marks
+
+-- every bound lies strictly between the partition's ends
+abbrev pub AreInside : Range → List Mark → Type 0
+AreInside keys marks = All (λ (m : Mark). (keys.low < m.bound.0) × (m.bound.0 < keys.high)) marks
+
+-- what the cell of this number has for commands to see: its row, unless that is doomed
+abbrev pub live_value : List ℕ → ℕ → Cell Row → Option Row
+live_value doomed n c = if times n doomed == 0 then c.value else None
+
+abbrev pub live_from : List ℕ → ℕ → List (Cell Row) → List Row
+live_from doomed n [] = []
+live_from doomed n (c ∷ cs) = cons_option (live_value doomed n c) (live_from doomed (n + 1) cs)
+
+-- the rows that commands see, in the order of their cells' numbers
+abbrev pub live_rows : State → List Row
+live_rows s = live_from (slots s.pending_out) 0 s.cells
+
+-- what a handle has for commands to see: the row that it reads, unless that is doomed
+abbrev pub live_read : State → Handle → Option Row
+live_read s h = if times h.slot (slots s.pending_out) == 0 then read s.cells h else None
+
+-- the live rows of the handles, in their order
+abbrev pub held : State → List Handle → List Row
+held s hs = filter_map (live_read s) hs
+
+-- the handle that the map has for a serial
+abbrev pub handle_of : List (ℕ × Handle) → ℕ → Option Handle
+handle_of serials serial = lookup (nat_eq serial) serials
+
+-- the handle reads a row of this serial, and it isn't doomed
+pub record IsLiveAt (cells : List (Cell Row)) (doomed : List ℕ) (serial : ℕ) (h : Handle) : Type 0 where
+  pub row : Row
+  pub reads : read cells h ≡ Some row
+  pub same : row.serial.0 ≡ serial
+  pub kept : times h.slot doomed ≡ 0
+
+-- the map leads from the serial of each live row to its handle, and from no other serial
+pub record IsKeyed (cells : List (Cell Row)) (doomed : List ℕ) (serials : List (ℕ × Handle)) : Type 0 where
+  pub leads : (serial : ℕ) (h : Handle) → handle_of serials serial ≡ Some h → IsLiveAt cells doomed serial h
+  pub lists : (h : Handle) (r : Row) → read cells h ≡ Some r → times h.slot doomed ≡ 0 → handle_of serials r.serial.0 ≡ Some h
+
+-- a free cell has no value
+abbrev pub AreEmpty : List (Cell Row) → List ℕ → Type 0
+AreEmpty cells free = All (λ n. (cell_at cells n).value ≡ None) free
+
+-- the key of every row is one of these
+abbrev pub AreWithin : Range → List (Cell Row) → Type 0
+AreWithin keys cells = All (λ (c : Cell Row). IfSome c.value (λ r. IsIn keys r.key.0)) cells
+
+-- how often cells were freed
+abbrev pub freed_of : List (Cell Row) → ℕ
+freed_of cells = sum_by (λ (c : Cell Row). c.generation) cells
+
+-- the greatest number that a counter or a generation reaches
+abbrev pub greatest : ℕ
+greatest = 2 ^ 64 - 1
+
+-- every counter fits
+pub record IsCounted (tally : MergeReport) : Type 0 where
+  pub put_in : tally.put_in ≤ greatest
+  pub taken_out : tally.taken_out ≤ greatest
+  pub evicted : tally.evicted ≤ greatest
+  pub moved : tally.moved ≤ greatest
+  pub pulled : tally.pulled ≤ greatest
+
+-- what the type of a store keeps, with no hand or one
+pub record IsIntact (s : State) (hand : List Handle) : Type 0 where
+  pub owned : IsOwned s.cells s.free s.column s.pending_in s.pending_out hand
+  pub obeyed : IsObeyed s.marks (column_keys s)
+  pub rising : Rising s.marks
+  pub inside : AreInside s.keys s.marks
+  pub keyed : IsKeyed s.cells (slots s.pending_out) s.serials
+  pub empty : AreEmpty s.cells s.free
+  pub within : AreWithin s.keys s.cells
+  pub remembers : Remembers s.cells s.column s.remembered
+  pub few_cells : length s.cells < 2 ^ 32
+  pub few_freed : freed_of s.cells + length s.pending_out ≤ greatest
+  pub counted : IsCounted s.tally

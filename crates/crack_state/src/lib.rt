@@ -1,0 +1,19 @@
+//! What a partition's store is, and what must hold of it: its cells and where each stands, the steps by which rows move
+//! between the pending columns, a hand and the cracked column, and what a refinement and a merge may change.
+//! The definitions stand in `specs/`, over one record of plain lists, and with them the laws that the crates above cite.
+#![tactic(auto)]
+
+/// What merges have counted; each number stays at its greatest value once it is there.
+#[derive(Clone, Copy, PartialEq, Eq, Debug)]
+pub struct MergeReport {
+    /// Pending insertions that were taken into the hand.
+    pub put_in: u64,
+    /// Doomed rows whose cells were freed.
+    pub taken_out: u64,
+    /// Rows that went from the hand back to the pending insertions.
+    pub evicted: u64,
+    /// Rows that made way for the hand on its way up.
+    pub moved: u64,
+    /// Rows that made way for the hand on its way down, or in its own piece.
+    pub pulled: u64,
+}

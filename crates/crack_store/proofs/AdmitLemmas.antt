@@ -1,0 +1,25 @@
+-- The cell of a row that is admitted.
+use Rattle.std.proofs.Common.{◌≡◌, ℕ, ◌+◌, ◌<◌, ◌≤◌, List, [], ◌∷◌, ◌++◌, length, Some, refl, sym, ap, ◌∙◌, inl, inr, arith, length-set}
+use Rattle.std.proofs.lemmas.Bool.{cases_lt, le-ltb}
+use Rattle.std.proofs.lemmas.List.{length_push}
+use Rattle.crack_row.specs.declared.Row.{Row}
+use Rattle.crack_arena.specs.Arena.{Cell, Handle, times, cell_at, handle_for, cells_with}
+use Rattle.crack_arena.specs.Times.{times_head}
+use Rattle.crack_state.specs.State.{State, places, IsIntact}
+use Rattle.crack_state.specs.OwnedLaws.{times-places}
+
+-- its number is that of a cell, or the next
+pub next_within : (s : State) (free : List ℕ) → s.free ≡ free → IsIntact s [] → (handle_for s.cells free).slot < length s.cells + 1
+next_within s [] is intact = omega arith
+next_within s (n ∷ ns) is intact = elim (cases_lt n (length s.cells)) [
+  | inl l ↦ omega arith
+  | inr l ↦
+      let listed : 0 < times n s.free = rw is (omega (arith, times_head n ns)) in
+      let none : times n (places s []) ≡ 0 = intact.owned.once n ∙ rw (le-ltb n (length s.cells) l) refl in
+      absurd (omega (arith, times-places n s.column s.pending_in s.free []))
+]
+
+-- there is one cell more at most
+pub length_cells_with : (row : Row) (cells : List (Cell Row)) (free : List ℕ) → length (cells_with row cells free) ≤ length cells + 1
+length_cells_with row cells [] = omega (arith, length_push cells (record { generation = 0; value = Some row }))
+length_cells_with row cells (n ∷ ns) = omega (arith, length-set cells n (record { generation = (cell_at cells n).generation; value = Some row }))

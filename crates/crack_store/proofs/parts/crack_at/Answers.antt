@@ -1,0 +1,45 @@
+use Rattle.std.proofs.Common.{◌≡◌, ◌<◌, [], length, refl, sym, ap, ◌∙◌, arith}
+use Rattle.std.proofs.lemmas.Bool.{true≢false}
+use Rattle.crack_column.specs.Column.{Cracks}
+use Rattle.crack_state.specs.Steps.{CracksAt, piece_start, piece_end}
+use Rattle.crack_state.specs.PieceLaws.{piece_end-le}
+use Rattle.crack_state.specs.CrackLaws.{IsIntact-cracked, RefinesAt-cracked}
+use Rattle.crack_store.specs.Parts.{state_of}
+use Rattle.crack_store.proofs.EdgeLemmas.{above_from_not_le}
+use Rattle.crack_store.proofs.parts.crack_at.Goals as goal
+
+pub crack_two-place-requires-clause-within : goal.crack_two-place-requires-clause-within
+crack_two-place-requires-clause-within c =
+    let intact = c.requires.intact.intact in
+    rw (c.piece_of-piece.ensures.value, c.len.ensures.value) (piece_end-le (state_of c.args.parts.now) c.args.bound.0 intact.rising intact.obeyed)
+
+pub add-requires-clause-order : goal.add-requires-clause-order
+add-requires-clause-order c = c.piece_of-piece.ensures.fits c.crack_two-place.result c.crack_two-place.ensures.cracked.low c.crack_two-place.ensures.cracked.high
+
+-- the bound's own piece was cracked by it
+cracked : (c : goal.After-add) → CracksAt (state_of c.args.parts.now) (state_of (record c.args.parts.now { column = c.crack_two-place.new.self; index = c.add.new.self })) c.args.bound
+cracked c =
+    let s = state_of c.args.parts.now in
+    record {
+      place = c.crack_two-place.result;
+      missing = λ there. true≢false (sym (c.position.ensures.found.1 there) ∙ sym c.is_some.ensures ∙ c.if-is_some.false);
+      low = rw c.low.ensures.value at (above_from_not_le c.args.bound.0 c.low.result.0 (sym c.if-le.ensures));
+      high = rw c.high.ensures.value at (above_from_not_le c.high.result.0 c.args.bound.0 (sym c.if-le-2.ensures));
+      cracks = rw (c.piece_of-piece.ensures.value, c.len.ensures.value) at c.crack_two-place.ensures.cracked;
+      after = rw (c.crack_two-place.ensures.room, c.add.ensures.marks) refl;
+    }
+
+pub returns-clause-intact : goal.returns-clause-intact
+returns-clause-intact c =
+    let old = c.args.parts.now in
+    let new = record old { column = c.crack_two-place.new.self; index = c.add.new.self } in
+    record {
+      intact = IsIntact-cracked (state_of old) (state_of new) [] c.args.bound (cracked c) c.requires.intact.intact;
+      covered = record { pending_in = c.requires.intact.covered.pending_in; pending_out = c.requires.intact.covered.pending_out };
+    }
+
+pub returns-clause-refined : goal.returns-clause-refined
+returns-clause-refined c =
+    let old = c.args.parts.now in
+    let new = record old { column = c.crack_two-place.new.self; index = c.add.new.self } in
+    RefinesAt-cracked (state_of old) (state_of new) [] c.args.bound (cracked c) c.requires.intact.intact

@@ -1,0 +1,50 @@
+use Rattle.std.proofs.Common.{◌≡◌, ◌≤◌, ◌+◌, ◌-◌, [], length, refl, arith, ◌∙◌}
+use Rattle.crack_row.specs.declared.layout.Layout.{Layout}
+use Rattle.crack_row.specs.Layouts.{IsLayout}
+use Rattle.crack_index.specs.Marks.{pieces_from}
+use Rattle.crack_state.specs.LayoutLaws.{cells-intact, rows-intact, pending_out-few, IsLayout-intact}
+use Rattle.crack_store.specs.Parts.{state_of}
+use Rattle.crack_store.proofs.store.Store.layout.Goals as goal
+
+pub overflow_sub-result : goal.overflow_sub-result
+overflow_sub-result c =
+    let s = state_of c.self.inside.parts in
+    let column : c.column_len-column.result ≡ length s.column = rw (← c.self.view_is) at c.column_len-column.ensures in
+    let pending_out : c.pending_out-pending_out.result ≡ length s.pending_out = rw (← c.self.view_is) at c.pending_out-pending_out.ensures in
+    omega (arith, column, pending_out, pending_out-few s c.self.invariant.intact.owned)
+
+pub overflow_add-result : goal.overflow_add-result
+overflow_add-result c =
+    let s = state_of c.self.inside.parts in
+    let column : c.column_len-column.result ≡ length s.column = rw (← c.self.view_is) at c.column_len-column.ensures in
+    let pending_in : c.pending_in-pending_in.result ≡ length s.pending_in = rw (← c.self.view_is) at c.pending_in-pending_in.ensures in
+    omega (arith, column, pending_in, cells-intact s [] c.self.invariant.intact, c.self.invariant.intact.few_cells)
+
+pub returns-clause-equations : goal.returns-clause-equations
+returns-clause-equations c =
+    let s = state_of c.self.inside.parts in
+    let column : c.column_len-column.result ≡ length s.column = rw (← c.self.view_is) at c.column_len-column.ensures in
+    let again : c.column_len.result ≡ length s.column = rw (← c.self.view_is) at c.column_len.ensures in
+    let pending_in : c.pending_in-pending_in.result ≡ length s.pending_in = rw (← c.self.view_is) at c.pending_in-pending_in.ensures in
+    let pending_out : c.pending_out-pending_out.result ≡ length s.pending_out = rw (← c.self.view_is) at c.pending_out-pending_out.ensures in
+    let cells : c.cells.result ≡ length s.cells = rw (← c.self.view_is) at c.cells.ensures in
+    let free : c.free_cells.result ≡ length s.free = rw (← c.self.view_is) at c.free_cells.ensures in
+    let pieces : c.from_vec.result ≡ pieces_from (record { 0 = s.keys.low }) 0 s.marks (record { 0 = s.keys.high }) (length s.column) = rw again at (c.from_vec.ensures ∙ c.in_ok-pieces.ensures.ok) in
+    let layout : Layout = record {
+      rows = c.column_len-column.result - c.pending_out-pending_out.result + c.pending_in-pending_in.result;
+      column = c.column_len-column.result;
+      pending_out = c.pending_out-pending_out.result;
+      pending_in = c.pending_in-pending_in.result;
+      cells = c.cells.result;
+      free = c.free_cells.result;
+      pieces = c.from_vec.result;
+    } in
+    rw (← c.self.view_is) (IsLayout-intact s (record { 0 = s.keys.low }) (record { 0 = s.keys.high }) layout refl refl column pending_in pending_out cells free refl pieces c.self.invariant.intact)
+
+pub returns-clause-live : goal.returns-clause-live
+returns-clause-live c =
+    let s = state_of c.self.inside.parts in
+    let column : c.column_len-column.result ≡ length s.column = rw (← c.self.view_is) at c.column_len-column.ensures in
+    let pending_in : c.pending_in-pending_in.result ≡ length s.pending_in = rw (← c.self.view_is) at c.pending_in-pending_in.ensures in
+    let pending_out : c.pending_out-pending_out.result ≡ length s.pending_out = rw (← c.self.view_is) at c.pending_out-pending_out.ensures in
+    rw (← c.self.view_is) (omega (arith, column, pending_in, pending_out, rows-intact s [] c.self.invariant.intact, pending_out-few s c.self.invariant.intact.owned))

@@ -1,0 +1,52 @@
+//! What a store and a store with a cell in hand are made of.
+ghost use Rattle.std.specs.Prelude.{◌≡◌, ℕ, ◌+◌, ◌<◌, ◌≤◌, []};
+ghost use Rattle.crack_state.specs.Merge.{RefinesAt};
+ghost use Rattle.crack_store.specs.Parts.{state_of, AreIntact};
+
+use crack_arena::{Arena, Handle};
+use crack_column::CrackerColumn;
+use crack_index::CrackerIndex;
+use crack_pending::{PendingIn, PendingOut};
+use crack_row::{Bound, Key, KeyRange, Row};
+use crack_state::MergeReport;
+use indexmap::IndexMap;
+use std::alloc::Global;
+
+/// The partition's keys, its cells, and the lists in which they stand.
+#[derive(Drop)]
+pub(crate) struct Parts {
+    pub(crate) alloc: Global,
+    pub(crate) keys: KeyRange,
+    pub(crate) arena: Arena<Row>,
+    pub(crate) column: CrackerColumn,
+    pub(crate) index: CrackerIndex,
+    pub(crate) pending_in: PendingIn,
+    pub(crate) pending_out: PendingOut,
+    /// The handle of each live row, by its serial.
+    pub(crate) serials: IndexMap<u64, Handle<Row>>,
+    pub(crate) tally: MergeReport,
+}
+
+/// Cracks the bound's own piece by it, unless the bound is there or is an end of the partition. Takes no memory.
+/// O(size of the piece + bounds); O(log bounds) where nothing is cracked.
+pub(crate) fn crack_at(parts: &mut Parts, bound: Bound)
+    requires intact { AreIntact parts.old [] }
+    requires room { 0 < parts.old.index.room }
+    ensures intact { AreIntact parts.new [] }
+    ensures refined { RefinesAt (state_of parts.old) (state_of parts.new) bound.0 }
+    ensures room { parts.old.index.room ≤ parts.new.index.room + 1 }
+{
+    if bound <= parts.keys.low() || parts.keys.high() <= bound {
+        return;
+    }
+    if parts.index.position(bound).is_some() {
+        return;
+    }
+    let piece = parts
+        .index
+        .piece_of(Key(bound.0 as u32), parts.column.len());
+    let place = parts
+        .column
+        .crack_two(piece.from, piece.to, bound, &parts.arena);
+    parts.index.add(bound, place);
+}

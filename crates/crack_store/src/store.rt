@@ -1,0 +1,271 @@
+//! The store.
+ghost use Rattle.std.specs.Prelude.{◌≡◌, ℕ, ◌+◌, ◌-◌, ◌<◌, ◌≤◌, ◌∷◌, [], length, IfOk, IfErr, OnOk, OnErr};
+ghost use Rattle.std.specs.List.Sorted.{IsPermutation};
+ghost use Rattle.crack_row.specs.Layouts.{IsLayout};
+ghost use Rattle.crack_index.specs.Marks.{HasBound};
+ghost use Rattle.crack_pending.specs.Pending.{StandsAt, Finds, keys_at};
+ghost use Rattle.crack_state.specs.State.{State, IsIntact, live_rows};
+ghost use Rattle.crack_state.specs.Steps.{lifted, admitted, IsAdmissible, SameButRoom};
+ghost use Rattle.crack_state.specs.Merge.{Refines, IsCracked, edge};
+ghost use Rattle.crack_store.specs.Parts.{no_cells, pending_by, bound_above, IsLayoutOf};
+
+use crate::Carrying;
+use crate::parts::{Parts, crack_at};
+use crack_arena::{Arena, Handle};
+use crack_column::CrackerColumn;
+use crack_index::CrackerIndex;
+use crack_pending::{PendingIn, PendingOut};
+use crack_row::{Bound, Key, KeyRange, Layout, PieceList, Refusal, Row, Serial};
+use crack_state::MergeReport;
+use indexmap::IndexMap;
+use std::alloc::Global;
+use std::marker::Model;
+
+/// The rows of a partition in cracked order, with the pending rows that no command has needed yet
+/// ("Database Cracking", CIDR 2007; "Updating a Cracked Database", SIGMOD 2007).
+#[derive(Drop)]
+pub struct Store {
+    pub(crate) parts: Parts,
+}
+
+impl Model for Store {
+    ghost use Rattle.std.specs.Prelude.{[]};
+    ghost use Rattle.crack_state.specs.State.{State};
+    ghost use Rattle.crack_store.specs.Parts.{state_of, AreIntact};
+
+    ghost Value = { State };
+
+    ghost view = { λ s. state_of s.parts };
+
+    ghost invariant = { λ s. AreIntact s.parts [] };
+}
+
+impl Store {
+    /// A store of these keys without rows. Takes no memory.
+    pub fn new(alloc: Global, keys: KeyRange) -> Store
+        ensures { result ≡ no_cells keys result.column_room result.in_room }
+    {
+        Store {
+            parts: Parts {
+                alloc,
+                keys,
+                arena: Arena::new(alloc),
+                column: CrackerColumn::new(alloc),
+                index: CrackerIndex::new(alloc),
+                pending_in: PendingIn::new(alloc),
+                pending_out: PendingOut::new(alloc),
+                serials: IndexMap::new(alloc),
+                tally: MergeReport {
+                    put_in: 0,
+                    taken_out: 0,
+                    evicted: 0,
+                    moved: 0,
+                    pulled: 0,
+                },
+            },
+        }
+    }
+
+    /// States what is true of every store, and does nothing.
+    pub fn facts(&self)
+        ensures { IsIntact self.now [] }
+    {
+        let _ = &self.parts;
+    }
+
+    /// Keeps a row in a new cell behind the last pending insertion. O(1).
+    /// Refused with 8 where it finds no memory; all is then as it was.
+    pub fn admit(&mut self, row: Row) -> Result<(), Refusal>
+        requires { IsAdmissible row self.old }
+        ensures ok { OnOk result (SameButRoom (admitted row self.old) self.new) }
+        ensures live { OnOk result (IsPermutation (row ∷ live_rows self.old) (live_rows self.new)) }
+        ensures same { OnErr result (SameButRoom self.old self.new) }
+        ensures err { IfErr result (λ e. e ≡ Refusal.OutOfMemory) }
+    {
+        let cells = self.parts.arena.cells() + 1;
+        self.parts.pending_in.reserve(1)?;
+        self.parts.pending_in.cover(cells)?;
+        self.parts.pending_out.cover(cells)?;
+        self.parts.arena.reserve(1)?;
+        self.parts.serials.reserve(1)?;
+        let handle = self.parts.arena.put_reserved(row);
+        let _ = self.parts.serials.insert(row.serial.0, handle);
+        self.parts.pending_in.push(handle);
+        Ok(())
+    }
+
+    /// Whether the row of this serial is a pending insertion; none where there is no such row. O(1).
+    pub fn is_pending(&self, serial: Serial) -> Option<bool>
+        ensures { result ≡ pending_by self.now serial.0 }
+    {
+        match self.parts.serials.get(&serial.0) {
+            Some(handle) => Some(self.parts.pending_in.contains(handle.slot())),
+            None => None,
+        }
+    }
+
+    /// Cracks the column at both ends of the range: each that is no end of the partition then stands in the index.
+    /// O(size of their pieces + bounds); O(log bounds) for an end that is there already.
+    /// Refused with 8 where it finds no memory; all is then as it was.
+    pub fn crack(&mut self, range: KeyRange) -> Result<(), Refusal>
+        ensures ok { OnOk result (Refines self.old self.new range) }
+        ensures same { OnErr result (SameButRoom self.old self.new) }
+        ensures err { IfErr result (λ e. e ≡ Refusal.OutOfMemory) }
+    {
+        self.parts.index.reserve(2)?;
+        crack_at(&mut self.parts, range.low());
+        crack_at(&mut self.parts, range.high());
+        Ok(())
+    }
+
+    /// Makes room for one more place in the column and one more pending insertion.
+    /// Refused with 8 where it finds no memory; all is then as it was.
+    pub fn make_room(&mut self) -> Result<(), Refusal>
+        ensures same { SameButRoom self.old self.new }
+        ensures column { OnOk result (0 < self.new.column_room) }
+        ensures pending_in { OnOk result (0 < self.new.in_room) }
+        ensures err { IfErr result (λ e. e ≡ Refusal.OutOfMemory) }
+    {
+        self.parts.column.reserve(1)?;
+        self.parts.pending_in.reserve(1)
+    }
+
+    /// Takes the pending insertion at this place of the order of arrival into the hand.
+    /// O(1) at the first place or behind the one that was taken last; takes no memory.
+    pub fn lift(self, place: usize) -> Carrying
+        requires { place < length self.pending_in }
+        ensures { result ≡ lifted place self }
+    {
+        let Store { mut parts } = self;
+        let hand = parts.pending_in.take(place);
+        parts.tally.put_in = parts.tally.put_in.saturating_add(1);
+        Carrying { parts, hand }
+    }
+
+    /// How many rows stand in the column between the ends of a range by which it was cracked. O(log bounds).
+    pub fn count_between(&self, range: KeyRange) -> u64
+        requires { IsCracked self.now range }
+        ensures value { result ≡ edge self.now range.high - edge self.now range.low }
+        ensures order { edge self.now range.low ≤ edge self.now range.high }
+    {
+        let _ = &self.parts;
+        (self.edge(range.high()) - self.edge(range.low())) as u64
+    }
+
+    /// The place at which the rows at or above the bound begin. O(log bounds).
+    fn edge(&self, bound: Bound) -> usize
+        requires { self.now.keys.low < bound.0 → bound.0 < self.now.keys.high → HasBound self.now.marks bound.0 }
+        ensures { result ≡ edge self.now bound.0 }
+    {
+        if bound <= self.parts.keys.low() {
+            return 0;
+        }
+        if self.parts.keys.high() <= bound {
+            return self.parts.column.len();
+        }
+        match self.parts.index.position(bound) {
+            Some(place) => place,
+            None => unreachable!(),
+        }
+    }
+
+    /// The next bound above this one, or the partition's high end. O(log bounds).
+    pub fn next_bound(&self, bound: Bound) -> Bound
+        ensures { result.0 ≡ bound_above self.now bound.0 }
+    {
+        match self.parts.index.next_after(bound) {
+            Some((next, _)) => next,
+            None => self.parts.keys.high(),
+        }
+    }
+
+    /// What stands where, as numbers, and the sizes of the pieces. It cracks and merges nothing. O(bounds).
+    /// Refused with 8 where it finds no memory.
+    pub fn layout(&self) -> Result<Layout, Refusal>
+        ensures ok { IfOk result (λ layout. IsLayoutOf self.now layout) }
+        ensures equations { IfOk result (λ layout. IsLayout self.now.keys layout) }
+        ensures live { IfOk result (λ layout. layout.rows ≡ length (live_rows self.now)) }
+        ensures err { IfErr result (λ e. e ≡ Refusal.OutOfMemory) }
+    {
+        let column = self.column_len() as u64;
+        let pending_in = self.pending_in() as u64;
+        let pending_out = self.pending_out() as u64;
+        let pieces = self
+            .parts
+            .index
+            .pieces(self.parts.alloc, self.parts.keys, self.column_len())?;
+        Ok(Layout {
+            rows: column - pending_out + pending_in,
+            column,
+            pending_out,
+            pending_in,
+            cells: self.cells() as u64,
+            free: self.free_cells() as u64,
+            pieces: PieceList::from_vec(pieces),
+        })
+    }
+
+    /// The number of pending insertions.
+    pub fn pending_in(&self) -> usize
+        ensures { result ≡ length self.now.pending_in }
+    {
+        self.parts.pending_in.len()
+    }
+
+    /// The number of pending deletions.
+    pub fn pending_out(&self) -> usize
+        ensures { result ≡ length self.now.pending_out }
+    {
+        self.parts.pending_out.len()
+    }
+
+    /// The number of rows in the column, doomed ones too.
+    pub fn column_len(&self) -> usize
+        ensures { result ≡ length self.now.column }
+    {
+        self.parts.column.len()
+    }
+
+    /// The number of cells, free ones too.
+    pub fn cells(&self) -> usize
+        ensures { result ≡ length self.now.cells }
+    {
+        self.parts.arena.cells()
+    }
+
+    /// The number of free cells.
+    pub fn free_cells(&self) -> usize
+        ensures { result ≡ length self.now.free }
+    {
+        self.parts.arena.free_cells()
+    }
+
+    /// What merges have counted.
+    pub fn tally(&self) -> MergeReport
+        ensures { result ≡ self.now.tally }
+    {
+        self.parts.tally
+    }
+
+    /// The first pending insertion with its key in the range. O(pending insertions).
+    pub fn first_in(&self, range: KeyRange) -> Option<usize>
+        ensures { Finds range (keys_at self.now.cells self.now.pending_in) 0 result }
+    {
+        self.parts.pending_in.first_in(range, &self.parts.arena)
+    }
+
+    /// The first pending deletion with its key in the range. O(pending deletions).
+    pub fn first_out(&self, range: KeyRange) -> Option<usize>
+        ensures { Finds range (keys_at self.now.cells self.now.pending_out) 0 result }
+    {
+        self.parts.pending_out.first_in(range, &self.parts.arena)
+    }
+
+    /// The pending deletion at this place of the order of arrival. O(1).
+    pub fn doomed(&self, place: usize) -> Handle<Row>
+        requires { place < length self.now.pending_out }
+        ensures { StandsAt self.now.pending_out place result }
+    {
+        self.parts.pending_out.at(place)
+    }
+}
