@@ -1,9 +1,10 @@
 #!/usr/bin/env python3
-"""Measures the proved programs beside plain Rust, and compares the ratios with their bounds: run.py [--once]
+"""Measures the proved programs beside plain Rust, and compares the ratios with their bounds: run.py [--once] [WHAT ..]
 
-Wants a quiet machine, rustc, and the two programs, which are built (and first proved, where they aren't) by `rt run`. Each number is
-the median of five runs; with --once of one. The programs and their peers run in turn, so that both meet the same machine. Prints a
-table, and ends with status 1 where a ratio is above its bound, or where a program and its peer don't compute the same.
+WHAT is session, arena, column or partition; all of them without a word. Wants a quiet machine, rustc, and the programs, which are
+built (and first proved, where they aren't) by `rt run`. Each number is the median of five runs; with --once of one. The programs and
+their peers run in turn, so that all meet the same machine. Prints a table, and ends with status 1 where a ratio is above its bound,
+or where a program and its peer don't compute the same.
 """
 
 import pathlib
@@ -18,9 +19,15 @@ PEERS = OUT / "peers"
 CRACKD = TOP / "crates" / "crackd" / "out" / "crackd"
 BENCH = TOP / "crates" / "crack_bench" / "out" / "crack_bench"
 
+# with which words each program ends soon
+WORDS = {"crackd": ["script"], "crack_bench": ["all", "1", "1", "1"]}
+
 STEPS, CELLS = 10_000_000, 100_000
 ROWS = 1_000_000
 LINES = 200_000
+PART_ROWS, COUNTS = 500_000, 1000
+# a history has at most a million entries
+MOST_PART_ROWS = 998_000
 
 
 class Table:
@@ -39,12 +46,11 @@ class Table:
         print(f"{what:52} {measured * 1000:9.2f} ms {beside * 1000:9.2f} ms {ratio:7.2f} {shown:>6}{mark}", flush=True)
 
 
-def build():
+def build(names):
     """Builds the programs and the peers."""
-    for name in ("crackd", "crack_bench"):
+    for name in names:
         how = {"cwd": TOP / "crates" / name, "stdin": subprocess.DEVNULL, "stdout": subprocess.DEVNULL}
-        words = ["script"] if name == "crackd" else ["both", "1", "1"]
-        subprocess.run(["rt", "run", "--", *words], check=True, **how)
+        subprocess.run(["rt", "run", "--", *WORDS[name]], check=True, **how)
     OUT.mkdir(exist_ok=True)
     subprocess.run(["rustc", "--edition", "2024", "-O", TOP / "bench" / "peers" / "main.rs", "-o", PEERS], check=True)
 
@@ -75,16 +81,23 @@ def timed(words):
     return ran.stdout, {name: int(nanoseconds) / 1e9 for name, nanoseconds in times.items()}
 
 
-def compare(ours, theirs, runs):
-    """Runs both in turn. The times that both report, a list each; what they write must agree."""
-    mine, yours = [], []
+def in_turn(programs, runs):
+    """Runs the programs in turn. For each what it wrote, a set, and the times that it reported, a list."""
+    ran = [(set(), []) for _ in programs]
     for _ in range(runs):
-        (wrote, time), (other, other_time) = timed(ours), timed(theirs)
-        if wrote != other:
-            sys.exit(f"{ours[1:]}: the program and its peer don't write the same")
-        mine.append(time)
-        yours.append(other_time)
-    return mine, yours
+        for words, (wrote, times) in zip(programs, ran):
+            output, time = timed(words)
+            wrote.add(output)
+            times.append(time)
+    return ran
+
+
+def compare(programs, runs):
+    """Runs the programs in turn. For each a list of the times that it reported; all of them must write the same."""
+    ran = in_turn(programs, runs)
+    if len(set().union(*(wrote for wrote, _ in ran))) > 1:
+        sys.exit(f"{programs[0][1:]}: the program and its peers don't write the same")
+    return [times for _, times in ran]
 
 
 def inserts(lines):
@@ -107,33 +120,75 @@ def measure_session(table, runs):
     table.line(f"script of {2 * LINES} inserts, beside plain Rust", ours, theirs)
 
 
-def middle_of(times, name):
-    return statistics.median(it[name] for it in times)
+def middle_of(times, *names):
+    """The median of a time, or of the sum of several."""
+    return statistics.median(sum(it[name] for name in names) for it in times)
 
 
 def measure_arena(table, runs):
     words = ["arena", str(STEPS), str(CELLS)]
-    ours, theirs = compare([BENCH, *words], [PEERS, *words], runs)
+    ours, theirs = compare([[BENCH, *words], [PEERS, *words]], runs)
     table.line(f"arena, {STEPS} puts, gets and frees", middle_of(ours, "steps"), middle_of(theirs, "steps"), 1.5)
 
 
 def measure_column(table, runs):
     words = ["column", str(ROWS)]
-    ours, theirs = compare([BENCH, *words], [PEERS, *words], runs)
+    ours, theirs = compare([[BENCH, *words], [PEERS, *words]], runs)
     first, later = middle_of(ours, "first"), middle_of(ours, "later")
     table.line(f"first crack of {ROWS} rows, keys by the arena", first, middle_of(theirs, "first"), 1.5)
     table.line("the same, beside a crack that remembers no key", first, middle_of(theirs, "through"))
     table.line("16 later cracks, keys and handles side by side", later, middle_of(theirs, "later"), 1.5)
 
 
+def measure_partition(table, runs):
+    words = [str(PART_ROWS), str(COUNTS)]
+    programs = [[BENCH, "partition"], *([PEERS, name] for name in ("partition", "inline", "rows"))]
+    ours, same, inline, rows = compare([[*program, *words] for program in programs], runs)
+    for what, names in (
+        (f"{PART_ROWS} inserts, beside plain Rust", ["load"]),
+        ("a first count of everything, beside plain Rust", ["everything"]),
+        ("both together", ["load", "everything"]),
+    ):
+        table.line(what, middle_of(ours, *names), middle_of(same, *names), 2.0)
+    counts = middle_of(ours, "counts")
+    table.line(f"{COUNTS} counts of random ranges, beside plain Rust", counts, middle_of(same, "counts"), 1.5)
+    table.line("the same, beside a cracker column of inline keys", counts, middle_of(inline, "counts"), 3.0)
+    table.line("plain Rust, beside inline keys", middle_of(same, "counts"), middle_of(inline, "counts"))
+    table.line("the same counts, beside a pass over the rows for each", counts, middle_of(rows, "counts"), 0.2)
+
+
+def measure_growth(table, runs):
+    for rows in (PART_ROWS, MOST_PART_ROWS):
+        sizes = [str(rows // 2), str(rows)]
+        programs = [[program, "partition", size, "1"] for program in (BENCH, PEERS) for size in sizes]
+        half, whole, same_half, same = (times for _, times in in_turn(programs, runs))
+        for what, names in (
+            (f"{rows} inserts, beside {rows // 2}", ["load"]),
+            ("the same with a first count of everything", ["load", "everything"]),
+        ):
+            table.line(what, middle_of(whole, *names), middle_of(half, *names), 2.4)
+        table.line("the same in plain Rust", middle_of(same, *names), middle_of(same_half, *names))
+
+
+MEASURES = {
+    "session": [measure_session],
+    "arena": [measure_arena],
+    "column": [measure_column],
+    "partition": [measure_partition, measure_growth],
+}
+
+
 def main(words):
-    if words not in ([], ["--once"]):
+    chosen = [word for word in words if word != "--once"]
+    if any(word not in MEASURES for word in chosen):
         sys.exit(__doc__)
-    runs = 1 if words else 5
-    build()
+    runs = 1 if "--once" in words else 5
+    wanted = chosen or list(MEASURES)
+    build(sorted({"crackd" if word == "session" else "crack_bench" for word in wanted}))
     table = Table()
-    for measure in (measure_session, measure_arena, measure_column):
-        measure(table, runs)
+    for word in wanted:
+        for measure in MEASURES[word]:
+            measure(table, runs)
     return 0 if table.is_well else 1
 
 

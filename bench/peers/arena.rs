@@ -35,6 +35,12 @@ pub struct Arena<T> {
     freed: u64,
 }
 
+impl<T> Default for Arena<T> {
+    fn default() -> Arena<T> {
+        Arena::new()
+    }
+}
+
 impl<T> Arena<T> {
     pub fn new() -> Arena<T> {
         Arena {

@@ -4,13 +4,15 @@ use crate::arena::{Arena, Handle, Row, fill};
 use crate::numbers::{Numbers, mixed};
 use std::time::Instant;
 
-const UNKNOWN: u64 = u64::MAX;
+/// Stands beside a handle whose key isn't remembered.
+pub const UNKNOWN: u64 = u64::MAX;
 
 fn key_of(arena: &Arena<Row>, handle: Handle) -> u64 {
     arena.get(handle).map_or(0, |row| row.key as u64)
 }
 
-fn learn(handles: &[Handle], keys: &mut [u64], arena: &Arena<Row>) {
+/// Reads each key that isn't known.
+pub fn learn(handles: &[Handle], keys: &mut [u64], arena: &Arena<Row>) {
     for (handle, key) in handles.iter().zip(keys) {
         if *key == UNKNOWN {
             *key = key_of(arena, *handle);
@@ -18,7 +20,8 @@ fn learn(handles: &[Handle], keys: &mut [u64], arena: &Arena<Row>) {
     }
 }
 
-fn partition(handles: &mut [Handle], keys: &mut [u64], bound: u64) -> usize {
+/// Puts the keys below the bound first, each with its handle, and gives their number.
+pub fn partition(handles: &mut [Handle], keys: &mut [u64], bound: u64) -> usize {
     let mut low = 0;
     for i in 0..keys.len() {
         let below = keys[i] < bound;

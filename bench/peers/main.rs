@@ -1,12 +1,17 @@
-//! Plain Rust beside what the benchmark measures: `peers session`, `peers arena STEPS ROWS`, `peers column ROWS`.
+//! Plain Rust beside what the benchmark measures: `peers session`, `peers arena STEPS ROWS`, `peers column ROWS`, and
+//! `peers partition ROWS COUNTS`, beside which `inline` and `rows` count the same in other ways.
 //!
 //! What a run computes goes to standard output, and must be what the measured program writes there. Times go to standard error, in
 //! nanoseconds, a line `NAME NUMBER` each.
 
 mod arena;
 mod column;
+mod inline;
 mod numbers;
+mod partition;
+mod serials;
 mod session;
+mod store;
 
 use std::time::Instant;
 
@@ -27,6 +32,12 @@ fn main() {
             arena::run(steps, number(words.next()));
         }
         Some("column") => column::run(number(words.next())),
-        _ => panic!("session, arena STEPS ROWS, or column ROWS"),
+        Some(word @ ("partition" | "inline" | "rows")) => {
+            let rows = number(words.next()) as u32;
+            partition::run(word, rows, number(words.next()));
+        }
+        _ => panic!(
+            "session, arena STEPS ROWS, column ROWS, or partition, inline or rows ROWS COUNTS"
+        ),
     }
 }

@@ -6,11 +6,21 @@ pub struct Numbers(pub u64);
 impl Numbers {
     /// The next number below `bound`, which is at most 2^31.
     pub fn below(&mut self, bound: u64) -> u64 {
+        self.step();
+        (self.0 >> 33) % bound
+    }
+
+    /// The next number of 32 bits.
+    pub fn word(&mut self) -> u32 {
+        self.step();
+        (self.0 >> 32) as u32
+    }
+
+    fn step(&mut self) {
         self.0 = self
             .0
             .wrapping_mul(6364136223846793005)
             .wrapping_add(1442695040888963407);
-        (self.0 >> 33) % bound
     }
 }
 

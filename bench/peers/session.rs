@@ -1,67 +1,7 @@
-//! Inserts and counts from standard input to standard output, answered over a vector of rows, with a history of what was answered.
+//! Inserts and counts from standard input to standard output, answered by a cracked partition.
 
+use crate::partition::{Command, LIMIT, Partition, Reply};
 use std::io::{self, BufWriter, Read, Write};
-
-struct Row {
-    #[allow(dead_code)]
-    serial: u64,
-    key: u32,
-    #[allow(dead_code)]
-    payload: u32,
-}
-
-#[derive(Clone, Copy)]
-#[allow(dead_code)]
-enum Command {
-    Insert { key: u32, payload: u32 },
-    Count { low: u64, high: u64 },
-}
-
-#[derive(Clone, Copy)]
-#[allow(dead_code)]
-enum Reply {
-    Placed(u64),
-    Counted(u64),
-}
-
-#[allow(dead_code)]
-struct Entry {
-    worker: u32,
-    command: Command,
-    reply: Reply,
-}
-
-#[derive(Default)]
-struct Table {
-    rows: Vec<Row>,
-    history: Vec<Entry>,
-}
-
-impl Table {
-    fn apply(&mut self, command: Command) -> Reply {
-        let reply = match command {
-            Command::Insert { key, payload } => {
-                let serial = self.rows.len() as u64;
-                self.rows.push(Row {
-                    serial,
-                    key,
-                    payload,
-                });
-                Reply::Placed(serial)
-            }
-            Command::Count { low, high } => {
-                let inside = |row: &&Row| low <= row.key as u64 && (row.key as u64) < high;
-                Reply::Counted(self.rows.iter().filter(inside).count() as u64)
-            }
-        };
-        self.history.push(Entry {
-            worker: 0,
-            command,
-            reply,
-        });
-        reply
-    }
-}
 
 fn number(word: &[u8]) -> Option<u128> {
     if word.is_empty() || word.len() > 20 {
@@ -96,16 +36,19 @@ fn command(line: &[u8]) -> Option<Command> {
     }
 }
 
-fn answer(line: &[u8], table: &mut Table, writer: &mut impl Write) -> io::Result<()> {
-    match command(line).map(|it| table.apply(it)) {
-        Some(Reply::Placed(serial)) => writeln!(writer, "row 0.{serial}"),
-        Some(Reply::Counted(count)) => writeln!(writer, "count {count}"),
-        None => writeln!(writer, "refused 1"),
+fn answer(line: &[u8], partition: &mut Partition, writer: &mut impl Write) -> io::Result<()> {
+    let Some(command) = command(line) else {
+        return writeln!(writer, "refused 1");
+    };
+    match partition.apply(0, command) {
+        Some((Reply::Placed(serial), _)) => writeln!(writer, "row 0.{serial}"),
+        Some((Reply::Counted(count), _)) => writeln!(writer, "count {count}"),
+        None => writeln!(writer, "refused 6 {LIMIT}"),
     }
 }
 
 pub fn run() -> io::Result<()> {
-    let mut table = Table::default();
+    let mut partition = Partition::default();
     let mut reader = io::stdin().lock();
     let mut writer = BufWriter::new(io::stdout().lock());
     let mut buffer = [0; 4096];
@@ -119,7 +62,7 @@ pub fn run() -> io::Result<()> {
             begun.extend_from_slice(part);
             if begun.last() == Some(&b'\n') {
                 begun.pop();
-                answer(&begun, &mut table, &mut writer)?;
+                answer(&begun, &mut partition, &mut writer)?;
                 begun.clear();
             }
         }

@@ -1,4 +1,5 @@
-//! Measures the arena and the cracker column: `crack_bench arena STEPS ROWS`, `crack_bench column ROWS`, or `crack_bench both STEPS ROWS`.
+//! Measures the arena, the cracker column and a partition: `crack_bench arena STEPS ROWS`, `crack_bench column ROWS`,
+//! `crack_bench partition ROWS COUNTS`, or `crack_bench all STEPS ROWS COUNTS`.
 //!
 //! What a run computes goes to standard output: it depends on the words alone. Times go to standard error, in nanoseconds, a line
 //! `NAME NUMBER` each.
@@ -7,7 +8,10 @@
 mod arena;
 mod column;
 mod numbers;
+mod partition;
 
+use crack_part::Partition;
+use crack_row::{GREATEST_LIMIT, KeyRange};
 use std::env;
 use std::time::Instant;
 
@@ -49,16 +53,37 @@ fn run_column(rt: &HostRuntime, rows: u32) -> anyhow::Result<()> {
     Ok(())
 }
 
+fn run_partition(rt: &HostRuntime, rows: u32, counts: u64) -> anyhow::Result<()> {
+    let alloc = rt.alloc();
+    let mut numbers = numbers::Numbers::new(11);
+    let mut partition = Partition::open(alloc, KeyRange::all(), GREATEST_LIMIT)?;
+    let start = Instant::now(rt)?;
+    partition::load(alloc, &mut partition, rows, &mut numbers)?;
+    report(rt, "load", start)?;
+    let start = Instant::now(rt)?;
+    let everything = partition::count_all(alloc, &mut partition)?;
+    report(rt, "everything", start)?;
+    let start = Instant::now(rt)?;
+    let sum = partition::counts(alloc, &mut partition, counts, &mut numbers)?;
+    report(rt, "counts", start)?;
+    println!(rt; "partition {everything} sum {sum}")?;
+    Ok(())
+}
+
 fn main(rt: HostRuntime) -> anyhow::Result<()> {
     let words: Vec<String> = env::args(&rt)?.collect(rt.alloc())?;
     let words: Vec<&str> = words.iter().map(|it| it.as_str()).collect(rt.alloc())?;
     match words.as_slice() {
         [_, "arena", steps, rows] => run_arena(&rt, steps.parse()?, rows.parse()?),
         [_, "column", rows] => run_column(&rt, rows.parse()?),
-        [_, "both", steps, rows] => {
+        [_, "partition", rows, counts] => run_partition(&rt, rows.parse()?, counts.parse()?),
+        [_, "all", steps, rows, counts] => {
             run_arena(&rt, steps.parse()?, rows.parse()?)?;
-            run_column(&rt, rows.parse()?)
+            run_column(&rt, rows.parse()?)?;
+            run_partition(&rt, rows.parse()?, counts.parse()?)
         }
-        _ => Err(anyhow::anyhow!("arena STEPS ROWS, column ROWS, or both STEPS ROWS")),
+        _ => Err(anyhow::anyhow!(
+            "arena STEPS ROWS, column ROWS, partition ROWS COUNTS, or all STEPS ROWS COUNTS"
+        )),
     }
 }

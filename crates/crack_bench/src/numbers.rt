@@ -17,11 +17,21 @@ impl Numbers {
         requires { 0 < bound }
         ensures { result < bound }
     {
+        self.step();
+        (self.state >> 33) % bound
+    }
+
+    /// The next number of 32 bits.
+    pub fn word(&mut self) -> u32 {
+        self.step();
+        (self.state >> 32) as u32
+    }
+
+    fn step(&mut self) {
         self.state = self
             .state
             .wrapping_mul(6364136223846793005)
             .wrapping_add(1442695040888963407);
-        (self.state >> 33) % bound
     }
 }
 

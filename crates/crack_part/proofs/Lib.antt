@@ -1,1 +1,3 @@
-mod SoundLemmas
+pub mod CountLemmas
+pub mod KeepLemmas
+pub mod SoundLemmas

@@ -53,7 +53,9 @@ KnowsEnd input remaining = input.ended ≡ true → (bytes : List ℕ) → remai
 
 -- each read brought a byte, but for one that brought nothing
 abbrev pub IsPaid : Input → Input → Option (List ℕ) → Option (List ℕ) → Type 0
-IsPaid old new remaining remaining' = new.ended ≡ false → (old.ended ≡ false) × ((bytes : List ℕ) → remaining ≡ Some bytes → (rest : List ℕ) × (remaining' ≡ Some rest) × (length rest + old.reads ≤ length bytes + new.reads))
+IsPaid old new remaining remaining' = new.ended ≡ false → (old.ended ≡ false)
+    × ((bytes : List ℕ) → remaining ≡ Some bytes → (rest : List ℕ) × (remaining' ≡ Some rest)
+    × (length rest + old.reads ≤ length bytes + new.reads))
 
 -- falls with each line
 abbrev pub left_of : Input → ℕ
@@ -62,4 +64,5 @@ left_of input = (BUFFER_BYTES + 1) * input.reads + length input.unread
 -- From these bytes on, the next line was this, or there was none; what is ahead then is new.
 abbrev pub IsNextLine : List ℕ → Option (List ℕ) → Option (List ℕ) → Type 0
 IsNextLine bytes None new = bytes ≡ []
-IsNextLine bytes (Some line) new = (0 < length bytes) × (line ≡ kept_of (first_line bytes)) × (new ≡ Some (after_line bytes))
+IsNextLine bytes (Some line) new = (0 < length bytes) × (line ≡ kept_of (first_line bytes))
+    × (new ≡ Some (after_line bytes))

@@ -10,14 +10,16 @@ use Rattle.crack_session.specs.Answers.{IsAnswer, answer_text, tables_then}
 
 -- a text for a statement: that of an answer to it
 abbrev pub IsText : List Bound → List PlainState → Reading → List ℕ → Type 0
-IsText splits tables reading text = (answer : Answer) × IsAnswer splits tables reading answer × (text ≡ answer_text answer)
+IsText splits tables reading text = (answer : Answer) × IsAnswer splits tables reading answer
+    × (text ≡ answer_text answer)
 
 -- texts for these statements, one after the other, and the rows that they leave
 abbrev pub AreTexts : List Bound → List PlainState → List Reading → List (List ℕ) → List PlainState → Type 0
 AreTexts splits tables [] [] new = new ≡ tables
 AreTexts splits tables [] (text ∷ texts) new = ⊥
 AreTexts splits tables (reading ∷ readings) [] new = ⊥
-AreTexts splits tables (reading ∷ readings) (text ∷ texts) new = IsText splits tables reading text × AreTexts splits (tables_then splits tables reading) readings texts new
+AreTexts splits tables (reading ∷ readings) (text ∷ texts) new = IsText splits tables reading text
+    × AreTexts splits (tables_then splits tables reading) readings texts new
 
 -- the texts of a session's bytes, over these rows, and the rows that it leaves
 abbrev pub session : List Bound → List ℕ → List PlainState → List (List ℕ) → List PlainState → Type 0

@@ -49,7 +49,9 @@ pub fn decide<D: Desk>(
     policy: Policy,
     reading: Result<Statement, Refusal>,
 ) -> Answer
-    ensures plain { (tables : List PlainState) → D.tables desk.old ≡ Some tables → is_short_answer result ≡ false → IsAnswer (D.splits desk.old) tables reading result × (D.tables desk.new ≡ Some (tables_then (D.splits desk.old) tables reading)) }
+    ensures plain { (tables : List PlainState) → D.tables desk.old ≡ Some tables →
+        is_short_answer result ≡ false → IsAnswer (D.splits desk.old) tables reading result
+        × (D.tables desk.new ≡ Some (tables_then (D.splits desk.old) tables reading)) }
     ensures splits { D.splits desk.new ≡ D.splits desk.old }
 {
     match reading {
@@ -64,7 +66,9 @@ fn decide_statement<D: Desk>(
     policy: Policy,
     statement: Statement,
 ) -> Answer
-    ensures plain { (tables : List PlainState) → D.tables desk.old ≡ Some tables → is_short_answer result ≡ false → IsAnswer (D.splits desk.old) tables (Ok statement) result × (D.tables desk.new ≡ Some (tables_then (D.splits desk.old) tables (Ok statement))) }
+    ensures plain { (tables : List PlainState) → D.tables desk.old ≡ Some tables →
+        is_short_answer result ≡ false → IsAnswer (D.splits desk.old) tables (Ok statement) result
+        × (D.tables desk.new ≡ Some (tables_then (D.splits desk.old) tables (Ok statement))) }
     ensures splits { D.splits desk.new ≡ D.splits desk.old }
 {
     match statement {
@@ -84,7 +88,10 @@ fn ask_part<D: Desk>(
     part: u32,
     command: Command,
 ) -> Answer
-    ensures plain { (tables : List PlainState) → D.tables desk.old ≡ Some tables → is_short_answer result ≡ false → (result ≡ answered part (reply_at (D.splits desk.old) tables part command)) × (D.tables desk.new ≡ Some (tables_after (D.splits desk.old) tables part command)) }
+    ensures plain { (tables : List PlainState) → D.tables desk.old ≡ Some tables →
+        is_short_answer result ≡ false →
+        (result ≡ answered part (reply_at (D.splits desk.old) tables part command))
+        × (D.tables desk.new ≡ Some (tables_after (D.splits desk.old) tables part command)) }
     ensures splits { D.splits desk.new ≡ D.splits desk.old }
 {
     match desk.ask(alloc, part, command, policy) {

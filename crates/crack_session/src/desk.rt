@@ -34,11 +34,18 @@ pub trait Desk {
         policy: Policy,
     ) -> Result<Reply, Refusal>
         // The reply is that of the plain rows, which change as it says.
-        ensures reply { (parts : List PlainState) → tables self.old ≡ Some parts → IfOk result (λ reply. (reply_at (splits self.old) parts part command ≡ Ok reply) × (tables self.new ≡ Some (tables_after (splits self.old) parts part command))) }
+        ensures reply { (parts : List PlainState) → tables self.old ≡ Some parts →
+            IfOk result (λ reply. (reply_at (splits self.old) parts part command ≡ Ok reply)
+            × (tables self.new ≡ Some (tables_after (splits self.old) parts part command))) }
         // Where they refuse it, it is refused so, and else only for want of room.
-        ensures refused { (parts : List PlainState) → tables self.old ≡ Some parts → (e : Refusal) → reply_at (splits self.old) parts part command ≡ Err e → result ≡ Err e }
-        ensures causes { (parts : List PlainState) → tables self.old ≡ Some parts → (r : Reply) → reply_at (splits self.old) parts part command ≡ Ok r → IfErr result (IsForWant (full self.old part)) }
-        ensures full { (parts : List PlainState) → tables self.old ≡ Some parts → (r : Reply) → reply_at (splits self.old) parts part command ≡ Ok r → (entries : ℕ) → full self.old part entries → result ≡ Err (Refusal.HistoryFull entries) }
+        ensures refused { (parts : List PlainState) → tables self.old ≡ Some parts → (e : Refusal) →
+            reply_at (splits self.old) parts part command ≡ Err e → result ≡ Err e }
+        ensures causes { (parts : List PlainState) → tables self.old ≡ Some parts → (r : Reply) →
+            reply_at (splits self.old) parts part command ≡ Ok r →
+            IfErr result (IsForWant (full self.old part)) }
+        ensures full { (parts : List PlainState) → tables self.old ≡ Some parts → (r : Reply) →
+            reply_at (splits self.old) parts part command ≡ Ok r → (entries : ℕ) →
+            full self.old part entries → result ≡ Err (Refusal.HistoryFull entries) }
         ensures err { OnErr result (tables self.new ≡ tables self.old) }
 
         ensures small { IfOk result IsSmall }
@@ -48,7 +55,8 @@ pub trait Desk {
     /// Where one partition ends and the next begins. Takes no memory.
     fn splits(&self) -> &[Bound]
         ensures value { result.now ≡ splits self.now }
-        ensures partitions { (parts : List PlainState) → tables self.now ≡ Some parts → length parts ≡ length (splits self.now) + 1 };
+        ensures partitions { (parts : List PlainState) → tables self.now ≡ Some parts →
+            length parts ≡ length (splits self.now) + 1 };
 
     /// How many commands were accepted through this desk.
     fn receipts(&self) -> u64

@@ -74,13 +74,15 @@ impl LineReader {
     fn refill<R: Read>(&mut self, reader: &mut Watched<R>) -> Result<(), Refusal>
         requires unread { self.old.unread ≡ [] }
         requires goes_on { self.old.ended ≡ false }
-        ensures bytes { OnOk result ((u : List ℕ) → R.remaining (device reader.old) ≡ Some u → ahead self.new (R.remaining (device reader.new)) ≡ Some u) }
+        ensures bytes { OnOk result ((u : List ℕ) → R.remaining (device reader.old) ≡ Some u →
+            ahead self.new (R.remaining (device reader.new)) ≡ Some u) }
         ensures end { KnowsEnd self.new (R.remaining (device reader.new)) }
         ensures paid { IsPaid self.old self.new (R.remaining (device reader.old)) (R.remaining (device reader.new)) }
         ensures reads { OnOk result (self.new.reads + 1 ≡ self.old.reads) }
         ensures few { length self.new.unread ≤ BUFFER_BYTES }
         ensures unfailed { OnOk result (has_failed reader.new ≡ has_failed reader.old) }
-        ensures err { IfErr result (λ e. (e ≡ Refusal.ReadFault) × ((has_failed reader.new ≡ true) ⊎ ((self.new.reads ≡ 0) × (self.new.ended ≡ false)))) }
+        ensures err { IfErr result (λ e. (e ≡ Refusal.ReadFault)
+            × ((has_failed reader.new ≡ true) ⊎ ((self.new.reads ≡ 0) × (self.new.ended ≡ false)))) }
     {
         if self.reads == 0 {
             return Err(Refusal::ReadFault);
@@ -106,13 +108,18 @@ pub fn next_line<R: Read, W: Write>(
     writer: &mut Watched<W>,
 ) -> Result<Option<Line>, Refusal>
     requires { KnowsEnd input.old (R.remaining (device reader.old)) }
-    ensures line { IfOk result (λ line. (u : List ℕ) → ahead input.old (R.remaining (device reader.old)) ≡ Some u → IsNextLine u line (ahead input.new (R.remaining (device reader.new)))) }
+    ensures line { IfOk result (λ line. (u : List ℕ) →
+        ahead input.old (R.remaining (device reader.old)) ≡ Some u →
+        IsNextLine u line (ahead input.new (R.remaining (device reader.new)))) }
     ensures falls { IfOk result (λ line. IfSome line (λ _. left_of input.new < left_of input.old)) }
     ensures end { KnowsEnd input.new (R.remaining (device reader.new)) }
     ensures paid { IsPaid input.old input.new (R.remaining (device reader.old)) (R.remaining (device reader.new)) }
     ensures bytes { Keeps (W.contents (device writer.old)) (W.contents (device writer.new)) }
-    ensures unfailed { OnOk result ((has_failed reader.new ≡ has_failed reader.old) × (has_failed writer.new ≡ has_failed writer.old)) }
-    ensures err { IfErr result (λ e. ((e ≡ Refusal.WriteFault) × (has_failed writer.new ≡ true)) ⊎ ((e ≡ Refusal.ReadFault) × ((has_failed reader.new ≡ true) ⊎ ((input.new.reads ≡ 0) × (input.new.ended ≡ false))))) }
+    ensures unfailed { OnOk result ((has_failed reader.new ≡ has_failed reader.old)
+        × (has_failed writer.new ≡ has_failed writer.old)) }
+    ensures err { IfErr result (λ e. ((e ≡ Refusal.WriteFault) × (has_failed writer.new ≡ true))
+        ⊎ ((e ≡ Refusal.ReadFault)
+        × ((has_failed reader.new ≡ true) ⊎ ((input.new.reads ≡ 0) × (input.new.ended ≡ false))))) }
 {
     let mut line = Line::new();
     'reading: loop {
@@ -131,7 +138,8 @@ pub fn next_line<R: Read, W: Write>(
 #[tactic(auto, using(crate::proofs::Feeds::first_line_at, crate::proofs::Feeds::after_line_at, crate::proofs::Feeds::has_feed_at, crate::proofs::Feeds::no_feed_more, crate::proofs::Feeds::all_first_line, crate::proofs::Feeds::after_line_at))]
 fn feed_at(bytes: &[u8]) -> usize
     ensures front { take result bytes.now ≡ first_line bytes.now }
-    ensures found { has_feed bytes.now ≡ true → (result < length bytes.now) × (drop (result + 1) bytes.now ≡ after_line bytes.now) }
+    ensures found { has_feed bytes.now ≡ true → (result < length bytes.now)
+        × (drop (result + 1) bytes.now ≡ after_line bytes.now) }
     ensures none { has_feed bytes.now ≡ false → result ≡ length bytes.now }
 {
     for (i, b) in bytes.iter().enumerate() {

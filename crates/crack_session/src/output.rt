@@ -11,7 +11,8 @@ pub fn send<W: Write>(writer: &mut Watched<W>, bytes: &[u8]) -> Result<(), Refus
     ensures ok { OnOk result (Appends (W.contents (device writer.old)) (W.contents (device writer.new)) bytes.now) }
     ensures unfailed { OnOk result (has_failed writer.new ≡ has_failed writer.old) }
     ensures err { IfErr result (λ e. (e ≡ Refusal.WriteFault) × (has_failed writer.new ≡ true)) }
-    ensures front { IfErr result (λ _. (n : ℕ) × Appends (W.contents (device writer.old)) (W.contents (device writer.new)) (take n bytes.now)) }
+    ensures front { IfErr result (λ _. (n : ℕ)
+        × Appends (W.contents (device writer.old)) (W.contents (device writer.new)) (take n bytes.now)) }
 {
     let mut done = 0;
     'sending: while done < bytes.len() {

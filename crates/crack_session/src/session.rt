@@ -132,8 +132,9 @@ fn finish<W: Write>(writer: &mut Watched<W>, progress: Progress, how: How) -> Re
 
 /// Answers the statements of a reader, each whole line before it reads again, until its input ends or a statement
 /// is `quit`; what was read beyond that is dropped. Every statement goes to partition 0 of the desk.
-/// What is written is handed on (`flush`) before each read and at the end.
-/// Takes no memory but what the desk takes, so it is never cut off by 8.
+/// What is written is handed on by a flush before each read and at the end: behind a buffer that holds the replies
+/// to one read there is at most one write more than reads.
+/// Takes no memory but what the desk takes, none for a line, so it is never cut off by 8.
 pub fn serve<D: Desk, R: Read, W: Write>(
     alloc: Global,
     desk: &mut D,
@@ -142,21 +143,27 @@ pub fn serve<D: Desk, R: Read, W: Write>(
     writer: &mut Watched<W>,
 ) -> Result<End, Fault>
     // However the session went, its statements are counted and its end is told.
-    ensures counted { IfOk result (λ end. (bytes : List ℕ) → R.remaining (device reader.old) ≡ Some bytes →
+    ensures counted { IfOk result (λ end. (bytes : List ℕ) →
+        R.remaining (device reader.old) ≡ Some bytes →
         (end.statements ≡ length (statements bytes)) × (end.how ≡ ending (statements bytes))) }
     // What is written, and the plain rows afterwards.
     ensures served { IfOk result (λ end. (bytes out : List ℕ) (tables : List PlainState) →
-        R.remaining (device reader.old) ≡ Some bytes → W.contents (device writer.old) ≡ Some out → D.tables desk.old ≡ Some tables →
+        R.remaining (device reader.old) ≡ Some bytes → W.contents (device writer.old) ≡ Some out →
+        D.tables desk.old ≡ Some tables →
         IsServed (D.splits desk.old) bytes out tables end (W.contents (device writer.new)) (D.tables desk.new)) }
     // What is written where the session was cut off.
     ensures cut_off { IfErr result (λ fault. (bytes out : List ℕ) (tables : List PlainState) →
-        R.remaining (device reader.old) ≡ Some bytes → W.contents (device writer.old) ≡ Some out → D.tables desk.old ≡ Some tables →
+        R.remaining (device reader.old) ≡ Some bytes → W.contents (device writer.old) ≡ Some out →
+        D.tables desk.old ≡ Some tables →
         IsCutOff (D.splits desk.old) bytes out tables fault (W.contents (device writer.new)) (D.tables desk.new)) }
     // It isn't cut off only where no device failed.
-    ensures unfailed { OnOk result ((has_failed reader.new ≡ has_failed reader.old) × (has_failed writer.new ≡ has_failed writer.old)) }
+    ensures unfailed { OnOk result ((has_failed reader.new ≡ has_failed reader.old)
+        × (has_failed writer.new ≡ has_failed writer.old)) }
     // It is cut off only where a device failed, or behind the last read that it may make, each of which brought a byte.
-    ensures causes { IfErr result (λ fault. ((fault.refusal ≡ Refusal.WriteFault) × (has_failed writer.new ≡ true))
-        ⊎ ((fault.refusal ≡ Refusal.ReadFault) × ((bytes : List ℕ) → R.remaining (device reader.old) ≡ Some bytes →
+    ensures causes { IfErr result (λ fault. ((fault.refusal ≡ Refusal.WriteFault)
+        × (has_failed writer.new ≡ true))
+        ⊎ ((fault.refusal ≡ Refusal.ReadFault)
+        × ((bytes : List ℕ) → R.remaining (device reader.old) ≡ Some bytes →
         (has_failed reader.new ≡ true) ⊎ (MOST_READS ≤ length bytes)))) }
 {
     let mut input = LineReader::new();

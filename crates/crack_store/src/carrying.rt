@@ -2,7 +2,7 @@
 ghost use Rattle.std.specs.Prelude.{◌≡◌, ℕ, ◌+◌, ◌-◌, ◌<◌, ◌≤◌, ◌∷◌, [], length, All, Some};
 ghost use Rattle.crack_arena.specs.Arena.{read, times};
 ghost use Rattle.crack_index.specs.Marks.{piece_at, next_mark, Rising};
-ghost use Rattle.crack_state.specs.State.{slots, IsIntact};
+ghost use Rattle.crack_state.specs.State.{slots, IsIntact, live_rows};
 ghost use Rattle.crack_state.specs.Steps.{hand_key, piece_end, pushed_on, appended, bounds_above, raise_next as next_raised};
 
 use crate::Store;
@@ -76,6 +76,7 @@ impl Carrying {
     pub fn own_piece(&self) -> Piece
         ensures value { result ≡ piece_at (hand_key self.now) (length self.now.store.column) self.now.store.marks }
         ensures order { result.from ≤ result.to }
+        ensures end { result.to ≡ piece_end self.now.store (hand_key self.now) }
         ensures within { result.to ≤ length self.now.store.column }
     {
         self.parts
@@ -88,6 +89,7 @@ impl Carrying {
     pub fn push_on(&mut self)
         requires { piece_end self.old.store (hand_key self.old) < length self.old.store.column }
         ensures after { self.new ≡ pushed_on self.old }
+        ensures live { live_rows self.new.store ≡ live_rows self.old.store }
         ensures nearer { bounds_above (hand_key self.new) self.new.store.marks < bounds_above (hand_key self.old) self.old.store.marks }
     {
         let key = self.hand_key();
@@ -103,7 +105,8 @@ impl Carrying {
         requires ends { piece_end self.store (hand_key self) ≡ length self.store.column }
         requires room { 0 < self.store.column_room }
         requires kept { times self.hand.slot (slots self.store.pending_out) ≡ 0 }
-        ensures { result ≡ appended self }
+        ensures after { result ≡ appended self }
+        ensures live { live_rows result ≡ live_rows self.store }
     {
         let key = self.hand_key();
         let Carrying { mut parts, hand } = self;

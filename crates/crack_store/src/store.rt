@@ -1,10 +1,10 @@
 //! The store.
-ghost use Rattle.std.specs.Prelude.{◌≡◌, ℕ, ◌+◌, ◌-◌, ◌<◌, ◌≤◌, ◌∷◌, [], length, IfOk, IfErr, OnOk, OnErr};
+ghost use Rattle.std.specs.Prelude.{◌≡◌, ℕ, ◌+◌, ◌-◌, ◌<◌, ◌≤◌, ◌∷◌, [], length, IfOk, IfErr, OnOk, OnErr, IfNone, None};
 ghost use Rattle.std.specs.List.Sorted.{IsPermutation};
 ghost use Rattle.crack_row.specs.Layouts.{IsLayout};
 ghost use Rattle.crack_index.specs.Marks.{HasBound};
 ghost use Rattle.crack_pending.specs.Pending.{StandsAt, Finds, keys_at};
-ghost use Rattle.crack_state.specs.State.{State, IsIntact, live_rows};
+ghost use Rattle.crack_state.specs.State.{State, IsIntact, live_rows, handle_of};
 ghost use Rattle.crack_state.specs.Steps.{lifted, admitted, IsAdmissible, SameButRoom};
 ghost use Rattle.crack_state.specs.Merge.{Refines, IsCracked, edge};
 ghost use Rattle.crack_store.specs.Parts.{no_cells, pending_by, bound_above, IsLayoutOf};
@@ -96,7 +96,8 @@ impl Store {
 
     /// Whether the row of this serial is a pending insertion; none where there is no such row. O(1).
     pub fn is_pending(&self, serial: Serial) -> Option<bool>
-        ensures { result ≡ pending_by self.now serial.0 }
+        ensures value { result ≡ pending_by self.now serial.0 }
+        ensures none { IfNone result (handle_of self.now.serials serial.0 ≡ None) }
     {
         match self.parts.serials.get(&serial.0) {
             Some(handle) => Some(self.parts.pending_in.contains(handle.slot())),
@@ -109,6 +110,8 @@ impl Store {
     /// Refused with 8 where it finds no memory; all is then as it was.
     pub fn crack(&mut self, range: KeyRange) -> Result<(), Refusal>
         ensures ok { OnOk result (Refines self.old self.new range) }
+        ensures cracked { OnOk result (IsCracked self.new range) }
+        ensures live { live_rows self.new ≡ live_rows self.old }
         ensures same { OnErr result (SameButRoom self.old self.new) }
         ensures err { IfErr result (λ e. e ≡ Refusal.OutOfMemory) }
     {
@@ -134,7 +137,8 @@ impl Store {
     /// O(1) at the first place or behind the one that was taken last; takes no memory.
     pub fn lift(self, place: usize) -> Carrying
         requires { place < length self.pending_in }
-        ensures { result ≡ lifted place self }
+        ensures after { result ≡ lifted place self }
+        ensures live { live_rows result.store ≡ live_rows self }
     {
         let Store { mut parts } = self;
         let hand = parts.pending_in.take(place);

@@ -8,8 +8,14 @@ mod column;
 #[cfg(test)]
 mod index;
 #[cfg(test)]
+mod merge;
+#[cfg(test)]
 mod part;
 #[cfg(test)]
 mod pending;
 #[cfg(test)]
 mod plain;
+#[cfg(test)]
+mod session;
+#[cfg(test)]
+mod store;

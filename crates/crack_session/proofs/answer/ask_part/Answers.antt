@@ -1,4 +1,4 @@
-use Rattle.std.proofs.Common.{◌≡◌, ◌∙◌, ap, Some}
+use Rattle.std.proofs.Common.{◌∙◌, ap, Some}
 use Rattle.crack_session.proofs.Replying.{answered-refused}
 use Rattle.crack_session.proofs.answer.ask_part.Goals as goal
 

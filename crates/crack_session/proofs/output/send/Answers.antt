@@ -1,4 +1,4 @@
-use Rattle.std.proofs.Common.{◌≡◌, ◌∙◌, ◌<◌, take, drop, arith}
+use Rattle.std.proofs.Common.{◌∙◌, take, drop, arith}
 use Rattle.std.proofs.lemmas.List.{take_rest}
 use Rattle.crack_session.proofs.Sending.{Appends-then, take_on}
 use Rattle.crack_session.proofs.output.send.Goals as goal

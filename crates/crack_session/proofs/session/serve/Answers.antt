@@ -1,13 +1,13 @@
-use Rattle.std.proofs.Common.{◌≡◌, ℕ, ◌+◌, ◌*◌, ◌≤◌, ◌<◌, List, [], ◌∷◌, ◌∙◌, ap, sym, arith, Some, None, refl, length, true, false, cond, rules}
+use Rattle.std.proofs.Common.{◌≡◌, [], ◌∙◌, ap, sym, arith, Some, None, refl, length, true, false, rules}
 use Rattle.crack_row.specs.Devices.{device}
 use Rattle.crack_session.specs.declared.session.Fault.{Fault}
 use Rattle.crack_session.specs.declared.session.How.TheVariants.{Quit, InputEnded}
-use Rattle.crack_session.specs.Lines.{ahead, left_of, after_line}
+use Rattle.crack_session.specs.Lines.{after_line}
 use Rattle.crack_session.specs.Grammar.{statements, reading_of, is_quit}
 use Rattle.crack_session.proofs.Reading.{start_input, IsPaid-then}
 use Rattle.crack_session.proofs.Following.{next_blank}
 use Rattle.crack_session.proofs.Finishing.{finish-counted, finish-served, finish-cut_off}
-use Rattle.crack_session.proofs.Going.{Going, Going-start, Going-kept, Going-left, Going-line, Going-more, Going-cut, Going-cut_in, Going-on, Going-quit, Responds-splits}
+use Rattle.crack_session.proofs.Going.{Going-start, Going-kept, Going-left, Going-line, Going-more, Going-cut, Going-cut_in, Going-on, Going-quit, Responds-splits}
 use Rattle.crack_session.proofs.session.serve.Goals as goal
 
 pub lines-init : goal.lines-init

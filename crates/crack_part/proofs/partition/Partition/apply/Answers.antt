@@ -1,17 +1,40 @@
 use Rattle.std.proofs.Common.{rules, ◌≡◌, [], ◌∷◌, ◌++◌, arith, ap, ◌∙◌}
 use Rattle.crack_row.specs.declared.command.Entry.{Entry}
-use Rattle.crack_plain.specs.Plain.{replay}
+use Rattle.crack_plain.specs.Plain.{replay, IsWithin}
 use Rattle.crack_plain.specs.Laws.{replay-push}
-use Rattle.crack_part.proofs.SoundLemmas.{IsSound-push, next-le-limit}
+use Rattle.crack_state.specs.StepLaws.{IsIntact-room}
+use Rattle.crack_part.specs.Parts.{Part}
+use Rattle.crack_part.proofs.KeepLemmas.{Keeps-trans, Keeps-room}
+use Rattle.crack_part.proofs.SoundLemmas.{none_doomed, next-le-limit, MayPerform-within, Serves-performed, IsSound-kept, IsSound-served}
 use Rattle.crack_part.proofs.partition.Partition.apply.Goals as goal
 
+pub prepare-requires-clause-none_doomed : goal.prepare-requires-clause-none_doomed
+prepare-requires-clause-none_doomed c = none_doomed _ c.self.invariant
+
+pub perform-requires-clause-admissible : goal.perform-requires-clause-admissible
+perform-requires-clause-admissible c =
+    let within : IsWithin c.self.inside.keys c.args.command = search rules in
+    MayPerform-within c.args.policy _ c.args.command c.prepare.new.store c.self.invariant within c.in_ok-reply.ensures.prepared
+
 pub perform-requires-clause-small : goal.perform-requires-clause-small
-perform-requires-clause-small c = let next = next-le-limit c.self.invariant in omega (arith, next)
+perform-requires-clause-small c = let next = next-le-limit _ c.self.invariant in omega (arith, next)
+
+pub invariant_of-self-in_err-perform : goal.invariant_of-self-in_err-perform
+invariant_of-self-in_err-perform c =
+    let same = c.in_err-perform.ensures.same in
+    let keeps = Keeps-trans _ _ _ c.prepare.ensures.keeps (Keeps-room c.prepare.new.store c.perform.new.store same.0) in
+    let intact = IsIntact-room c.prepare.new.store c.perform.new.store [] same.0 c.prepare.ensures.intact in
+    rw (c.reserve.ensures.items, same.1) (IsSound-kept _ c.perform.new.store c.self.invariant keeps intact)
 
 pub invariant_of-self-2 : goal.invariant_of-self-2
 invariant_of-self-2 c =
-    let e : Entry = record { worker = c.args.worker; command = c.args.command; reply = c.in_ok-kept.kept } in
-    IsSound-push _ _ e c.self.invariant (omega arith) (search rules) (search rules) (search rules) (search rules)
+    let part : Part = record { keys = c.self.inside.keys; limit = c.self.inside.limit; history = c.self.inside.history.items; next = c.self.inside.next; store = c.self.inside.store } in
+    let within : IsWithin c.self.inside.keys c.args.command = search rules in
+    let served = Serves-performed c.args.policy part c.args.command c.prepare.new.store c.perform.new.store c.in_ok-reply.ensures.prepared c.in_ok-perform.ensures.performed in
+    let raised = c.in_ok-perform.ensures.next (replay c.self.inside.history.items) c.self.invariant.faithful.serial in
+    let said = c.in_ok-reply.ensures.reply (replay c.self.inside.history.items) c.self.invariant.faithful in
+    let grown : c.push_reserved.new.items.items ≡ c.self.inside.history.items ++ record { worker = c.args.worker; command = c.args.command; reply = c.in_ok-kept.kept } ∷ [] = search rules in
+    rw grown (IsSound-served c.args.policy part c.args.worker c.args.command c.in_ok-kept.kept c.perform.new.next c.perform.new.store c.self.invariant (omega arith) within (c.in_ok-kept.ensures.ok ∙ said) raised served)
 
 pub returns-clause-state : goal.returns-clause-state
 returns-clause-state c =

@@ -1,0 +1,52 @@
+//! A cracker column of inline keys, and nothing else: a crack exchanges 4 bytes a row, and there is no branch on a key.
+
+/// Keys in one vector, and the bounds that divide it in rising order, each with its place.
+#[derive(Default)]
+pub struct Inline {
+    pub keys: Vec<u32>,
+    bounds: Vec<u64>,
+    places: Vec<usize>,
+}
+
+impl Inline {
+    /// The place at which the keys at or above the bound begin; cracks there, unless it is known.
+    pub fn edge(&mut self, bound: u64) -> usize {
+        let Ok(pivot) = u32::try_from(bound) else {
+            return self.keys.len();
+        };
+        let at = match self.bounds.binary_search(&bound) {
+            Ok(at) => return self.places[at],
+            Err(at) => at,
+        };
+        let from = at.checked_sub(1).map_or(0, |below| self.places[below]);
+        let to = self.places.get(at).copied().unwrap_or(self.keys.len());
+        let place = from + partition(&mut self.keys[from..to], pivot);
+        self.bounds.insert(at, bound);
+        self.places.insert(at, place);
+        place
+    }
+}
+
+/// Puts the keys below the pivot first, and gives their number. The gap goes round, so that each key is written once
+/// ("branchless Lomuto partitioning" with a cyclic permutation, as in Rust's own sort).
+fn partition(keys: &mut [u32], pivot: u32) -> usize {
+    let Some(&first) = keys.first() else {
+        return 0;
+    };
+    let end = keys.len();
+    let keys = keys.as_mut_ptr();
+    let (mut low, mut gap) = (0, 0);
+    // `low` and `gap` are below `i`, and that is below `end`
+    unsafe {
+        for i in 1..end {
+            let key = *keys.add(i);
+            *keys.add(gap) = *keys.add(low);
+            *keys.add(low) = key;
+            gap = i;
+            low += (key < pivot) as usize;
+        }
+        *keys.add(gap) = *keys.add(low);
+        *keys.add(low) = first;
+    }
+    low + (first < pivot) as usize
+}

@@ -1,0 +1,3 @@
+mod Touched
+mod Carrying
+mod Merging

@@ -1,0 +1,11 @@
+use Rattle.std.proofs.Common.{arith}
+use Rattle.crack_state.specs.FollowLaws.{Pushes-pushed_on}
+use Rattle.crack_merge.proofs.Carrying.{kept-Pushes}
+use Rattle.crack_merge.proofs.carries.carry.Goals as goal
+
+pub pieces-preserved : goal.pieces-preserved
+pieces-preserved c =
+    rw c.push_on.ensures.after (Pushes-pushed_on c.args.carrying c.pieces.carrying (omega (arith, c.pieces-test.true, c.own_piece.ensures.end, c.column_len.ensures)) c.facts.ensures c.pieces.invariant)
+
+pub append-requires-clause-kept : goal.append-requires-clause-kept
+append-requires-clause-kept c = kept-Pushes c.args.carrying c.pieces.carrying c.requires.none_doomed c.pieces.invariant

@@ -1,0 +1,38 @@
+-- What a carry and a merge have done to a store, where they end.
+use Rattle.std.specs.Prelude.{◌≡◌, ◌-◌, ℕ, drop, []}
+use Rattle.crack_row.specs.declared.command.Policy.{Policy}
+use Rattle.crack_row.specs.declared.command.Policy.TheVariants.{Complete}
+use Rattle.crack_state.specs.declared.MergeReport.{MergeReport}
+use Rattle.crack_state.specs.State.{State, Carried, IsIntact}
+use Rattle.crack_state.specs.Steps.{appended}
+use Rattle.crack_state.specs.Merge.{Follows, Tallies}
+use Rattle.crack_state.specs.FollowLaws.{Pushes}
+
+-- a carry: the hand is pushed on from piece to piece, and what is in hand at the last becomes the column's last row
+pub record Carries (c : Carried) (t : State) : Type 0 where
+  pub last : Carried
+  pub pushes : Pushes c last
+  pub ends : t ≡ appended last
+
+-- the first k pending insertions, and no more, were carried into the column in the order of their arrival
+pub record PutsIn (s t : State) (k : ℕ) : Type 0 where
+  pub follows : Follows s t
+  pub tallies : Tallies Complete s t
+  pub pending_in : t.pending_in ≡ drop k s.pending_in
+  pub pending_out : t.pending_out ≡ s.pending_out
+
+-- a merge that found no memory on the way: what it had done stands, and commands see the same rows as before
+pub record Stops (policy : Policy) (s t : State) : Type 0 where
+  pub follows : Follows s t
+  pub intact : IsIntact t []
+  pub tallies : Tallies policy s t
+
+-- what was counted from one report to a later one
+abbrev pub counted_between : MergeReport → MergeReport → MergeReport
+counted_between before after = record {
+  put_in = after.put_in - before.put_in;
+  taken_out = after.taken_out - before.taken_out;
+  evicted = after.evicted - before.evicted;
+  moved = after.moved - before.moved;
+  pulled = after.pulled - before.pulled;
+}

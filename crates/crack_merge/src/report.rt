@@ -1,0 +1,18 @@
+//! What a merge counted.
+ghost use Rattle.std.specs.Prelude.{◌≡◌};
+ghost use Rattle.crack_merge.specs.Merges.{counted_between};
+
+use crack_store::MergeReport;
+
+/// What was counted since `before`, up to `after`.
+pub(crate) fn counted_between(before: MergeReport, after: MergeReport) -> MergeReport
+    ensures { result ≡ counted_between before after }
+{
+    MergeReport {
+        put_in: after.put_in.saturating_sub(before.put_in),
+        taken_out: after.taken_out.saturating_sub(before.taken_out),
+        evicted: after.evicted.saturating_sub(before.evicted),
+        moved: after.moved.saturating_sub(before.moved),
+        pulled: after.pulled.saturating_sub(before.pulled),
+    }
+}
