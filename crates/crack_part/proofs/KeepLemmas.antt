@@ -8,7 +8,7 @@ use Rattle.crack_state.specs.Steps.{SameButRoom}
 use Rattle.crack_state.specs.Merge.{Refines, Follows}
 use Rattle.crack_state.specs.CrackLaws.{keys-refined, live_rows-refined, cells-refined, pending_out-refined}
 use Rattle.crack_state.specs.FollowLaws.{Follows-room}
-use Rattle.crack_part.specs.Parts.{Keeps, Reads, CracksAndMerges}
+use Rattle.crack_part.specs.Parts.{Keeps, ReadsRange, CracksAndMerges}
 
 pub Keeps-refl : (s : State) → Keeps s s
 Keeps-refl s = record { ends = refl; live = refl; cells = refl; freed = refl }
@@ -37,13 +37,13 @@ pub Keeps-settled : (policy : Policy) (s t : State) (r : Range) → CracksAndMer
 Keeps-settled policy s t r done = Keeps-trans s done.cracked t (Keeps-refined s done.cracked r done.refines) (Keeps-follows done.cracked t done.merges.follows)
 
 -- a range command leaves the live rows as they were
-pub Keeps-reads : (policy : Policy) (s t : State) (r : Range) → Reads policy s t r → Keeps s t
+pub Keeps-reads : (policy : Policy) (s t : State) (r : Range) → ReadsRange policy s t r → Keeps s t
 Keeps-reads policy s t r reads = elim (cases_lt r.low r.high) [
   | inl filled ↦ Keeps-settled policy s t r (reads.settled filled)
   | inr empty ↦ rw (reads.empty empty) (Keeps-refl s)
 ]
 
-pub IsIntact-reads : (policy : Policy) (s t : State) (r : Range) → Reads policy s t r → IsIntact s [] → IsIntact t []
+pub IsIntact-reads : (policy : Policy) (s t : State) (r : Range) → ReadsRange policy s t r → IsIntact s [] → IsIntact t []
 IsIntact-reads policy s t r reads intact = elim (cases_lt r.low r.high) [
   | inl filled ↦ (reads.settled filled).merges.intact
   | inr empty ↦ rw (reads.empty empty) intact

@@ -60,14 +60,14 @@ pub record CracksAndMerges (policy : Policy) (s t : State) (r : Range) : Type 0 
   pub tallies : Tallies policy cracked t
 
 -- what a read of a range does to a store: nothing where the range is empty
-pub record Reads (policy : Policy) (s t : State) (r : Range) : Type 0 where
+pub record ReadsRange (policy : Policy) (s t : State) (r : Range) : Type 0 where
   pub empty : r.high ≤ r.low → t ≡ s
   pub settled : r.low < r.high → CracksAndMerges policy s t r
 
 -- what an answered command does to the store: an insert admits its row, all else reads the range within the partition's keys
 abbrev pub Serves : Policy → Part → Command → State → Type 0
 Serves policy part (Insert key payload) t = SameButRoom (admitted (placed part key payload) part.store) t
-Serves policy part (Count range) t = Reads policy part.store t (clipped range part.keys)
+Serves policy part (Count range) t = ReadsRange policy part.store t (clipped range part.keys)
 
 -- what is as it was where no memory was found for a range: the rows that commands see, the number of cells, and how often
 -- cells were freed or are still to be
@@ -85,7 +85,7 @@ Spares (Count range) s t = Keeps s t
 -- what a command does to the store before it is replied: all but an insert read the range within the keys
 abbrev pub Prepares : Policy → Range → Command → State → State → Type 0
 Prepares policy keys (Insert key payload) s t = t ≡ s
-Prepares policy keys (Count range) s t = Reads policy s t (clipped range keys)
+Prepares policy keys (Count range) s t = ReadsRange policy s t (clipped range keys)
 
 -- when a command may be performed: the row of an insert may be admitted
 abbrev pub MayPerform : ℕ → Command → State → Type 0

@@ -9,7 +9,7 @@ ghost use Rattle.crack_state.specs.Steps.{SameButRoom};
 ghost use Rattle.crack_state.specs.Merge.{IsCracked, Merges, Tallies};
 ghost use Rattle.crack_merge.specs.Merges.{Stops};
 ghost use Rattle.crack_store.specs.Parts.{no_cells, IsLayoutOf};
-ghost use Rattle.crack_part.specs.Parts.{state_of, IsLimit, IsSound, IsFaithful, CracksAndMerges, Reads, Keeps, Serves, Spares, Prepares, MayPerform, Performs};
+ghost use Rattle.crack_part.specs.Parts.{state_of, IsLimit, IsSound, IsFaithful, CracksAndMerges, ReadsRange, Keeps, Serves, Spares, Prepares, MayPerform, Performs};
 
 use crack_merge::merge_complete;
 use crack_row::{
@@ -108,7 +108,7 @@ impl Partition {
     /// Answers one command of a worker and keeps it in the history. The second reply is a copy, for a receipt.
     /// Refused, in this order: with 4 where the command brings a key that isn't the partition's, with 6 where the history
     /// is full, with 8 where no memory is found. After 4 and 6 nothing has changed, after 8 at most where rows stand.
-    /// An insert is O(1). A count merges by the policy what its range needs, cracks the pieces in which its ends fall, and
+    /// An insert is O(1). A count cracks the pieces in which its ends fall, merges by the policy what its range needs, and
     /// is then O(log pieces).
     pub fn apply(
         &mut self,
@@ -210,7 +210,7 @@ fn count(
     requires ends { store.old.keys ≡ keys }
     requires none_doomed { store.old.pending_out ≡ [] }
     ensures count { IfOk result (λ n. (plain : List Row) → IsPermutation (live_rows store.old) plain → n ≡ count_by (in_range range) plain) }
-    ensures reads { OnOk result (Reads policy store.old store.new (clipped range keys)) }
+    ensures reads { OnOk result (ReadsRange policy store.old store.new (clipped range keys)) }
     ensures intact { IsIntact store.new [] }
     ensures keeps { Keeps store.old store.new }
     ensures err { IfErr result (λ e. e ≡ Refusal.OutOfMemory) }

@@ -1,9 +1,9 @@
 -- The cell of a row that is admitted.
-use Rattle.std.proofs.Common.{◌≡◌, ℕ, ◌+◌, ◌<◌, ◌≤◌, List, [], ◌∷◌, ◌++◌, length, Some, refl, sym, ap, ◌∙◌, inl, inr, arith, length-set}
+use Rattle.std.proofs.Common.{◌≡◌, ℕ, ◌+◌, ◌<◌, ◌≤◌, List, [], ◌∷◌, length, Some, refl, ◌∙◌, inl, inr, arith, length-set}
 use Rattle.std.proofs.lemmas.Bool.{cases_lt, le-ltb}
 use Rattle.std.proofs.lemmas.List.{length_push}
 use Rattle.crack_row.specs.declared.Row.{Row}
-use Rattle.crack_arena.specs.Arena.{Cell, Handle, times, cell_at, handle_for, cells_with}
+use Rattle.crack_arena.specs.Arena.{Cell, times, cell_at, handle_for, cells_with}
 use Rattle.crack_arena.specs.Times.{times_head}
 use Rattle.crack_state.specs.State.{State, places, IsIntact}
 use Rattle.crack_state.specs.OwnedLaws.{times-places}

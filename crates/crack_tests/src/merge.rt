@@ -1,30 +1,46 @@
 //! A merge of pending rows counts them, and the rows that made way for them.
-ghost use Rattle.std.specs.Prelude.{◌≡◌, ◌<◌, ◌≤◌, ◌×◌, [], OnOk, IfOk};
+ghost use Rattle.std.specs.Prelude.{◌≡◌, ◌<◌, ◌≤◌, [], OnOk, IfOk};
 ghost use Rattle.crack_state.specs.Merge.{IsCracked};
 
 use crack_merge::merge_complete;
 use crack_row::{Key, KeyRange, Payload, Refusal, Row, Serial};
 use crack_store::{MergeReport, Store};
+use std::alloc::Global;
 use std::process::Abort;
 
-/// Admits a row of each of these keys.
-fn insert(rt: &impl Abort, store: &mut Store, keys: &[u32]) -> Result<(), Refusal>
+/// Puts a row of this key among the pending insertions of a store of all keys.
+fn insert(rt: &impl Abort, store: &mut Store, key: u32) -> Result<(), Refusal>
     requires low { store.old.keys.low ≡ 0 }
     requires high { store.old.keys.high ≡ 4294967296 }
-    ensures keys { OnOk result (store.new.keys ≡ store.old.keys) }
-    ensures pending_out { OnOk result (store.new.pending_out ≡ store.old.pending_out) }
+    requires none_doomed { store.old.pending_out ≡ [] }
+    ensures low { OnOk result (store.new.keys.low ≡ 0) }
+    ensures high { OnOk result (store.new.keys.high ≡ 4294967296) }
+    ensures none_doomed { OnOk result (store.new.pending_out ≡ []) }
 {
-    'keys: for &key in keys {
-        let serial = Serial(store.cells() as u64);
-        assert!(rt; store.is_pending(serial).is_none());
-        assert!(rt; store.cells() < 1000);
-        store.admit(Row {
-            serial,
-            key: Key(key),
-            payload: Payload(0),
-        })?;
-    }
-    Ok(())
+    let cells = store.cells();
+    assert!(rt; cells < 1000);
+    let serial = Serial(cells as u64);
+    let there = store.is_pending(serial).is_some();
+    assert!(rt; !there);
+    store.admit(Row {
+        serial,
+        key: Key(key),
+        payload: Payload(0),
+    })
+}
+
+/// A store of all keys whose column has the keys 10, 20, 30 and 40, and what the merge of these counted.
+fn filled(rt: &impl Abort, alloc: Global) -> Result<(Store, MergeReport), Refusal>
+    ensures low { IfOk result (λ r. r.0.keys.low ≡ 0) }
+    ensures high { IfOk result (λ r. r.0.keys.high ≡ 4294967296) }
+    ensures none_doomed { IfOk result (λ r. r.0.pending_out ≡ []) }
+{
+    let mut store = Store::new(alloc, KeyRange::all());
+    insert(rt, &mut store, 10)?;
+    insert(rt, &mut store, 20)?;
+    insert(rt, &mut store, 30)?;
+    insert(rt, &mut store, 40)?;
+    merge_at(store, KeyRange::all())
 }
 
 /// Cracks at the ends of a range and merges at it.
@@ -34,7 +50,8 @@ fn merge_at(store: Store, range: KeyRange) -> Result<(Store, MergeReport), Refus
     requires high { store.keys.high ≡ 4294967296 }
     requires within { range.high ≤ 4294967296 }
     requires none_doomed { store.pending_out ≡ [] }
-    ensures keys { IfOk result (λ r. r.0.keys ≡ store.keys) }
+    ensures low { IfOk result (λ r. r.0.keys.low ≡ 0) }
+    ensures high { IfOk result (λ r. r.0.keys.high ≡ 4294967296) }
     ensures none_doomed { IfOk result (λ r. r.0.pending_out ≡ []) }
     ensures cracked { IfOk result (λ r. IsCracked r.0 range) }
 {
@@ -46,49 +63,71 @@ fn merge_at(store: Store, range: KeyRange) -> Result<(Store, MergeReport), Refus
     }
 }
 
-/// The sizes of the column's pieces, and then the numbers of rows in it and of pending insertions.
-fn sizes(store: &Store, piece: usize) -> Result<(u64, u64, Option<u64>), Refusal> {
+/// Asserts how many rows stand in the column and in the pending insertions, and the sizes of the pieces, in rising order.
+fn assert_layout(
+    rt: &impl Abort,
+    store: &Store,
+    rows: (u64, u64),
+    sizes: &[u64],
+) -> Result<(), Refusal> {
     let layout = store.layout()?;
-    let size = layout.pieces.as_slice().get(piece).map(|p| p.size);
-    Ok((layout.column, layout.pending_in, size))
+    assert_eq!(rt; (layout.column, layout.pending_in), rows);
+    let pieces = layout.pieces.as_slice();
+    assert_eq!(rt; pieces.len(), sizes.len());
+    for (piece, size) in pieces.iter().zip(sizes) {
+        assert_eq!(rt; piece.size, *size, "from {}", piece.low.0);
+    }
+    Ok(())
 }
+
+/// What a merge at keys from 15 up to 25 counts, of two rows of these keys besides those of `filled`, and how many rows then
+/// stand between these ends.
+fn merge_two(
+    rt: &impl Abort,
+    store: Store,
+    keys: [u32; 2],
+) -> Result<(Store, MergeReport, u64), Refusal>
+    requires low { store.keys.low ≡ 0 }
+    requires high { store.keys.high ≡ 4294967296 }
+    requires none_doomed { store.pending_out ≡ [] }
+{
+    let mut store = store;
+    insert(rt, &mut store, keys[0])?;
+    insert(rt, &mut store, keys[1])?;
+    let range = KeyRange::new(15, 25)?;
+    let (store, report) = merge_at(store, range)?;
+    let count = store.count_between(range);
+    Ok((store, report, count))
+}
+
+const NONE_COUNTED: MergeReport = MergeReport {
+    put_in: 0,
+    taken_out: 0,
+    evicted: 0,
+    moved: 0,
+    pulled: 0,
+};
 
 #[test]
 fn merge_moves_a_row_for_each_bound_above(rt: HostRuntime) -> Result<(), Refusal> {
-    let mut store = Store::new(rt.alloc(), KeyRange::all());
-    insert(&rt, &mut store, &[10, 20, 30, 40])?;
-    let (mut store, report) = merge_at(store, KeyRange::all())?;
+    let (store, report) = filled(&rt, rt.alloc())?;
     assert_eq!(rt; (report.put_in, report.moved), (4, 0));
-
-    let range = KeyRange::new(15, 25)?;
-    store.crack(range)?;
-    insert(&rt, &mut store, &[17, 90])?;
-    let (store, report) = merge_at(store, range)?;
-    let expected = MergeReport {
+    let (store, report, count) = merge_two(&rt, store, [17, 90])?;
+    let counted = MergeReport {
         put_in: 2,
-        taken_out: 0,
-        evicted: 0,
         moved: 1,
-        pulled: 0,
+        ..NONE_COUNTED
     };
-    assert_eq!(rt; report, expected);
-    for (piece, size) in [1, 2, 3].into_iter().enumerate() {
-        assert_eq!(rt; sizes(&store, piece)?, (6, 0, Some(size)));
-    }
-    assert_eq!(rt; store.count_between(range), 2);
-    Ok(())
+    assert_eq!(rt; report, counted);
+    assert_eq!(rt; count, 2);
+    assert_layout(&rt, &store, (6, 0), &[1, 2, 3])
 }
 
 #[test]
 fn merge_leaves_pending_rows_that_none_needs(rt: HostRuntime) -> Result<(), Refusal> {
-    let mut store = Store::new(rt.alloc(), KeyRange::all());
-    insert(&rt, &mut store, &[10, 20])?;
-    let (mut store, _) = merge_at(store, KeyRange::all())?;
-    insert(&rt, &mut store, &[90, 5])?;
-    let range = KeyRange::new(15, 25)?;
-    let (store, report) = merge_at(store, range)?;
-    assert_eq!(rt; (report.put_in, report.moved), (0, 0));
-    assert_eq!(rt; store.layout()?.pending_in, 2);
-    assert_eq!(rt; store.count_between(range), 1);
-    Ok(())
+    let (store, _) = filled(&rt, rt.alloc())?;
+    let (store, report, count) = merge_two(&rt, store, [5, 90])?;
+    assert_eq!(rt; report, NONE_COUNTED);
+    assert_eq!(rt; count, 1);
+    assert_layout(&rt, &store, (4, 2), &[1, 1, 2])
 }

@@ -2,6 +2,7 @@
 use crack_part::Partition;
 use crack_row::{Command, Entry, Key, KeyRange, Payload, Policy, Refusal, Reply, Serial};
 use std::alloc::Global;
+use std::process::Abort;
 
 /// An insert of a key, with ten times the key as its payload.
 fn insert(key: u16) -> Command {
@@ -98,4 +99,96 @@ fn partition_refuses_bad_limits(rt: HostRuntime) {
         let refused = Partition::open(rt.alloc(), KeyRange::all(), limit);
         assert!(rt; matches!(refused, Err(Refusal::BadLimit)), "limit {limit}");
     }
+}
+
+/// Inserts a row for each of the keys.
+fn insert_all(partition: &mut Partition, alloc: Global, keys: &[u16]) -> Result<(), Refusal> {
+    for key in keys {
+        ask(partition, alloc, insert(*key))?;
+    }
+    Ok(())
+}
+
+/// Counts a range, in which there are so many rows.
+fn assert_count(
+    rt: &impl Abort,
+    partition: &mut Partition,
+    alloc: Global,
+    range: KeyRange,
+    rows: u64,
+) -> Result<(), Refusal> {
+    let (reply, _receipt) = ask(partition, alloc, Command::Count(range))?;
+    assert!(rt; matches!(reply, Reply::Counted(count) if count == rows));
+    Ok(())
+}
+
+/// Asserts that so many rows stand in the column, so many wait, and that no other cell is used.
+fn assert_rows(
+    rt: &impl Abort,
+    partition: &Partition,
+    column: u64,
+    waiting: u64,
+) -> Result<(), Refusal> {
+    let layout = partition.layout()?;
+    assert_eq!(rt; layout.column, column);
+    assert_eq!(rt; layout.pending_in, waiting);
+    assert_eq!(rt; layout.pending_out, 0);
+    assert_eq!(rt; layout.free, 0);
+    Ok(())
+}
+
+/// Asserts that the layout tells so many rows and cells.
+fn assert_cells(
+    rt: &impl Abort,
+    partition: &Partition,
+    rows: u64,
+    cells: u64,
+) -> Result<(), Refusal> {
+    let layout = partition.layout()?;
+    assert_eq!(rt; layout.rows, rows);
+    assert_eq!(rt; layout.cells, cells);
+    Ok(())
+}
+
+/// Asserts the sizes of the pieces, and where they begin.
+fn assert_pieces(
+    rt: &impl Abort,
+    partition: &Partition,
+    pieces: &[(u64, u64)],
+) -> Result<(), Refusal> {
+    let layout = partition.layout()?;
+    assert_eq!(rt; layout.pieces.as_slice().len(), pieces.len());
+    for (told, (low, size)) in layout.pieces.as_slice().iter().zip(pieces) {
+        assert_eq!(rt; told.low.0, *low);
+        assert_eq!(rt; told.size, *size);
+    }
+    Ok(())
+}
+
+/// A partition of the keys 10, 20, 30 and 40, which waited until the first count; cracked at 15 and 25.
+fn cracked(rt: &impl Abort, alloc: Global) -> Result<Partition, Refusal> {
+    let mut partition = Partition::open(alloc, KeyRange::all(), 1000)?;
+    insert_all(&mut partition, alloc, &[10, 20, 30, 40])?;
+    assert_rows(rt, &partition, 0, 4)?;
+    assert_count(rt, &mut partition, alloc, KeyRange::all(), 4)?;
+    assert_count(rt, &mut partition, alloc, KeyRange::new(15, 25)?, 1)?;
+    Ok(partition)
+}
+
+/// Asserts that six rows stand in the column, in three pieces.
+fn assert_merged(rt: &impl Abort, partition: &Partition) -> Result<(), Refusal> {
+    assert_rows(rt, partition, 6, 0)?;
+    assert_cells(rt, partition, 6, 6)?;
+    assert_pieces(rt, partition, &[(0, 1), (15, 2), (25, 3)])
+}
+
+/// Rows wait until a count needs one of them; then all are merged, and no row is lost from sight on the way.
+#[test]
+fn partition_cracks_and_merges(rt: HostRuntime) -> Result<(), Refusal> {
+    let alloc = rt.alloc();
+    let mut partition = cracked(&rt, alloc)?;
+    insert_all(&mut partition, alloc, &[17, 90])?;
+    assert_rows(&rt, &partition, 4, 2)?;
+    assert_count(&rt, &mut partition, alloc, KeyRange::new(15, 25)?, 2)?;
+    assert_merged(&rt, &partition)
 }

@@ -1,7 +1,6 @@
-use Rattle.std.proofs.Common.{◌≡◌, ◌<◌, [], length, refl, sym, ap, ◌∙◌, arith}
+use Rattle.std.proofs.Common.{[], refl, sym, ◌∙◌}
 use Rattle.std.proofs.lemmas.Bool.{true≢false}
-use Rattle.crack_column.specs.Column.{Cracks}
-use Rattle.crack_state.specs.Steps.{CracksAt, piece_start, piece_end}
+use Rattle.crack_state.specs.Steps.{CracksAt}
 use Rattle.crack_state.specs.PieceLaws.{piece_end-le}
 use Rattle.crack_state.specs.CrackLaws.{IsIntact-cracked, RefinesAt-cracked}
 use Rattle.crack_store.specs.Parts.{state_of}

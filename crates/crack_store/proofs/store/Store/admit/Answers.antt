@@ -1,9 +1,9 @@
-use Rattle.std.proofs.Common.{◌≡◌, ℕ, ◌+◌, ◌<◌, ◌≤◌, [], ◌∷◌, ◌++◌, length, Result, Ok, Err, OnOk, IsOk, None, refl, sym, ap, ◌∙◌, arith}
+use Rattle.std.proofs.Common.{◌≡◌, [], ◌∷◌, ◌++◌, length, Result, Ok, Err, OnOk, IsOk, None, refl, sym, ap, ◌∙◌, arith}
 use Rattle.std.specs.Prelude.{nat_eq}
 use Rattle.std.proofs.lemmas.Bool.{true≢false}
 use Rattle.indexmap.proofs.CallerLemmas.{insert_entry-new}
-use Rattle.crack_arena.specs.Arena.{Handle, times, handle_for, cells_with}
-use Rattle.crack_state.specs.State.{State, slots, handle_of, live_rows}
+use Rattle.crack_arena.specs.Arena.{cells_with}
+use Rattle.crack_state.specs.State.{handle_of}
 use Rattle.crack_state.specs.Steps.{IsAdmissible, SameButRoom, admitted, next_handle}
 use Rattle.crack_state.specs.StepLaws.{IsIntact-room}
 use Rattle.crack_state.specs.AdmitLaws.{IsIntact-admitted, live_rows-admitted, unused}
