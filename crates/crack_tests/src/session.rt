@@ -107,112 +107,164 @@ impl Write for CountedWriter {
 }
 
 /// A session over memory, which is to end: how, and what it wrote.
-fn run<D: Desk>(rt: &HostRuntime, desk: &mut D, input: &[u8]) -> Result<(End, Vec<u8>), Fail> {
+fn run<D: Desk>(alloc: Global, desk: &mut D, input: &[u8]) -> Result<(End, Vec<u8>), Fail> {
     let mut reader = Watched::new(input);
-    let mut writer = Watched::new(Vec::new(rt.alloc()));
-    let result = serve(rt.alloc(), desk, Policy::Complete, &mut reader, &mut writer);
+    let mut writer = Watched::new(Vec::new(alloc));
+    let result = serve(alloc, desk, Policy::Complete, &mut reader, &mut writer);
     let end = result.ok().ok_or("a fault")?;
     Ok((end, writer.into_inner()))
 }
 
-/// Each script, the limit of the history, the replies, and the end. `MAX` is typed in full.
-#[test]
-fn scripts(rt: HostRuntime) -> Result<(), Fail> {
-    let many = [b'x'; 201];
-    let mut long = Vec::from_slice(rt.alloc(), b"insert 1 1\r\n")?;
-    long.extend_from_slice(many.as_slice())?;
-    long.extend_from_slice(b"\n\ncount 0 5")?;
-    let scripts: [(&[u8], u64, &[u8], How, u64, Option<u64>); 6] = [
-        (b"", GREATEST_LIMIT, b"", How::InputEnded, 0, None),
-        (
-            b"insert 7 70\ncount 0 4294967296\nquit\ncount 0 1\n",
-            GREATEST_LIMIT,
-            b"row 0.0\ncount 1\nbye\n",
-            How::Quit,
-            3,
-            None,
-        ),
-        (
-            long.as_slice(),
-            GREATEST_LIMIT,
-            b"row 0.0\nrefused 1\ncount 1\n",
-            How::InputEnded,
-            3,
-            None,
-        ),
-        (
-            b"insert 4294967295 1\ncount 4294967295 4294967296\ninsert 4294967296 1\ncount 0 4294967297\n",
-            GREATEST_LIMIT,
-            b"row 0.0\ncount 1\nrefused 1\nrefused 2\n",
-            How::InputEnded,
-            4,
-            None,
-        ),
-        (
-            b"insert 1 1\ninsert 2 2\ncount 0 4294967296\n",
-            2,
-            b"row 0.0\nrow 0.1\nrefused 6 2\n",
-            How::InputEnded,
-            3,
-            Some(3),
-        ),
-        (
-            b"  insert   007   08  \r\n   \n\r\ncount 00000000000000000007 8\ncount 000000000000000000007 8\ncount 6 5\nquit now\nInsert 1 1",
-            GREATEST_LIMIT,
-            b"row 0.0\ncount 1\nrefused 1\nrefused 2\nrefused 1\nrefused 1\n",
-            How::InputEnded,
-            6,
-            None,
-        ),
-    ];
-    for (input, limit, replies, how, statements, first_short) in scripts {
-        let mut desk = OneDesk::open(rt.alloc(), limit)?;
-        let (end, text) = run(&rt, &mut desk, input)?;
-        assert_eq!(rt; text.as_slice(), replies);
-        assert_eq!(rt; end.how, how);
-        assert_eq!(rt; end.statements, statements);
-        assert_eq!(rt; end.first_short, first_short);
-        let mut reader = Watched::new(Dripping {
-            bytes: input,
-            fails: false,
-        });
-        let mut writer = Watched::new(Vec::new(rt.alloc()));
-        let mut again = OneDesk::open(rt.alloc(), limit)?;
-        let dripped = serve(
-            rt.alloc(),
-            &mut again,
-            Policy::Complete,
-            &mut reader,
-            &mut writer,
-        );
-        assert_eq!(rt; dripped.ok(), Some(end));
-        assert_eq!(rt; writer.into_inner().as_slice(), replies);
-        if limit == GREATEST_LIMIT {
-            let mut table = PlainTable::new(rt.alloc());
-            let (plain_end, plain_text) = run(&rt, &mut table, input)?;
-            assert_eq!(rt; plain_text.as_slice(), replies);
-            assert_eq!(rt; plain_end, end);
-        }
+/// How a session is to end, with no want of room.
+fn ends(how: How, statements: u64) -> End {
+    End {
+        how,
+        statements,
+        first_short: None,
     }
+}
+
+/// A session over memory that is to write these replies and end so.
+fn assert_run<D: Desk>(
+    rt: &impl Abort,
+    alloc: Global,
+    desk: &mut D,
+    input: &[u8],
+    replies: &[u8],
+    end: End,
+) -> Result<(), Fail> {
+    let (told, text) = run(alloc, desk, input)?;
+    assert_eq!(rt; text.as_slice(), replies);
+    assert_eq!(rt; told, end);
     Ok(())
 }
 
+/// The same where the reader gives a byte at a time.
+fn assert_dripped<D: Desk>(
+    rt: &impl Abort,
+    alloc: Global,
+    desk: &mut D,
+    input: &[u8],
+    replies: &[u8],
+    end: End,
+) -> Result<(), Fail> {
+    let mut reader = Watched::new(Dripping {
+        bytes: input,
+        fails: false,
+    });
+    let mut writer = Watched::new(Vec::new(alloc));
+    let result = serve(alloc, desk, Policy::Complete, &mut reader, &mut writer);
+    assert_eq!(rt; result.ok(), Some(end));
+    assert_eq!(rt; writer.into_inner().as_slice(), replies);
+    Ok(())
+}
+
+/// A session over one desk of this limit, however its bytes are cut.
+fn assert_script(
+    rt: &impl Abort,
+    alloc: Global,
+    limit: u64,
+    input: &[u8],
+    replies: &[u8],
+    end: End,
+) -> Result<(), Fail> {
+    let mut desk = OneDesk::open(alloc, limit)?;
+    assert_run(rt, alloc, &mut desk, input, replies, end)?;
+    let mut again = OneDesk::open(alloc, limit)?;
+    assert_dripped(rt, alloc, &mut again, input, replies, end)
+}
+
+/// A session that a plain table answers by the same bytes.
+fn assert_alike(
+    rt: &impl Abort,
+    alloc: Global,
+    input: &[u8],
+    replies: &[u8],
+    end: End,
+) -> Result<(), Fail> {
+    assert_script(rt, alloc, GREATEST_LIMIT, input, replies, end)?;
+    let mut table = PlainTable::new(alloc);
+    assert_run(rt, alloc, &mut table, input, replies, end)
+}
+
 #[test]
-fn writer_fails_in_the_third_reply(rt: HostRuntime) -> Result<(), Fail> {
-    let mut desk = OneDesk::open(rt.alloc(), GREATEST_LIMIT)?;
+fn no_input_has_no_reply(rt: HostRuntime) -> Result<(), Fail> {
+    assert_alike(&rt, rt.alloc(), b"", b"", ends(How::InputEnded, 0))
+}
+
+#[test]
+fn quit_ends_a_session(rt: HostRuntime) -> Result<(), Fail> {
+    assert_alike(
+        &rt,
+        rt.alloc(),
+        b"insert 7 70\ncount 0 4294967296\nquit\ncount 0 1\n",
+        b"row 0.0\ncount 1\nbye\n",
+        ends(How::Quit, 3),
+    )
+}
+
+#[test]
+fn a_line_that_is_too_long_is_no_statement(rt: HostRuntime) -> Result<(), Fail> {
+    let many = [b'x'; 201];
+    let mut input = Vec::from_slice(rt.alloc(), b"insert 1 1\r\n")?;
+    input.extend_from_slice(many.as_slice())?;
+    input.extend_from_slice(b"\n\ncount 0 5")?;
+    assert_alike(
+        &rt,
+        rt.alloc(),
+        input.as_slice(),
+        b"row 0.0\nrefused 1\ncount 1\n",
+        ends(How::InputEnded, 3),
+    )
+}
+
+#[test]
+fn the_greatest_key_and_bound_are_taken(rt: HostRuntime) -> Result<(), Fail> {
+    assert_alike(
+        &rt,
+        rt.alloc(),
+        b"insert 4294967295 1\ncount 4294967295 4294967296\ninsert 4294967296 1\ncount 0 4294967297\n",
+        b"row 0.0\ncount 1\nrefused 1\nrefused 2\n",
+        ends(How::InputEnded, 4),
+    )
+}
+
+#[test]
+fn a_full_history_is_told(rt: HostRuntime) -> Result<(), Fail> {
+    assert_script(
+        &rt,
+        rt.alloc(),
+        2,
+        b"insert 1 1\ninsert 2 2\ncount 0 4294967296\n",
+        b"row 0.0\nrow 0.1\nrefused 6 2\n",
+        End {
+            how: How::InputEnded,
+            statements: 3,
+            first_short: Some(3),
+        },
+    )
+}
+
+#[test]
+fn spaces_and_zeros_are_passed_over(rt: HostRuntime) -> Result<(), Fail> {
+    assert_alike(
+        &rt,
+        rt.alloc(),
+        b"  insert   007   08  \r\n   \n\r\ncount 00000000000000000007 8\ncount 000000000000000000007 8\ncount 6 5\nquit now\nInsert 1 1",
+        b"row 0.0\ncount 1\nrefused 1\nrefused 2\nrefused 1\nrefused 1\n",
+        ends(How::InputEnded, 6),
+    )
+}
+
+/// A session whose writer fails in the third reply.
+fn fail_the_third_reply<D: Desk>(rt: &impl Abort, alloc: Global, desk: &mut D) -> Result<(), Fail> {
     let mut reader = Watched::new(b"insert 1 1\ninsert 2 2\ninsert 3 3\n".as_slice());
     let mut writer = Watched::new(Failing {
         calls: 0,
         fails_at: 2,
-        bytes: Vec::new(rt.alloc()),
+        bytes: Vec::new(alloc),
     });
-    let result = serve(
-        rt.alloc(),
-        &mut desk,
-        Policy::Complete,
-        &mut reader,
-        &mut writer,
-    );
+    let result = serve(alloc, desk, Policy::Complete, &mut reader, &mut writer);
     let fault = result.err().ok_or("no fault")?;
     assert_eq!(rt;
         fault,
@@ -231,17 +283,16 @@ fn writer_fails_in_the_third_reply(rt: HostRuntime) -> Result<(), Fail> {
 }
 
 #[test]
-fn writer_fails_when_flushed(rt: HostRuntime) -> Result<(), Fail> {
+fn writer_fails_in_the_third_reply(rt: HostRuntime) -> Result<(), Fail> {
     let mut desk = OneDesk::open(rt.alloc(), GREATEST_LIMIT)?;
+    fail_the_third_reply(&rt, rt.alloc(), &mut desk)
+}
+
+/// A session whose writer takes bytes and can't hand them on.
+fn fail_the_flush<D: Desk>(rt: &impl Abort, alloc: Global, desk: &mut D) -> Result<(), Fail> {
     let mut reader = Watched::new(b"".as_slice());
     let mut writer = Watched::new(Clogged);
-    let result = serve(
-        rt.alloc(),
-        &mut desk,
-        Policy::Complete,
-        &mut reader,
-        &mut writer,
-    );
+    let result = serve(alloc, desk, Policy::Complete, &mut reader, &mut writer);
     let fault = result.err().ok_or("no fault")?;
     assert_eq!(rt;
         fault,
@@ -256,20 +307,19 @@ fn writer_fails_when_flushed(rt: HostRuntime) -> Result<(), Fail> {
 }
 
 #[test]
-fn reader_fails_in_a_line(rt: HostRuntime) -> Result<(), Fail> {
+fn writer_fails_when_flushed(rt: HostRuntime) -> Result<(), Fail> {
     let mut desk = OneDesk::open(rt.alloc(), GREATEST_LIMIT)?;
+    fail_the_flush(&rt, rt.alloc(), &mut desk)
+}
+
+/// A session whose reader fails in a line that was begun.
+fn fail_the_reader<D: Desk>(rt: &impl Abort, alloc: Global, desk: &mut D) -> Result<(), Fail> {
     let mut reader = Watched::new(Dripping {
         bytes: b"insert 1 1\ncount 0 9",
         fails: true,
     });
-    let mut writer = Watched::new(Vec::new(rt.alloc()));
-    let result = serve(
-        rt.alloc(),
-        &mut desk,
-        Policy::Complete,
-        &mut reader,
-        &mut writer,
-    );
+    let mut writer = Watched::new(Vec::new(alloc));
+    let result = serve(alloc, desk, Policy::Complete, &mut reader, &mut writer);
     let fault = result.err().ok_or("no fault")?;
     assert_eq!(rt;
         fault,
@@ -284,15 +334,19 @@ fn reader_fails_in_a_line(rt: HostRuntime) -> Result<(), Fail> {
     Ok(())
 }
 
-/// What is written is handed on before each read and at the end, and so is buffered to at most a write for each read.
 #[test]
-fn writes_are_as_few_as_reads(rt: HostRuntime) -> Result<(), Fail> {
-    let mut input = Vec::new(rt.alloc());
+fn reader_fails_in_a_line(rt: HostRuntime) -> Result<(), Fail> {
+    let mut desk = OneDesk::open(rt.alloc(), GREATEST_LIMIT)?;
+    fail_the_reader(&rt, rt.alloc(), &mut desk)
+}
+
+/// A session of many replies, over devices that count.
+fn count_the_writes<D: Desk>(rt: &impl Abort, alloc: Global, desk: &mut D) -> Result<(), Fail> {
+    let mut input = Vec::new(alloc);
     for _ in 0..1000 {
         input.extend_from_slice(b"insert 1 1\n")?;
     }
     input.extend_from_slice(b"count 0 9")?;
-    let mut desk = OneDesk::open(rt.alloc(), GREATEST_LIMIT)?;
     let mut reader = Watched::new(CountedReader {
         bytes: input.as_slice(),
         reads: 0,
@@ -302,14 +356,8 @@ fn writes_are_as_few_as_reads(rt: HostRuntime) -> Result<(), Fail> {
         flushes: 0,
         left: 0,
     };
-    let mut writer = Watched::new(BufWriter::new(rt.alloc(), device)?);
-    let result = serve(
-        rt.alloc(),
-        &mut desk,
-        Policy::Complete,
-        &mut reader,
-        &mut writer,
-    );
+    let mut writer = Watched::new(BufWriter::new(alloc, device)?);
+    let result = serve(alloc, desk, Policy::Complete, &mut reader, &mut writer);
     assert_eq!(rt; result.ok().ok_or("a fault")?.statements, 1001);
     let reads = reader.into_inner().reads;
     let buffered = writer.into_inner();
@@ -319,6 +367,13 @@ fn writes_are_as_few_as_reads(rt: HostRuntime) -> Result<(), Fail> {
     assert_eq!(rt; counted.flushes, reads.saturating_add(1));
     assert_eq!(rt; counted.left, 0);
     Ok(())
+}
+
+/// What is written is handed on before each read and at the end, and so is buffered to at most a write for each read.
+#[test]
+fn writes_are_as_few_as_reads(rt: HostRuntime) -> Result<(), Fail> {
+    let mut desk = OneDesk::open(rt.alloc(), GREATEST_LIMIT)?;
+    count_the_writes(&rt, rt.alloc(), &mut desk)
 }
 
 /// A desk by itself: what it is asked, how many it accepted, and that there is one partition.
