@@ -1,42 +1,29 @@
--- How a stretch is read and divided, place by place.
-use Rattle.std.proofs.Common.{◌≡◌, ◌≢◌, ℕ, ◌+◌, ◌<◌, ◌≤◌, List, [], ◌∷◌, length, map, get_or, set, ◌⊎◌, refl, sym, ap, ◌∙◌, length-set, inl, inr, arith}
-use Rattle.std.specs.List.{swap}
+-- How the places of a stretch are read and divided, one after the other.
+use Rattle.std.proofs.Common.{◌≡◌, ◌≢◌, ℕ, ◌+◌, ◌<◌, ◌≤◌, List, length, map, get_or, set, ◌⊎◌, refl, sym, ap, ◌∙◌, length-set, inl, inr, arith}
+use Rattle.std.specs.List.{All, swap}
 use Rattle.std.specs.List.Sorted.{IsPermutation}
 use Rattle.std.proofs.lemmas.List.Sorted.{IsPermutation-trans}
-use Rattle.std.proofs.lemmas.List.Edits.{Swapped, swapped_from_swap, length-swap}
-use Rattle.std.proofs.lemmas.List.{ext_get_or, map-set, get_or_default, length-map, get_or-map, get_or-set_same, get_or-set_other}
+use Rattle.std.proofs.lemmas.List.Edits.{Swapped, swapped_from_swap}
+use Rattle.std.proofs.lemmas.List.{ext_get_or, get_or_default, length-map, get_or-map, get_or-set_same, get_or-set_other}
 use Rattle.std.proofs.lemmas.Bool.{cases_eq}
 use Rattle.crack_arena.specs.Arena.{Cell, Handle}
 use Rattle.crack_row.specs.declared.Row.{Row}
-use Rattle.crack_column.specs.Column.{key_at, unknown, Remembers, Together}
+use Rattle.crack_column.specs.declared.place.Place.{Place}
+use Rattle.crack_column.specs.Column.{key_at, unknown, IsDividedAt}
+use Rattle.crack_column.specs.Tickets.{no_place, ticket_of, remembered_of, handle_of, Knows, Read}
 
--- the first i keys were divided, and the handles went with them
-pub record IsPartway (bound : ℕ) (handles : List Handle) (keys : List ℕ) (handles' : List Handle) (keys' : List ℕ) (low i : ℕ) : Type 0 where
-  pub beside : length keys' ≡ length handles'
-  pub kept : IsPermutation handles handles'
-  pub together : Together handles keys handles' keys'
+-- the first i places were divided
+pub record IsPartway (bound : ℕ) (places places' : List Place) (low i : ℕ) : Type 0 where
+  pub kept : IsPermutation places places'
   pub within : low ≤ i
-  pub below : (k : ℕ) → k < low → get_or keys' k 0 < bound
-  pub above : (k : ℕ) → low ≤ k → k < i → bound ≤ get_or keys' k 0
+  pub below : (k : ℕ) → k < low → (get_or places' k no_place).key < bound
+  pub above : (k : ℕ) → low ≤ k → k < i → bound ≤ (get_or places' k no_place).key
 
--- the first i keys were read
-pub record IsLearned (cells : List (Cell Row)) (handles : List Handle) (keys : List ℕ) (i : ℕ) : Type 0 where
-  pub remembers : Remembers cells handles keys
-  pub read : (k : ℕ) (d : Handle) → k < i → k < length handles → get_or keys k 0 ≡ key_at cells (get_or handles k d)
-
-pub map-swap : (f : Handle → ℕ) (xs : List Handle) (i j : ℕ) → i < length xs → j < length xs → map f (swap xs i j) ≡ swap (map f xs) i j
-map-swap f [] i j p q = refl
-map-swap f (d ∷ ys) i j p q =
-    let xs : List Handle = d ∷ ys in
-    rw (map-set f (set xs i (get_or xs j d)) j (get_or xs i d), map-set f xs i (get_or xs j d), sym (get_or-map f xs i d (f d) p), sym (get_or-map f xs j d (f d) q)) refl
-
-pub IsPartway-step : (bound : ℕ) (hs : List Handle) (ks : List ℕ) (hs1 : List Handle) (ks1 : List ℕ) (hs2 : List Handle) (ks2 : List ℕ) (low i low2 : ℕ) → i < length ks1 → IsPermutation hs1 hs2 → hs2 ≡ swap hs1 low i → ks2 ≡ swap ks1 low i → ((get_or ks1 i 0 < bound) × (low2 ≡ low + 1)) ⊎ ((bound ≤ get_or ks1 i 0) × (low2 ≡ low)) → IsPartway bound hs ks hs1 ks1 low i → IsPartway bound hs ks hs2 ks2 low2 (i + 1)
-IsPartway-step bound hs ks hs1 ks1 hs2 ks2 low i low2 inside moved hs_is ks_is which part =
-    let at : Swapped (λ k. get_or ks1 k 0) (λ k. get_or ks2 k 0) low i = swapped_from_swap ks1 ks2 low i 0 (omega (arith, part.within)) inside ks_is in
+pub IsPartway-step : (bound : ℕ) (ps ps1 ps2 : List Place) (low i low2 : ℕ) → i < length ps1 → IsPermutation ps1 ps2 → ps2 ≡ swap ps1 low i → (((get_or ps1 i no_place).key < bound) × (low2 ≡ low + 1)) ⊎ ((bound ≤ (get_or ps1 i no_place).key) × (low2 ≡ low)) → IsPartway bound ps ps1 low i → IsPartway bound ps ps2 low2 (i + 1)
+IsPartway-step bound ps ps1 ps2 low i low2 inside moved is which part =
+    let at : Swapped (λ k. get_or ps1 k no_place) (λ k. get_or ps2 k no_place) low i = swapped_from_swap ps1 ps2 low i no_place (omega (arith, part.within)) inside is in
     record {
-      beside = rw (hs_is, ks_is, length-swap hs1 low i, length-swap ks1 low i) part.beside;
-      kept = IsPermutation-trans hs hs1 hs2 part.kept moved;
-      together = λ f e. rw (ks_is, hs_is, map-swap f hs1 low i (omega (arith, part.within, part.beside)) (omega (arith, part.beside)), part.together f e) refl;
+      kept = IsPermutation-trans ps ps1 ps2 part.kept moved;
       within = elim which [ inl y ↦ omega (arith, part.within, y.1) | inr n ↦ omega (arith, part.within, n.1) ];
       below = λ k to. elim which [
         | inl y ↦ elim (cases_eq k low) [
@@ -60,39 +47,66 @@ IsPartway-step bound hs ks hs1 ks1 hs2 ks2 low i low2 inside moved hs_is ks_is w
       ];
     }
 
--- the i-th key is read
-pub IsLearned-read : (cells : List (Cell Row)) (hs : List Handle) (ks : List ℕ) (i x : ℕ) (h : Handle) → i < length hs → x ≡ key_at cells h → h ≡ get_or hs i h → IsLearned cells hs ks i → IsLearned cells hs (set ks i x) (i + 1)
-IsLearned-read cells hs ks i x h inside is at part =
-    let long : length ks ≡ length hs = part.remembers.beside in
-    let same : (d : Handle) → x ≡ key_at cells (get_or hs i d) = λ d. is ∙ ap (key_at cells) (at ∙ get_or_default hs i h d inside) in
+-- once all were, the keys stand divided
+pub divided_all : (bound : ℕ) (ps ps' : List Place) (low i : ℕ) → length ps' ≤ i → i ≤ length ps' → IsPartway bound ps ps' low i → IsDividedAt bound (map remembered_of ps') low
+divided_all bound ps ps' low i past not_past part =
+    let long = length-map ps' remembered_of in
     record {
-      remembers = record {
-        beside = omega (arith, length-set ks i x, long);
-        right = λ k d h. elim (cases_eq k i) [
-          | inl e ↦ inr (rw (e, get_or-set_same ks i x 0 (omega arith)) (same d))
-          | inr ne ↦ rw (get_or-set_other ks i k x 0 ne) (part.remembers.right k d h)
-        ];
-      };
-      read = λ k d to h. elim (cases_eq k i) [
-        | inl e ↦ rw (e, get_or-set_same ks i x 0 (omega arith)) (same d)
-        | inr ne ↦ rw (get_or-set_other ks i k x 0 ne) (part.read k d (omega arith) h)
+      within = omega (arith, part.within);
+      below = λ k l. rw (get_or-map remembered_of ps' k no_place 0 (omega (arith, part.within))) (part.below k l);
+      above = λ k g l. rw (get_or-map remembered_of ps' k no_place 0 (omega arith)) (part.above k g (omega arith));
+    }
+
+-- the first i places were read, and no ticket was changed
+pub record IsLearned (cells : List (Cell Row)) (handles : List Handle) (places places' : List Place) (i : ℕ) : Type 0 where
+  pub tickets : map ticket_of places' ≡ map ticket_of places
+  pub known : All (Knows cells handles) places'
+  pub read : (k : ℕ) → k < i → k < length places' → Read cells handles (get_or places' k no_place)
+
+pub length-IsLearned : (cells : List (Cell Row)) (hs : List Handle) (ps ps' : List Place) (i : ℕ) → IsLearned cells hs ps ps' i → length ps' ≡ length ps
+length-IsLearned cells hs ps ps' i part = omega (arith, length-map ps' ticket_of, length-map ps ticket_of, ap (λ (ns : List ℕ). length ns) part.tickets)
+
+-- each ticket is of a handle still
+pub drawn-IsLearned : (cells : List (Cell Row)) (hs : List Handle) (ps ps' : List Place) (i k : ℕ) (d : Place) → IsLearned cells hs ps ps' i → All (λ p. p.ticket < length hs) ps → k < length ps' → (get_or ps' k d).ticket < length hs
+drawn-IsLearned cells hs ps ps' i k d part drawn inside =
+    let long = length-IsLearned cells hs ps ps' i part in
+    let same : (get_or ps' k d).ticket ≡ (get_or ps k no_place).ticket = sym (get_or-map ticket_of ps' k d 0 inside) ∙ ap (λ ns. get_or ns k 0) part.tickets ∙ get_or-map ticket_of ps k no_place 0 (omega arith) in
+    omega (arith, same, drawn k no_place (omega arith))
+
+-- the i-th place is read
+pub IsLearned-read : (cells : List (Cell Row)) (hs : List Handle) (ps ps1 ps2 : List Place) (i x : ℕ) → i < length ps1 → x ≡ key_at cells (handle_of hs (get_or ps1 i no_place)) → ps2 ≡ set ps1 i (record (get_or ps1 i no_place) { key = x }) → IsLearned cells hs ps ps1 i → IsLearned cells hs ps ps2 (i + 1)
+IsLearned-read cells hs ps ps1 ps2 i x inside is after part =
+    let p : Place = record (get_or ps1 i no_place) { key = x } in
+    let long : length ps2 ≡ length ps1 = rw after (length-set ps1 i p) in
+    let here : get_or ps2 i no_place ≡ p = rw after (get_or-set_same ps1 i p no_place inside) in
+    let others : (k : ℕ) → k ≢ i → get_or ps2 k no_place ≡ get_or ps1 k no_place = λ k ne. rw after (get_or-set_other ps1 i k p no_place ne) in
+    let ticket : (k : ℕ) → (get_or ps2 k no_place).ticket ≡ (get_or ps1 k no_place).ticket = λ k. elim (cases_eq k i) [
+      | inl e ↦ rw (e, here) refl
+      | inr ne ↦ ap ticket_of (others k ne)
+    ] in
+    record {
+      tickets = ext_get_or 0 (map ticket_of ps2) (map ticket_of ps1) (omega (arith, length-map ps1 ticket_of, length-map ps2 ticket_of)) (λ k l. rw (get_or-map ticket_of ps2 k no_place 0 (omega (arith, length-map ps2 ticket_of)), get_or-map ticket_of ps1 k no_place 0 (omega (arith, length-map ps2 ticket_of))) (ticket k)) ∙ part.tickets;
+      known = λ k d l. rw (get_or_default ps2 k d no_place l) (elim (cases_eq k i) [
+        | inl e ↦ rw (e, here) (inr is)
+        | inr ne ↦ rw (others k ne) (part.known k no_place (omega arith))
+      ]);
+      read = λ k to l. elim (cases_eq k i) [
+        | inl e ↦ rw (e, here) is
+        | inr ne ↦ rw (others k ne) (part.read k (omega arith) (omega arith))
       ];
     }
 
 -- the i-th key was known
-pub IsLearned-known : (cells : List (Cell Row)) (hs : List Handle) (ks : List ℕ) (i : ℕ) → get_or ks i 0 ≢ unknown → IsLearned cells hs ks i → IsLearned cells hs ks (i + 1)
-IsLearned-known cells hs ks i known part =
+pub IsLearned-known : (cells : List (Cell Row)) (hs : List Handle) (ps ps1 : List Place) (i : ℕ) → (get_or ps1 i no_place).key ≢ unknown → IsLearned cells hs ps ps1 i → IsLearned cells hs ps ps1 (i + 1)
+IsLearned-known cells hs ps ps1 i known part =
     record {
-      remembers = part.remembers;
-      read = λ k d to h. elim (cases_eq k i) [
-        | inl e ↦ elim (part.remembers.right k d h) [ inl u ↦ absurd (known (ap (λ n. get_or ks n 0) (sym e) ∙ u)) | inr r ↦ r ]
-        | inr ne ↦ part.read k d (omega arith) h
+      tickets = part.tickets;
+      known = part.known;
+      read = λ k to l. elim (cases_eq k i) [
+        | inl e ↦ elim (part.known k no_place l) [ inl u ↦ absurd (known (ap (λ n. (get_or ps1 n no_place).key) (sym e) ∙ u)) | inr r ↦ r ]
+        | inr ne ↦ part.read k (omega arith) l
       ];
     }
 
-pub learned_all : (cells : List (Cell Row)) (hs : List Handle) (ks : List ℕ) (i : ℕ) → length hs ≤ i → IsLearned cells hs ks i → ks ≡ map (key_at cells) hs
-learned_all cells hs ks i past part =
-    let no_handle : Handle = record { slot = 0; generation = 0 } in
-    let long : length ks ≡ length hs = part.remembers.beside in
-    ext_get_or 0 ks (map (key_at cells) hs) (long ∙ sym (length-map hs (key_at cells))) (λ k h.
-    part.read k no_handle (omega arith) (omega arith) ∙ sym (get_or-map (key_at cells) hs k no_handle 0 (omega arith)))
+pub learned_all : (cells : List (Cell Row)) (hs : List Handle) (ps ps' : List Place) (i : ℕ) → length ps' ≤ i → IsLearned cells hs ps ps' i → All (Read cells hs) ps'
+learned_all cells hs ps ps' i past part = λ k d l. rw (get_or_default ps' k d no_place l) (part.read k (omega arith) l)

@@ -14,9 +14,9 @@ key_of_row (Some r) = r.key.0
 abbrev pub key_at : List (Cell Row) → Handle → ℕ
 key_at cells h = key_of_row (read cells h)
 
--- what stands beside a handle whose key isn't remembered
+-- what stands beside a handle whose key isn't remembered; a row with the greatest key is never remembered
 abbrev pub unknown : ℕ
-unknown = 2 ^ 64 - 1
+unknown = 2 ^ 32 - 1
 
 -- handles in cracked order, what is remembered of their keys, and how many more fit in without memory
 pub record Column : Type 0 where
@@ -58,7 +58,3 @@ pub record IsFirstAt (handles : List Handle) (h : Handle) (place : ℕ) : Type 0
 -- the handle stands nowhere
 abbrev pub IsAbsent : List Handle → Handle → Type 0
 IsAbsent handles h = (k : ℕ) → slice_get handles k ≢ Some h
-
--- keys that stand beside their handles do so in every order that both took together
-abbrev pub Together : List Handle → List ℕ → List Handle → List ℕ → Type 0
-Together handles keys handles' keys' = (f : Handle → ℕ) → keys ≡ map f handles → keys' ≡ map f handles'

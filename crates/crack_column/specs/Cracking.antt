@@ -14,13 +14,13 @@ use Rattle.crack_column.specs.Column.{key_at, Remembers, IsDividedAt, Cracks}
 use Rattle.crack_column.specs.Divisions.{IsDividedAt-count}
 
 -- what stands where in a list whose middle was replaced
-record Replaced {X : Type 0} (from to : ℕ) (old piece new : List X) : Type 0 where
+pub record Replaced {X : Type 0} (from to : ℕ) (old piece new : List X) : Type 0 where
   pub len : length new ≡ length old
   pub before : (k : ℕ) (d : X) → k < from → get_or new k d ≡ get_or old k d
   pub inside : (k : ℕ) (d : X) → from ≤ k → k < to → get_or new k d ≡ get_or piece (k - from) d
   pub behind : (k : ℕ) (d : X) → to ≤ k → get_or new k d ≡ get_or old k d
 
-replaced : {X : Type 0} (from to : ℕ) (old piece new : List X) → from ≤ to → to ≤ length old → length piece ≡ to - from → new ≡ take from old ++ piece ++ drop to old → Replaced from to old piece new
+pub replaced : {X : Type 0} (from to : ℕ) (old piece new : List X) → from ≤ to → to ≤ length old → length piece ≡ to - from → new ≡ take from old ++ piece ++ drop to old → Replaced from to old piece new
 replaced from to old piece new order within long is =
     let front_len : length (take from old) ≡ from = length-take-le from old (omega arith) in
     let back_len : length (drop to old) ≡ length old - to = length-drop to old in

@@ -2,3 +2,4 @@ pub mod Column
 pub mod Divisions
 pub mod Remembering
 pub mod Cracking
+pub mod Tickets

@@ -1,40 +1,44 @@
 //! The cracker column, and how a crack divides a stretch of it.
-ghost use Rattle.std.specs.Prelude.{◌≡◌, ℕ, ◌+◌, ◌-◌, ◌<◌, ◌≤◌, ◌↔◌, List, [], ◌∷◌, ◌++◌, Some, length, map, vec_len, slice_get, slice_set, vec_capacity, IsTrue, OnOk, IfErr, MatchOption, take};
-ghost use Rattle.std.specs.List.Sorted.{IsPermutation};
+ghost use Rattle.std.specs.Prelude.{◌≡◌, ℕ, ◌+◌, ◌-◌, ◌<◌, ◌≤◌, ◌^◌, ◌↔◌, List, [], ◌∷◌, ◌++◌, Some, length, map, vec_len, slice_get, slice_set, slice_index_or, vec_capacity, IsTrue, OnOk, OnErr, IfErr, All, MatchOption, take, drop};
+ghost use Rattle.std.specs.List.{between};
 ghost use Rattle.crack_arena.specs.Arena.{Cell};
 ghost use Rattle.crack_row.specs.declared.Row.{Row as RowValue};
-ghost use Rattle.crack_column.specs.Column.{key_at, unknown, Remembers, StillRemembers, IsDividedAt, Cracks, IsFirstAt, IsAbsent, Together};
+ghost use Rattle.crack_column.specs.Column.{key_at, unknown, Remembers, StillRemembers, Cracks, IsFirstAt, IsAbsent};
+ghost use Rattle.crack_column.specs.Tickets.{AreDrawn, Knows, Turns, Kept, handles_in, keys_in, room_in};
 
+use crate::place::{Place, UNKNOWN, crack};
 use crack_arena::{Arena, Handle};
 use crack_row::{Bound, Refusal, Row};
 use std::alloc::Global;
 use std::marker::Model;
 use std::mem;
 
-/// Stands beside a handle whose key isn't remembered.
-const UNKNOWN: u64 = u64::MAX;
+/// How many places a column has at most: a ticket is a number of 32 bits.
+const MOST_PLACES: usize = 4294967296;
 
-/// Handles in cracked order. Beside each stands the key of its row, once a crack has read it:
-/// the arena is asked for it once, and later cracks go over keys that stand side by side.
+/// Handles in cracked order. A crack moves no handle: each is kept under a ticket, and what a crack exchanges are places,
+/// which bear a ticket and the key of its row. A key is asked of the arena once; only the greatest key is asked for again.
 #[derive(Drop)]
 pub struct CrackerColumn {
     handles: Vec<Handle<Row>>,
-    keys: Vec<u64>,
+    places: Vec<Place>,
+    len: usize,
 }
 
 impl Model for CrackerColumn {
-    ghost use Rattle.std.specs.Prelude.{◌≡◌, ◌-◌, ℕ, min, length, vec_capacity};
+    ghost use Rattle.std.specs.Prelude.{length, vec_capacity};
     ghost use Rattle.crack_column.specs.Column.{Column};
+    ghost use Rattle.crack_column.specs.Tickets.{AreDrawn, handles_in, keys_in, room_in};
 
     ghost Value = { Column };
 
     ghost view = { λ c. record {
-      handles = c.handles.items;
-      keys = c.keys.items;
-      room = min (vec_capacity c.handles - length c.handles.items) (vec_capacity c.keys - length c.keys.items);
+      handles = handles_in c.handles.items c.places.items c.len;
+      keys = keys_in c.places.items c.len;
+      room = room_in (length c.places.items) (vec_capacity c.handles) (vec_capacity c.places) c.len;
     } };
 
-    ghost invariant = { λ c. length c.keys.items ≡ length c.handles.items };
+    ghost invariant = { λ c. AreDrawn c.handles.items c.places.items c.len };
 }
 
 impl CrackerColumn {
@@ -42,11 +46,13 @@ impl CrackerColumn {
     pub fn new(alloc: Global) -> CrackerColumn
         ensures handles { result.handles ≡ [] }
         ensures keys { result.keys ≡ [] }
+        ensures room { result.room ≡ 0 }
         ensures remembered { (cells : List (Cell Row)) → Remembers cells result.handles result.keys }
     {
         CrackerColumn {
             handles: Vec::new(alloc),
-            keys: Vec::new(alloc),
+            places: Vec::new(alloc),
+            len: 0,
         }
     }
 
@@ -55,14 +61,14 @@ impl CrackerColumn {
         ensures value { result ≡ length self.now.handles }
         ensures beside { length self.now.keys ≡ length self.now.handles }
     {
-        self.handles.len()
+        self.len
     }
 
     /// Whether there is no handle. O(1).
     pub fn is_empty(&self) -> bool
         ensures { IsTrue result ↔ (self.now.handles ≡ []) }
     {
-        self.handles.is_empty()
+        self.len == 0
     }
 
     /// The handle at the place, counted from 0. O(1).
@@ -70,25 +76,37 @@ impl CrackerColumn {
         requires { place < length self.now.handles }
         ensures { slice_get self.now.handles place ≡ Some result }
     {
-        self.handles[place]
+        self.handles[self.places[place].ticket as usize]
     }
 
     /// The first place where the handle stands; none where it stands nowhere. O(n).
     pub fn place_of(&self, handle: Handle<Row>) -> Option<usize>
         ensures { MatchOption result (IsAbsent self.now.handles handle) (IsFirstAt self.now.handles handle) }
     {
-        self.handles.iter().position(|here| *here == handle)
+        'places: for place in 0..self.len {
+            if self.at(place) == handle {
+                return Some(place);
+            }
+        }
+        None
     }
 
-    /// Makes room for so many handles more. Refused with 8 where it finds no memory.
+    /// Makes room for so many handles more. Refused with 8 where it finds no memory, or where there would be more than
+    /// 4294967296 places, which is more than an arena has cells.
     pub fn reserve(&mut self, additional: usize) -> Result<(), Refusal>
         ensures same { self.new ≡ record self.old { room = self.new.room } }
         ensures ok { OnOk result (additional ≤ self.new.room) }
+        ensures kept { self.old.room ≤ self.new.room }
+        ensures full { OnErr result (self.old.room < additional) }
         ensures err { IfErr result (λ e. e ≡ Refusal.OutOfMemory) }
         ensures remembered { StillRemembers self.old self.new }
     {
-        self.handles.reserve(additional)?;
-        self.keys.reserve(additional)?;
+        let more = additional.saturating_sub(self.places.len() - self.len);
+        if more > MOST_PLACES - self.places.len() {
+            return Err(Refusal::OutOfMemory);
+        }
+        self.handles.reserve(more)?;
+        self.places.reserve(more)?;
         Ok(())
     }
 
@@ -102,8 +120,8 @@ impl CrackerColumn {
         } }
         ensures remembered { StillRemembers self.old self.new }
     {
-        self.handles.push_reserved(handle);
-        self.keys.push_reserved(UNKNOWN);
+        keep_last(&mut self.handles, &mut self.places, self.len, handle);
+        self.len += 1;
     }
 
     /// Puts the handle at the place, and gives back the one that stood there. Its key isn't known. O(1).
@@ -116,8 +134,7 @@ impl CrackerColumn {
         } }
         ensures remembered { StillRemembers self.old self.new }
     {
-        self.keys[place] = UNKNOWN;
-        mem::replace(&mut self.handles[place], handle)
+        keep(&mut self.handles, &mut self.places, place, handle)
     }
 
     /// Takes the last handle out. O(1).
@@ -129,8 +146,8 @@ impl CrackerColumn {
         ensures room { MatchOption result (self.new.room ≡ self.old.room) (λ _. self.new.room ≡ self.old.room + 1) }
         ensures remembered { StillRemembers self.old self.new }
     {
-        self.keys.pop();
-        self.handles.pop()
+        self.len = self.len.checked_sub(1)?;
+        Some(self.handles[self.places[self.len].ticket as usize])
     }
 
     /// Cracks in two: reorders the places from `from` up to and without `to`, rows below the bound first,
@@ -146,81 +163,82 @@ impl CrackerColumn {
         ensures room { self.new.room ≡ self.old.room }
         ensures remembered { Remembers arena.now.cells self.new.handles self.new.keys }
     {
-        crack_vectors(&mut self.handles, &mut self.keys, from, to, bound, arena)
+        crack_between(&mut self.places, from, to, &self.handles, bound, arena)
     }
 }
 
-/// The crack, over the two vectors.
-fn crack_vectors(
-    handles: &mut Vec<Handle<Row>>,
-    keys: &mut Vec<u64>,
+/// Cracks the places from `from` up to and without `to`.
+fn crack_between(
+    places: &mut Vec<Place>,
     from: usize,
     to: usize,
+    handles: &[Handle<Row>],
     bound: Bound,
     arena: &Arena<Row>,
 ) -> usize
     requires order { from ≤ to }
-    requires within { to ≤ vec_len handles.old }
-    requires remembered { Remembers arena.now.cells handles.old.items keys.old.items }
-    ensures cracked { Cracks arena.now.cells bound.0 from to handles.old.items keys.old.items handles.new.items keys.new.items result }
-    ensures lengths { (length handles.new.items ≡ length handles.old.items) × (length keys.new.items ≡ length keys.old.items) }
-    ensures rooms { (vec_capacity handles.new ≡ vec_capacity handles.old) × (vec_capacity keys.new ≡ vec_capacity keys.old) }
+    requires within { to ≤ vec_len places.old }
+    requires drawn { All (λ p. p.ticket < length handles.now) places.old.items }
+    requires known { All (Knows arena.now.cells handles.now) (between from to places.old.items) }
+    ensures turned { Turns arena.now.cells handles.now bound.0 from to places.old.items places.new.items result }
+    ensures capacity { vec_capacity places.new ≡ vec_capacity places.old }
 {
-    from + crack_stretch(&mut handles[from..to], &mut keys[from..to], bound, arena)
+    from + crack(&mut places[from..to], handles, bound, arena)
 }
 
-/// The crack of a whole stretch.
-fn crack_stretch(
-    handles: &mut [Handle<Row>],
-    keys: &mut [u64],
-    bound: Bound,
-    arena: &Arena<Row>,
-) -> usize
-    requires remembered { Remembers arena.now.cells handles.old keys.old }
-    ensures kept { IsPermutation handles.old handles.new }
-    ensures known { keys.new ≡ map (key_at arena.now.cells) handles.new }
-    ensures divided { IsDividedAt bound.0 keys.new result }
+/// Keeps the handle under the ticket of the place, and gives back the one that was kept there.
+fn keep(
+    handles: &mut Vec<Handle<Row>>,
+    places: &mut Vec<Place>,
+    place: usize,
+    handle: Handle<Row>,
+) -> Handle<Row>
+    requires within { place < vec_len places.old }
+    requires drawn { All (λ p. p.ticket < vec_len handles.old) places.old.items }
+    ensures kept { Kept handles.old.items places.old.items place handle handles.new.items places.new.items result }
+    ensures capacities { (vec_capacity handles.new ≡ vec_capacity handles.old) × (vec_capacity places.new ≡ vec_capacity places.old) }
 {
-    learn(handles, keys, arena);
-    divide(handles, keys, bound)
+    let here = &mut places[place];
+    here.key = UNKNOWN;
+    mem::replace(&mut handles[here.ticket as usize], handle)
 }
 
-/// The key of the handle's row.
-fn key_of(arena: &Arena<Row>, handle: Handle<Row>) -> u64
-    ensures { result ≡ key_at arena.now.cells handle }
+/// Keeps the handle at the place behind the last: under the ticket that stands there, or under a new one.
+fn keep_last(
+    handles: &mut Vec<Handle<Row>>,
+    places: &mut Vec<Place>,
+    len: usize,
+    handle: Handle<Row>,
+)
+    requires are { AreDrawn handles.old.items places.old.items len }
+    requires room { 0 < room_in (vec_len places.old) (vec_capacity handles.old) (vec_capacity places.old) len }
+    ensures are { AreDrawn handles.new.items places.new.items (len + 1) }
+    ensures handles { handles_in handles.new.items places.new.items (len + 1) ≡ handles_in handles.old.items places.old.items len ++ handle ∷ [] }
+    ensures keys { keys_in places.new.items (len + 1) ≡ keys_in places.old.items len ++ unknown ∷ [] }
+    ensures room { room_in (vec_len places.new) (vec_capacity handles.new) (vec_capacity places.new) (len + 1) + 1
+        ≡ room_in (vec_len places.old) (vec_capacity handles.old) (vec_capacity places.old) len }
 {
-    match arena.get(handle) {
-        Some(row) => row.key.0 as u64,
-        None => 0,
+    if len < places.len() {
+        keep(handles, places, len, handle);
+    } else {
+        draw(handles, places, handle);
     }
 }
 
-/// Reads each key that isn't known.
-fn learn(handles: &[Handle<Row>], keys: &mut [u64], arena: &Arena<Row>)
-    requires { Remembers arena.now.cells handles.now keys.old }
-    ensures { keys.new ≡ map (key_at arena.now.cells) handles.now }
+/// Keeps the handle under a new ticket, at a place behind all others.
+fn draw(handles: &mut Vec<Handle<Row>>, places: &mut Vec<Place>, handle: Handle<Row>)
+    requires beside { vec_len places.old ≡ vec_len handles.old }
+    requires few { vec_len places.old < 2 ^ 32 }
+    requires handle_room { vec_len handles.old < vec_capacity handles.old }
+    requires place_room { vec_len places.old < vec_capacity places.old }
+    ensures handles { handles.new.items ≡ handles.old.items ++ handle ∷ [] }
+    ensures places { places.new.items ≡ places.old.items ++ record { key = unknown; ticket = length handles.old.items } ∷ [] }
+    ensures capacities { (vec_capacity handles.new ≡ vec_capacity handles.old) × (vec_capacity places.new ≡ vec_capacity places.old) }
 {
-    'places: for i in 0..keys.len() {
-        if keys[i] == UNKNOWN {
-            keys[i] = key_of(arena, handles[i]);
-        }
-    }
-}
-
-/// Puts the keys below the bound first, each with its handle, and gives their number.
-/// The exchange is made at each step, so that no branch hangs on a key.
-fn divide(handles: &mut [Handle<Row>], keys: &mut [u64], bound: Bound) -> usize
-    requires beside { length keys.old ≡ length handles.old }
-    ensures kept { IsPermutation handles.old handles.new }
-    ensures together { Together handles.old keys.old handles.new keys.new }
-    ensures divided { IsDividedAt bound.0 keys.new result }
-{
-    let mut low = 0;
-    'places: for i in 0..keys.len() {
-        let below = keys[i] < bound.0;
-        handles.swap(low, i);
-        keys.swap(low, i);
-        low += below as usize;
-    }
-    low
+    let ticket = handles.len() as u32;
+    handles.push_reserved(handle);
+    places.push_reserved(Place {
+        key: UNKNOWN,
+        ticket,
+    });
 }

@@ -2,5 +2,6 @@
 #![tactic(auto)]
 
 pub mod column;
+mod place;
 
 pub use column::CrackerColumn;

@@ -1,0 +1,13 @@
+use Rattle.std.proofs.Common.{◌≤◌, arith}
+use Rattle.crack_column.specs.Remembering.{Remembers-take}
+use Rattle.crack_column.proofs.TicketLaws.{length-in, handles-shorter, keys-shorter}
+use Rattle.crack_column.proofs.column.CrackerColumn.pop.Goals as goal
+
+pub returns-clause-remembered : goal.returns-clause-remembered
+returns-clause-remembered c = λ cells remembers.
+    let hs = c.self.inside.handles.items in
+    let ps = c.self.inside.places.items in
+    let fewer : c.in_ok-self-inside.field-0 ≤ c.self.inside.len = omega arith in
+    let known = rw (← c.self.view_is) at remembers in
+    let long = length-in hs ps c.self.inside.len c.self.invariant.within in
+    rw (← handles-shorter hs ps c.in_ok-self-inside.field-0 c.self.inside.len fewer, ← keys-shorter ps c.in_ok-self-inside.field-0 c.self.inside.len fewer) (Remembers-take cells _ _ c.in_ok-self-inside.field-0 (omega (arith, long)) known)

@@ -1,0 +1,74 @@
+//! The places of a cracker column: what a crack reads, and what it exchanges.
+ghost use Rattle.std.specs.Prelude.{◌≡◌, ◌<◌, List, All, length, map};
+ghost use Rattle.std.specs.List.Sorted.{IsPermutation};
+ghost use Rattle.crack_column.specs.Column.{key_at, IsDividedAt};
+ghost use Rattle.crack_column.specs.Tickets.{ticket_of, remembered_of, handle_of, Knows, Read};
+
+use crack_arena::{Arena, Handle};
+use crack_row::{Bound, Row};
+
+/// Stands for a key that isn't remembered. A row whose key it is is asked for that key by each crack.
+pub(crate) const UNKNOWN: u32 = u32::MAX;
+
+/// What a crack exchanges, 8 bytes: the key of a row, once a crack has read it, and the ticket under which its handle is kept.
+#[derive(Clone, Copy)]
+pub(crate) struct Place {
+    pub(crate) key: u32,
+    pub(crate) ticket: u32,
+}
+
+/// Reads the keys of the places, and puts those below the bound first. How many these are.
+pub(crate) fn crack(
+    places: &mut [Place],
+    handles: &[Handle<Row>],
+    bound: Bound,
+    arena: &Arena<Row>,
+) -> usize
+    requires drawn { All (λ p. p.ticket < length handles.now) places.old }
+    requires known { All (Knows arena.now.cells handles.now) places.old }
+    ensures kept { IsPermutation (map ticket_of places.old) (map ticket_of places.new) }
+    ensures read { All (Read arena.now.cells handles.now) places.new }
+    ensures divided { IsDividedAt bound.0 (map remembered_of places.new) result }
+{
+    learn(places, handles, arena);
+    divide(places, bound)
+}
+
+/// Reads each key that isn't known.
+fn learn(places: &mut [Place], handles: &[Handle<Row>], arena: &Arena<Row>)
+    requires drawn { All (λ p. p.ticket < length handles.now) places.old }
+    requires known { All (Knows arena.now.cells handles.now) places.old }
+    ensures tickets { map ticket_of places.new ≡ map ticket_of places.old }
+    ensures read { All (Read arena.now.cells handles.now) places.new }
+{
+    'places: for i in 0..places.len() {
+        if places[i].key == UNKNOWN {
+            places[i].key = key_of(arena, handles[places[i].ticket as usize]);
+        }
+    }
+}
+
+/// Puts the keys below the bound first, and gives their number.
+/// The exchange is made at each step, so that no branch hangs on a key.
+fn divide(places: &mut [Place], bound: Bound) -> usize
+    ensures kept { IsPermutation places.old places.new }
+    ensures divided { IsDividedAt bound.0 (map remembered_of places.new) result }
+{
+    let mut low = 0;
+    'places: for i in 0..places.len() {
+        let below = (places[i].key as u64) < bound.0;
+        places.swap(low, i);
+        low += below as usize;
+    }
+    low
+}
+
+/// The key of the handle's row.
+fn key_of(arena: &Arena<Row>, handle: Handle<Row>) -> u32
+    ensures { result ≡ key_at arena.now.cells handle }
+{
+    match arena.get(handle) {
+        Some(row) => row.key.0,
+        None => 0,
+    }
+}
