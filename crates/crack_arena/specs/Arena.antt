@@ -1,5 +1,5 @@
 -- What a contract sees of an arena and its handles.
-use Rattle.std.specs.Prelude.{◌≡◌, ℕ, ◌+◌, ◌-◌, ◌<◌, ◌≤◌, ◌^◌, ◌==◌, ◌&&◌, Bool, List, length, [], ◌∷◌, ◌++◌, Option, Some, None, is_some, is_none, slice_index_or, slice_set, refl, sum_by, count_by, cond, nat_lt, drop}
+use Rattle.std.specs.Prelude.{◌≡◌, ℕ, ◌+◌, ◌-◌, ◌<◌, ◌≤◌, ◌^◌, ◌==◌, ◌&&◌, Bool, List, length, [], ◌∷◌, ◌++◌, Option, Some, None, is_some, is_none, slice_index_or, slice_set, map, refl, sum_by, count_by, cond, nat_lt, drop}
 use Rattle.std.specs.Coded.{Coded, code_by, coded×, coded_ℕ, coded_list, coded_option}
 
 -- the cell's number, and the generation of the cell that the handle was made at
@@ -62,6 +62,10 @@ KeepsSpent old new = (h : Handle) → IsSpent old h → IsSpent new h
 -- how often the number stands in the list
 unfoldable pub times : ℕ → List ℕ → ℕ
 times n xs = sum_by (λ x. cond (x == n) 1 0) xs
+
+-- the numbers of the cells that the handles name
+abbrev pub slots : List Handle → List ℕ
+slots handles = map (λ (h : Handle). h.slot) handles
 
 -- how often cells were freed
 abbrev pub freed : {T : Type 0} → Arena T → ℕ

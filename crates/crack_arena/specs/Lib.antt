@@ -2,3 +2,4 @@ pub mod Arena
 pub mod Times
 pub mod Laws
 pub mod Layout
+pub mod Rows

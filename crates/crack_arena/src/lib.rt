@@ -10,7 +10,10 @@ ghost use Rattle.std.proofs.Common.{rules};
 ghost use Rattle.std.specs.Cmp.Rules.{comparing};
 ghost use Rattle.crack_arena.specs.Arena.{same_handle, read, freed, CanPut, handle_for, put_in, set_at, freed_at, cell_at, IsWhole, IsSpent, KeepsSpent, Call, after};
 
+mod rows;
+
 use crack_row::Refusal;
+pub use rows::key_of;
 use std::alloc::{AllocError, Global};
 use std::marker::{Model, PhantomData};
 use std::mem;

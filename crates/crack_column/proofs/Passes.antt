@@ -9,7 +9,8 @@ use Rattle.std.proofs.lemmas.Bool.{cases_eq}
 use Rattle.crack_arena.specs.Arena.{Cell, Handle}
 use Rattle.crack_row.specs.declared.Row.{Row}
 use Rattle.crack_column.specs.declared.place.Place.{Place}
-use Rattle.crack_column.specs.Column.{key_at, unknown, IsDividedAt}
+use Rattle.crack_arena.specs.Rows.{key_at}
+use Rattle.crack_column.specs.Column.{unknown, IsDividedAt}
 use Rattle.crack_column.specs.Tickets.{no_place, ticket_of, remembered_of, handle_of, Knows, Read}
 
 -- the first i places were divided

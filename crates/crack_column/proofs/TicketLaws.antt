@@ -12,7 +12,8 @@ use Rattle.crack_arena.specs.Arena.{Cell, Handle, times}
 use Rattle.crack_arena.specs.Times.{times-map-remove, times_map_at, times_head, times-nil, times-map-append, times_one, times_other, times-cons, times-le-length, times-IsPermutation}
 use Rattle.crack_row.specs.declared.Row.{Row}
 use Rattle.crack_column.specs.declared.place.Place.{Place}
-use Rattle.crack_column.specs.Column.{key_at, unknown, Remembers, Cracks}
+use Rattle.crack_arena.specs.Rows.{key_at}
+use Rattle.crack_column.specs.Column.{unknown, Remembers, Cracks}
 use Rattle.crack_column.specs.Cracking.{Replaced, replaced}
 use Rattle.crack_column.specs.Tickets.{no_handle, no_place, ticket_of, remembered_of, handle_of, handles_in, keys_in, Knows, AreDrawn, Kept, Turns, forgotten}
 

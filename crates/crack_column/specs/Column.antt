@@ -1,18 +1,10 @@
 -- What a column holds, and what a crack does to it.
-use Rattle.std.specs.Prelude.{◌≡◌, ◌≢◌, ℕ, ◌-◌, ◌<◌, ◌≤◌, ◌^◌, ◌⊎◌, List, ◌++◌, length, map, take, drop, slice_get, slice_index, slice_index_or, Option, Some, None}
+use Rattle.std.specs.Prelude.{◌≡◌, ◌≢◌, ℕ, ◌-◌, ◌<◌, ◌≤◌, ◌^◌, ◌⊎◌, List, ◌++◌, length, map, take, drop, slice_get, slice_index, slice_index_or, Some}
 use Rattle.std.specs.List.{between}
 use Rattle.std.specs.List.Sorted.{IsPermutation}
-use Rattle.crack_arena.specs.Arena.{Cell, Handle, read}
+use Rattle.crack_arena.specs.Arena.{Cell, Handle}
+use Rattle.crack_arena.specs.Rows.{key_at}
 use Rattle.crack_row.specs.declared.Row.{Row}
-
--- the key of a row that was read; 0 where nothing was
-abbrev pub key_of_row : Option Row → ℕ
-key_of_row None = 0
-key_of_row (Some r) = r.key.0
-
--- the key of the row that the handle reads
-abbrev pub key_at : List (Cell Row) → Handle → ℕ
-key_at cells h = key_of_row (read cells h)
 
 -- what stands beside a handle whose key isn't remembered; a row with the greatest key is never remembered
 abbrev pub unknown : ℕ

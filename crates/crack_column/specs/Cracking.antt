@@ -10,7 +10,8 @@ use Rattle.std.proofs.lemmas.Slice.{between_from_start}
 use Rattle.std.proofs.lemmas.Bool.{cases_lt}
 use Rattle.crack_arena.specs.Arena.{Cell, Handle}
 use Rattle.crack_row.specs.declared.Row.{Row}
-use Rattle.crack_column.specs.Column.{key_at, Remembers, IsDividedAt, Cracks}
+use Rattle.crack_arena.specs.Rows.{key_at}
+use Rattle.crack_column.specs.Column.{Remembers, IsDividedAt, Cracks}
 use Rattle.crack_column.specs.Divisions.{IsDividedAt-count}
 
 -- what stands where in a list whose middle was replaced

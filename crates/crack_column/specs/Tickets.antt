@@ -5,7 +5,8 @@ use Rattle.std.specs.List.Sorted.{IsPermutation}
 use Rattle.crack_arena.specs.Arena.{Cell, Handle, times}
 use Rattle.crack_row.specs.declared.Row.{Row}
 use Rattle.crack_column.specs.declared.place.Place.{Place}
-use Rattle.crack_column.specs.Column.{key_at, unknown, IsDividedAt}
+use Rattle.crack_arena.specs.Rows.{key_at}
+use Rattle.crack_column.specs.Column.{unknown, IsDividedAt}
 
 -- what stands where there is no handle
 abbrev pub no_handle : Handle

@@ -3,7 +3,8 @@ ghost use Rattle.std.specs.Prelude.{◌≡◌, ℕ, ◌+◌, ◌-◌, ◌<◌, �
 ghost use Rattle.std.specs.List.{between};
 ghost use Rattle.crack_arena.specs.Arena.{Cell};
 ghost use Rattle.crack_row.specs.declared.Row.{Row as RowValue};
-ghost use Rattle.crack_column.specs.Column.{key_at, unknown, Remembers, StillRemembers, Cracks, IsFirstAt, IsAbsent};
+ghost use Rattle.crack_arena.specs.Rows.{key_at};
+ghost use Rattle.crack_column.specs.Column.{unknown, Remembers, StillRemembers, Cracks, IsFirstAt, IsAbsent};
 ghost use Rattle.crack_column.specs.Tickets.{AreDrawn, Knows, Turns, Kept, handles_in, keys_in, room_in};
 
 use crate::place::{Place, UNKNOWN, crack};

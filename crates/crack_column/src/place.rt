@@ -1,10 +1,11 @@
 //! The places of a cracker column: what a crack reads, and what it exchanges.
 ghost use Rattle.std.specs.Prelude.{◌≡◌, ◌<◌, List, All, length, map};
 ghost use Rattle.std.specs.List.Sorted.{IsPermutation};
-ghost use Rattle.crack_column.specs.Column.{key_at, IsDividedAt};
+ghost use Rattle.crack_arena.specs.Rows.{key_at};
+ghost use Rattle.crack_column.specs.Column.{IsDividedAt};
 ghost use Rattle.crack_column.specs.Tickets.{ticket_of, remembered_of, handle_of, Knows, Read};
 
-use crack_arena::{Arena, Handle};
+use crack_arena::{Arena, Handle, key_of};
 use crack_row::{Bound, Row};
 
 /// Stands for a key that isn't remembered. A row whose key it is is asked for that key by each crack.
@@ -43,7 +44,7 @@ fn learn(places: &mut [Place], handles: &[Handle<Row>], arena: &Arena<Row>)
 {
     'places: for i in 0..places.len() {
         if places[i].key == UNKNOWN {
-            places[i].key = key_of(arena, handles[places[i].ticket as usize]);
+            places[i].key = key_of(arena, handles[places[i].ticket as usize]).0;
         }
     }
 }
@@ -61,14 +62,4 @@ fn divide(places: &mut [Place], bound: Bound) -> usize
         low += below as usize;
     }
     low
-}
-
-/// The key of the handle's row.
-fn key_of(arena: &Arena<Row>, handle: Handle<Row>) -> u32
-    ensures { result ≡ key_at arena.now.cells handle }
-{
-    match arena.get(handle) {
-        Some(row) => row.key.0,
-        None => 0,
-    }
 }

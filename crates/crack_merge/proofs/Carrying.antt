@@ -3,9 +3,9 @@ use Rattle.std.proofs.Common.{◌≡◌, ℕ, ◌+◌, ◌<◌, [], length, ap, 
 use Rattle.std.specs.List.{remove}
 use Rattle.std.proofs.lemmas.List.{drop-drop, length-drop}
 use Rattle.crack_row.specs.declared.command.Policy.TheVariants.{Complete}
-use Rattle.crack_arena.specs.Arena.{times}
+use Rattle.crack_arena.specs.Arena.{times, slots}
 use Rattle.crack_arena.specs.Times.{times-nil}
-use Rattle.crack_state.specs.State.{State, Carried, slots, IsIntact}
+use Rattle.crack_state.specs.State.{State, Carried, IsIntact}
 use Rattle.crack_state.specs.Steps.{lifted, SameButRoom}
 use Rattle.crack_state.specs.Merge.{Follows, Tallies}
 use Rattle.crack_state.specs.StepLaws.{IsIntact-room}

@@ -3,9 +3,9 @@ use Rattle.std.proofs.Common.{◌≡◌, ℕ, ◌<◌, Bool, true, false, List, 
 use Rattle.std.specs.List.{remove}
 use Rattle.std.proofs.lemmas.Bool.{cases_eq, cases_lt, lt-ltb, true≢false}
 use Rattle.std.proofs.lemmas.List.{get_or-set_same, get_or-set_other, get_or_past}
-use Rattle.crack_arena.specs.Arena.{Handle, times}
+use Rattle.crack_arena.specs.Arena.{Handle, times, slots}
 use Rattle.crack_arena.specs.Times.{times-nil, times_head, times_other}
-use Rattle.crack_pending.specs.Pending.{slots, StandsAt}
+use Rattle.crack_pending.specs.Pending.{StandsAt}
 use Rattle.crack_pending.specs.Laws.{times-push, times-take, times_taken, StandsAt-names, AreApart-push, AreApart-take}
 use Rattle.crack_pending.specs.Marks.{AreMarked}
 

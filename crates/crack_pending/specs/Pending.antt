@@ -1,18 +1,13 @@
 -- What contracts see of the pending rows.
-use Rattle.std.specs.Prelude.{◌≡◌, ℕ, ◌<◌, ◌≤◌, List, length, map, Option, Some, None, slice_index, slice_index_or}
+use Rattle.std.specs.Prelude.{◌≡◌, ℕ, ◌<◌, ◌≤◌, List, length, Option, Some, None, slice_index, slice_index_or}
 use Rattle.crack_row.specs.Ranges.{Range, IsIn}
-use Rattle.crack_row.specs.declared.Row.{Row}
-use Rattle.crack_arena.specs.Arena.{Cell, Handle, read, times}
+use Rattle.crack_arena.specs.Arena.{Handle, times, slots}
 
 -- the handles in the order of their arrival, how many more need no memory, and how many cells have a mark
 pub record Pending : Type 0 where
   pub handles : List Handle
   pub room : ℕ
   pub known : ℕ
-
--- the numbers of the cells that the handles name
-abbrev pub slots : List Handle → List ℕ
-slots handles = map (λ h. h.slot) handles
 
 -- no two of the handles name one cell
 abbrev pub AreApart : List Handle → Type 0
@@ -22,19 +17,6 @@ AreApart handles = (n : ℕ) → times n (slots handles) ≤ 1
 pub record StandsAt (handles : List Handle) (place : ℕ) (handle : Handle) : Type 0 where
   pub within : place < length handles
   pub is : handle ≡ slice_index_or handles place handle
-
--- a row's key, or 0 where there is no row
-abbrev pub key_of_row : Option Row → ℕ
-key_of_row None = 0
-key_of_row (Some row) = row.key.0
-
--- the key of the row that the handle reads
-abbrev pub key_at : List (Cell Row) → Handle → ℕ
-key_at cells h = key_of_row (read cells h)
-
--- the keys of the rows that the handles read
-abbrev pub keys_at : List (Cell Row) → List Handle → List ℕ
-keys_at cells handles = map (key_at cells) handles
 
 -- none of the keys from one place up to another lies in the range
 abbrev pub NoneIn : Range → List ℕ → ℕ → ℕ → Type 0

@@ -9,7 +9,8 @@ use Rattle.std.proofs.lemmas.List.Folds.{list_any_at, list_any_none}
 use Rattle.crack_row.specs.Ranges.{Range, IsIn, is_in}
 use Rattle.crack_row.specs.declared.Row.{Row}
 use Rattle.crack_arena.specs.Arena.{Cell, Handle}
-use Rattle.crack_pending.specs.Pending.{StandsAt, key_at, keys_at, NoneIn, IsFirstIn}
+use Rattle.crack_arena.specs.Rows.{key_at, keys_at}
+use Rattle.crack_pending.specs.Pending.{StandsAt, NoneIn, IsFirstIn}
 use Rattle.crack_pending.specs.Laws.{map-remove, StandsAt-get_or}
 
 module _ (cells : List (Cell Row)) where

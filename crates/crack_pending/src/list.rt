@@ -1,12 +1,13 @@
 //! The lists of pending rows.
 ghost use Rattle.std.specs.Prelude.{◌≡◌, ℕ, ◌+◌, ◌<◌, ◌≤◌, ◌↔◌, ◌∷◌, [], ◌++◌, length, All, IsTrue, IfSome, IfNone, IfErr, OnOk, OnErr, max, nat_lt};
 ghost use Rattle.std.specs.List.{remove};
-ghost use Rattle.crack_arena.specs.Arena.{times};
-ghost use Rattle.crack_pending.specs.Pending.{slots, AreApart, StandsAt, key_at, keys_at, Finds};
+ghost use Rattle.crack_arena.specs.Arena.{times, slots};
+ghost use Rattle.crack_arena.specs.Rows.{key_at, keys_at};
+ghost use Rattle.crack_pending.specs.Pending.{AreApart, StandsAt, Finds};
 
 use crate::gap::GapList;
-use crack_arena::{Arena, Handle};
-use crack_row::{Key, KeyRange, Refusal, Row};
+use crack_arena::{Arena, Handle, key_of};
+use crack_row::{KeyRange, Refusal, Row};
 use std::alloc::Global;
 use std::marker::{Model, PhantomData};
 
@@ -185,15 +186,5 @@ impl<Kind> PendingList<Kind> {
         ensures known { All (λ h. h.slot < self.now.known) self.now.handles }
     {
         let _ = &self.list;
-    }
-}
-
-/// The key of the row that the handle reads, 0 where it reads none.
-fn key_of(arena: &Arena<Row>, handle: Handle<Row>) -> Key
-    ensures { result.0 ≡ key_at arena.now.cells handle }
-{
-    match arena.get(handle) {
-        Some(row) => row.key,
-        None => Key(0),
     }
 }

@@ -10,9 +10,9 @@ use Rattle.crack_row.specs.Ranges.{IsIn}
 use Rattle.crack_row.specs.declared.Row.{Row}
 use Rattle.crack_row.specs.declared.command.Policy.{Policy}
 use Rattle.crack_row.specs.declared.command.Policy.TheVariants.{Complete}
-use Rattle.crack_arena.specs.Arena.{Cell, Handle, times, read, cell_at, empty_cell}
+use Rattle.crack_arena.specs.Arena.{Cell, Handle, times, read, cell_at, empty_cell, slots}
 use Rattle.crack_arena.specs.Times.{times-nil, times-cons, times_one, times_other, times_head, times-append}
-use Rattle.crack_state.specs.State.{State, Carried, slots, Reads, IsIntact, IsKeyed, IsLiveAt, AreEmpty, freed_of, live_rows, greatest}
+use Rattle.crack_state.specs.State.{State, Carried, Reads, IsIntact, IsKeyed, IsLiveAt, AreEmpty, freed_of, live_rows, greatest}
 use Rattle.crack_state.specs.Steps.{hand_key, place_in, IsDoomed, lifted, buried}
 use Rattle.crack_state.specs.Merge.{Follows, Tallies, MayEvict}
 use Rattle.crack_state.specs.OwnedLaws.{times-removed, times-places, All-removed, place_in-within, place_in-found, HandApart, hand_apart}

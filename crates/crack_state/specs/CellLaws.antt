@@ -5,9 +5,10 @@ use Rattle.std.proofs.lemmas.List.{get_or-set_other, get_or_past}
 use Rattle.std.proofs.lemmas.List.Elements.{All-head, All-tail}
 use Rattle.std.proofs.lemmas.Bool.{cases_lt, true≢false, eqb-true}
 use Rattle.crack_row.specs.declared.Row.{Row}
-use Rattle.crack_arena.specs.Arena.{Cell, Handle, times, read, cell_at, empty_cell}
-use Rattle.crack_column.specs.Column.{key_of_row, key_at, Remembers}
-use Rattle.crack_state.specs.State.{slots, Reads}
+use Rattle.crack_arena.specs.Arena.{Cell, Handle, times, read, cell_at, empty_cell, slots}
+use Rattle.crack_arena.specs.Rows.{key_of_row, key_at}
+use Rattle.crack_column.specs.Column.{Remembers}
+use Rattle.crack_state.specs.State.{Reads}
 use Rattle.crack_state.specs.OwnedLaws.{apart_from_times}
 
 -- what a handle reads is its cell's value

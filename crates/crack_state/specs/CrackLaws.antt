@@ -9,15 +9,16 @@ use Rattle.std.proofs.lemmas.List.Sorted.{IsPermutation-refl, IsPermutation-tran
 use Rattle.crack_row.specs.Ranges.{Range, IsIn}
 use Rattle.crack_row.specs.declared.Bound.{Bound}
 use Rattle.crack_row.specs.declared.Row.{Row}
-use Rattle.crack_arena.specs.Arena.{Cell, Handle, read, cell_at, empty_cell}
+use Rattle.crack_arena.specs.Arena.{Cell, Handle, read, cell_at, empty_cell, slots}
 use Rattle.crack_arena.specs.Times.{times-append, times-map-IsPermutation}
 use Rattle.crack_index.specs.declared.mark.Mark.{Mark}
 use Rattle.crack_index.specs.Marks.{Rising, Fits, HasBound, added, next_mark, last_mark, start_of, end_of}
 use Rattle.crack_index.specs.MarkLaws.{next_mark-is, last_mark-is, All-added, Contains-kept, HasBound-added, Rising-added, HasBound-mark, HasBound-contains}
-use Rattle.crack_column.specs.Column.{key_of_row, key_at, IsDividedAt}
+use Rattle.crack_arena.specs.Rows.{key_of_row, key_at}
+use Rattle.crack_column.specs.Column.{IsDividedAt}
 use Rattle.crack_column.specs.Divisions.{IsDividedAt-zero, IsDividedAt-end}
 use Rattle.crack_column.specs.Cracking.{length-Cracks, Cracks-apart, Cracks-around, Cracks-whole, Cracks-divides, Cracks-keeps, Cracks-remembers}
-use Rattle.crack_state.specs.State.{State, slots, Reads, Divides, IsObeyed, AreWithin, IsOwned, IsIntact, column_keys, live_rows}
+use Rattle.crack_state.specs.State.{State, Reads, Divides, IsObeyed, AreWithin, IsOwned, IsIntact, column_keys, live_rows}
 use Rattle.crack_state.specs.Steps.{piece_start, piece_end, CracksAt}
 use Rattle.crack_state.specs.Merge.{IsInner, IsCracked, cuts, RefinesBy, RefinesAt, Refines}
 use Rattle.crack_state.specs.OwnedLaws.{times-places}

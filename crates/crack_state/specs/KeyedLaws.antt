@@ -3,8 +3,8 @@ use Rattle.std.proofs.Common.{◌≡◌, ℕ, zero, suc, ◌+◌, ◌<◌, List,
 use Rattle.std.specs.List.{All, Contains, cons_option}
 use Rattle.std.proofs.lemmas.List.Elements.{All-contains}
 use Rattle.crack_row.specs.declared.Row.{Row}
-use Rattle.crack_arena.specs.Arena.{Cell, Handle, times, read, empty_cell}
-use Rattle.crack_state.specs.State.{State, slots, IsKeyed, IsLiveAt, IsIntact, handle_of, live_value, live_from, live_rows}
+use Rattle.crack_arena.specs.Arena.{Cell, Handle, times, read, empty_cell, slots}
+use Rattle.crack_state.specs.State.{State, IsKeyed, IsLiveAt, IsIntact, handle_of, live_value, live_from, live_rows}
 use Rattle.crack_state.specs.CellLaws.{read-value, cell_within}
 
 -- a cell's live row is among the live rows

@@ -11,12 +11,12 @@ use Rattle.crack_row.specs.declared.Bound.{Bound}
 use Rattle.crack_row.specs.declared.Row.{Row}
 use Rattle.crack_row.specs.declared.layout.Layout.{Layout}
 use Rattle.crack_row.specs.Layouts.{IsLayout, AreJoined}
-use Rattle.crack_arena.specs.Arena.{Handle, times, read}
+use Rattle.crack_arena.specs.Arena.{Handle, times, read, slots}
 use Rattle.crack_arena.specs.Times.{times-nil, times-cons, times_one, times_other, times-append}
 use Rattle.crack_index.specs.Marks.{pieces_from}
 use Rattle.crack_index.specs.MarkLaws.{AreJoined-pieces, sum_of_sizes}
-use Rattle.crack_column.specs.Column.{key_at}
-use Rattle.crack_state.specs.State.{State, slots, places, Reads, IsOwned, IsIntact, live_rows, held}
+use Rattle.crack_arena.specs.Rows.{key_at}
+use Rattle.crack_state.specs.State.{State, places, Reads, IsOwned, IsIntact, live_rows, held}
 use Rattle.crack_state.specs.OwnedLaws.{times-places}
 use Rattle.crack_state.specs.LiveLaws.{live_rows-held, numbers, times-numbers, IsPermutation-filter_map_times}
 

@@ -8,9 +8,9 @@ use Rattle.std.proofs.lemmas.List.{append-nil}
 use Rattle.std.proofs.lemmas.List.Elements.{filter_map-append, All-head, All-tail}
 use Rattle.std.proofs.lemmas.Bool.{cases_eq, lt-ltb, le-ltb}
 use Rattle.crack_row.specs.declared.Row.{Row}
-use Rattle.crack_arena.specs.Arena.{Cell, Handle, times, cell_at, empty_cell}
+use Rattle.crack_arena.specs.Arena.{Cell, Handle, times, cell_at, empty_cell, slots}
 use Rattle.crack_arena.specs.Times.{times-nil, times-cons, times_one, times_other, times_head, times-append}
-use Rattle.crack_state.specs.State.{State, slots, places, Reads, IsOwned, IsIntact, AreEmpty, live_value, live_from, live_rows, live_read, held}
+use Rattle.crack_state.specs.State.{State, places, Reads, IsOwned, IsIntact, AreEmpty, live_value, live_from, live_rows, live_read, held}
 use Rattle.crack_state.specs.CellLaws.{read_is_value}
 
 -- where cells and doomed agree on what is live, the live rows are the same

@@ -9,7 +9,7 @@ use Rattle.crack_row.specs.declared.command.Policy.TheVariants.{Complete}
 use Rattle.crack_arena.specs.Arena.{Cell, Handle, read}
 use Rattle.crack_index.specs.declared.mark.Mark.{Mark}
 use Rattle.crack_index.specs.Marks.{HasBound, bounds_of, place_of}
-use Rattle.crack_column.specs.Column.{key_at}
+use Rattle.crack_arena.specs.Rows.{key_at}
 use Rattle.crack_state.specs.declared.MergeReport.{MergeReport}
 use Rattle.crack_state.specs.State.{State, Reads, IsIntact, live_rows, freed_of, greatest}
 

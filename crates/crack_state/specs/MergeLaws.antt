@@ -8,7 +8,7 @@ use Rattle.crack_row.specs.Ranges.{Range, is_in}
 use Rattle.crack_row.specs.declared.Row.{Row}
 use Rattle.crack_row.specs.declared.command.Policy.TheVariants.{Complete}
 use Rattle.crack_arena.specs.Arena.{Cell, Handle}
-use Rattle.crack_column.specs.Column.{key_at}
+use Rattle.crack_arena.specs.Rows.{key_at}
 use Rattle.crack_state.specs.State.{State, IsIntact}
 use Rattle.crack_state.specs.Merge.{IsOutside, ReadsOutside, IsCracked, Follows, Merges, is_touched}
 use Rattle.crack_state.specs.FollowLaws.{Follows-refl}

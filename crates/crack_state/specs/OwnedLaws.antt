@@ -7,9 +7,9 @@ use Rattle.std.proofs.lemmas.List.{map-set, map-append, length-map, get_or-map, 
 use Rattle.std.proofs.lemmas.Bool.{cases_eq, cases_lt, ne_eqb, eq-eqb, eqb-true, lt-ltb, le-ltb}
 use Rattle.std.proofs.lemmas.List.Elements.{All-set, All-push, All-cons, All-nil, All-get_or, All-head, All-append, All-take, All-drop}
 use Rattle.crack_row.specs.declared.Row.{Row}
-use Rattle.crack_arena.specs.Arena.{Cell, Handle, times}
+use Rattle.crack_arena.specs.Arena.{Cell, Handle, times, slots}
 use Rattle.crack_arena.specs.Times.{times-nil, times-cons, times_one, times_other, times_head, times_apart, times-append, times-set}
-use Rattle.crack_state.specs.State.{slots, places_in, Reads, IsOwned}
+use Rattle.crack_state.specs.State.{places_in, Reads, IsOwned}
 use Rattle.crack_state.specs.Steps.{place_in}
 
 -- a handle put at a place of a list, and the one that stood there

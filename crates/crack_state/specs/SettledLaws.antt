@@ -11,12 +11,13 @@ use Rattle.std.proofs.lemmas.List.Sums.{length-filter}
 use Rattle.std.proofs.lemmas.Bool.{cases_lt, lt-ltb, le-ltb, le-leb, lt-leb, true≢false, and_left, and_right}
 use Rattle.crack_row.specs.Ranges.{Range}
 use Rattle.crack_row.specs.declared.Row.{Row}
-use Rattle.crack_arena.specs.Arena.{Cell, Handle, times, read, cell_at}
+use Rattle.crack_arena.specs.Arena.{Cell, Handle, times, read, cell_at, slots}
 use Rattle.crack_index.specs.Marks.{HasBound, place_of}
 use Rattle.crack_index.specs.MarkLaws.{HasBound-contains, place_of-mark}
-use Rattle.crack_column.specs.Column.{key_of_row, key_at, IsDividedAt}
+use Rattle.crack_arena.specs.Rows.{key_of_row, key_at}
+use Rattle.crack_column.specs.Column.{IsDividedAt}
 use Rattle.crack_column.specs.Divisions.{IsDividedAt-end, IsDividedAt-order}
-use Rattle.crack_state.specs.State.{State, slots, places, Reads, IsOwned, IsIntact, column_keys, live_rows}
+use Rattle.crack_state.specs.State.{State, places, Reads, IsOwned, IsIntact, column_keys, live_rows}
 use Rattle.crack_state.specs.Steps.{place_in}
 use Rattle.crack_state.specs.Merge.{in_range, IsOutside, ReadsOutside, IsCracked, edge, stretch, IsSettled}
 use Rattle.crack_state.specs.OwnedLaws.{place_in-within, place_in-found}

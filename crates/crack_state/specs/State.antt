@@ -4,10 +4,11 @@ use Rattle.std.specs.List.{All, cons_option, filter_map}
 use Rattle.std.specs.Map.{lookup}
 use Rattle.crack_row.specs.Ranges.{Range, IsIn}
 use Rattle.crack_row.specs.declared.Row.{Row}
-use Rattle.crack_arena.specs.Arena.{Cell, Handle, read, cell_at, times}
+use Rattle.crack_arena.specs.Arena.{Cell, Handle, read, cell_at, times, slots}
 use Rattle.crack_index.specs.declared.mark.Mark.{Mark}
 use Rattle.crack_index.specs.Marks.{Rising}
-use Rattle.crack_column.specs.Column.{key_at, Remembers, IsDividedAt}
+use Rattle.crack_arena.specs.Rows.{key_at}
+use Rattle.crack_column.specs.Column.{Remembers, IsDividedAt}
 use Rattle.crack_state.specs.declared.MergeReport.{MergeReport}
 
 -- the partition's keys; the cells of the arena and its free numbers; the column, with what is remembered of its keys; the
@@ -31,10 +32,6 @@ pub record State : Type 0 where
 pub record Carried : Type 0 where
   pub store : State
   pub hand : Handle
-
--- the cells that handles name
-abbrev pub slots : List Handle → List ℕ
-slots hs = map (λ (h : Handle). h.slot) hs
 
 -- where the cells' numbers stand
 abbrev pub places_in : List Handle → List Handle → List ℕ → List Handle → List ℕ

@@ -3,13 +3,13 @@ use Rattle.std.proofs.Common.{◌≡◌, ℕ, ◌+◌, ◌-◌, ◌<◌, ◌≤�
 use Rattle.std.proofs.Math.Nat.{min-le_right}
 use Rattle.std.proofs.lemmas.Bool.{cases_lt}
 use Rattle.std.proofs.lemmas.List.{map-set, map-append, length-map, get_or-map, get_or_default, take-map}
-use Rattle.crack_arena.specs.Arena.{Handle, times}
+use Rattle.crack_arena.specs.Arena.{Handle, times, slots}
 use Rattle.crack_index.specs.declared.mark.Mark.{Mark}
 use Rattle.crack_index.specs.Marks.{Rising, next_mark, last_mark, end_of, start_of}
 use Rattle.crack_index.specs.MarkLaws.{next_mark-is, next_mark-none, last_mark-is, Rising-lowered_at}
-use Rattle.crack_column.specs.Column.{key_at}
+use Rattle.crack_arena.specs.Rows.{key_at}
 use Rattle.crack_state.specs.declared.MergeReport.{MergeReport}
-use Rattle.crack_state.specs.State.{State, Carried, slots, column_keys, IsObeyed, AreInside, IsCounted, IsIntact, greatest}
+use Rattle.crack_state.specs.State.{State, Carried, column_keys, IsObeyed, AreInside, IsCounted, IsIntact, greatest}
 use Rattle.crack_state.specs.Steps.{hand_key, piece_start, piece_end, raise_next, lower_last, more, no_handle, put_at, lifted, lifted_last, pushed_on, appended, returned, pulled_back, exchanged, SameButRoom, bounds_above}
 use Rattle.crack_state.specs.ObeyedLaws.{Divides-set, Obeyed-raised, Obeyed-push, Obeyed-push_raised, Obeyed-lowered, Obeyed-lowered_at}
 use Rattle.crack_state.specs.PieceLaws.{Divides-listed, Rising-raise_next, Rising-lower_last, AreInside-raise_next, AreInside-lower_last, AreInside-lowered_at, piece_end-le, piece_end-before, piece_start-behind, bounds_above-less}

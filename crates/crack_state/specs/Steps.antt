@@ -4,12 +4,13 @@ use Rattle.std.specs.List.{remove, position_or_len}
 use Rattle.crack_row.specs.Ranges.{IsIn}
 use Rattle.crack_row.specs.declared.Bound.{Bound}
 use Rattle.crack_row.specs.declared.Row.{Row}
-use Rattle.crack_arena.specs.Arena.{Handle, times, handle_for, cells_with}
+use Rattle.crack_arena.specs.Arena.{Handle, times, handle_for, cells_with, slots}
 use Rattle.crack_index.specs.declared.mark.Mark.{Mark}
 use Rattle.crack_index.specs.Marks.{HasBound, added, next_mark, last_mark, start_of, end_of, raised, lowered, lowered_at}
-use Rattle.crack_column.specs.Column.{key_at, unknown, Cracks}
+use Rattle.crack_arena.specs.Rows.{key_at}
+use Rattle.crack_column.specs.Column.{unknown, Cracks}
 use Rattle.crack_state.specs.declared.MergeReport.{MergeReport}
-use Rattle.crack_state.specs.State.{State, Carried, slots, handle_of, greatest}
+use Rattle.crack_state.specs.State.{State, Carried, handle_of, greatest}
 
 -- the key of the row in hand
 abbrev pub hand_key : Carried → ℕ

@@ -9,7 +9,7 @@ use Rattle.crack_arena.specs.Arena.{Handle}
 use Rattle.crack_index.specs.declared.mark.Mark.{Mark}
 use Rattle.crack_index.specs.Marks.{HasBound, place_of}
 use Rattle.crack_index.specs.MarkLaws.{HasBound-contains, place_of-mark, Rising-positions}
-use Rattle.crack_column.specs.Column.{key_at}
+use Rattle.crack_arena.specs.Rows.{key_at}
 use Rattle.crack_state.specs.State.{State, IsIntact, column_keys}
 use Rattle.crack_state.specs.Merge.{edge}
 use Rattle.crack_state.specs.PieceLaws.{Divides-listed}

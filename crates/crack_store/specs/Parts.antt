@@ -5,9 +5,9 @@ use Rattle.crack_row.specs.Ranges.{Range}
 use Rattle.crack_row.specs.declared.layout.Layout.{Layout}
 use Rattle.crack_index.specs.declared.mark.Mark.{Mark}
 use Rattle.crack_index.specs.Marks.{next_mark, pieces_from}
-use Rattle.crack_arena.specs.Arena.{Handle, times}
+use Rattle.crack_arena.specs.Arena.{Handle, times, slots}
 use Rattle.crack_state.specs.declared.MergeReport.{MergeReport}
-use Rattle.crack_state.specs.State.{State, IsIntact, slots, handle_of}
+use Rattle.crack_state.specs.State.{State, IsIntact, handle_of}
 use Rattle.crack_store.specs.declared.parts.Parts.{Parts}
 
 -- the parts as lists

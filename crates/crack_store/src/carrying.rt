@@ -1,8 +1,8 @@
 //! A store with one cell in hand.
 ghost use Rattle.std.specs.Prelude.{◌≡◌, ℕ, ◌+◌, ◌-◌, ◌<◌, ◌≤◌, ◌∷◌, [], length, All, Some};
-ghost use Rattle.crack_arena.specs.Arena.{read, times};
+ghost use Rattle.crack_arena.specs.Arena.{read, times, slots};
 ghost use Rattle.crack_index.specs.Marks.{piece_at, next_mark, Rising};
-ghost use Rattle.crack_state.specs.State.{slots, IsIntact, live_rows};
+ghost use Rattle.crack_state.specs.State.{IsIntact, live_rows};
 ghost use Rattle.crack_state.specs.Steps.{hand_key, piece_end, pushed_on, appended, bounds_above, raise_next as next_raised};
 
 use crate::Store;

@@ -3,7 +3,8 @@ ghost use Rattle.std.specs.Prelude.{◌≡◌, ℕ, ◌+◌, ◌-◌, ◌<◌, �
 ghost use Rattle.std.specs.List.Sorted.{IsPermutation};
 ghost use Rattle.crack_row.specs.Layouts.{IsLayout};
 ghost use Rattle.crack_index.specs.Marks.{HasBound};
-ghost use Rattle.crack_pending.specs.Pending.{StandsAt, Finds, keys_at};
+ghost use Rattle.crack_arena.specs.Rows.{keys_at};
+ghost use Rattle.crack_pending.specs.Pending.{StandsAt, Finds};
 ghost use Rattle.crack_state.specs.State.{State, IsIntact, live_rows, handle_of};
 ghost use Rattle.crack_state.specs.Steps.{lifted, admitted, IsAdmissible, SameButRoom};
 ghost use Rattle.crack_state.specs.Merge.{Refines, IsCracked, edge};

@@ -1,6 +1,6 @@
 use Rattle.std.proofs.Common.{arith, ap, ◌∙◌, refl}
 use Rattle.std.proofs.lemmas.List.{get_or_default}
-use Rattle.crack_column.specs.Column.{key_at}
+use Rattle.crack_arena.specs.Rows.{key_at}
 use Rattle.crack_column.specs.Tickets.{no_handle, no_place}
 use Rattle.crack_column.proofs.Passes.{IsLearned-read, IsLearned-known, drawn-IsLearned, learned_all}
 use Rattle.crack_column.proofs.place.learn.Goals as goal
@@ -14,7 +14,7 @@ pub places-preserved : goal.places-preserved
 places-preserved c =
     let cells = c.args.arena.now.cells in
     elim c.if-places-i.branch [
-      | then-places-i w ↦ rw (w.places-is) (IsLearned-read cells c.args.handles.now c.args.places.now c.places.places _ c.places.i w.key_of.result (omega arith) (w.key_of.ensures ∙ ap (key_at cells) (w.index-handles-places.is ∙ get_or_default c.args.handles.now _ _ no_handle (omega (arith, drawn-IsLearned cells c.args.handles.now c.args.places.now c.places.places c.places.i c.places.i no_place c.places.invariant c.requires.drawn (omega arith))))) refl c.places.invariant)
+      | then-places-i w ↦ rw (w.places-is) (IsLearned-read cells c.args.handles.now c.args.places.now c.places.places _ c.places.i w.key_of.result.0 (omega arith) (w.key_of.ensures ∙ ap (key_at cells) (w.index-handles-places.is ∙ get_or_default c.args.handles.now _ _ no_handle (omega (arith, drawn-IsLearned cells c.args.handles.now c.args.places.now c.places.places c.places.i c.places.i no_place c.places.invariant c.requires.drawn (omega arith))))) refl c.places.invariant)
       | else-places-i w ↦ rw (w.places-is) (IsLearned-known cells c.args.handles.now c.args.places.now c.places.places c.places.i w.if-places-i.false c.places.invariant)
     ]
 

@@ -1,7 +1,7 @@
 use Rattle.std.proofs.Common.{◌≡◌, sym, ◌∙◌}
 use Rattle.std.proofs.lemmas.Bool.{true≢false}
 use Rattle.std.specs.Prelude.{slice_index}
-use Rattle.crack_pending.specs.Pending.{keys_at}
+use Rattle.crack_arena.specs.Rows.{keys_at}
 use Rattle.crack_pending.specs.Searches.{keys_at-StandsAt, NoneIn-more}
 use Rattle.crack_pending.proofs.list.PendingList.next_in.Goals as goal
 

@@ -1,4 +1,5 @@
-use Rattle.crack_pending.specs.Pending.{keys_at, NoneIn}
+use Rattle.crack_arena.specs.Rows.{keys_at}
+use Rattle.crack_pending.specs.Pending.{NoneIn}
 use Rattle.crack_pending.proofs.list.PendingList.next_in.Given as goal
 
 abbrev pub invariant-places : goal.invariant-places
