@@ -1,32 +1,39 @@
-//! A cracker column over an arena: handles, and beside each the key of its row once it was read.
+//! A cracker column over an arena: handles that no crack moves, and in cracked order places, each with the key of its row once it was
+//! read and the ticket of its handle.
 
 use crate::arena::{Arena, Handle, Row, fill};
 use crate::numbers::{Numbers, mixed};
 use std::time::Instant;
 
-/// Stands beside a handle whose key isn't remembered.
-pub const UNKNOWN: u64 = u64::MAX;
+/// Stands for a key that isn't remembered.
+pub const UNKNOWN: u32 = u32::MAX;
 
-fn key_of(arena: &Arena<Row>, handle: Handle) -> u64 {
-    arena.get(handle).map_or(0, |row| row.key as u64)
+/// What a crack exchanges.
+#[derive(Clone, Copy)]
+pub struct Place {
+    pub key: u32,
+    pub ticket: u32,
+}
+
+fn key_of(arena: &Arena<Row>, handle: Handle) -> u32 {
+    arena.get(handle).map_or(0, |row| row.key)
 }
 
 /// Reads each key that isn't known.
-pub fn learn(handles: &[Handle], keys: &mut [u64], arena: &Arena<Row>) {
-    for (handle, key) in handles.iter().zip(keys) {
-        if *key == UNKNOWN {
-            *key = key_of(arena, *handle);
+pub fn learn(places: &mut [Place], handles: &[Handle], arena: &Arena<Row>) {
+    for place in places {
+        if place.key == UNKNOWN {
+            place.key = key_of(arena, handles[place.ticket as usize]);
         }
     }
 }
 
-/// Puts the keys below the bound first, each with its handle, and gives their number.
-pub fn partition(handles: &mut [Handle], keys: &mut [u64], bound: u64) -> usize {
+/// Puts the keys below the bound first, and gives their number.
+pub fn partition(places: &mut [Place], bound: u64) -> usize {
     let mut low = 0;
-    for i in 0..keys.len() {
-        let below = keys[i] < bound;
-        handles.swap(low, i);
-        keys.swap(low, i);
+    for i in 0..places.len() {
+        let below = u64::from(places[i].key) < bound;
+        places.swap(low, i);
         low += below as usize;
     }
     low
@@ -36,7 +43,7 @@ pub fn partition(handles: &mut [Handle], keys: &mut [u64], bound: u64) -> usize 
 fn partition_through(handles: &mut [Handle], bound: u64, arena: &Arena<Row>) -> usize {
     let mut low = 0;
     for i in 0..handles.len() {
-        let below = key_of(arena, handles[i]) < bound;
+        let below = u64::from(key_of(arena, handles[i])) < bound;
         handles.swap(low, i);
         low += below as usize;
     }
@@ -55,20 +62,26 @@ pub fn run(rows: u64) {
     let (arena, mut handles) = fill(rows, &mut numbers);
     shuffle(&mut handles, &mut numbers);
     let mut others = handles.clone();
-    let mut keys = vec![UNKNOWN; handles.len()];
+    let tickets = 0..handles.len() as u32;
+    let unread = |ticket| Place {
+        key: UNKNOWN,
+        ticket,
+    };
+    let mut places: Vec<Place> = tickets.map(unread).collect();
     let start = Instant::now();
-    learn(&handles, &mut keys, &arena);
-    let first = partition(&mut handles, &mut keys, 1 << 30);
+    learn(&mut places, &handles, &arena);
+    let first = partition(&mut places, 1 << 30);
     crate::report("first", start);
     let start = Instant::now();
     let later = (0..16).fold(0, |sum, i| {
-        mixed(sum, partition(&mut handles, &mut keys, i << 27) as u64)
+        mixed(sum, partition(&mut places, i << 27) as u64)
     });
     crate::report("later", start);
     let start = Instant::now();
     let through = partition_through(&mut others, 1 << 30, &arena);
     crate::report("through", start);
     assert_eq!(first, through);
-    let sum = handles.iter().fold(0, |sum, it| mixed(sum, it.slot as u64));
+    let slots = places.iter().map(|it| handles[it.ticket as usize].slot);
+    let sum = slots.fold(0, |sum, slot| mixed(sum, slot as u64));
     println!("column {first} {later} sum {sum}");
 }

@@ -2,7 +2,7 @@
 //! in order of arrival, and a map from serials to handles.
 
 use crate::arena::{Arena, Handle, Row};
-use crate::column::{UNKNOWN, learn, partition};
+use crate::column::{Place, UNKNOWN, learn, partition};
 use crate::serials::Serials;
 use std::collections::VecDeque;
 use std::mem;
@@ -61,33 +61,41 @@ impl Index {
     }
 }
 
-/// Handles in cracked order, and beside each the key of its row once it was read.
+/// Handles, each under a ticket, and in cracked order places that bear the tickets.
 #[derive(Default)]
 struct Column {
     handles: Vec<Handle>,
-    keys: Vec<u64>,
+    places: Vec<Place>,
 }
 
 impl Column {
+    fn len(&self) -> usize {
+        self.places.len()
+    }
+
     fn reserve(&mut self, additional: usize) {
         self.handles.reserve(additional);
-        self.keys.reserve(additional);
+        self.places.reserve(additional);
     }
 
     fn append(&mut self, handle: Handle) {
+        self.places.push(Place {
+            key: UNKNOWN,
+            ticket: self.handles.len() as u32,
+        });
         self.handles.push(handle);
-        self.keys.push(UNKNOWN);
     }
 
     fn swap_in(&mut self, place: usize, handle: Handle) -> Handle {
-        self.keys[place] = UNKNOWN;
-        mem::replace(&mut self.handles[place], handle)
+        let here = &mut self.places[place];
+        here.key = UNKNOWN;
+        mem::replace(&mut self.handles[here.ticket as usize], handle)
     }
 
     fn crack_two(&mut self, from: usize, to: usize, bound: u64, arena: &Arena<Row>) -> usize {
-        let (handles, keys) = (&mut self.handles[from..to], &mut self.keys[from..to]);
-        learn(handles, keys, arena);
-        from + partition(handles, keys, bound)
+        let places = &mut self.places[from..to];
+        learn(places, &self.handles, arena);
+        from + partition(places, bound)
     }
 }
 
@@ -193,7 +201,7 @@ impl Store {
         if bound == 0 || GREATEST_BOUND <= bound || self.index.position(bound).is_some() {
             return;
         }
-        let (from, to) = self.index.piece_of(bound, self.column.handles.len());
+        let (from, to) = self.index.piece_of(bound, self.column.len());
         let place = self.column.crack_two(from, to, bound, &self.arena);
         self.index.add(bound, place);
     }
@@ -216,7 +224,7 @@ impl Store {
     fn carry(&mut self, mut hand: Handle) {
         loop {
             let key = self.arena.get(hand).map_or(0, |row| row.key as u64);
-            let len = self.column.handles.len();
+            let len = self.column.len();
             let (_, to) = self.index.piece_of(key, len);
             self.index.raise_above(key);
             if to == len {
@@ -232,7 +240,7 @@ impl Store {
             return 0;
         }
         if GREATEST_BOUND <= bound {
-            return self.column.handles.len();
+            return self.column.len();
         }
         self.index.position(bound).expect("a bound of a crack")
     }
