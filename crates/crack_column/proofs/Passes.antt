@@ -1,12 +1,13 @@
 -- How the places of a stretch are read and divided, one after the other.
-use Rattle.std.proofs.Common.{◌≡◌, ◌≢◌, ℕ, ◌+◌, ◌<◌, ◌≤◌, List, length, map, get_or, set, ◌⊎◌, refl, sym, ap, ◌∙◌, length-set, inl, inr, arith}
+use Rattle.std.proofs.Common.{◌≡◌, ◌≢◌, ℕ, ◌+◌, ◌<◌, ◌≤◌, List, [], ◌∷◌, length, map, get_or, set, ◌⊎◌, refl, sym, ap, ◌∙◌, length-set, inl, inr, arith}
 use Rattle.std.specs.List.{All, swap}
 use Rattle.std.specs.List.Sorted.{IsPermutation}
 use Rattle.std.proofs.lemmas.List.Sorted.{IsPermutation-trans}
 use Rattle.std.proofs.lemmas.List.Edits.{Swapped, swapped_from_swap}
-use Rattle.std.proofs.lemmas.List.{ext_get_or, get_or_default, length-map, get_or-map, get_or-set_same, get_or-set_other}
+use Rattle.std.proofs.lemmas.List.{ext_get_or, map-set, get_or_default, length-map, get_or-map, get_or-set_same, get_or-set_other}
 use Rattle.std.proofs.lemmas.Bool.{cases_eq}
-use Rattle.crack_arena.specs.Arena.{Cell, Handle}
+use Rattle.crack_arena.specs.Arena.{Cell, Handle, times}
+use Rattle.crack_arena.specs.Times.{times-set, times_head, times-nil, times_other, times_at}
 use Rattle.crack_row.specs.declared.Row.{Row}
 use Rattle.crack_column.specs.declared.place.Place.{Place}
 use Rattle.crack_arena.specs.Rows.{key_at}
@@ -58,25 +59,27 @@ divided_all bound ps ps' low i past not_past part =
       above = λ k g l. rw (get_or-map remembered_of ps' k no_place 0 (omega arith)) (part.above k g (omega arith));
     }
 
--- the first i places were read, and no ticket was changed
-pub record IsLearned (cells : List (Cell Row)) (handles : List Handle) (places places' : List Place) (i : ℕ) : Type 0 where
+-- the first i places were read, so many of them were unknown and no more are, and no ticket was changed
+pub record IsLearned (cells : List (Cell Row)) (handles : List Handle) (places places' : List Place) (learned i : ℕ) : Type 0 where
+  pub few : learned ≤ i
+  pub fewer : times unknown (map remembered_of places') + learned ≡ times unknown (map remembered_of places)
   pub tickets : map ticket_of places' ≡ map ticket_of places
   pub known : All (Knows cells handles) places'
   pub read : (k : ℕ) → k < i → k < length places' → Read cells handles (get_or places' k no_place)
 
-pub length-IsLearned : (cells : List (Cell Row)) (hs : List Handle) (ps ps' : List Place) (i : ℕ) → IsLearned cells hs ps ps' i → length ps' ≡ length ps
-length-IsLearned cells hs ps ps' i part = omega (arith, length-map ps' ticket_of, length-map ps ticket_of, ap (λ (ns : List ℕ). length ns) part.tickets)
+pub length-IsLearned : (cells : List (Cell Row)) (hs : List Handle) (ps ps' : List Place) (n i : ℕ) → IsLearned cells hs ps ps' n i → length ps' ≡ length ps
+length-IsLearned cells hs ps ps' n i part = omega (arith, length-map ps' ticket_of, length-map ps ticket_of, ap (λ (ns : List ℕ). length ns) part.tickets)
 
 -- each ticket is of a handle still
-pub drawn-IsLearned : (cells : List (Cell Row)) (hs : List Handle) (ps ps' : List Place) (i k : ℕ) (d : Place) → IsLearned cells hs ps ps' i → All (λ p. p.ticket < length hs) ps → k < length ps' → (get_or ps' k d).ticket < length hs
-drawn-IsLearned cells hs ps ps' i k d part drawn inside =
-    let long = length-IsLearned cells hs ps ps' i part in
+pub drawn-IsLearned : (cells : List (Cell Row)) (hs : List Handle) (ps ps' : List Place) (n i k : ℕ) (d : Place) → IsLearned cells hs ps ps' n i → All (λ p. p.ticket < length hs) ps → k < length ps' → (get_or ps' k d).ticket < length hs
+drawn-IsLearned cells hs ps ps' n i k d part drawn inside =
+    let long = length-IsLearned cells hs ps ps' n i part in
     let same : (get_or ps' k d).ticket ≡ (get_or ps k no_place).ticket = sym (get_or-map ticket_of ps' k d 0 inside) ∙ ap (λ ns. get_or ns k 0) part.tickets ∙ get_or-map ticket_of ps k no_place 0 (omega arith) in
     omega (arith, same, drawn k no_place (omega arith))
 
 -- the i-th place is read
-pub IsLearned-read : (cells : List (Cell Row)) (hs : List Handle) (ps ps1 ps2 : List Place) (i x : ℕ) → i < length ps1 → x ≡ key_at cells (handle_of hs (get_or ps1 i no_place)) → ps2 ≡ set ps1 i (record (get_or ps1 i no_place) { key = x }) → IsLearned cells hs ps ps1 i → IsLearned cells hs ps ps2 (i + 1)
-IsLearned-read cells hs ps ps1 ps2 i x inside is after part =
+pub IsLearned-read : (cells : List (Cell Row)) (hs : List Handle) (ps ps1 ps2 : List Place) (n n2 i x : ℕ) → i < length ps1 → x ≡ key_at cells (handle_of hs (get_or ps1 i no_place)) → ps2 ≡ set ps1 i (record (get_or ps1 i no_place) { key = x }) → (get_or ps1 i no_place).key ≡ unknown → ((x ≡ unknown) × (n2 ≡ n)) ⊎ ((x ≢ unknown) × (n2 ≡ n + 1)) → IsLearned cells hs ps ps1 n i → IsLearned cells hs ps ps2 n2 (i + 1)
+IsLearned-read cells hs ps ps1 ps2 n n2 i x inside is after was which part =
     let p : Place = record (get_or ps1 i no_place) { key = x } in
     let long : length ps2 ≡ length ps1 = rw after (length-set ps1 i p) in
     let here : get_or ps2 i no_place ≡ p = rw after (get_or-set_same ps1 i p no_place inside) in
@@ -85,7 +88,18 @@ IsLearned-read cells hs ps ps1 ps2 i x inside is after part =
       | inl e ↦ rw (e, here) refl
       | inr ne ↦ ap ticket_of (others k ne)
     ] in
+    let keys : map remembered_of ps2 ≡ set (map remembered_of ps1) i x = rw after (map-set remembered_of ps1 i p) in
+    let before : get_or (map remembered_of ps1) i 0 ≡ unknown = get_or-map remembered_of ps1 i no_place 0 inside ∙ was in
+    let counted : times unknown (map remembered_of ps2) + times unknown (unknown ∷ []) ≡ times unknown (map remembered_of ps1) + times unknown (x ∷ []) = rw (keys, ← before) (times-set (get_or (map remembered_of ps1) i 0) (map remembered_of ps1) i x 0 (omega (arith, length-map ps1 remembered_of))) in
+    let one : times unknown (unknown ∷ []) ≡ 1 = omega (arith, times_head unknown [], times-nil unknown) in
     record {
+      few = elim which [ inl y ↦ omega (arith, y.1, part.few) | inr m ↦ omega (arith, m.1, part.few) ];
+      fewer = elim which [
+        | inl y ↦
+            let same : times unknown (x ∷ []) ≡ 1 = rw (y.0) one in
+            omega (arith, counted, one, same, part.fewer, y.1)
+        | inr m ↦ omega (arith, counted, one, times_other unknown x m.0, part.fewer, m.1)
+      ];
       tickets = ext_get_or 0 (map ticket_of ps2) (map ticket_of ps1) (omega (arith, length-map ps1 ticket_of, length-map ps2 ticket_of)) (λ k l. rw (get_or-map ticket_of ps2 k no_place 0 (omega (arith, length-map ps2 ticket_of)), get_or-map ticket_of ps1 k no_place 0 (omega (arith, length-map ps2 ticket_of))) (ticket k)) ∙ part.tickets;
       known = λ k d l. rw (get_or_default ps2 k d no_place l) (elim (cases_eq k i) [
         | inl e ↦ rw (e, here) (inr is)
@@ -98,9 +112,11 @@ IsLearned-read cells hs ps ps1 ps2 i x inside is after part =
     }
 
 -- the i-th key was known
-pub IsLearned-known : (cells : List (Cell Row)) (hs : List Handle) (ps ps1 : List Place) (i : ℕ) → (get_or ps1 i no_place).key ≢ unknown → IsLearned cells hs ps ps1 i → IsLearned cells hs ps ps1 (i + 1)
-IsLearned-known cells hs ps ps1 i known part =
+pub IsLearned-known : (cells : List (Cell Row)) (hs : List Handle) (ps ps1 : List Place) (n i : ℕ) → (get_or ps1 i no_place).key ≢ unknown → IsLearned cells hs ps ps1 n i → IsLearned cells hs ps ps1 n (i + 1)
+IsLearned-known cells hs ps ps1 n i known part =
     record {
+      few = omega (arith, part.few);
+      fewer = part.fewer;
       tickets = part.tickets;
       known = part.known;
       read = λ k to l. elim (cases_eq k i) [
@@ -109,5 +125,14 @@ IsLearned-known cells hs ps ps1 i known part =
       ];
     }
 
-pub learned_all : (cells : List (Cell Row)) (hs : List Handle) (ps ps' : List Place) (i : ℕ) → length ps' ≤ i → IsLearned cells hs ps ps' i → All (Read cells hs) ps'
-learned_all cells hs ps ps' i past part = λ k d l. rw (get_or_default ps' k d no_place l) (part.read k (omega arith) l)
+pub learned_all : (cells : List (Cell Row)) (hs : List Handle) (ps ps' : List Place) (n i : ℕ) → length ps' ≤ i → IsLearned cells hs ps ps' n i → All (Read cells hs) ps'
+learned_all cells hs ps ps' n i past part = λ k d l. rw (get_or_default ps' k d no_place l) (part.read k (omega arith) l)
+
+-- where no key is unknown, each that a place knows is read
+pub all_read : (cells : List (Cell Row)) (hs : List Handle) (ps : List Place) → times unknown (map remembered_of ps) ≡ 0 → All (Knows cells hs) ps → All (Read cells hs) ps
+all_read cells hs ps none known = λ k d h. elim (known k d h) [
+  | inl u ↦
+      let at : get_or (map remembered_of ps) k 0 ≡ unknown = get_or-map remembered_of ps k d 0 h ∙ u in
+      absurd (omega (arith, none, times_at unknown (map remembered_of ps) k 0 (omega (arith, length-map ps remembered_of)) at))
+  | inr r ↦ r
+]

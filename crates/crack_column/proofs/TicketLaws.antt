@@ -9,7 +9,7 @@ use Rattle.std.proofs.lemmas.List.Sorted.{All-permutation, IsPermutation-map, Is
 use Rattle.std.proofs.lemmas.Option.{slice_get-get_or}
 use Rattle.std.proofs.lemmas.Bool.{cases_eq, cases_lt}
 use Rattle.crack_arena.specs.Arena.{Cell, Handle, times}
-use Rattle.crack_arena.specs.Times.{times-map-remove, times_map_at, times_head, times-nil, times-map-append, times_one, times_other, times-cons, times-le-length, times-IsPermutation}
+use Rattle.crack_arena.specs.Times.{times-map-remove, times_map_at, times_head, times-nil, times-map-append, times_one, times_other, times-cons, times-le-length, times-IsPermutation, times-append, times-set}
 use Rattle.crack_row.specs.declared.Row.{Row}
 use Rattle.crack_column.specs.declared.place.Place.{Place}
 use Rattle.crack_arena.specs.Rows.{key_at}
@@ -199,14 +199,39 @@ module _ (hs : List Handle) (ps : List Place) (h : Handle) (are : AreDrawn hs ps
       let before : take (length ps) ps ≡ ps = take_all (length ps) ps (omega arith) in
       rw (all, before) (map-append remembered_of ps (p ∷ []))
 
-three_parts : (xs : List Place) (from to : ℕ) → from ≤ to → xs ≡ take from xs ++ (between from to xs ++ drop to xs)
+three_parts : {X : Type 0} (xs : List X) (from to : ℕ) → from ≤ to → xs ≡ take from xs ++ (between from to xs ++ drop to xs)
 three_parts xs from to order =
     let on : from + (to - from) ≡ to = omega arith in
     let behind : drop to xs ≡ drop (to - from) (drop from xs) = rw (drop-drop (to - from) from xs, on) refl in
     rw (behind, take-append-drop (to - from) (drop from xs), take-append-drop from xs) refl
 
+-- what is read off a stretch of the column's places
+stretch_of : {X : Type 0} (f : Place → X) (d : X) (ps : List Place) (len from to : ℕ) → len ≤ length ps → to ≤ len → between from to (map f (take len ps)) ≡ map f (between from to ps)
+stretch_of f d ps len from to within end =
+    let cut = length-between ps from to (omega arith) in
+    let long : length (map f (take len ps)) ≡ len = length-map (take len ps) f ∙ length-take-le len ps within in
+    let cut_read = length-between (map f (take len ps)) from to (omega (arith, long)) in
+    ext_get_or d (between from to (map f (take len ps))) (map f (between from to ps)) (omega (arith, length-map (between from to ps) f)) (λ k l.
+    rw (get_or-between (map f (take len ps)) from to k d (omega arith), get_or-map f (take len ps) (from + k) no_place d (omega (arith, length-take-le len ps within)), get_or-take len ps (from + k) no_place (omega arith), get_or-map f (between from to ps) k no_place d (omega arith), get_or-between ps from to k no_place (omega arith)) refl)
+
+-- how many keys are unknown: after one was forgotten, with one more, in a part
+pub unknown-set : (ks : List ℕ) (place : ℕ) → place < length ks → times unknown (set ks place unknown) ≤ times unknown ks + 1
+unknown-set ks place inside = omega (arith, times-set unknown ks place unknown 0 inside, times_head unknown [], times-nil unknown)
+
+pub unknown-push : (ks : List ℕ) → times unknown (ks ++ unknown ∷ []) ≡ times unknown ks + 1
+unknown-push ks = omega (arith, times-append unknown ks (unknown ∷ []), times_head unknown [], times-nil unknown)
+
+pub unknown-take : (n : ℕ) (ks : List ℕ) → times unknown (take n ks) ≤ times unknown ks
+unknown-take n ks = omega (arith, ap (times unknown) (take-append-drop n ks), times-append unknown (take n ks) (drop n ks))
+
+pub unknown-between : (ps : List Place) (len from to : ℕ) → len ≤ length ps → from ≤ to → to ≤ len → times unknown (map remembered_of (between from to ps)) ≤ times unknown (keys_in ps len)
+unknown-between ps len from to within order end =
+    let ks = keys_in ps len in
+    let parts : ks ≡ take from ks ++ (between from to ks ++ drop to ks) = three_parts ks from to order in
+    rw (← stretch_of remembered_of 0 ps len from to within end) (omega (arith, ap (times unknown) parts, times-append unknown (take from ks) (between from to ks ++ drop to ks), times-append unknown (between from to ks) (drop to ks)))
+
 -- a stretch of the column was turned
-module _ (cells : List (Cell Row)) (hs : List Handle) (bound from to : ℕ) (ps ps' : List Place) (place len : ℕ) (are : AreDrawn hs ps len) (order : from ≤ to) (end : to ≤ len) (turned : Turns cells hs bound from to ps ps' place) where
+module _ (cells : List (Cell Row)) (hs : List Handle) (bound from to : ℕ) (ps ps' : List Place) (place learned len : ℕ) (are : AreDrawn hs ps len) (order : from ≤ to) (end : to ≤ len) (turned : Turns cells hs bound from to ps ps' place learned) where
   -- handles are read off tickets
   by_tickets : (xs : List Place) → map (handle_of hs) xs ≡ map (λ n. get_or hs n no_handle) (map ticket_of xs)
   by_tickets [] = refl
@@ -281,24 +306,28 @@ module _ (cells : List (Cell Row)) (hs : List Handle) (bound from to : ℕ) (ps 
           ]
         ]))
 
-  stretch_of_handles : between from to (handles_in hs ps len) ≡ map (handle_of hs) (between from to ps)
-  stretch_of_handles =
-      let cut = length-between ps from to (omega (arith, are.within)) in
-      let cut_handles = length-between (handles_in hs ps len) from to (omega (arith, long_old)) in
-      ext_get_or no_handle (between from to (handles_in hs ps len)) (map (handle_of hs) (between from to ps)) (omega (arith, length-map (between from to ps) (handle_of hs))) (λ k l.
-      rw (get_or-between (handles_in hs ps len) from to k no_handle (omega arith), handle_in hs ps len (from + k) no_handle are.within (omega arith), get_or-map (handle_of hs) (between from to ps) k no_place no_handle (omega arith), get_or-between ps from to k no_place (omega arith)) refl)
-
   pub Cracks-Turns : Cracks cells bound from to (handles_in hs ps len) (keys_in ps len) (handles_in hs ps' len) (keys_in ps' len) place
   Cracks-Turns = record {
     within = omega (arith, long_old);
     piece = map (handle_of hs) turned.stretch;
-    kept = rw (stretch_of_handles, by_tickets (between from to ps), by_tickets turned.stretch) (IsPermutation-map (λ n. get_or hs n no_handle) (map ticket_of (between from to ps)) (map ticket_of turned.stretch) turned.kept);
+    kept = rw (stretch_of (handle_of hs) no_handle ps len from to are.within end, by_tickets (between from to ps), by_tickets turned.stretch) (IsPermutation-map (λ n. get_or hs n no_handle) (map ticket_of (between from to ps)) (map ticket_of turned.stretch) turned.kept);
     handles_are = over_places (handle_of hs) no_handle;
     keys_are = rw (← keys_read) (over_places remembered_of 0);
     low = turned.low;
     high = turned.high;
     divided = rw (← keys_read) turned.divided;
   }
+
+  -- the keys that became known are unknown no more
+  pub unread-Turns : times unknown (keys_in ps' len) + learned ≡ times unknown (keys_in ps len)
+  unread-Turns =
+      let ks = keys_in ps len in
+      let old_long : length ks ≡ len = length-keys_in ps len are.within in
+      let cut : between from to ks ≡ map remembered_of (between from to ps) = stretch_of remembered_of 0 ps len from to are.within end in
+      let parts : ks ≡ take from ks ++ (between from to ks ++ drop to ks) = three_parts ks from to order in
+      let old : times unknown ks ≡ times unknown (take from ks) + (times unknown (map remembered_of (between from to ps)) + times unknown (drop to ks)) = ap (times unknown) parts ∙ times-append unknown (take from ks) (between from to ks ++ drop to ks) ∙ ap (λ n. times unknown (take from ks) + n) (times-append unknown (between from to ks) (drop to ks)) ∙ ap (λ (ys : List ℕ). times unknown (take from ks) + (times unknown ys + times unknown (drop to ks))) cut in
+      let new : times unknown (keys_in ps' len) ≡ times unknown (take from ks ++ map remembered_of turned.stretch) + times unknown (drop to ks) = ap (times unknown) (over_places remembered_of 0) ∙ times-append unknown (take from ks ++ map remembered_of turned.stretch) (drop to ks) in
+      omega (arith, old, new, times-append unknown (take from ks) (map remembered_of turned.stretch), turned.fewer)
 
 -- what the column remembers, its places know
 pub Knows-Remembers : (cells : List (Cell Row)) (hs : List Handle) (ps : List Place) (len from to : ℕ) → len ≤ length ps → to ≤ len → Remembers cells (handles_in hs ps len) (keys_in ps len) → All (Knows cells hs) (between from to ps)

@@ -50,6 +50,11 @@ pub record AreDrawn (handles : List Handle) (places : List Place) (len : ℕ) : 
   pub drawn : All (λ p. p.ticket < length handles) places
   pub once : (ticket : ℕ) → times ticket (map ticket_of places) ≤ 1
 
+-- and the places whose key isn't known are at most so many
+pub record IsKept (handles : List Handle) (places : List Place) (len unread : ℕ) : Type 0 where
+  pub are : AreDrawn handles places len
+  pub most : times unknown (keys_in places len) ≤ unread
+
 -- what a place bears whose row was put there anew
 abbrev pub forgotten : Place → Place
 forgotten p = record p { key = unknown }
@@ -63,8 +68,9 @@ pub record Kept (handles : List Handle) (places : List Place) (place : ℕ) (han
   pub places_are : places' ≡ slice_set places place (forgotten (slice_index_or places place no_place))
   pub out_is : out ≡ handle_of handles (slice_index_or places place no_place)
 
--- from `from` up to `to` the same tickets stand in some order, divided by the bound at the place, their keys read; all else is as it was
-pub record Turns (cells : List (Cell Row)) (handles : List Handle) (bound from to : ℕ) (places places' : List Place) (place : ℕ) : Type 0 where
+-- from `from` up to `to` the same tickets stand in some order, divided by the bound at the place, their keys read, so many of which
+-- weren't known; all else is as it was
+pub record Turns (cells : List (Cell Row)) (handles : List Handle) (bound from to : ℕ) (places places' : List Place) (place learned : ℕ) : Type 0 where
   pub stretch : List Place
   pub are : places' ≡ take from places ++ stretch ++ drop to places
   pub kept : IsPermutation (map ticket_of (between from to places)) (map ticket_of stretch)
@@ -72,3 +78,4 @@ pub record Turns (cells : List (Cell Row)) (handles : List Handle) (bound from t
   pub low : from ≤ place
   pub high : place ≤ to
   pub divided : IsDividedAt bound (map remembered_of stretch) (place - from)
+  pub fewer : times unknown (map remembered_of stretch) + learned ≡ times unknown (map remembered_of (between from to places))

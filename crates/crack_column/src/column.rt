@@ -1,11 +1,11 @@
 //! The cracker column, and how a crack divides a stretch of it.
 ghost use Rattle.std.specs.Prelude.{◌≡◌, ℕ, ◌+◌, ◌-◌, ◌<◌, ◌≤◌, ◌^◌, ◌↔◌, List, [], ◌∷◌, ◌++◌, Some, length, map, vec_len, slice_get, slice_set, slice_index_or, vec_capacity, IsTrue, OnOk, OnErr, IfErr, All, MatchOption, take, drop};
 ghost use Rattle.std.specs.List.{between};
-ghost use Rattle.crack_arena.specs.Arena.{Cell};
+ghost use Rattle.crack_arena.specs.Arena.{Cell, times};
 ghost use Rattle.crack_row.specs.declared.Row.{Row as RowValue};
 ghost use Rattle.crack_arena.specs.Rows.{key_at};
 ghost use Rattle.crack_column.specs.Column.{unknown, Remembers, StillRemembers, Cracks, IsFirstAt, IsAbsent};
-ghost use Rattle.crack_column.specs.Tickets.{AreDrawn, Knows, Turns, Kept, handles_in, keys_in, room_in};
+ghost use Rattle.crack_column.specs.Tickets.{AreDrawn, remembered_of, Knows, Turns, Kept, handles_in, keys_in, room_in};
 
 use crate::place::{Place, UNKNOWN, crack};
 use crack_arena::{Arena, Handle};
@@ -24,12 +24,14 @@ pub struct CrackerColumn {
     handles: Vec<Handle<Row>>,
     places: Vec<Place>,
     len: usize,
+    /// No fewer than the places whose key isn't known.
+    unread: usize,
 }
 
 impl Model for CrackerColumn {
     ghost use Rattle.std.specs.Prelude.{length, vec_capacity};
     ghost use Rattle.crack_column.specs.Column.{Column};
-    ghost use Rattle.crack_column.specs.Tickets.{AreDrawn, handles_in, keys_in, room_in};
+    ghost use Rattle.crack_column.specs.Tickets.{IsKept, handles_in, keys_in, room_in};
 
     ghost Value = { Column };
 
@@ -39,7 +41,7 @@ impl Model for CrackerColumn {
       room = room_in (length c.places.items) (vec_capacity c.handles) (vec_capacity c.places) c.len;
     } };
 
-    ghost invariant = { λ c. AreDrawn c.handles.items c.places.items c.len };
+    ghost invariant = { λ c. IsKept c.handles.items c.places.items c.len c.unread };
 }
 
 impl CrackerColumn {
@@ -54,6 +56,7 @@ impl CrackerColumn {
             handles: Vec::new(alloc),
             places: Vec::new(alloc),
             len: 0,
+            unread: 0,
         }
     }
 
@@ -123,6 +126,7 @@ impl CrackerColumn {
     {
         keep_last(&mut self.handles, &mut self.places, self.len, handle);
         self.len += 1;
+        self.unread = self.unread.saturating_add(1);
     }
 
     /// Puts the handle at the place, and gives back the one that stood there. Its key isn't known. O(1).
@@ -135,6 +139,7 @@ impl CrackerColumn {
         } }
         ensures remembered { StillRemembers self.old self.new }
     {
+        self.unread = self.unread.saturating_add(1);
         keep(&mut self.handles, &mut self.places, place, handle)
     }
 
@@ -164,27 +169,42 @@ impl CrackerColumn {
         ensures room { self.new.room ≡ self.old.room }
         ensures remembered { Remembers arena.now.cells self.new.handles self.new.keys }
     {
-        crack_between(&mut self.places, from, to, &self.handles, bound, arena)
+        let unread = self.unread;
+        let (place, learned) = crack_between(
+            &mut self.places,
+            from,
+            to,
+            unread,
+            &self.handles,
+            bound,
+            arena,
+        );
+        self.unread -= learned;
+        place
     }
 }
 
-/// Cracks the places from `from` up to and without `to`.
+/// Cracks the places from `from` up to and without `to`, of which at most so many keys are unread.
+/// The place between, and how many keys are known now that weren't.
 fn crack_between(
     places: &mut Vec<Place>,
     from: usize,
     to: usize,
+    unread: usize,
     handles: &[Handle<Row>],
     bound: Bound,
     arena: &Arena<Row>,
-) -> usize
+) -> (usize, usize)
     requires order { from ≤ to }
     requires within { to ≤ vec_len places.old }
     requires drawn { All (λ p. p.ticket < length handles.now) places.old.items }
     requires known { All (Knows arena.now.cells handles.now) (between from to places.old.items) }
-    ensures turned { Turns arena.now.cells handles.now bound.0 from to places.old.items places.new.items result }
+    requires unread { times unknown (map remembered_of (between from to places.old.items)) ≤ unread }
+    ensures turned { Turns arena.now.cells handles.now bound.0 from to places.old.items places.new.items result.0 result.1 }
     ensures capacity { vec_capacity places.new ≡ vec_capacity places.old }
 {
-    from + crack(&mut places[from..to], handles, bound, arena)
+    let (place, learned) = crack(&mut places[from..to], unread, handles, bound, arena);
+    (from + place, learned)
 }
 
 /// Keeps the handle under the ticket of the place, and gives back the one that was kept there.

@@ -1,8 +1,8 @@
 //! The places of a cracker column: what a crack reads, and what it exchanges.
-ghost use Rattle.std.specs.Prelude.{◌≡◌, ◌<◌, List, All, length, map};
+ghost use Rattle.std.specs.Prelude.{◌≡◌, ◌+◌, ◌<◌, ◌≤◌, List, All, length, map};
 ghost use Rattle.std.specs.List.Sorted.{IsPermutation};
-ghost use Rattle.crack_arena.specs.Rows.{key_at};
-ghost use Rattle.crack_column.specs.Column.{IsDividedAt};
+ghost use Rattle.crack_arena.specs.Arena.{times};
+ghost use Rattle.crack_column.specs.Column.{IsDividedAt, unknown};
 ghost use Rattle.crack_column.specs.Tickets.{ticket_of, remembered_of, handle_of, Knows, Read};
 
 use crack_arena::{Arena, Handle, key_of};
@@ -18,35 +18,47 @@ pub(crate) struct Place {
     pub(crate) ticket: u32,
 }
 
-/// Reads the keys of the places, and puts those below the bound first. How many these are.
+/// Reads the keys of the places, if any of at most so many is unread, and puts those below the bound first.
+/// How many these are, and how many keys are known now that weren't.
 pub(crate) fn crack(
     places: &mut [Place],
+    unread: usize,
     handles: &[Handle<Row>],
     bound: Bound,
     arena: &Arena<Row>,
-) -> usize
+) -> (usize, usize)
     requires drawn { All (λ p. p.ticket < length handles.now) places.old }
     requires known { All (Knows arena.now.cells handles.now) places.old }
+    requires unread { times unknown (map remembered_of places.old) ≤ unread }
     ensures kept { IsPermutation (map ticket_of places.old) (map ticket_of places.new) }
     ensures read { All (Read arena.now.cells handles.now) places.new }
-    ensures divided { IsDividedAt bound.0 (map remembered_of places.new) result }
+    ensures divided { IsDividedAt bound.0 (map remembered_of places.new) result.0 }
+    ensures fewer { times unknown (map remembered_of places.new) + result.1 ≡ times unknown (map remembered_of places.old) }
 {
-    learn(places, handles, arena);
-    divide(places, bound)
+    if unread == 0 {
+        return (divide(places, bound), 0);
+    }
+    let learned = learn(places, handles, arena);
+    (divide(places, bound), learned)
 }
 
-/// Reads each key that isn't known.
-fn learn(places: &mut [Place], handles: &[Handle<Row>], arena: &Arena<Row>)
+/// Reads each key that isn't known. How many are known now.
+fn learn(places: &mut [Place], handles: &[Handle<Row>], arena: &Arena<Row>) -> usize
     requires drawn { All (λ p. p.ticket < length handles.now) places.old }
     requires known { All (Knows arena.now.cells handles.now) places.old }
     ensures tickets { map ticket_of places.new ≡ map ticket_of places.old }
     ensures read { All (Read arena.now.cells handles.now) places.new }
+    ensures fewer { times unknown (map remembered_of places.new) + result ≡ times unknown (map remembered_of places.old) }
 {
+    let mut learned = 0;
     'places: for i in 0..places.len() {
         if places[i].key == UNKNOWN {
-            places[i].key = key_of(arena, handles[places[i].ticket as usize]).0;
+            let key = key_of(arena, handles[places[i].ticket as usize]).0;
+            places[i].key = key;
+            learned += (key != UNKNOWN) as usize;
         }
     }
+    learned
 }
 
 /// Puts the keys below the bound first, and gives their number.

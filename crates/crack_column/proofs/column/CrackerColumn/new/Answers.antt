@@ -1,13 +1,17 @@
 use Rattle.std.proofs.Common.{arith, refl}
 use Rattle.crack_arena.specs.Times.{times-nil}
+use Rattle.crack_column.specs.Column.{unknown}
 use Rattle.crack_column.proofs.column.CrackerColumn.new.Goals as goal
 
 pub invariant_of-result : goal.invariant_of-result
 invariant_of-result c =
     rw (c.new.ensures.items, c.new-2.ensures.items) (record {
-      beside = refl;
-      within = omega arith;
-      few = omega arith;
-      drawn = λ k d h. absurd (omega arith);
-      once = λ n. omega (arith, times-nil n);
+      are = record {
+        beside = refl;
+        within = omega arith;
+        few = omega arith;
+        drawn = λ k d h. absurd (omega arith);
+        once = λ n. omega (arith, times-nil n);
+      };
+      most = omega (arith, times-nil unknown);
     })
