@@ -1,4 +1,4 @@
 pub mod Arena
 pub mod Times
 pub mod Laws
-pub mod Layout
+pub mod Links
