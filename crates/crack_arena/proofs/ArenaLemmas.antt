@@ -9,7 +9,7 @@ use Rattle.crack_arena.specs.Times.{times-nil, times-cons, times_one, times_othe
 use Rattle.crack_arena.specs.declared.Cell.{Cell as Stored}
 use Rattle.crack_arena.specs.declared.Content.{Content}
 use Rattle.crack_arena.specs.declared.Content.TheVariants.{Free, Full}
-use Rattle.crack_arena.specs.Layout.{content_value, content_link, cell_of, cells_of, empty_stored, link_at, chain, IsChain, is_free, is_vacant, vacancy, vacant_at, IsLinked}
+use Rattle.crack_arena.specs.Links.{content_value, content_link, cell_of, cells_of, empty_stored, link_at, chain, IsChain, is_free, is_vacant, vacancy, vacant_at, IsLinked}
 
 module _ {T : Type 0} where
   pub link_at-set_other : (stored : List (Stored T)) (k m : ℕ) (s : Stored T) → m ≢ k → link_at (set stored k s) m ≡ link_at stored m
@@ -58,10 +58,6 @@ module _ {T : Type 0} where
   pub IsLinked-empty : (stored : List (Stored T)) (free freed : ℕ) → IsLinked stored None free freed → free ≡ 0
   IsLinked-empty stored zero freed sound = refl
   IsLinked-empty stored (suc n) freed sound = absurd (let e = sound.chained in cc)
-
-  pub IsLinked-some : (stored : List (Stored T)) (k free freed : ℕ) → IsLinked stored (Some k) free freed → (n : ℕ) × (free ≡ suc n)
-  IsLinked-some stored k zero freed sound = absurd (let e = sound.linked in cc)
-  IsLinked-some stored k (suc n) freed sound = (n, refl)
 
   -- the head is a vacant slot, and the rest of the list does not come back to it
   pub record Head (stored : List (Stored T)) (k n : ℕ) : Type 0 where

@@ -1,9 +1,8 @@
 -- Laws of cells, handles and the free list, for layers above.
-use Rattle.std.proofs.Common.{◌≡◌, ◌⊎◌, ℕ, ◌+◌, ◌<◌, ◌≤◌, Bool, true, false, List, [], ◌∷◌, length, get_or, set, cond, eqb, ltb, Option, Some, None, is_some, refl, sym, ap, ◌∙◌, inl, inr, arith, length-set}
-use Rattle.std.specs.Prelude.{is_none, ◌&&◌}
+use Rattle.std.proofs.Common.{◌≡◌, ◌⊎◌, ℕ, ◌+◌, ◌<◌, ◌≤◌, Bool, true, false, List, [], ◌∷◌, length, get_or, set, cond, eqb, Option, Some, None, is_some, refl, sym, ap, inl, inr, arith, length-set}
 use Rattle.std.proofs.lemmas.List.{get_or-set_same, get_or-set_other, get_or_past, get_or_append_left, length_push}
-use Rattle.std.proofs.lemmas.Bool.{cases_eq, cases_lt, ne_eqb, eqb-true, ltb-true, lt-ltb, true≢false}
-use Rattle.crack_arena.specs.Arena.{Handle, same_handle, Cell, Arena, empty_cell, cell_at, read, times, vacancy_at, IsWhole, IsSpent, KeepsSpent, cells_with, put_in, set_at, freed_at, Call, Put, Set, Free, Reserve, after_call, after}
+use Rattle.std.proofs.lemmas.Bool.{cases_eq, cases_lt, ne_eqb, eqb-true, true≢false}
+use Rattle.crack_arena.specs.Arena.{Handle, Cell, Arena, empty_cell, cell_at, read, IsSpent, KeepsSpent, cells_with, put_in, set_at, freed_at, Call, Put, Set, Free, Reserve, after_call, after}
 
 module _ {T : Type 0} where
   -- what a handle reads is the value of its cell, which has its generation
@@ -111,42 +110,3 @@ module _ {T : Type 0} where
 
   pub read_spent_after : (a : Arena T) (h : Handle) → IsSpent a.cells h → (calls : List (Call T)) → read (after calls a).cells h ≡ None
   read_spent_after a h spent calls = read_spent (after calls a).cells h (KeepsSpent-after calls a h spent)
-
-  -- a cell without a value
-  pub record IsVacant (cells : List (Cell T)) (n : ℕ) : Type 0 where
-    pub within : n < length cells
-    pub empty : (cell_at cells n).value ≡ None
-
-  vacant_at_one : (cells : List (Cell T)) (n : ℕ) → 0 < vacancy_at cells n → IsVacant cells n
-  vacant_at_one cells n one = by_test (ltb n (length cells)) refl (cell_at cells n).value refl one
-    where
-      by_test : (t : Bool) → ltb n (length cells) ≡ t → (o : Option T) → (cell_at cells n).value ≡ o → 0 < cond t (cond (is_none o) 1 0) 0 → IsVacant cells n
-      by_test true within None vacant h = record { within = ltb-true n (length cells) within; empty = vacant }
-      by_test true within (Some v) vacant h = absurd (omega arith)
-      by_test false within o vacant h = absurd (omega arith)
-
-  -- a free number is that of a cell without a value
-  pub IsVacant-free : (a : Arena T) (n : ℕ) → IsWhole a → 0 < times n a.free → IsVacant a.cells n
-  IsVacant-free a n whole free = vacant_at_one a.cells n (omega (arith, free, whole.free_once n))
-
-  -- a cell without a value is free, once
-  pub times-vacant : (a : Arena T) (n : ℕ) → IsWhole a → IsVacant a.cells n → times n a.free ≡ 1
-  times-vacant a n whole vacant =
-      let one : vacancy_at a.cells n ≡ 1 = rw (lt-ltb n (length a.cells) vacant.within, vacant.empty) refl in
-      whole.free_once n ∙ one
-
-  -- a cell with a value isn't free
-  pub times-reading : (a : Arena T) (h : Handle) (v : T) → IsWhole a → read a.cells h ≡ Some v → times h.slot a.free ≡ 0
-  times-reading a h v whole reads =
-      let reading = IsReading-from a.cells h v reads in
-      let none : vacancy_at a.cells h.slot ≡ 0 = rw (lt-ltb h.slot (length a.cells) reading.within, reading.value) refl in
-      whole.free_once h.slot ∙ none
-
--- handles that compare equal are one
-pub same_handle-true : (h k : Handle) → same_handle h k ≡ true → h ≡ k
-same_handle-true h k same = by_tests (eqb h.slot k.slot) refl (eqb h.generation k.generation) refl same
-  where
-    by_tests : (s : Bool) → eqb h.slot k.slot ≡ s → (g : Bool) → eqb h.generation k.generation ≡ g → (s && g) ≡ true → h ≡ k
-    by_tests true slots true generations same = rw (eqb-true h.slot k.slot slots, eqb-true h.generation k.generation generations) refl
-    by_tests true slots false generations same = absurd (true≢false (sym same))
-    by_tests false slots g generations same = absurd (true≢false (sym same))

@@ -1,5 +1,5 @@
 pub mod Arena
 pub mod Times
 pub mod Laws
-pub mod Layout
+pub mod Links
 pub mod Rows

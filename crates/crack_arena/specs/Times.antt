@@ -1,8 +1,8 @@
 -- Laws of how often a number stands in a list.
-use Rattle.std.proofs.Common.{◌≡◌, ◌≢◌, ℕ, ◌+◌, ◌<◌, ◌≤◌, List, [], ◌∷◌, ◌++◌, map, length, get_or, set, take, drop, cond, Bool, sum_by, refl, ap, ◌∙◌, subst, arith}
+use Rattle.std.proofs.Common.{◌≡◌, ◌≢◌, ℕ, ◌+◌, ◌<◌, ◌≤◌, List, [], ◌∷◌, ◌++◌, map, length, get_or, set, cond, Bool, sum_by, refl, ap, ◌∙◌, subst, arith}
 use Rattle.std.specs.Prelude.{◌==◌, remove, IsPermutation}
 use Rattle.std.proofs.lemmas.List.{map-append}
-use Rattle.std.proofs.lemmas.List.Sums.{sum_by-cons, sum_by-append, sum_by-set, sum_by-remove, sum_by-take-drop, sum_by_more, sum_by-drop_more, count_by-le-length}
+use Rattle.std.proofs.lemmas.List.Sums.{sum_by-cons, sum_by-append, sum_by-set, sum_by-remove, count_by-le-length}
 use Rattle.std.proofs.lemmas.List.Sorted.{sum_by-IsPermutation}
 use Rattle.std.proofs.lemmas.Bool.{eq-eqb, ne_eqb}
 use Rattle.crack_arena.specs.Arena.{times}
@@ -43,31 +43,10 @@ times_apart k m ks none = (
   omega (arith, times-cons k m ks),
 )
 
-pub times_pushed : (n x : ℕ) (xs : List ℕ) → times n (xs ++ x ∷ []) ≡ times n xs + cond (x == n) 1 0
-times_pushed n x xs = omega (arith, times-append n xs (x ∷ []), times_one n x)
-
 -- taking a number out of its place
 pub times-remove : (n : ℕ) (xs : List ℕ) (i d : ℕ) → i < length xs → times n (remove xs i) + cond (get_or xs i d == n) 1 0 ≡ times n xs
 unfolding times
 times-remove n xs i d h = sum_by-remove (λ x. cond (x == n) 1 0) xs i d h
-
--- a list in two parts
-pub times-take-drop : (n : ℕ) (xs : List ℕ) (i : ℕ) → times n (take i xs) + times n (drop i xs) ≡ times n xs
-unfolding times
-times-take-drop n xs i = sum_by-take-drop (λ x. cond (x == n) 1 0) xs i
-
--- one more taken
-pub times_take_more : (n : ℕ) (xs : List ℕ) (i d : ℕ) → i < length xs → times n (take (i + 1) xs) ≡ times n (take i xs) + cond (get_or xs i d == n) 1 0
-unfolding times
-times_take_more n xs i d h = sum_by_more (λ x. cond (x == n) 1 0) xs i d h
-
-pub times_drop_more : (n : ℕ) (xs : List ℕ) (i d : ℕ) → i < length xs → times n (drop i xs) ≡ cond (get_or xs i d == n) 1 0 + times n (drop (i + 1) xs)
-unfolding times
-times_drop_more n xs i d h = sum_by-drop_more (λ x. cond (x == n) 1 0) xs i d h
-
--- a number at a place stands in the list
-pub times_at : (n : ℕ) (xs : List ℕ) (i d : ℕ) → i < length xs → get_or xs i d ≡ n → 0 < times n xs
-times_at n xs i d h at = omega (arith, times-remove n xs i d h, ap (λ (b : Bool). cond {A = ℕ} b 1 0) (eq-eqb (get_or xs i d) n at))
 
 -- no number stands in a list more often than the list is long
 pub times-le-length : (n : ℕ) (xs : List ℕ) → times n xs ≤ length xs
@@ -88,17 +67,9 @@ module _ {X : Type 0} where
   pub times-map-append : (n : ℕ) (f : X → ℕ) (xs ys : List X) → times n (map f (xs ++ ys)) ≡ times n (map f xs) + times n (map f ys)
   times-map-append n f xs ys = rw (map-append f xs ys) (times-append n (map f xs) (map f ys))
 
-  pub times-map-set : (n : ℕ) (f : X → ℕ) (xs : List X) (i : ℕ) (y d : X) → i < length xs → times n (map f (set xs i y)) + times n (f (get_or xs i d) ∷ []) ≡ times n (map f xs) + times n (f y ∷ [])
-  times-map-set n f xs i y d h =
-      omega (arith, times_one n (f (get_or xs i d)), times_one n (f y), times-map n f (set xs i y), times-map n f xs, sum_by-set (λ x. cond (f x == n) 1 0) xs i y d h)
-
   pub times-map-remove : (n : ℕ) (f : X → ℕ) (xs : List X) (i : ℕ) (d : X) → i < length xs → times n (map f (remove xs i)) + times n (f (get_or xs i d) ∷ []) ≡ times n (map f xs)
   times-map-remove n f xs i d h =
       omega (arith, times_one n (f (get_or xs i d)), times-map n f (remove xs i), times-map n f xs, sum_by-remove (λ x. cond (f x == n) 1 0) xs i d h)
-
-  pub times-map-take-drop : (n : ℕ) (f : X → ℕ) (xs : List X) (i : ℕ) → times n (map f (take i xs)) + times n (map f (drop i xs)) ≡ times n (map f xs)
-  times-map-take-drop n f xs i =
-      omega (arith, times-map n f (take i xs), times-map n f (drop i xs), times-map n f xs, sum_by-take-drop (λ x. cond (f x == n) 1 0) xs i)
 
   pub times-map-IsPermutation : (n : ℕ) (f : X → ℕ) (xs ys : List X) → IsPermutation xs ys → times n (map f ys) ≡ times n (map f xs)
   times-map-IsPermutation n f xs ys same =

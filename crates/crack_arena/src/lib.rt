@@ -16,7 +16,7 @@ use crack_row::Refusal;
 pub use rows::key_of;
 use std::alloc::{AllocError, Global};
 use std::marker::{Model, PhantomData};
-use std::mem;
+use std::{fmt, mem};
 
 /// Names one cell at one generation. It doesn't know which arena made it.
 pub struct Handle<T> {
@@ -65,6 +65,15 @@ impl<T> PartialEq for Handle<T> {
 
 impl<T> Eq for Handle<T> {
     ghost laws = { Prim.search rules };
+}
+
+impl<T> fmt::Debug for Handle<T> {
+    fn fmt<W: fmt::Write>(&self, f: &mut fmt::Formatter<W>) -> fmt::Result {
+        f.debug_struct("Handle")
+            .field("slot", &self.slot)
+            .field("generation", &self.generation)
+            .finish()
+    }
 }
 
 impl<T> Handle<T> {
@@ -131,7 +140,7 @@ impl<T> Model for Arena<T> {
 
     ghost coded = { arena_code T.code };
 
-    ghost use Rattle.crack_arena.specs.Layout.{cells_of, chain};
+    ghost use Rattle.crack_arena.specs.Links.{cells_of, chain};
 
     ghost view = { λ a. record {
       cells = cells_of a.cells.items;
@@ -139,7 +148,7 @@ impl<T> Model for Arena<T> {
       room = a.free + (vec_capacity a.cells - length a.cells.items);
     } };
 
-    ghost use Rattle.crack_arena.specs.Layout.{IsLinked};
+    ghost use Rattle.crack_arena.specs.Links.{IsLinked};
 
     ghost invariant = { λ a. IsLinked a.cells.items a.head a.free a.freed };
 }
@@ -149,6 +158,7 @@ impl<T> Arena<T> {
     pub fn new(alloc: Global) -> Arena<T>
         ensures cells { result.cells ≡ [] }
         ensures free { result.free ≡ [] }
+        ensures room { result.room ≡ 0 }
     {
         Arena {
             cells: Vec::new(alloc),

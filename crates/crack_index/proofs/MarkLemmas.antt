@@ -210,7 +210,6 @@ Moves-lowered_at marks place start end inside within low high =
     (λ k d h j. lowered_at_apart place (get_or marks k d) (λ e. absurd (let past = high.1 k d h j in omega arith)))
 
 -- the first mark above a number stands behind all that aren't
--- the first mark above a number stands behind all that aren't
 pub next_mark-split : (marks : List Mark) (number at : ℕ) → at ≤ length marks → IsPartitionPoint (λ (m : Mark). m.bound.0 ≤ number) (λ m. number < m.bound.0) marks at → next_mark number marks ≡ slice_get (drop at marks) 0
 next_mark-split [] number zero h split = refl
 next_mark-split [] number (suc at) h split = absurd (omega arith)
@@ -277,10 +276,3 @@ pub pieces_more : (made : List PieceSize) (low : Bound) (from : ℕ) (marks : Li
 pieces_more made low from marks i high to h =
     let m = get_or marks i no_mark in
     rw (drop_more marks i no_mark h) (sym (append_assoc made (size_between low from m.bound m.position ∷ []) (pieces_from m.bound m.position (drop (i + 1) marks) high to)))
-
--- the marks behind one stand at or behind it
-pub behind_mark : (marks : List Mark) (i : ℕ) → i < length marks → Rising marks → All (λ (m : Mark). (get_or marks i no_mark).position ≤ m.position) (drop (i + 1) marks)
-behind_mark marks i h rising = λ k d l.
-    let inside : i + 1 + k < length marks = omega (arith, length-drop (i + 1) marks) in
-    let same : (get_or marks i no_mark).position ≡ (get_or marks i d).position = ap (λ (m : Mark). m.position) (get_or_default marks i no_mark d h) in
-    rw (get_or-drop (i + 1) marks k d, same) (rising i (i + 1 + k) d (omega arith) inside).positions

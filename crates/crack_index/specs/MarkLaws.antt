@@ -1,7 +1,6 @@
 -- What the marks of an index keep, whatever is done to them.
 use Rattle.std.specs.Prelude.{◌≡◌, ◌≢◌, ◌⊎◌, ◌↔◌, ℕ, ◌+◌, ◌-◌, ◌<◌, ◌≤◌, List, [], ◌∷◌, map, length, All, Contains, Option, Some, None, unwrap_or, sum_by, refl}
 use Rattle.std.proofs.Common.{zero, suc, get_or, leb, eqb, sym, ap, ◌∙◌, inl, inr, arith}
-use Rattle.std.specs.Option.{option_map}
 use Rattle.std.proofs.lemmas.Bool.{cases_eq, cases_lt, lt-ltb, le-ltb, lt-leb, le-leb, eq-eqb, ne_eqb, and_right}
 use Rattle.std.proofs.lemmas.List.{get_or_default, length-map, get_or-map}
 use Rattle.std.proofs.lemmas.List.Elements.{All-nil, All-cons, All-head, All-tail, All-contains, Contains-get_or}
@@ -13,9 +12,6 @@ use Rattle.crack_index.specs.declared.mark.Mark.{Mark}
 use Rattle.crack_index.specs.Marks.{no_mark, InOrder, Rising, Fits, bounds_of, HasBound, place_of, next_mark, last_mark, start_of, end_of, size_between, pieces_from, added, one_up, one_down, raised, lowered, lowered_at}
 
 -- Rising
-
-pub Rising-nil : Rising []
-Rising-nil = λ i j d h k. absurd (omega arith)
 
 pub Rising-tail : (m : Mark) (ms : List Mark) → Rising (m ∷ ms) → Rising ms
 Rising-tail m ms rising = λ i j d h k. rising (suc i) (suc j) d (omega arith) (omega arith)
@@ -41,25 +37,6 @@ Rising-positions marks m n rising is_m is_n h =
             let same : m ≡ n = sym at_m ∙ ap (λ (i : ℕ). get_or marks i n) e ∙ at_n in
             rw same (omega arith)
         | inr ne ↦
-            let o = rising is_n.0 is_m.0 n (omega arith) is_m.1 in
-            let below : n.bound.0 < m.bound.0 = rw (at_m, at_n) at o.bounds in
-            absurd (omega arith)
-      ]
-    ]
-
--- a mark is known by its bound
-pub Rising-same : (marks : List Mark) (m n : Mark) → Rising marks → Contains marks m → Contains marks n → m.bound.0 ≡ n.bound.0 → m ≡ n
-Rising-same marks m n rising is_m is_n h =
-    let at_m : get_or marks is_m.0 n ≡ m = get_or_default marks is_m.0 n m is_m.1 ∙ is_m.2 in
-    let at_n : get_or marks is_n.0 n ≡ n = is_n.2 in
-    elim (cases_eq is_m.0 is_n.0) [
-      | inl e ↦ sym at_m ∙ ap (λ (i : ℕ). get_or marks i n) e ∙ at_n
-      | inr ne ↦ elim (cases_lt is_m.0 is_n.0) [
-        | inl l ↦
-            let o = rising is_m.0 is_n.0 n l is_n.1 in
-            let below : m.bound.0 < n.bound.0 = rw (at_m, at_n) at o.bounds in
-            absurd (omega arith)
-        | inr l ↦
             let o = rising is_n.0 is_m.0 n (omega arith) is_m.1 in
             let below : n.bound.0 < m.bound.0 = rw (at_m, at_n) at o.bounds in
             absurd (omega arith)
@@ -172,25 +149,6 @@ last_mark-is number (n ∷ ns) m rising found = elim (cases_lt number n.bound.0)
         below_of : Contains ns m → n.bound.0 < m.bound.0
         below_of at = let o = Rising-head n ns rising at.0 m at.1 in rw at.2 at o.bounds
 
--- a change that keeps every bound keeps who is next, and who is last
-pub next_mark-map : (number : ℕ) (f : Mark → Mark) → ((m : Mark) → (f m).bound.0 ≡ m.bound.0) → (marks : List Mark) → next_mark number (map f marks) ≡ option_map f (next_mark number marks)
-next_mark-map number f keeps [] = refl
-next_mark-map number f keeps (m ∷ ms) = elim (cases_lt number m.bound.0) [
-  | inl l ↦ rw (lt-ltb number (f m).bound.0 (omega (arith, keeps m)), lt-ltb number m.bound.0 l) refl
-  | inr l ↦ rw (le-ltb number (f m).bound.0 (omega (arith, keeps m)), le-ltb number m.bound.0 l) (next_mark-map number f keeps ms)
-]
-
-pub last_mark-map : (number : ℕ) (f : Mark → Mark) → ((m : Mark) → (f m).bound.0 ≡ m.bound.0) → (marks : List Mark) → last_mark number (map f marks) ≡ option_map f (last_mark number marks)
-last_mark-map number f keeps [] = refl
-last_mark-map number f keeps (m ∷ ms) = elim (cases_lt number m.bound.0) [
-  | inl l ↦ rw (lt-leb (f m).bound.0 number (omega (arith, keeps m)), lt-leb m.bound.0 number l) refl
-  | inr l ↦ rw (le-leb (f m).bound.0 number (omega (arith, keeps m)), le-leb m.bound.0 number l, last_mark-map number f keeps ms) (by_rest (last_mark number ms))
-]
-  where
-    by_rest : (o : Option Mark) → Some (unwrap_or (option_map f o) (f m)) ≡ option_map f (Some (unwrap_or o m))
-    by_rest None = refl
-    by_rest (Some n) = refl
-
 -- the piece of a number doesn't end before it begins
 pub piece_order : (number len : ℕ) (marks : List Mark) → Rising marks → All (λ m. m.position ≤ len) marks → start_of (last_mark number marks) ≤ end_of len (next_mark number marks)
 piece_order number len marks rising within = by_marks (last_mark number marks) (next_mark number marks) refl refl
@@ -234,13 +192,6 @@ Contains-added m [] = Contains-first m []
 Contains-added m (n ∷ ns) = elim (cases_lt m.bound.0 n.bound.0) [
   | inl l ↦ rw (lt-ltb m.bound.0 n.bound.0 l) (Contains-first m (n ∷ ns))
   | inr l ↦ rw (le-ltb m.bound.0 n.bound.0 l) (Contains-behind n (added m ns) m (Contains-added m ns))
-]
-
-pub length-added : (m : Mark) (marks : List Mark) → length (added m marks) ≡ length marks + 1
-length-added m [] = refl
-length-added m (n ∷ ns) = elim (cases_lt m.bound.0 n.bound.0) [
-  | inl l ↦ rw (lt-ltb m.bound.0 n.bound.0 l) (omega arith)
-  | inr l ↦ rw (le-ltb m.bound.0 n.bound.0 l) (omega (arith, length-added m ns))
 ]
 
 -- what holds of the new mark and of all others holds of all

@@ -1,5 +1,5 @@
 //! The cracker index: the bounds that divide a cracked column, each with its place.
-ghost use Rattle.std.specs.Prelude.{◌≡◌, ℕ, ◌+◌, ◌-◌, ◌<◌, ◌≤◌, ◌^◌, ◌==◌, ◌↔◌, [], map, length, All, sum_by, IsOk, IsSome, IfSome, IfOk, IfErr, OnOk, IsTrue};
+ghost use Rattle.std.specs.Prelude.{◌≡◌, ℕ, ◌+◌, ◌-◌, ◌<◌, ◌≤◌, ◌==◌, ◌↔◌, [], map, length, All, sum_by, IsOk, IsSome, IfSome, IfOk, IfErr, OnOk, IsTrue};
 ghost use Rattle.std.specs.Option.{option_map};
 ghost use Rattle.crack_row.specs.Layouts.{AreJoined};
 ghost use Rattle.crack_index.specs.Marks.{Rising, Fits, HasBound, place_of, next_mark, pair_of, added, raised, lowered, lowered_at, piece_at, pieces_from};
@@ -43,7 +43,8 @@ impl Model for CrackerIndex {
 impl CrackerIndex {
     /// An index without bounds. Takes no memory.
     pub fn new(alloc: Global) -> CrackerIndex
-        ensures { result.marks ≡ [] }
+        ensures marks { result.marks ≡ [] }
+        ensures room { result.room ≡ 0 }
     {
         CrackerIndex {
             marks: Vec::new(alloc),
@@ -134,10 +135,9 @@ impl CrackerIndex {
         keys: KeyRange,
         len: usize,
     ) -> Result<Vec<PieceSize>, Refusal>
-        requires { All (λ m. m.position ≤ len) self.now.marks }
         ensures ok { IfOk result (λ v. v.items ≡ pieces_from (record { 0 = keys.low }) 0 self.now.marks (record { 0 = keys.high }) len) }
         ensures joined { IfOk result (λ v. AreJoined keys.low keys.high v.items) }
-        ensures sizes { IfOk result (λ v. sum_by (λ (p : PieceSize). p.size) v.items ≡ len) }
+        ensures sizes { All (λ m. m.position ≤ len) self.now.marks → IfOk result (λ v. sum_by (λ (p : PieceSize). p.size) v.items ≡ len) }
         ensures err { IfErr result (λ e. e ≡ Refusal.OutOfMemory) }
     {
         sorted::piece_sizes(alloc, &self.marks, keys, len)

@@ -1,5 +1,5 @@
 //! Marks in rising order in a slice: searches by halves, and the moves of the bounds at one place.
-ghost use Rattle.std.specs.Prelude.{◌≡◌, ℕ, ◌+◌, ◌-◌, ◌<◌, ◌≤◌, ◌^◌, map, length, All, IfOk, IfErr, vec_len, vec_capacity};
+ghost use Rattle.std.specs.Prelude.{◌≡◌, ◌+◌, ◌-◌, ◌<◌, ◌≤◌, map, length, All, IfOk, IfErr, vec_len, vec_capacity};
 ghost use Rattle.std.specs.List.Sorted.{IsPartitionPoint};
 ghost use Rattle.crack_index.specs.Marks.{Rising, HasBound, last_mark, next_mark, place_of, raised, lowered, lowered_at, one_up, one_down, added, pieces_from, size_between};
 
@@ -131,7 +131,6 @@ pub(crate) fn piece_sizes(
     len: usize,
 ) -> Result<Vec<PieceSize>, Refusal>
     requires rising { Rising marks.now }
-    requires within { All (λ m. m.position ≤ len) marks.now }
     ensures ok { IfOk result (λ v. v.items ≡ pieces_from (record { 0 = keys.low }) 0 marks.now (record { 0 = keys.high }) len) }
     ensures err { IfErr result (λ e. e ≡ Refusal.OutOfMemory) }
 {
@@ -147,14 +146,13 @@ pub(crate) fn piece_sizes(
     Ok(pieces)
 }
 
-/// The size of the piece between two bounds that stand at these places.
+/// The size of the piece between two bounds that stand at these places: 0 where the second stands before the first.
 fn piece_size(low: Bound, from: usize, high: Bound, to: usize) -> PieceSize
-    requires { from ≤ to }
     ensures { result ≡ size_between low from high to }
 {
     PieceSize {
         low,
         high,
-        size: (to - from) as u64,
+        size: to.saturating_sub(from) as u64,
     }
 }

@@ -8,10 +8,9 @@ use Rattle.std.proofs.lemmas.Bool.Decides.{nat_tests}
 use Rattle.std.proofs.lemmas.List.Elements.{All-nil, All-cons, All-head, All-tail}
 use Rattle.std.proofs.lemmas.List.Sorted.{All-permutation}
 use Rattle.std.proofs.lemmas.List.Sums.{sum_by-cons}
-use Rattle.crack_row.specs.Ranges.{Range, IsIn, is_in, clipped}
+use Rattle.crack_row.specs.Ranges.{Range, IsIn, is_in, in_range, clipped}
 use Rattle.crack_row.specs.declared.Row.{Row}
 use Rattle.crack_arena.specs.Arena.{Cell, times, slots}
-use Rattle.crack_plain.specs.Plain.{in_range}
 use Rattle.crack_state.specs.State.{State, live_value, live_from, live_rows, AreWithin, IsIntact}
 use Rattle.crack_state.specs.Merge.{IsSettled, edge}
 use Rattle.crack_state.specs.SettledLaws.{count-settled}

@@ -38,10 +38,6 @@ IsLegal-push keys limit es e legal room within reply = record {
   short = omega (arith, length-append es (e ∷ []));
 }
 
--- no entry
-pub IsLegal-nil : (keys : Range) (limit : ℕ) → IsLegal keys limit []
-IsLegal-nil keys limit = record { replies = tt; within = tt; short = omega arith }
-
 -- no row
 pub IsNumbered-no_rows : IsNumbered no_rows
 IsNumbered-no_rows = record { rising = λ i j d i_lt_j j_lt. omega arith; below = All-nil _ }
@@ -93,10 +89,6 @@ length_rows-replay_from s (e ∷ es) replies =
     let placed : inserted (e ∷ es) ≡ (if is_placed (reply_to s e.command) then 1 else 0) + inserted es = inserted-cons e es ∙ ap (λ reply. (if is_placed reply then 1 else 0) + inserted es) replies.0 in
     let gone : deleted (e ∷ es) ≡ (if is_gone (reply_to s e.command) then 1 else 0) + deleted es = deleted-cons e es ∙ ap (λ reply. (if is_gone reply then 1 else 0) + deleted es) replies.0 in
     omega (arith, later, now, placed, gone)
-
--- what went had been placed
-pub deleted-le-inserted : (es : List Entry) → AreReplies no_rows es → deleted es ≤ inserted es
-deleted-le-inserted es replies = omega (arith, length_rows-replay_from no_rows es replies)
 
 -- the rows are those that were placed, less those that went
 pub length_rows-replay : (es : List Entry) → AreReplies no_rows es → length (replay es).rows ≡ held es

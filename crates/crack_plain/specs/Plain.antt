@@ -1,6 +1,6 @@
 -- The plain table: rows changed by commands and filtered by ranges, with no piece, handle, pending row, policy or lock.
-use Rattle.std.specs.Prelude.{◌≡◌, ℕ, ◌+◌, ◌<◌, ◌≤◌, Bool, List, [], ◌∷◌, ◌++◌, length, count_by, All, AllPairs}
-use Rattle.crack_row.specs.Ranges.{Range, IsIn, is_in}
+use Rattle.std.specs.Prelude.{◌≡◌, ℕ, ◌+◌, ◌<◌, ◌≤◌, List, [], ◌∷◌, ◌++◌, length, count_by, All, AllPairs}
+use Rattle.crack_row.specs.Ranges.{Range, IsIn, in_range}
 use Rattle.crack_row.specs.declared.Row.{Row}
 use Rattle.crack_row.specs.declared.command.Command.{Command}
 use Rattle.crack_row.specs.declared.command.Command.TheVariants.{Insert, Count}
@@ -22,10 +22,6 @@ pub record IsNumbered (s : PlainState) : Type 0 where
   pub rising : AllPairs (λ (earlier later : Row). earlier.serial.0 < later.serial.0) s.rows
   pub below : All (λ (row : Row). row.serial.0 < s.next) s.rows
 
--- whether the row's key is in the range
-abbrev pub in_range : Range → Row → Bool
-in_range range row = is_in range row.key.0
-
 -- what a command is replied
 abbrev pub reply_to : PlainState → Command → Reply
 reply_to s (Insert key payload) = Placed (record { 0 = s.next })
@@ -35,6 +31,11 @@ reply_to s (Count range) = Counted (count_by (in_range range) s.rows)
 abbrev pub after : PlainState → Command → PlainState
 after s (Insert key payload) = record { rows = s.rows ++ record { serial = record { 0 = s.next }; key = key; payload = payload } ∷ []; next = s.next + 1 }
 after s (Count range) = s
+
+-- the command is answered from what is there
+abbrev pub TakesNoMemory : Command → Type 0
+TakesNoMemory (Insert key payload) = ⊥
+TakesNoMemory (Count range) = Unit {0}
 
 -- the reply, and the state afterwards; the policy is no argument
 abbrev pub answer : PlainState → Command → Reply × PlainState

@@ -1,6 +1,6 @@
 -- How many commands, insertions and deletions a history has, and how many rows it leaves.
 use Rattle.std.specs.Prelude.{◌≡◌, ℕ, ◌+◌, ◌-◌, ◌≤◌, Bool, true, false, List, [], ◌∷◌, ◌++◌, length, count_by, if◌then◌else◌}
-use Rattle.std.proofs.Common.{arith, length-append}
+use Rattle.std.proofs.Common.{arith}
 use Rattle.std.proofs.lemmas.List.Sums.{sum_by-append, count_by-le-length}
 use Rattle.crack_row.specs.declared.command.Reply.{Reply}
 use Rattle.crack_row.specs.declared.command.Reply.TheVariants.{Placed, Counted}
@@ -33,9 +33,6 @@ abbrev pub held : List Entry → ℕ
 held es = inserted es - deleted es
 
 -- one list of entries after another
-pub accepted-append : (xs ys : List Entry) → accepted (xs ++ ys) ≡ accepted xs + accepted ys
-accepted-append xs ys = length-append xs ys
-
 pub inserted-append : (xs ys : List Entry) → inserted (xs ++ ys) ≡ inserted xs + inserted ys
 inserted-append xs ys = sum_by-append _ xs ys
 
@@ -50,18 +47,12 @@ pub deleted-cons : (e : Entry) (es : List Entry) → deleted (e ∷ es) ≡ (if 
 deleted-cons e es = omega (arith, deleted-append (e ∷ []) es)
 
 -- one more entry behind
-pub accepted-push : (es : List Entry) (e : Entry) → accepted (es ++ e ∷ []) ≡ accepted es + 1
-accepted-push es e = length-append es (e ∷ [])
-
 pub inserted-push : (es : List Entry) (e : Entry) → inserted (es ++ e ∷ []) ≡ inserted es + (if is_placed e.reply then 1 else 0)
 inserted-push es e = omega (arith, inserted-append es (e ∷ []))
 
 pub deleted-push : (es : List Entry) (e : Entry) → deleted (es ++ e ∷ []) ≡ deleted es + (if is_gone e.reply then 1 else 0)
 deleted-push es e = omega (arith, deleted-append es (e ∷ []))
 
--- no more rows were placed, or went, than commands were answered
+-- no more rows were placed than commands were answered
 pub inserted-le-accepted : (es : List Entry) → inserted es ≤ accepted es
 inserted-le-accepted es = count_by-le-length _ es
-
-pub deleted-le-accepted : (es : List Entry) → deleted es ≤ accepted es
-deleted-le-accepted es = count_by-le-length _ es

@@ -1,7 +1,7 @@
 //! The plain table: what commands mean, told by one list of rows, and a slow table that is this list.
 #![tactic(auto)]
 
-pub mod list;
+mod list;
 pub mod table;
 
 pub use table::PlainTable;

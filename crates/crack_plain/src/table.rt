@@ -1,6 +1,6 @@
 //! A table that is a plain list of rows.
-ghost use Rattle.std.specs.Prelude.{◌≡◌, ◌+◌, ◌<◌, ◌≤◌, length, Err, IfOk, IfErr, OnErr, OnOk};
-ghost use Rattle.crack_plain.specs.Plain.{no_rows, answer, IsNumbered};
+ghost use Rattle.std.specs.Prelude.{◌≡◌, ◌+◌, ◌<◌, ◌≤◌, length, Err, IfOk, IfErr, IsOk, OnErr, OnOk};
+ghost use Rattle.crack_plain.specs.Plain.{no_rows, answer, IsNumbered, TakesNoMemory};
 
 use crate::MOST_ACCEPTED;
 use crate::list::count_in;
@@ -59,7 +59,7 @@ impl PlainTable {
     }
 
     /// Answers one command. An insert is O(1), all else O(rows).
-    /// Refused with 8 where it finds no memory, and with 6 once `MOST_ACCEPTED` commands were accepted.
+    /// Refused with 8 where an insert finds no memory, and with 6 once `MOST_ACCEPTED` commands were accepted.
     pub fn apply(&mut self, _alloc: Global, command: &Command) -> Result<Reply, Refusal>
         ensures reply { IfOk result (λ reply. reply ≡ (answer self.old.state command.now).0) }
         ensures state { OnOk result (self.new.state ≡ (answer self.old.state command.now).1) }
@@ -67,6 +67,7 @@ impl PlainTable {
         ensures err { OnErr result (self.new ≡ self.old) }
         ensures full { MOST_ACCEPTED ≤ self.old.accepted → result ≡ Err (Refusal.HistoryFull MOST_ACCEPTED) }
         ensures room { self.old.accepted < MOST_ACCEPTED → IfErr result (λ e. e ≡ Refusal.OutOfMemory) }
+        ensures spare { TakesNoMemory command.now → self.old.accepted < MOST_ACCEPTED → IsOk result }
     {
         if self.accepted == MOST_ACCEPTED {
             return Err(Refusal::HistoryFull {

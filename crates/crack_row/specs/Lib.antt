@@ -2,3 +2,4 @@ pub mod Devices
 pub mod Layouts
 pub mod Ranges
 pub mod Refusals
+pub mod Replies

@@ -1,6 +1,6 @@
 -- A half open range of keys.
 use Rattle.std.specs.Prelude.{ℕ, ◌<◌, ◌≤◌, Bool, ◌&&◌, nat_lt, nat_le, min, max, cond}
-use Rattle.crack_row.specs.declared.Bound.{Bound}
+use Rattle.crack_row.specs.declared.Row.{Row}
 
 -- from `low` on, up to and without `high`
 pub record Range : Type 0 where
@@ -14,6 +14,10 @@ IsIn r key = (r.low ≤ key) × (key < r.high)
 -- whether the key lies in the range
 abbrev pub is_in : Range → ℕ → Bool
 is_in r key = nat_le r.low key && nat_lt key r.high
+
+-- whether the row's key lies in the range
+abbrev pub in_range : Range → Row → Bool
+in_range r row = is_in r row.key.0
 
 -- the keys that lie in both ranges; where there is none, the empty range at the low end of the second
 abbrev pub clipped : Range → Range → Range

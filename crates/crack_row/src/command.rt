@@ -1,5 +1,6 @@
 //! What is asked of a partition, and what it answers.
-ghost use Rattle.std.specs.Prelude.{◌≡◌, IfOk, IfErr};
+ghost use Rattle.std.specs.Prelude.{◌≡◌, IfOk, IfErr, IsOk};
+ghost use Rattle.crack_row.specs.Replies.{IsFlat};
 
 use crate::{Key, KeyRange, Payload, Refusal, Serial};
 use std::alloc::Global;
@@ -30,10 +31,11 @@ pub enum Reply {
 }
 
 impl Reply {
-    /// A copy, as for a receipt. Refused with 8 where it finds no memory.
+    /// A copy, as for a receipt. Refused with 8 where it finds no memory; a reply without a list wants none.
     pub fn copy(&self, _alloc: Global) -> Result<Reply, Refusal>
         ensures ok { IfOk result (λ r. r ≡ self.now) }
         ensures err { IfErr result (λ e. e ≡ Refusal.OutOfMemory) }
+        ensures flat { IsFlat self.now → IsOk result }
     {
         match self {
             Reply::Placed(serial) => Ok(Reply::Placed(*serial)),

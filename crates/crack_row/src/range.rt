@@ -28,7 +28,8 @@ impl Model for KeyRange {
 }
 
 impl KeyRange {
-    /// The range between two numbers of at most 20 digits; refused with 2 where they are no ends of one.
+    /// The range between two numbers; refused with 2 where they are no ends of one.
+    /// They have 128 bits, since a number of 20 digits passes 64.
     pub fn new(low: u128, high: u128) -> Result<KeyRange, Refusal>
         ensures ok { IfOk result (λ r. (r.low ≡ low) × (r.high ≡ high) × (low ≤ high) × (high ≤ GREATEST_BOUND)) }
         ensures err { IfErr result (λ e. (e ≡ Refusal.BadRange) × ((low ≤ high) × (high ≤ GREATEST_BOUND) → ⊥)) }

@@ -2,13 +2,14 @@
 use Rattle.std.proofs.Common.{◌≡◌, ℕ, ◌≤◌, true, false, List, length, Result, Ok, Err, refl, sym, ◌∙◌, arith}
 use Rattle.std.proofs.lemmas.Bool.{false≢true}
 use Rattle.std.proofs.lemmas.List.Sums.{count_by-le-length}
+use Rattle.crack_row.specs.Ranges.{in_range}
 use Rattle.crack_row.specs.declared.Bound.{Bound}
 use Rattle.crack_row.specs.declared.command.Command.{Command}
 use Rattle.crack_row.specs.declared.command.Command.TheVariants.{Insert, Count}
 use Rattle.crack_row.specs.declared.command.Reply.{Reply}
 use Rattle.crack_row.specs.declared.refusal.Refusal.{Refusal}
 use Rattle.crack_row.specs.declared.refusal.Refusal.TheVariants.{BadStatement, BadRange, KeyOutside, NoSuchPartition, HistoryFull, OutOfMemory, BadLimit, ReadFault, WriteFault}
-use Rattle.crack_plain.specs.Plain.{PlainState, reply_to, in_range}
+use Rattle.crack_plain.specs.Plain.{PlainState, reply_to}
 use Rattle.crack_session.specs.declared.answer.Answer.TheVariants.{Refused}
 use Rattle.crack_session.specs.Answers.{answered}
 use Rattle.crack_session.specs.Desks.{IsSmall, IsForWant, is_short, reply_at, tables_after}

@@ -1,6 +1,5 @@
 use Rattle.std.proofs.Common.{◌∙◌, arith}
-use Rattle.crack_index.specs.Marks.{no_mark}
-use Rattle.crack_index.proofs.MarkLemmas.{pieces_more, behind_mark}
+use Rattle.crack_index.proofs.MarkLemmas.{pieces_more}
 use Rattle.crack_index.proofs.sorted.piece_sizes.Goals as goal
 
 pub loop-mark-preserved : goal.loop-mark-preserved
@@ -10,6 +9,4 @@ loop-mark-preserved c =
       made = rw (c.push_reserved.ensures.items, c.piece_size.ensures) (kept.made ∙ pieces_more c.loop-mark.pieces.items c.loop-mark.low c.loop-mark.from c.args.marks.now c.loop-mark.mark-index _ c.args.len c.loop-mark-test.true);
       count = omega arith;
       room = omega arith;
-      order = c.requires.within c.loop-mark.mark-index no_mark c.loop-mark-test.true;
-      before = behind_mark c.args.marks.now c.loop-mark.mark-index c.loop-mark-test.true c.requires.rising;
     }

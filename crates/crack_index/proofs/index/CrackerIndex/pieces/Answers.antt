@@ -11,9 +11,9 @@ returns-clause-joined c =
     IfOk-weaker c.piece_sizes.result _ _ (λ v is. rw is (AreJoined-pieces (record { 0 = c.args.keys.low }) 0 c.deref.result.now (record { 0 = c.args.keys.high }) c.args.len)) c.piece_sizes.ensures.ok
 
 pub returns-clause-sizes : goal.returns-clause-sizes
-returns-clause-sizes c =
+returns-clause-sizes c = λ bounded.
     let marks = c.self.inside.marks.items in
-    let within : All (λ m. m.position ≤ c.args.len) marks = rw (← c.self.view_is) at c.requires in
+    let within : All (λ m. m.position ≤ c.args.len) marks = rw (← c.self.view_is) at bounded in
     let size : PieceSize → ℕ = λ p. p.size in
     let sum = sum_of_sizes (record { 0 = c.args.keys.low }) 0 marks (record { 0 = c.args.keys.high }) c.args.len c.self.invariant (λ k d h. omega arith) within (omega arith) in
     let sizes : sum_by size (pieces_from (record { 0 = c.args.keys.low }) 0 c.deref.result.now (record { 0 = c.args.keys.high }) c.args.len) ≡ c.args.len = rw c.deref.ensures.value (omega (arith, sum)) in

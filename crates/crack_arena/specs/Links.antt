@@ -1,4 +1,4 @@
--- How an `Arena` lays out its cells. No public clause cites this module.
+-- How an `Arena` keeps its cells, and links the free ones. No public clause cites this module.
 use Rattle.std.specs.Prelude.{◌≡◌, ℕ, zero, suc, ◌<◌, List, [], ◌∷◌, map, length, Option, Some, None, slice_index_or, sum_by, cond, nat_lt, Bool, true, false, count_by, ◌^◌}
 use Rattle.crack_arena.specs.declared.Cell.{Cell as Stored}
 use Rattle.crack_arena.specs.declared.Content.{Content}

@@ -1,0 +1,8 @@
+-- What replies are made of.
+use Rattle.crack_row.specs.declared.command.Reply.{Reply}
+use Rattle.crack_row.specs.declared.command.Reply.TheVariants.{Placed, Counted}
+
+-- the reply has no list, so a copy of it takes no memory
+abbrev pub IsFlat : Reply → Type 0
+IsFlat (Placed serial) = Unit {0}
+IsFlat (Counted count) = Unit {0}
