@@ -83,22 +83,3 @@ first_word bytes xs n same front within none space = record {
       let nothing = nothing_left xs n within empty front space in
       (sym same ∙ ap words nothing, ap (λ z. words (drop n z)) nothing ∙ ap words (drop-nil n));
 }
-
--- digits
-pub digit_at : (xs : List ℕ) (i : ℕ) → i < length xs → list_all is_digit xs ≡ true → (48 ≤ get_or xs i 0) × (get_or xs i 0 < 58)
-digit_at xs i below all = ⊎_elim
-    (λ (e : is_digit (get_or xs i 0) ≡ true). let both = and_parts (leb 48 (get_or xs i 0)) (ltb (get_or xs i 0) 58) e in (leb-true _ _ both.0, ltb-true _ _ both.1))
-    (λ (e : is_digit (get_or xs i 0) ≡ false). absurd (false≢true (sym (list_all_at is_digit xs i 0 below e) ∙ all)))
-    (cases_Bool (is_digit (get_or xs i 0)))
-
-pub value_more : (v : ℕ) (xs : List ℕ) (i : ℕ) → i < length xs → value_on v (drop i xs) ≡ value_on (v * 10 + (get_or xs i 0 - 48)) (drop (i + 1) xs)
-value_more v xs i below = at_drop_more (value_on v) xs i 0 below
-
-pub value_all : (v : ℕ) (xs : List ℕ) (i : ℕ) → length xs ≤ i → value_on v (drop i xs) ≡ v
-value_all v xs i past = ap (value_on v) (drop_all i xs past)
-
-pub bound_more : (v i d : ℕ) → v < 10 ^ i → d < 10 → v * 10 + d < 10 ^ (i + 1)
-bound_more v i d small digit = rw (add-one, pow-suc) (omega (arith, small, digit))
-
-pub bound_wide : (v i : ℕ) → v < 10 ^ i → i ≤ 20 → v < 100000000000000000000
-bound_wide v i small few = let wide : 10 ^ i ≤ 10 ^ 20 = pow-le-pow_right (lit< tt) few in omega (arith, small, wide)

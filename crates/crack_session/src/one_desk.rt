@@ -65,8 +65,7 @@ impl Desk for OneDesk {
             return Err(Refusal::NoSuchPartition);
         }
         // A count is at most the number of entries, and that at most the limit.
-        let _entries = self.partition.history();
-        let _limit = self.partition.limit();
+        self.partition.facts();
         match self.partition.apply(alloc, 0, command, policy) {
             Ok((reply, _receipt)) => Ok(reply),
             Err(refusal) => Err(refusal),
