@@ -1,5 +1,5 @@
 //! Who answers commands.
-ghost use Rattle.std.specs.Prelude.{◌≡◌, ℕ, ◌+◌, ◌<◌, ◌≤◌, true, false, List, [], length, is_ok, Ok, Err, Some, IfOk, IfErr, OnErr, if◌then◌else◌, ◌↔◌};
+ghost use Rattle.std.specs.Prelude.{◌≡◌, ℕ, ◌+◌, List, length, is_ok, Ok, Err, Some, IfOk, IfErr, OnErr, if◌then◌else◌, ◌↔◌};
 ghost use Rattle.crack_plain.specs.Plain.{PlainState};
 ghost use Rattle.crack_session.specs.Desks.{reply_at, tables_after, IsForWant, IsSmall};
 

@@ -1,5 +1,5 @@
 //! A desk of one partition of all keys.
-ghost use Rattle.std.specs.Prelude.{◌≡◌, ℕ, ◌+◌, ◌<◌, ◌≤◌, [], length, IsOk, IfOk, Err};
+ghost use Rattle.std.specs.Prelude.{◌≡◌, ◌≤◌, [], length, IsOk, IfOk, Err};
 ghost use Rattle.crack_part.specs.Parts.{IsLimit};
 
 use crate::desk::Desk;
