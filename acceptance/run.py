@@ -5,7 +5,7 @@ With WORD only the cases whose name has it. A case is a folder of cases/, whose 
 
     args        the words of the command line, one a line
     stdin       what the program reads; or stdin-from: the path that it reads from
-    stdout      what it must write; or stdout-has: words of which each line must stand in it; or stdout-to: the path that it writes to
+    stdout      what it must write; or stdout-has: words, each line of which must stand in it; or stdout-to: the path that it writes to
     stderr      what it must write on standard error
     status      the exit status that it must end with, where that isn't 0
 
@@ -22,6 +22,7 @@ import tempfile
 
 CASES = pathlib.Path(__file__).resolve().parent / "cases"
 FILES = {"args", "stdin", "stdin-from", "stdout", "stdout-has", "stdout-to", "stderr", "status"}
+ONE_OF = [["stdin", "stdin-from"], ["stdout", "stdout-has", "stdout-to"]]
 SECONDS = 20
 
 
@@ -61,11 +62,20 @@ def run(program, case):
     return ran.returncode, ran.stdout, ran.stderr
 
 
+def misfits(case):
+    """What is wrong with a case's files, a line each."""
+    names = {it.name for it in case.iterdir()}
+    groups = [[it for it in group if it in names] for group in ONE_OF]
+    return [f"unknown file {it}" for it in sorted(names - FILES)] + [
+        f"only one is allowed of {' and '.join(it)}" for it in groups if len(it) > 1
+    ]
+
+
 def faults(program, case):
     """What is wrong with a case, a line each."""
-    unknown = sorted(it.name for it in case.iterdir() if it.name not in FILES)
-    if unknown:
-        return [f"unknown file {unknown[0]}"]
+    wrong = misfits(case)
+    if wrong:
+        return wrong
     try:
         status, wrote, complained = run(program, case)
     except subprocess.TimeoutExpired:

@@ -45,7 +45,7 @@ fn limit_option<'a>(alloc: Global) -> Arg<'a> {
         .long("limit")
         .value_name("N")
         .value_parser(value_parser!(u64))
-        .help("The greatest number of entries in a partition's history [default: 1000000]")
+        .help("How many commands a partition keeps, 1 to 1000000 [default: 1000000]")
 }
 
 /// A subcommand with the options of every opening.

@@ -1,10 +1,9 @@
 -- Line feeds and lines.
-use Rattle.std.proofs.Common.{◌≡◌, ℕ, ◌+◌, ◌-◌, ◌<◌, ◌≤◌, true, false, eqb, List, [], ◌∷◌, ◌++◌, length, take, drop, get_or, refl, sym, ap, ◌∙◌, arith, ⊎_elim, add-one, drop-cons, suc, zero, min, append-nil}
+use Rattle.std.proofs.Common.{◌≡◌, ℕ, ◌+◌, ◌<◌, ◌≤◌, true, false, eqb, List, [], ◌∷◌, ◌++◌, length, take, drop, get_or, refl, sym, ap, ◌∙◌, arith, ⊎_elim, add-one, drop-cons, suc, zero, append-nil}
 use Rattle.std.proofs.lemmas.Bool.{or_parts, cases_Bool, ne_eqb, false≢true}
-use Rattle.std.proofs.lemmas.List.{take_more, take-append-drop, take_all, take_min, drop-drop}
+use Rattle.std.proofs.lemmas.List.{take_more, take-append-drop, take_all, drop-drop}
 use Rattle.std.proofs.lemmas.Slice.{between_is}
 use Rattle.std.specs.List.{slice_range}
-use Rattle.std.proofs.Math.Seq.{take-append-add}
 use Rattle.crack_session.specs.Lines.{lines, first_line, after_line, has_feed}
 
 -- a front without a line feed belongs to the first line
@@ -100,14 +99,6 @@ all_front xs i past none =
     let whole : take i xs ≡ xs = take_all i xs past in
     let none' : has_feed xs ≡ false = rw whole at none in
     take_all (length xs) xs (omega arith) ∙ sym (all_first_line xs none')
-
--- a list that is kept as far as n elements, after more
-pub extended : (n : ℕ) (xs ys : List ℕ) (k : ℕ) → length xs ≤ n → k ≡ min (n - length xs) (length ys) → xs ++ take k ys ≡ take n (xs ++ ys)
-extended n xs ys k small is =
-    let sum : n ≡ length xs + (n - length xs) = omega arith in
-    let more : take n (xs ++ ys) ≡ xs ++ take (n - length xs) ys = ap (λ m. take m (xs ++ ys)) sum ∙ take-append-add xs ys (n - length xs) in
-    let cut : take k ys ≡ take (n - length xs) ys = ap (λ m. take m ys) is ∙ take_min (n - length xs) ys in
-    ap (λ z. xs ++ z) cut ∙ sym more
 
 -- keeping and then adding is adding and then keeping
 pub take-take-append : (n : ℕ) (xs ys : List ℕ) → take n (take n xs ++ ys) ≡ take n (xs ++ ys)

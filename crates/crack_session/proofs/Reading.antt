@@ -28,9 +28,6 @@ no_length : (xs : List ℕ) → length xs ≡ 0 → xs ≡ []
 no_length [] e = refl
 no_length (x ∷ xs) e = absurd (omega arith)
 
-pub SoFar-start : (u : List ℕ) (new : Option (List ℕ)) → new ≡ Some u → SoFar u new []
-SoFar-start u new e = record { front = []; rest = u; split = refl; none = refl; kept = refl; new_is = e }
-
 -- more that has no line feed
 pub SoFar-more : {u line : List ℕ} (xs : List ℕ) (known : Option (List ℕ)) (line' : List ℕ) → SoFar u (prepend_known xs known) line → has_feed xs ≡ false → line' ≡ kept_of (line ++ xs) → SoFar u known line'
 SoFar-more {u} {line} xs known line' s none grown =
@@ -95,10 +92,6 @@ SoFar-read {u} {line} known new s goes = record { front = s.front; rest = s.rest
 abbrev pub start_input : Input
 start_input = record { unread = []; reads = MOST_READS; ended = false }
 
--- the same input
-pub IsPaid-start : (input : Input) (known : Option (List ℕ)) → IsPaid input input known known
-IsPaid-start input known = λ goes_on. (goes_on, λ bytes e. (bytes, e, omega arith))
-
 -- a line is taken
 pub IsPaid-taken : (start old new : Input) (known0 known : Option (List ℕ)) → IsPaid start old known0 known → new.reads ≡ old.reads → new.ended ≡ old.ended → IsPaid start new known0 known
 IsPaid-taken start old new known0 known paid reads ended = λ goes_on.
@@ -118,10 +111,6 @@ IsPaid-then start old new known0 known known' first second = λ goes_on.
     )
 
 -- known bytes stay as they are
-pub Keeps-start : (known : Option (List ℕ)) → Keeps known known
-Keeps-start None = tt
-Keeps-start (Some xs) = refl
-
 pub Keeps-then : (a b c : Option (List ℕ)) → Keeps a b → Keeps b c → Keeps a c
 Keeps-then None b c h k = tt
 Keeps-then (Some x) None c h k = absurd h

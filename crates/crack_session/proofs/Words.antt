@@ -1,12 +1,9 @@
 -- Words and numbers.
-use Rattle.std.proofs.Common.{◌≡◌, ℕ, ◌+◌, ◌-◌, ◌*◌, ◌^◌, ◌<◌, ◌≤◌, true, false, eqb, ltb, leb, List, [], ◌∷◌, ◌++◌, length, take, drop, get_or, refl, sym, ap, ◌∙◌, subst, arith, ⊎_elim, append-nil, lit<, length-take, pow-suc, add-one}
-use Rattle.std.proofs.lemmas.Bool.{or_parts, and_parts, cases_Bool, false≢true, ne_eqb, leb-true, ltb-true, cases_lt}
+use Rattle.std.proofs.Common.{◌≡◌, ℕ, ◌+◌, ◌<◌, ◌≤◌, true, false, eqb, List, [], ◌∷◌, ◌++◌, length, take, drop, get_or, refl, sym, ap, ◌∙◌, subst, arith, ⊎_elim, append-nil, length-take}
+use Rattle.std.proofs.lemmas.Bool.{or_parts, false≢true, ne_eqb, cases_lt}
 use Rattle.std.proofs.lemmas.List.{take_more, at_drop_more, take-append-drop, drop_all, drop_more}
-use Rattle.std.proofs.lemmas.List.Folds.{list_all_at}
-use Rattle.std.proofs.Math.Nat.{pow-le-pow_right}
 use Rattle.std.proofs.Math.Seq.{drop-nil}
-use Rattle.std.specs.List.{list_all}
-use Rattle.crack_session.specs.Grammar.{parts, words, is_word, has_space, is_digit, value_on, IsFirstWord}
+use Rattle.crack_session.specs.Grammar.{parts, words, is_word, has_space, IsFirstWord}
 
 -- a space more at the front
 pub words_space : (xs : List ℕ) (i : ℕ) → i < length xs → get_or xs i 0 ≡ 32 → words (drop i xs) ≡ words xs → words (drop (i + 1) xs) ≡ words xs
@@ -83,22 +80,3 @@ first_word bytes xs n same front within none space = record {
       let nothing = nothing_left xs n within empty front space in
       (sym same ∙ ap words nothing, ap (λ z. words (drop n z)) nothing ∙ ap words (drop-nil n));
 }
-
--- digits
-pub digit_at : (xs : List ℕ) (i : ℕ) → i < length xs → list_all is_digit xs ≡ true → (48 ≤ get_or xs i 0) × (get_or xs i 0 < 58)
-digit_at xs i below all = ⊎_elim
-    (λ (e : is_digit (get_or xs i 0) ≡ true). let both = and_parts (leb 48 (get_or xs i 0)) (ltb (get_or xs i 0) 58) e in (leb-true _ _ both.0, ltb-true _ _ both.1))
-    (λ (e : is_digit (get_or xs i 0) ≡ false). absurd (false≢true (sym (list_all_at is_digit xs i 0 below e) ∙ all)))
-    (cases_Bool (is_digit (get_or xs i 0)))
-
-pub value_more : (v : ℕ) (xs : List ℕ) (i : ℕ) → i < length xs → value_on v (drop i xs) ≡ value_on (v * 10 + (get_or xs i 0 - 48)) (drop (i + 1) xs)
-value_more v xs i below = at_drop_more (value_on v) xs i 0 below
-
-pub value_all : (v : ℕ) (xs : List ℕ) (i : ℕ) → length xs ≤ i → value_on v (drop i xs) ≡ v
-value_all v xs i past = ap (value_on v) (drop_all i xs past)
-
-pub bound_more : (v i d : ℕ) → v < 10 ^ i → d < 10 → v * 10 + d < 10 ^ (i + 1)
-bound_more v i d small digit = rw (add-one, pow-suc) (omega (arith, small, digit))
-
-pub bound_wide : (v i : ℕ) → v < 10 ^ i → i ≤ 20 → v < 100000000000000000000
-bound_wide v i small few = let wide : 10 ^ i ≤ 10 ^ 20 = pow-le-pow_right (lit< tt) few in omega (arith, small, wide)

@@ -1,8 +1,7 @@
 -- The lines of a session's bytes.
 use Rattle.std.specs.Prelude.{◌≡◌, ℕ, ◌+◌, ◌*◌, ◌-◌, ◌<◌, ◌≤◌, Bool, true, false, List, [], ◌∷◌, length, take, slice_index, Option, None, Some, ◌==◌, ◌||◌, if◌then◌else◌}
 use Rattle.std.specs.Io.KnownBytes.{prepend_known}
-use Rattle.crack_session.specs.declared.line.TheConstants.{KEPT_BYTES}
-use Rattle.crack_session.specs.declared.input.TheConstants.{BUFFER_BYTES}
+use Rattle.crack_session.specs.declared.input.TheConstants.{BUFFER_BYTES, KEPT_BYTES}
 
 -- b goes onto the first of the lines
 abbrev pub onto_first : ℕ → List (List ℕ) → List (List ℕ)

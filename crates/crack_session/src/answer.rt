@@ -1,5 +1,5 @@
 //! Answers to statements.
-ghost use Rattle.std.specs.Prelude.{◌≡◌, ℕ, ◌+◌, ◌<◌, ◌≤◌, true, false, List, Ok, Some, IfOk, IfErr};
+ghost use Rattle.std.specs.Prelude.{◌≡◌, false, List, Ok, Some};
 ghost use Rattle.crack_plain.specs.Plain.{PlainState};
 ghost use Rattle.crack_session.specs.Desks.{reply_at, tables_after, is_short};
 ghost use Rattle.crack_session.specs.Answers.{IsAnswer, answered, tables_then, is_short_answer, answer_text};
@@ -13,8 +13,11 @@ use std::alloc::Global;
 /// What a statement is answered.
 #[derive(Drop, Debug)]
 pub enum Answer {
+    /// A partition replied.
     Replied { part: u32, reply: Reply },
+    /// The line or its command was refused.
     Refused(Refusal),
+    /// The session ends.
     Bye,
 }
 
@@ -60,6 +63,7 @@ pub fn decide<D: Desk>(
     }
 }
 
+/// Answers a statement; each goes to partition 0.
 fn decide_statement<D: Desk>(
     alloc: Global,
     desk: &mut D,

@@ -1,5 +1,5 @@
 //! Who answers commands.
-ghost use Rattle.std.specs.Prelude.{◌≡◌, ℕ, ◌+◌, ◌<◌, ◌≤◌, true, false, List, [], ◌∷◌, length, is_ok, Ok, Err, Some, IfOk, IfErr, OnErr, OnOk, if◌then◌else◌};
+ghost use Rattle.std.specs.Prelude.{◌≡◌, ℕ, ◌+◌, List, length, is_ok, Ok, Err, Some, IfOk, IfErr, OnErr, if◌then◌else◌, ◌↔◌};
 ghost use Rattle.crack_plain.specs.Plain.{PlainState};
 ghost use Rattle.crack_session.specs.Desks.{reply_at, tables_after, IsForWant, IsSmall};
 
@@ -47,6 +47,7 @@ pub trait Desk {
             reply_at (splits self.old) parts part command ≡ Ok r → (entries : ℕ) →
             full self.old part entries → result ≡ Err (Refusal.HistoryFull entries) }
         ensures err { OnErr result (tables self.new ≡ tables self.old) }
+        ensures still { OnErr result ((at entries : ℕ) → full self.new at entries ↔ full self.old at entries) }
 
         ensures small { IfOk result IsSmall }
         ensures splits { splits self.new ≡ splits self.old }

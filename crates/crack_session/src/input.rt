@@ -1,11 +1,11 @@
 //! The lines of a reader.
-ghost use Rattle.std.specs.Prelude.{◌≡◌, ℕ, ◌+◌, ◌-◌, ◌*◌, ◌<◌, ◌≤◌, ◌++◌, ◌⊎◌, List, [], length, take, drop, true, false, Some, MatchBool, IfOk, IfErr, IfSome, OnOk};
+ghost use Rattle.std.specs.Prelude.{◌≡◌, ℕ, ◌+◌, ◌<◌, ◌≤◌, ◌++◌, ◌⊎◌, List, [], length, take, drop, true, false, Some, MatchBool, IfOk, IfErr, IfSome, OnOk};
 ghost use Rattle.std.specs.Io.KnownBytes.{Keeps};
 ghost use Rattle.crack_row.specs.Devices.{device, has_failed};
 ghost use Rattle.crack_session.specs.Lines.{first_line, after_line, has_feed, kept_of, ahead, left_of, IsNextLine, IsPaid, KnowsEnd};
 
 use crate::MOST_READS;
-use crate::line::Line;
+use crate::fixed_bytes::FixedBytes;
 use crate::output::flush;
 use crack_row::{Refusal, Watched};
 use std::io::{Read, Write};
@@ -13,6 +13,12 @@ use std::marker::Model;
 
 /// How many bytes are read at a time, at most.
 const BUFFER_BYTES: usize = 4096;
+
+/// How many bytes of a line are kept: one that has more is too long, whatever the rest is.
+const KEPT_BYTES: usize = 202;
+
+/// The bytes of a line that are kept.
+pub type Line = FixedBytes<KEPT_BYTES>;
 
 /// What is read and not yet used. Takes no memory.
 #[derive(Drop)]
@@ -37,6 +43,7 @@ impl Model for LineReader {
 }
 
 impl LineReader {
+    /// A reader of lines at the start of a session.
     pub fn new() -> LineReader
         ensures unread { result.unread ≡ [] }
         ensures reads { result.reads ≡ MOST_READS }
@@ -60,7 +67,7 @@ impl LineReader {
     {
         let unread = &self.bytes[self.at..self.end];
         let place = feed_at(unread);
-        line.extend(&unread[..place]);
+        line.push_what_fits(&unread[..place]);
         if place < unread.len() {
             self.at += place + 1;
             true

@@ -3,8 +3,8 @@
 
 mod answer;
 pub mod desk;
+mod fixed_bytes;
 mod input;
-mod line;
 pub mod one_desk;
 mod output;
 mod plain_desk;

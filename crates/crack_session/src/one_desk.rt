@@ -1,5 +1,5 @@
 //! A desk of one partition of all keys.
-ghost use Rattle.std.specs.Prelude.{◌≡◌, ℕ, ◌+◌, ◌<◌, ◌≤◌, [], length, IsOk, IfOk, Err};
+ghost use Rattle.std.specs.Prelude.{◌≡◌, ◌≤◌, [], length, IsOk, IfOk, Err};
 ghost use Rattle.crack_part.specs.Parts.{IsLimit};
 
 use crate::desk::Desk;
@@ -65,8 +65,7 @@ impl Desk for OneDesk {
             return Err(Refusal::NoSuchPartition);
         }
         // A count is at most the number of entries, and that at most the limit.
-        let _entries = self.partition.history();
-        let _limit = self.partition.limit();
+        self.partition.facts();
         match self.partition.apply(alloc, 0, command, policy) {
             Ok((reply, _receipt)) => Ok(reply),
             Err(refusal) => Err(refusal),

@@ -1,5 +1,5 @@
 //! A plain table as a desk: partition 0, and no other.
-ghost use Rattle.std.specs.Prelude.{◌≡◌, ◌≤◌, length};
+ghost use Rattle.std.specs.Prelude.{◌≡◌, ◌≤◌};
 
 use crate::desk::Desk;
 use crack_plain::PlainTable;

@@ -1,6 +1,6 @@
 //! A session: the statements of a reader, answered to a writer.
-ghost use Rattle.std.specs.Prelude.{◌≡◌, ℕ, ◌+◌, ◌-◌, ◌*◌, ◌<◌, ◌≤◌, ◌⊎◌, ◌^◌, ◌++◌, true, false, List, [], length, take, is_ok, IfOk, IfErr, OnErr, OnOk, None, Some, if◌then◌else◌};
-ghost use Rattle.std.specs.Io.KnownBytes.{Keeps, Appends};
+ghost use Rattle.std.specs.Prelude.{◌≡◌, ℕ, ◌+◌, ◌<◌, ◌≤◌, ◌⊎◌, ◌^◌, true, List, length, is_ok, IfOk, IfErr, OnErr, OnOk, None, Some, if◌then◌else◌};
+ghost use Rattle.std.specs.Io.KnownBytes.{Keeps};
 ghost use Rattle.crack_row.specs.Devices.{device, has_failed};
 ghost use Rattle.crack_plain.specs.Plain.{PlainState};
 ghost use Rattle.crack_session.specs.Grammar.{statements};

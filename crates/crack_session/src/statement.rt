@@ -1,5 +1,5 @@
 //! The statement language, as far as a session knows it.
-ghost use Rattle.std.specs.Prelude.{◌≡◌, ℕ, ◌+◌, ◌-◌, ◌<◌, ◌≤◌, ◌++◌, ◌∷◌, ◌≢◌, ◌==◌, true, false, List, [], length, Ok, Err, take, IfSome, IfNone, slice_index};
+ghost use Rattle.std.specs.Prelude.{◌≡◌, ◌+◌, ◌-◌, ◌<◌, ◌≤◌, ◌∷◌, ◌≢◌, ◌==◌, true, false, [], length, Ok, Err, take, IfSome, IfNone, slice_index};
 ghost use Rattle.std.specs.List.{list_all};
 ghost use Rattle.crack_session.specs.Lines.{without_return};
 ghost use Rattle.crack_session.specs.Grammar.{statement_of, reading_of, of_words, words, insert_of, insert_from, count_of, count_from, quit_of, number_up_to, number_of, value_on, is_digit, is_quit, has_space, IsFirstWord};
@@ -13,8 +13,11 @@ pub(crate) const MOST_DIGITS: usize = 20;
 /// What a line asks.
 #[derive(Clone, Copy, Debug)]
 pub enum Statement {
+    /// A row more.
     Insert { key: Key, payload: Payload },
+    /// How many rows have their key in a range.
     Count(KeyRange),
+    /// The end of the session.
     Quit,
 }
 
@@ -87,6 +90,7 @@ fn parse_named(name: &[u8], rest: &[u8]) -> Result<Statement, Refusal>
     }
 }
 
+/// An insert of the words behind its name.
 fn parse_insert(rest: &[u8]) -> Result<Statement, Refusal>
     ensures { result ≡ insert_of (words rest.now) }
 {
@@ -96,6 +100,7 @@ fn parse_insert(rest: &[u8]) -> Result<Statement, Refusal>
     }
 }
 
+/// A count of the words behind its name.
 fn parse_count(rest: &[u8]) -> Result<Statement, Refusal>
     ensures { result ≡ count_of (words rest.now) }
 {
@@ -105,6 +110,7 @@ fn parse_count(rest: &[u8]) -> Result<Statement, Refusal>
     }
 }
 
+/// A quit, where no word stands behind its name.
 fn parse_quit(rest: &[u8]) -> Result<Statement, Refusal>
     ensures { result ≡ quit_of (words rest.now) }
 {
@@ -116,6 +122,7 @@ fn parse_quit(rest: &[u8]) -> Result<Statement, Refusal>
     }
 }
 
+/// An insert of a key and a payload as they are written.
 fn insert_from(key: &[u8], payload: &[u8]) -> Result<Statement, Refusal>
     ensures { result ≡ insert_from (number_up_to GREATEST_KEY key.now) (number_up_to GREATEST_PAYLOAD payload.now) }
 {
@@ -130,6 +137,7 @@ fn insert_from(key: &[u8], payload: &[u8]) -> Result<Statement, Refusal>
     }
 }
 
+/// A count of a range whose ends are written so.
 fn count_from(low: &[u8], high: &[u8]) -> Result<Statement, Refusal>
     ensures { result ≡ count_from (number_of low.now) (number_of high.now) }
 {
@@ -163,6 +171,7 @@ fn read_number(word: &[u8]) -> Option<u128>
     }
 }
 
+/// Whether there are digits alone.
 fn all_digits(word: &[u8]) -> bool
     ensures { result ≡ list_all is_digit word.now }
 {

@@ -1,66 +1,15 @@
 //! The texts of replies and refusals.
-ghost use Rattle.std.specs.Prelude.{◌≡◌, ℕ, ◌+◌, ◌-◌, ◌<◌, ◌≤◌, ◌++◌, true, List, [], length, take, decimal, codes, IfErr, OnOk};
+ghost use Rattle.std.specs.Prelude.{◌≡◌, ◌+◌, ◌≤◌, ◌++◌, length, decimal, codes};
 ghost use Rattle.crack_session.specs.Texts.{reply_text, refusal_text, carried_text};
 
+use crate::fixed_bytes::FixedBytes;
 use crack_row::{Refusal, Reply};
-use std::marker::Model;
 
 /// The greatest length of a line of text.
 const TEXT_BYTES: usize = 256;
 
-/// A line of text in the making. Takes no memory.
-#[derive(Drop)]
-pub struct Text {
-    bytes: [u8; TEXT_BYTES],
-    len: usize,
-}
-
-impl Model for Text {
-    ghost use Rattle.std.specs.Prelude.{ℕ, List, ◌≤◌, take};
-    ghost use Rattle.crack_session.specs.declared.text.TheConstants.{TEXT_BYTES};
-
-    ghost Value = { List ℕ };
-
-    ghost view = { λ t. take t.len t.bytes };
-
-    ghost invariant = { λ t. t.len ≤ TEXT_BYTES };
-}
-
-impl Text {
-    pub fn new() -> Text
-        ensures { result ≡ [] }
-    {
-        Text {
-            bytes: [0; TEXT_BYTES],
-            len: 0,
-        }
-    }
-
-    pub fn as_slice(&self) -> &[u8]
-        ensures { result.now ≡ self.now }
-    {
-        &self.bytes[..self.len]
-    }
-
-    pub fn push(&mut self, more: &[u8])
-        requires { length self.old + length more.now ≤ TEXT_BYTES }
-        ensures { self.new ≡ self.old ++ more.now }
-    {
-        let end = self.len + more.len();
-        self.bytes[self.len..end].copy_from_slice(more);
-        self.len = end;
-    }
-
-    /// Adds a number in decimal: 20 digits at most.
-    pub fn push_number(&mut self, number: u64)
-        requires { length self.old + 20 ≤ TEXT_BYTES }
-        ensures digits { self.new ≡ self.old ++ decimal number }
-        ensures short { length self.new ≤ length self.old + 20 }
-    {
-        let mut digits = itoa::Buffer::new();
-        self.push(digits.format(number).as_bytes());
-    }
-}
+/// A line of text in the making.
+pub type Text = FixedBytes<TEXT_BYTES>;
 
 /// The line of a partition's reply.
 pub fn reply_line(part: u32, reply: &Reply) -> Text
@@ -78,9 +27,9 @@ fn placed_line(part: u32, serial: u64) -> Text
 {
     let mut text = Text::new();
     text.push(b"row ");
-    text.push_number(part as u64);
+    push_number(&mut text, part as u64);
     text.push(b".");
-    text.push_number(serial);
+    push_number(&mut text, serial);
     text.push(b"\n");
     text
 }
@@ -92,7 +41,7 @@ fn number_line(word: &[u8], number: u64) -> Text
 {
     let mut text = Text::new();
     text.push(word);
-    text.push_number(number);
+    push_number(&mut text, number);
     text.push(b"\n");
     text
 }
@@ -103,7 +52,7 @@ pub fn refusal_line(refusal: &Refusal) -> Text
 {
     let mut text = Text::new();
     text.push(b"refused ");
-    text.push_number(refusal.code() as u64);
+    push_number(&mut text, refusal.code() as u64);
     push_carried(&mut text, refusal);
     text.push(b"\n");
     text
@@ -117,7 +66,7 @@ fn push_carried(text: &mut Text, refusal: &Refusal)
 {
     if let Refusal::HistoryFull { length } = refusal {
         text.push(b" ");
-        text.push_number(*length);
+        push_number(text, *length);
     }
 }
 
@@ -128,4 +77,14 @@ pub fn bye_line() -> Text
     let mut text = Text::new();
     text.push(b"bye\n");
     text
+}
+
+/// Adds a number in decimal: 20 digits at most.
+fn push_number(text: &mut Text, number: u64)
+    requires { length text.old + 20 ≤ TEXT_BYTES }
+    ensures digits { text.new ≡ text.old ++ decimal number }
+    ensures short { length text.new ≤ length text.old + 20 }
+{
+    let mut digits = itoa::Buffer::new();
+    text.push(digits.format(number).as_bytes());
 }

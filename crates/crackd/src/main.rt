@@ -8,6 +8,11 @@ use std::io::{BufWriter, ErrorKind};
 use std::process::ExitCode;
 use std::{env, io};
 
+/// How many bytes of replies are kept before they are written: room for the replies to one whole read. Its 4096 bytes
+/// end at most one line that was begun before, which gets at most 18 bytes, and hold at most 2048 more statements; a line
+/// of 2 bytes gets the most for its length, the 10 of `refused 1`.
+const REPLY_BYTES: usize = 24576;
+
 /// What the command line asks for.
 fn request(rt: &HostRuntime) -> Result<Request, ArgumentsError> {
     match words(rt) {
@@ -28,7 +33,7 @@ fn words(rt: &HostRuntime) -> io::Result<Vec<String>> {
 /// Answers the statements of standard input on standard output.
 fn script(rt: &HostRuntime, opening: Opening) -> Result<(), Refusal> {
     let mut desk = OneDesk::open(rt.alloc(), opening.limit)?;
-    let Ok(buffered) = BufWriter::new(rt.alloc(), rt.stdout()) else {
+    let Ok(buffered) = BufWriter::with_capacity(rt.alloc(), REPLY_BYTES, rt.stdout()) else {
         return Err(Refusal::OutOfMemory);
     };
     let mut reader = Watched::new(rt.stdin());
