@@ -16,41 +16,70 @@ fn free(rt: &impl Abort, arena: &mut Arena<char>, handle: Handle<char>) -> Optio
     arena.free(handle)
 }
 
-#[test]
-fn freed_cell_is_used_again(rt: HostRuntime) -> Result<(), Fail> {
-    let mut arena = Arena::new(rt.alloc());
-    let a = put(&rt, &mut arena, 'a')?;
-    let b = put(&rt, &mut arena, 'b')?;
-    assert_eq!(rt; free(&rt, &mut arena, a), Some('a'));
-    assert_eq!(rt; arena.get(a).copied(), None);
-    assert_eq!(rt; free(&rt, &mut arena, a), None);
-    let c = put(&rt, &mut arena, 'c')?;
-    assert_eq!(rt; (c.slot(), c.generation()), (0, 1));
+/// Asserts that freeing the handle gives this value.
+fn assert_frees(
+    rt: &impl Abort,
+    arena: &mut Arena<char>,
+    handle: Handle<char>,
+    value: Option<char>,
+) {
+    assert_eq!(rt; free(rt, arena, handle), value);
+}
+
+/// Asserts that the handle reads this value.
+fn assert_reads(rt: &impl Abort, arena: &Arena<char>, handle: Handle<char>, value: Option<char>) {
+    assert_eq!(rt; arena.get(handle).copied(), value);
+}
+
+/// Asserts how many cells there are, how many of them are free, and how many were ever freed.
+fn assert_cells(rt: &impl Abort, arena: &Arena<char>, cells: (usize, usize, u64)) {
+    assert_eq!(rt; (arena.cells(), arena.free_cells(), arena.freed()), cells);
+}
+
+/// Asserts the slot and the generation of a handle.
+fn assert_handle(rt: &impl Abort, handle: Handle<char>, slot: u32, generation: u64) {
+    assert_eq!(rt; (handle.slot(), handle.generation()), (slot, generation));
+}
+
+fn free_and_put(rt: &impl Abort, arena: &mut Arena<char>) -> Result<(), Fail> {
+    let a = put(rt, arena, 'a')?;
+    let b = put(rt, arena, 'b')?;
+    assert_frees(rt, arena, a, Some('a'));
+    assert_reads(rt, arena, a, None);
+    assert_frees(rt, arena, a, None);
+    let c = put(rt, arena, 'c')?;
+    assert_handle(rt, c, 0, 1);
     assert!(rt; a != c);
-    assert_eq!(rt; arena.get(a).copied(), None);
-    assert_eq!(rt; arena.get(b).copied(), Some('b'));
-    assert_eq!(rt; arena.get(c).copied(), Some('c'));
-    assert_eq!(rt;
-        (arena.cells(), arena.free_cells(), arena.freed()),
-        (2, 0, 1)
-    );
+    assert_reads(rt, arena, a, None);
+    assert_reads(rt, arena, b, Some('b'));
+    assert_reads(rt, arena, c, Some('c'));
+    assert_cells(rt, arena, (2, 0, 1));
     Ok(())
 }
 
 #[test]
-fn last_freed_is_used_first(rt: HostRuntime) -> Result<(), Fail> {
+fn freed_cell_is_used_again(rt: HostRuntime) -> Result<(), Fail> {
     let mut arena = Arena::new(rt.alloc());
-    let a = put(&rt, &mut arena, 'a')?;
-    let b = put(&rt, &mut arena, 'b')?;
-    put(&rt, &mut arena, 'c')?;
-    assert_eq!(rt; free(&rt, &mut arena, b), Some('b'));
-    assert_eq!(rt; free(&rt, &mut arena, a), Some('a'));
-    assert_eq!(rt;
-        (arena.cells(), arena.free_cells(), arena.freed()),
-        (3, 2, 2)
-    );
+    let told = free_and_put(&rt, &mut arena);
+    drop(arena);
+    told
+}
+
+/// Frees the second and the first of three cells.
+fn free_two(rt: &impl Abort, arena: &mut Arena<char>) -> Result<(), Fail> {
+    let a = put(rt, arena, 'a')?;
+    let b = put(rt, arena, 'b')?;
+    put(rt, arena, 'c')?;
+    assert_frees(rt, arena, b, Some('b'));
+    assert_frees(rt, arena, a, Some('a'));
+    assert_cells(rt, arena, (3, 2, 2));
+    Ok(())
+}
+
+fn put_again(rt: &impl Abort, arena: &mut Arena<char>) -> Result<(), Fail> {
+    free_two(rt, arena)?;
     for (value, slot, generation) in [('d', 0, 1), ('e', 1, 1), ('f', 3, 0)] {
-        let handle = put(&rt, &mut arena, value)?;
+        let handle = put(rt, arena, value)?;
         assert_eq!(rt;
             (handle.slot(), handle.generation()),
             (slot, generation),
@@ -61,20 +90,42 @@ fn last_freed_is_used_first(rt: HostRuntime) -> Result<(), Fail> {
 }
 
 #[test]
+fn last_freed_is_used_first(rt: HostRuntime) -> Result<(), Fail> {
+    let mut arena = Arena::new(rt.alloc());
+    let told = put_again(&rt, &mut arena);
+    drop(arena);
+    told
+}
+
+/// Asserts that setting the handle gives this.
+fn assert_sets(
+    rt: &impl Abort,
+    arena: &mut Arena<char>,
+    handle: Handle<char>,
+    value: char,
+    given: Result<char, char>,
+) {
+    assert_eq!(rt; arena.set(handle, value), given);
+}
+
+fn set_and_free(rt: &impl Abort, arena: &mut Arena<char>) -> Result<(), Fail> {
+    let a = put(rt, arena, 'a')?;
+    assert_sets(rt, arena, a, 'x', Ok('a'));
+    assert_frees(rt, arena, a, Some('x'));
+    assert_sets(rt, arena, a, 'y', Err('y'));
+    let b = put(rt, arena, 'b')?;
+    assert_sets(rt, arena, a, 'z', Err('z'));
+    assert_reads(rt, arena, b, Some('b'));
+    assert_cells(rt, arena, (1, 0, 1));
+    Ok(())
+}
+
+#[test]
 fn set_on_a_spent_handle_changes_nothing(rt: HostRuntime) -> Result<(), Fail> {
     let mut arena = Arena::new(rt.alloc());
-    let a = put(&rt, &mut arena, 'a')?;
-    assert_eq!(rt; arena.set(a, 'x'), Ok('a'));
-    assert_eq!(rt; free(&rt, &mut arena, a), Some('x'));
-    assert_eq!(rt; arena.set(a, 'y'), Err('y'));
-    let b = put(&rt, &mut arena, 'b')?;
-    assert_eq!(rt; arena.set(a, 'z'), Err('z'));
-    assert_eq!(rt; arena.get(b).copied(), Some('b'));
-    assert_eq!(rt;
-        (arena.cells(), arena.free_cells(), arena.freed()),
-        (1, 0, 1)
-    );
-    Ok(())
+    let told = set_and_free(&rt, &mut arena);
+    drop(arena);
+    told
 }
 
 #[test]

@@ -1,4 +1,8 @@
 //! A crack puts the rows below its bound first, and nothing else moves.
+ghost use Rattle.std.specs.Prelude.{List, OnOk};
+ghost use Rattle.crack_arena.specs.Arena.{Cell};
+ghost use Rattle.crack_row.specs.declared.Row.{Row as RowValue};
+ghost use Rattle.crack_column.specs.Column.{Remembers};
 
 use crack_arena::{Arena, Handle};
 use crack_column::CrackerColumn;
@@ -29,15 +33,52 @@ fn key_of(arena: &Arena<Row>, handle: Handle<Row>) -> u32 {
     }
 }
 
-#[test]
-fn crack_puts_rows_below_the_bound_first(rt: HostRuntime) -> Result<(), Fail> {
-    let alloc = rt.alloc();
-    let mut arena = Arena::new(alloc);
-    let a = put(&rt, &mut arena, 0, 40)?;
-    let b = put(&rt, &mut arena, 1, 10)?;
-    let c = put(&rt, &mut arena, 2, 30)?;
-    let d = put(&rt, &mut arena, 3, 20)?;
-    let mut column = CrackerColumn::new(alloc);
+/// Cracks a stretch of the column. Where its bound then stands.
+fn crack(
+    rt: &impl Abort,
+    arena: &Arena<Row>,
+    column: &mut CrackerColumn,
+    stretch: (usize, usize),
+    bound: u64,
+) -> usize
+    requires remembered { Remembers arena.now.cells column.old.handles column.old.keys }
+    ensures remembered { Remembers arena.now.cells column.new.handles column.new.keys }
+{
+    let len = column.len();
+    assert!(rt; stretch.0 <= stretch.1);
+    assert!(rt; stretch.1 <= len);
+    column.crack_two(stretch.0, stretch.1, Bound(bound), arena)
+}
+
+fn at(rt: &impl Abort, column: &CrackerColumn, place: usize) -> Handle<Row> {
+    let len = column.len();
+    assert!(rt; place < len);
+    column.at(place)
+}
+
+/// Asserts that two rows with these keys stand at these places, in any order.
+fn assert_two(
+    rt: &impl Abort,
+    arena: &Arena<Row>,
+    column: &CrackerColumn,
+    places: [usize; 2],
+    keys: [u32; 2],
+) {
+    let one = key_of(arena, at(rt, column, places[0]));
+    let two = key_of(arena, at(rt, column, places[1]));
+    let told = [one, two];
+    assert!(rt; told == keys || told == [keys[1], keys[0]]);
+}
+
+/// Fills a column with rows of the keys 40, 10, 30 and 20.
+fn fill(rt: &impl Abort, arena: &mut Arena<Row>, column: &mut CrackerColumn) -> Result<(), Fail>
+    requires remembered { (cells : List (Cell RowValue)) → Remembers cells column.old.handles column.old.keys }
+    ensures remembered { OnOk result ((cells : List (Cell RowValue)) → Remembers cells column.new.handles column.new.keys) }
+{
+    let a = put(rt, arena, 0, 40)?;
+    let b = put(rt, arena, 1, 10)?;
+    let c = put(rt, arena, 2, 30)?;
+    let d = put(rt, arena, 3, 20)?;
     assert!(rt; column.is_empty());
     column.reserve(4)?;
     column.append(a);
@@ -45,37 +86,93 @@ fn crack_puts_rows_below_the_bound_first(rt: HostRuntime) -> Result<(), Fail> {
     column.append(c);
     column.append(d);
     assert_eq!(rt; column.len(), 4);
-    assert_eq!(rt; column.crack_two(0, 4, Bound(25), &arena), 2);
-    let low = [key_of(&arena, column.at(0)), key_of(&arena, column.at(1))];
-    assert!(rt; low == [10, 20] || low == [20, 10]);
-    let high = [key_of(&arena, column.at(2)), key_of(&arena, column.at(3))];
-    assert!(rt; high == [30, 40] || high == [40, 30]);
-    assert_eq!(rt; column.crack_two(0, 2, Bound(25), &arena), 2);
-    assert_eq!(rt; column.crack_two(2, 4, Bound(25), &arena), 2);
-    assert_eq!(rt; column.crack_two(1, 1, Bound(5), &arena), 1);
+    Ok(())
+}
+
+fn fill_and_crack(
+    rt: &impl Abort,
+    arena: &mut Arena<Row>,
+    column: &mut CrackerColumn,
+) -> Result<(), Fail>
+    requires remembered { (cells : List (Cell RowValue)) → Remembers cells column.old.handles column.old.keys }
+{
+    fill(rt, arena, column)?;
+    assert_eq!(rt; crack(rt, arena, column, (0, 4), 25), 2);
+    assert_two(rt, arena, column, [0, 1], [10, 20]);
+    assert_two(rt, arena, column, [2, 3], [30, 40]);
+    assert_eq!(rt; crack(rt, arena, column, (0, 2), 25), 2);
+    assert_eq!(rt; crack(rt, arena, column, (2, 4), 25), 2);
+    assert_eq!(rt; crack(rt, arena, column, (1, 1), 5), 1);
     Ok(())
 }
 
 #[test]
-fn handles_go_in_and_out(rt: HostRuntime) -> Result<(), Fail> {
-    let alloc = rt.alloc();
-    let mut arena = Arena::new(alloc);
-    let a = put(&rt, &mut arena, 0, 40)?;
-    let b = put(&rt, &mut arena, 1, 10)?;
-    let c = put(&rt, &mut arena, 2, 30)?;
-    let mut column = CrackerColumn::new(alloc);
+fn crack_puts_rows_below_the_bound_first(rt: HostRuntime) -> Result<(), Fail> {
+    let mut arena = Arena::new(rt.alloc());
+    let mut column = CrackerColumn::new(rt.alloc());
+    let told = fill_and_crack(&rt, &mut arena, &mut column);
+    drop(column);
+    drop(arena);
+    told
+}
+
+/// Appends two handles to an empty column, and swaps a third in for the first of them.
+fn swap_first(
+    rt: &impl Abort,
+    column: &mut CrackerColumn,
+    a: Handle<Row>,
+    b: Handle<Row>,
+    c: Handle<Row>,
+) -> Result<(), Fail>
+    requires remembered { (cells : List (Cell RowValue)) → Remembers cells column.old.handles column.old.keys }
+    ensures remembered { OnOk result ((cells : List (Cell RowValue)) → Remembers cells column.new.handles column.new.keys) }
+{
     assert!(rt; column.pop().is_none());
     column.reserve(2)?;
     column.append(a);
     column.append(b);
     assert!(rt; !column.is_empty());
     assert!(rt; column.swap_in(0, c) == a);
-    assert!(rt; column.at(0) == c);
-    assert_eq!(rt; column.crack_two(0, 2, Bound(20), &arena), 1);
-    assert_eq!(rt; column.place_of(c), Some(1));
-    assert_eq!(rt; column.place_of(b), Some(0));
-    assert_eq!(rt; column.place_of(a), None);
+    assert!(rt; at(rt, column, 0) == c);
+    Ok(())
+}
+
+/// Asserts where each of three handles stands.
+fn assert_places(
+    rt: &impl Abort,
+    column: &CrackerColumn,
+    handles: [Handle<Row>; 3],
+    places: [Option<usize>; 3],
+) {
+    for (handle, place) in handles.into_iter().zip(places) {
+        assert_eq!(rt; column.place_of(handle), place);
+    }
+}
+
+fn swap_and_pop(
+    rt: &impl Abort,
+    arena: &mut Arena<Row>,
+    column: &mut CrackerColumn,
+) -> Result<(), Fail>
+    requires remembered { (cells : List (Cell RowValue)) → Remembers cells column.old.handles column.old.keys }
+{
+    let a = put(rt, arena, 0, 40)?;
+    let b = put(rt, arena, 1, 10)?;
+    let c = put(rt, arena, 2, 30)?;
+    swap_first(rt, column, a, b, c)?;
+    assert_eq!(rt; crack(rt, arena, column, (0, 2), 20), 1);
+    assert_places(rt, column, [c, b, a], [Some(1), Some(0), None]);
     assert!(rt; column.pop() == Some(c));
     assert_eq!(rt; column.len(), 1);
     Ok(())
+}
+
+#[test]
+fn handles_go_in_and_out(rt: HostRuntime) -> Result<(), Fail> {
+    let mut arena = Arena::new(rt.alloc());
+    let mut column = CrackerColumn::new(rt.alloc());
+    let told = swap_and_pop(&rt, &mut arena, &mut column);
+    drop(column);
+    drop(arena);
+    told
 }

@@ -1,4 +1,4 @@
-//! Tests that run through the public calls of several crates: what no clause says.
+//! Tests that run through the public calls of the crates below a partition: what no clause says.
 #![tactic(auto)]
 
 #[cfg(test)]
@@ -10,12 +10,6 @@ mod index;
 #[cfg(test)]
 mod merge;
 #[cfg(test)]
-mod part;
-#[cfg(test)]
 mod pending;
-#[cfg(test)]
-mod plain;
-#[cfg(test)]
-mod session;
 #[cfg(test)]
 mod store;

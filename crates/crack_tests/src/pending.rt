@@ -78,21 +78,66 @@ fn assert_keys<Kind>(
     }
 }
 
+fn find_first<Kind>(
+    rt: &impl Abort,
+    arena: &mut Arena<Row>,
+    pending: &mut PendingList<Kind>,
+) -> Result<(), Fail> {
+    push_keys(rt, arena, pending, &[40, 10, 30, 20])?;
+    for (low, high, first) in [(15, 35, Some(2)), (15, 30, Some(3)), (41, 50, None)] {
+        let range = KeyRange::new(low, high)?;
+        assert_eq!(rt; pending.first_in(range, arena), first, "{low} {high}");
+    }
+    Ok(())
+}
+
+fn find_next<Kind>(
+    rt: &impl Abort,
+    arena: &Arena<Row>,
+    pending: &PendingList<Kind>,
+) -> Result<(), Fail> {
+    let range = KeyRange::new(15, 35)?;
+    for (from, next) in [(2, Some(2)), (3, Some(3)), (4, None)] {
+        assert_eq!(rt; pending.next_in(range, from, arena), next, "from {from}");
+    }
+    Ok(())
+}
+
+fn find<Kind>(
+    rt: &impl Abort,
+    arena: &mut Arena<Row>,
+    pending: &mut PendingList<Kind>,
+) -> Result<(), Fail> {
+    find_first(rt, arena, pending)?;
+    find_next(rt, arena, pending)
+}
+
 fn finds<Kind: Drop>(
     rt: &impl Abort,
     alloc: Global,
     mut pending: PendingList<Kind>,
 ) -> Result<(), Fail> {
     let mut arena = Arena::new(alloc);
-    push_keys(rt, &mut arena, &mut pending, &[40, 10, 30, 20])?;
-    for (low, high, first) in [(15, 35, Some(2)), (15, 30, Some(3)), (41, 50, None)] {
-        let range = KeyRange::new(low, high)?;
-        assert_eq!(rt; pending.first_in(range, &arena), first, "{low} {high}");
-    }
-    let range = KeyRange::new(15, 35)?;
-    for (from, next) in [(2, Some(2)), (3, Some(3)), (4, None)] {
-        assert_eq!(rt; pending.next_in(range, from, &arena), next, "from {from}");
-    }
+    let told = find(rt, &mut arena, &mut pending);
+    drop(pending);
+    drop(arena);
+    told
+}
+
+/// Takes two of four rows, and pushes one of them again.
+fn close_up<Kind>(
+    rt: &impl Abort,
+    arena: &mut Arena<Row>,
+    pending: &mut PendingList<Kind>,
+) -> Result<(), Fail> {
+    push_keys(rt, arena, pending, &[40, 10, 30, 20])?;
+    let thirty = take(rt, pending, 2);
+    assert_eq!(rt; key_of(arena, thirty), Some(30));
+    assert_keys(rt, arena, pending, &[40, 10, 20]);
+    let forty = take(rt, pending, 0);
+    assert_eq!(rt; key_of(arena, forty), Some(40));
+    push(rt, pending, thirty)?;
+    assert_keys(rt, arena, pending, &[10, 20, 30]);
     Ok(())
 }
 
@@ -102,14 +147,27 @@ fn closes_up<Kind: Drop>(
     mut pending: PendingList<Kind>,
 ) -> Result<(), Fail> {
     let mut arena = Arena::new(alloc);
-    push_keys(rt, &mut arena, &mut pending, &[40, 10, 30, 20])?;
-    let thirty = take(rt, &mut pending, 2);
-    assert_eq!(rt; key_of(&arena, thirty), Some(30));
-    assert_keys(rt, &arena, &pending, &[40, 10, 20]);
-    let forty = take(rt, &mut pending, 0);
-    assert_eq!(rt; key_of(&arena, forty), Some(40));
-    push(rt, &mut pending, thirty)?;
-    assert_keys(rt, &arena, &pending, &[10, 20, 30]);
+    let told = close_up(rt, &mut arena, &mut pending);
+    drop(pending);
+    drop(arena);
+    told
+}
+
+/// Takes one of two rows, and asserts what is said of its cell before and after.
+fn take_marked<Kind>(
+    rt: &impl Abort,
+    arena: &mut Arena<Row>,
+    pending: &mut PendingList<Kind>,
+) -> Result<(), Fail> {
+    assert!(rt; pending.is_empty());
+    push_keys(rt, arena, pending, &[40, 10])?;
+    assert!(rt; !pending.is_empty());
+    let ten = at(rt, pending, 1);
+    assert!(rt; pending.contains(ten.slot()));
+    assert_eq!(rt; pending.place_of(ten), Some(1));
+    take(rt, pending, 1);
+    assert!(rt; !pending.contains(ten.slot()));
+    assert_eq!(rt; pending.place_of(ten), None);
     Ok(())
 }
 
@@ -119,16 +177,10 @@ fn marks<Kind: Drop>(
     mut pending: PendingList<Kind>,
 ) -> Result<(), Fail> {
     let mut arena = Arena::new(alloc);
-    assert!(rt; pending.is_empty());
-    push_keys(rt, &mut arena, &mut pending, &[40, 10])?;
-    assert!(rt; !pending.is_empty());
-    let ten = at(rt, &pending, 1);
-    assert!(rt; pending.contains(ten.slot()));
-    assert_eq!(rt; pending.place_of(ten), Some(1));
-    take(rt, &mut pending, 1);
-    assert!(rt; !pending.contains(ten.slot()));
-    assert_eq!(rt; pending.place_of(ten), None);
-    Ok(())
+    let told = take_marked(rt, &mut arena, &mut pending);
+    drop(pending);
+    drop(arena);
+    told
 }
 
 #[test]
@@ -149,22 +201,38 @@ fn a_mark_goes_with_its_row(rt: HostRuntime) -> Result<(), Fail> {
     marks(&rt, rt.alloc(), PendingOut::new(rt.alloc()))
 }
 
+/// Takes every second row of those with the keys 0 to 999.
+fn take_every_second(rt: &impl Abort, arena: &Arena<Row>, pending: &mut PendingIn) {
+    for place in 0..500usize {
+        let handle = take(rt, pending, place);
+        assert_eq!(rt; key_of(arena, handle), Some(2 * place as u32));
+    }
+    assert_eq!(rt; pending.len(), 500);
+}
+
+fn push_and_take(
+    rt: &impl Abort,
+    arena: &mut Arena<Row>,
+    pending: &mut PendingIn,
+) -> Result<(), Fail> {
+    for key in 0..1000u32 {
+        push_keys(rt, arena, pending, &[key])?;
+    }
+    take_every_second(rt, arena, pending);
+    for place in 0..500usize {
+        let handle = at(rt, pending, place);
+        assert_eq!(rt; key_of(arena, handle), Some(2 * place as u32 + 1));
+    }
+    Ok(())
+}
+
 /// Of a thousand rows, taken at rising places, every second one stays.
 #[test]
 fn every_second_is_taken(rt: HostRuntime) -> Result<(), Fail> {
     let mut arena = Arena::new(rt.alloc());
     let mut pending = PendingIn::new(rt.alloc());
-    for key in 0..1000u32 {
-        push_keys(&rt, &mut arena, &mut pending, &[key])?;
-    }
-    for place in 0..500usize {
-        let handle = take(&rt, &mut pending, place);
-        assert_eq!(rt; key_of(&arena, handle), Some(2 * place as u32));
-    }
-    assert_eq!(rt; pending.len(), 500);
-    for place in 0..500usize {
-        let handle = at(&rt, &pending, place);
-        assert_eq!(rt; key_of(&arena, handle), Some(2 * place as u32 + 1));
-    }
-    Ok(())
+    let told = push_and_take(&rt, &mut arena, &mut pending);
+    drop(pending);
+    drop(arena);
+    told
 }

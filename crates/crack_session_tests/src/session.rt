@@ -107,10 +107,10 @@ impl Write for CountedWriter {
 }
 
 /// A session over memory, which is to end: how, and what it wrote.
-fn run<D: Desk>(alloc: Global, desk: &mut D, input: &[u8]) -> Result<(End, Vec<u8>), Fail> {
+fn run<D: Desk + Drop>(alloc: Global, mut desk: D, input: &[u8]) -> Result<(End, Vec<u8>), Fail> {
     let mut reader = Watched::new(input);
     let mut writer = Watched::new(Vec::new(alloc));
-    let result = serve(alloc, desk, Policy::Complete, &mut reader, &mut writer);
+    let result = serve(alloc, &mut desk, Policy::Complete, &mut reader, &mut writer);
     let end = result.ok().ok_or("a fault")?;
     Ok((end, writer.into_inner()))
 }
@@ -125,10 +125,10 @@ fn ends(how: How, statements: u64) -> End {
 }
 
 /// A session over memory that is to write these replies and end so.
-fn assert_run<D: Desk>(
+fn assert_run<D: Desk + Drop>(
     rt: &impl Abort,
     alloc: Global,
-    desk: &mut D,
+    desk: D,
     input: &[u8],
     replies: &[u8],
     end: End,
@@ -140,10 +140,10 @@ fn assert_run<D: Desk>(
 }
 
 /// The same where the reader gives a byte at a time.
-fn assert_dripped<D: Desk>(
+fn assert_dripped<D: Desk + Drop>(
     rt: &impl Abort,
     alloc: Global,
-    desk: &mut D,
+    mut desk: D,
     input: &[u8],
     replies: &[u8],
     end: End,
@@ -153,7 +153,7 @@ fn assert_dripped<D: Desk>(
         fails: false,
     });
     let mut writer = Watched::new(Vec::new(alloc));
-    let result = serve(alloc, desk, Policy::Complete, &mut reader, &mut writer);
+    let result = serve(alloc, &mut desk, Policy::Complete, &mut reader, &mut writer);
     assert_eq!(rt; result.ok(), Some(end));
     assert_eq!(rt; writer.into_inner().as_slice(), replies);
     Ok(())
@@ -168,10 +168,10 @@ fn assert_script(
     replies: &[u8],
     end: End,
 ) -> Result<(), Fail> {
-    let mut desk = OneDesk::open(alloc, limit)?;
-    assert_run(rt, alloc, &mut desk, input, replies, end)?;
-    let mut again = OneDesk::open(alloc, limit)?;
-    assert_dripped(rt, alloc, &mut again, input, replies, end)
+    let desk = OneDesk::open(alloc, limit)?;
+    assert_run(rt, alloc, desk, input, replies, end)?;
+    let again = OneDesk::open(alloc, limit)?;
+    assert_dripped(rt, alloc, again, input, replies, end)
 }
 
 /// A session that a plain table answers by the same bytes.
@@ -183,8 +183,7 @@ fn assert_alike(
     end: End,
 ) -> Result<(), Fail> {
     assert_script(rt, alloc, GREATEST_LIMIT, input, replies, end)?;
-    let mut table = PlainTable::new(alloc);
-    assert_run(rt, alloc, &mut table, input, replies, end)
+    assert_run(rt, alloc, PlainTable::new(alloc), input, replies, end)
 }
 
 #[test]
@@ -257,14 +256,18 @@ fn spaces_and_zeros_are_passed_over(rt: HostRuntime) -> Result<(), Fail> {
 }
 
 /// A session whose writer fails in the third reply.
-fn fail_the_third_reply<D: Desk>(rt: &impl Abort, alloc: Global, desk: &mut D) -> Result<(), Fail> {
+fn fail_the_third_reply<D: Desk + Drop>(
+    rt: &impl Abort,
+    alloc: Global,
+    mut desk: D,
+) -> Result<(), Fail> {
     let mut reader = Watched::new(b"insert 1 1\ninsert 2 2\ninsert 3 3\n".as_slice());
     let mut writer = Watched::new(Failing {
         calls: 0,
         fails_at: 2,
         bytes: Vec::new(alloc),
     });
-    let result = serve(alloc, desk, Policy::Complete, &mut reader, &mut writer);
+    let result = serve(alloc, &mut desk, Policy::Complete, &mut reader, &mut writer);
     let fault = result.err().ok_or("no fault")?;
     assert_eq!(rt;
         fault,
@@ -284,15 +287,15 @@ fn fail_the_third_reply<D: Desk>(rt: &impl Abort, alloc: Global, desk: &mut D) -
 
 #[test]
 fn writer_fails_in_the_third_reply(rt: HostRuntime) -> Result<(), Fail> {
-    let mut desk = OneDesk::open(rt.alloc(), GREATEST_LIMIT)?;
-    fail_the_third_reply(&rt, rt.alloc(), &mut desk)
+    let desk = OneDesk::open(rt.alloc(), GREATEST_LIMIT)?;
+    fail_the_third_reply(&rt, rt.alloc(), desk)
 }
 
 /// A session whose writer takes bytes and can't hand them on.
-fn fail_the_flush<D: Desk>(rt: &impl Abort, alloc: Global, desk: &mut D) -> Result<(), Fail> {
+fn fail_the_flush<D: Desk + Drop>(rt: &impl Abort, alloc: Global, mut desk: D) -> Result<(), Fail> {
     let mut reader = Watched::new(b"".as_slice());
     let mut writer = Watched::new(Clogged);
-    let result = serve(alloc, desk, Policy::Complete, &mut reader, &mut writer);
+    let result = serve(alloc, &mut desk, Policy::Complete, &mut reader, &mut writer);
     let fault = result.err().ok_or("no fault")?;
     assert_eq!(rt;
         fault,
@@ -308,18 +311,22 @@ fn fail_the_flush<D: Desk>(rt: &impl Abort, alloc: Global, desk: &mut D) -> Resu
 
 #[test]
 fn writer_fails_when_flushed(rt: HostRuntime) -> Result<(), Fail> {
-    let mut desk = OneDesk::open(rt.alloc(), GREATEST_LIMIT)?;
-    fail_the_flush(&rt, rt.alloc(), &mut desk)
+    let desk = OneDesk::open(rt.alloc(), GREATEST_LIMIT)?;
+    fail_the_flush(&rt, rt.alloc(), desk)
 }
 
 /// A session whose reader fails in a line that was begun.
-fn fail_the_reader<D: Desk>(rt: &impl Abort, alloc: Global, desk: &mut D) -> Result<(), Fail> {
+fn fail_the_reader<D: Desk + Drop>(
+    rt: &impl Abort,
+    alloc: Global,
+    mut desk: D,
+) -> Result<(), Fail> {
     let mut reader = Watched::new(Dripping {
         bytes: b"insert 1 1\ncount 0 9",
         fails: true,
     });
     let mut writer = Watched::new(Vec::new(alloc));
-    let result = serve(alloc, desk, Policy::Complete, &mut reader, &mut writer);
+    let result = serve(alloc, &mut desk, Policy::Complete, &mut reader, &mut writer);
     let fault = result.err().ok_or("no fault")?;
     assert_eq!(rt;
         fault,
@@ -336,17 +343,36 @@ fn fail_the_reader<D: Desk>(rt: &impl Abort, alloc: Global, desk: &mut D) -> Res
 
 #[test]
 fn reader_fails_in_a_line(rt: HostRuntime) -> Result<(), Fail> {
-    let mut desk = OneDesk::open(rt.alloc(), GREATEST_LIMIT)?;
-    fail_the_reader(&rt, rt.alloc(), &mut desk)
+    let desk = OneDesk::open(rt.alloc(), GREATEST_LIMIT)?;
+    fail_the_reader(&rt, rt.alloc(), desk)
 }
 
-/// A session of many replies, over devices that count.
-fn count_the_writes<D: Desk>(rt: &impl Abort, alloc: Global, desk: &mut D) -> Result<(), Fail> {
+/// A thousand inserts, and a count.
+fn insert_often(alloc: Global) -> Result<Vec<u8>, Fail> {
     let mut input = Vec::new(alloc);
     for _ in 0..1000 {
         input.extend_from_slice(b"insert 1 1\n")?;
     }
     input.extend_from_slice(b"count 0 9")?;
+    Ok(input)
+}
+
+/// Asserts that there are several writes, no more of them than reads and one, a flush before each read and at the end,
+/// and nothing behind the last flush.
+fn assert_few_writes(rt: &impl Abort, counted: &CountedWriter, reads: u64) {
+    assert!(rt; counted.writes <= reads.saturating_add(1));
+    assert!(rt; counted.writes > 1);
+    assert_eq!(rt; counted.flushes, reads.saturating_add(1));
+    assert_eq!(rt; counted.left, 0);
+}
+
+/// A session of many replies, over devices that count.
+fn count_the_writes<D: Desk + Drop>(
+    rt: &impl Abort,
+    alloc: Global,
+    mut desk: D,
+) -> Result<(), Fail> {
+    let input = insert_often(alloc)?;
     let mut reader = Watched::new(CountedReader {
         bytes: input.as_slice(),
         reads: 0,
@@ -357,27 +383,22 @@ fn count_the_writes<D: Desk>(rt: &impl Abort, alloc: Global, desk: &mut D) -> Re
         left: 0,
     };
     let mut writer = Watched::new(BufWriter::new(alloc, device)?);
-    let result = serve(alloc, desk, Policy::Complete, &mut reader, &mut writer);
+    let result = serve(alloc, &mut desk, Policy::Complete, &mut reader, &mut writer);
     assert_eq!(rt; result.ok().ok_or("a fault")?.statements, 1001);
-    let reads = reader.into_inner().reads;
     let buffered = writer.into_inner();
-    let counted = buffered.get_ref();
-    assert!(rt; counted.writes <= reads.saturating_add(1));
-    assert!(rt; counted.writes > 1);
-    assert_eq!(rt; counted.flushes, reads.saturating_add(1));
-    assert_eq!(rt; counted.left, 0);
+    assert_few_writes(rt, buffered.get_ref(), reader.into_inner().reads);
     Ok(())
 }
 
 /// What is written is handed on before each read and at the end, and so is buffered to at most a write for each read.
 #[test]
 fn writes_are_as_few_as_reads(rt: HostRuntime) -> Result<(), Fail> {
-    let mut desk = OneDesk::open(rt.alloc(), GREATEST_LIMIT)?;
-    count_the_writes(&rt, rt.alloc(), &mut desk)
+    let desk = OneDesk::open(rt.alloc(), GREATEST_LIMIT)?;
+    count_the_writes(&rt, rt.alloc(), desk)
 }
 
 /// A desk by itself: what it is asked, how many it accepted, and that there is one partition.
-fn ask_it<D: Desk>(rt: &impl Abort, alloc: Global, desk: &mut D) -> Result<(), Fail> {
+fn ask_it<D: Desk + Drop>(rt: &impl Abort, alloc: Global, mut desk: D) -> Result<(), Fail> {
     let insert = Command::Insert {
         key: Key(7),
         payload: Payload(70),
@@ -396,12 +417,12 @@ fn ask_it<D: Desk>(rt: &impl Abort, alloc: Global, desk: &mut D) -> Result<(), F
 
 #[test]
 fn desks(rt: HostRuntime) -> Result<(), Fail> {
-    let mut desk = OneDesk::open(rt.alloc(), GREATEST_LIMIT)?;
-    ask_it(&rt, rt.alloc(), &mut desk)?;
-    let mut table = PlainTable::new(rt.alloc());
-    ask_it(&rt, rt.alloc(), &mut table)?;
+    let desk = OneDesk::open(rt.alloc(), GREATEST_LIMIT)?;
+    ask_it(&rt, rt.alloc(), desk)?;
+    ask_it(&rt, rt.alloc(), PlainTable::new(rt.alloc()))?;
     for limit in [0, GREATEST_LIMIT + 1] {
-        assert!(rt; matches!(OneDesk::open(rt.alloc(), limit), Err(Refusal::BadLimit)));
+        let refused = OneDesk::open(rt.alloc(), limit).err();
+        assert!(rt; matches!(refused, Some(Refusal::BadLimit)));
     }
     Ok(())
 }

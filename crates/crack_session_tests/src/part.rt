@@ -34,24 +34,58 @@ fn is_first_insert(entry: &Entry) -> bool {
         && matches!(entry.reply, Reply::Placed(Serial(0)))
 }
 
-#[test]
-fn partition_answers_and_keeps(rt: HostRuntime) -> Result<(), Refusal> {
-    let alloc = rt.alloc();
-    let mut partition = Partition::open(alloc, KeyRange::all(), 1000000)?;
+/// Asserts that the partition has all keys, the greatest limit and no history.
+fn assert_opened(rt: &impl Abort, partition: &Partition) {
     assert_eq!(rt; partition.limit(), 1000000);
     assert_eq!(rt; partition.keys().low().0, 0);
     assert_eq!(rt; partition.keys().high().0, 4294967296);
     assert!(rt; partition.history().is_empty());
+}
 
-    let (reply, receipt) = ask(&mut partition, alloc, insert(7))?;
+/// Inserts key 7 as the first row, which the reply and its receipt tell.
+fn insert_first(rt: &impl Abort, partition: &mut Partition, alloc: Global) -> Result<(), Refusal> {
+    let (reply, receipt) = ask(partition, alloc, insert(7))?;
     assert!(rt; matches!(reply, Reply::Placed(Serial(0))));
     assert!(rt; matches!(receipt, Reply::Placed(Serial(0))));
-    let (reply, receipt) = ask(&mut partition, alloc, Command::Count(KeyRange::all()))?;
+    Ok(())
+}
+
+/// Counts the only row, which the reply and its receipt tell.
+fn count_first(rt: &impl Abort, partition: &mut Partition, alloc: Global) -> Result<(), Refusal> {
+    let (reply, receipt) = ask(partition, alloc, Command::Count(KeyRange::all()))?;
     assert!(rt; matches!(reply, Reply::Counted(1)));
     assert!(rt; matches!(receipt, Reply::Counted(1)));
+    Ok(())
+}
 
+fn answer_and_keep(
+    rt: &impl Abort,
+    partition: &mut Partition,
+    alloc: Global,
+) -> Result<(), Refusal> {
+    assert_opened(rt, partition);
+    insert_first(rt, partition, alloc)?;
+    count_first(rt, partition, alloc)?;
     assert_eq!(rt; partition.history().len(), 2);
     assert!(rt; is_first_insert(&partition.history()[0]));
+    Ok(())
+}
+
+#[test]
+fn partition_answers_and_keeps(rt: HostRuntime) -> Result<(), Refusal> {
+    let alloc = rt.alloc();
+    let mut partition = Partition::open(alloc, KeyRange::all(), 1000000)?;
+    let told = answer_and_keep(&rt, &mut partition, alloc);
+    drop(partition);
+    told
+}
+
+/// Counts a range of no key.
+fn count_no_key(rt: &impl Abort, partition: &mut Partition, alloc: Global) -> Result<(), Refusal> {
+    let empty = KeyRange::new(5, 5)?;
+    let (reply, _receipt) = ask(partition, alloc, Command::Count(empty))?;
+    assert!(rt; matches!(reply, Reply::Counted(0)));
+    assert_eq!(rt; partition.history().len(), 1);
     Ok(())
 }
 
@@ -60,10 +94,18 @@ fn partition_answers_and_keeps(rt: HostRuntime) -> Result<(), Refusal> {
 fn partition_keeps_a_count_of_no_key(rt: HostRuntime) -> Result<(), Refusal> {
     let alloc = rt.alloc();
     let mut partition = Partition::open(alloc, KeyRange::all(), 1)?;
-    let empty = KeyRange::new(5, 5)?;
-    let (reply, _receipt) = ask(&mut partition, alloc, Command::Count(empty))?;
-    assert!(rt; matches!(reply, Reply::Counted(0)));
-    assert_eq!(rt; partition.history().len(), 1);
+    let told = count_no_key(&rt, &mut partition, alloc);
+    drop(partition);
+    told
+}
+
+/// Fills a history of two entries.
+fn fill_two(rt: &impl Abort, partition: &mut Partition, alloc: Global) -> Result<(), Refusal> {
+    ask(partition, alloc, insert(1))?;
+    ask(partition, alloc, insert(2))?;
+    let refused = ask(partition, alloc, Command::Count(KeyRange::all()));
+    assert!(rt; matches!(refused, Err(Refusal::HistoryFull { length: 2 })));
+    assert_eq!(rt; partition.history().len(), 2);
     Ok(())
 }
 
@@ -71,11 +113,24 @@ fn partition_keeps_a_count_of_no_key(rt: HostRuntime) -> Result<(), Refusal> {
 fn partition_refuses_at_its_limit(rt: HostRuntime) -> Result<(), Refusal> {
     let alloc = rt.alloc();
     let mut partition = Partition::open(alloc, KeyRange::all(), 2)?;
-    ask(&mut partition, alloc, insert(1))?;
-    ask(&mut partition, alloc, insert(2))?;
-    let refused = ask(&mut partition, alloc, Command::Count(KeyRange::all()));
-    assert!(rt; matches!(refused, Err(Refusal::HistoryFull { length: 2 })));
-    assert_eq!(rt; partition.history().len(), 2);
+    let told = fill_two(&rt, &mut partition, alloc);
+    drop(partition);
+    told
+}
+
+/// Inserts keys outside of 100 up to 200, and one inside.
+fn insert_outside(
+    rt: &impl Abort,
+    partition: &mut Partition,
+    alloc: Global,
+) -> Result<(), Refusal> {
+    for key in [50, 200] {
+        let refused = ask(partition, alloc, insert(key));
+        assert!(rt; matches!(refused, Err(Refusal::KeyOutside)), "key {key}");
+    }
+    assert!(rt; partition.history().is_empty());
+    let (reply, _receipt) = ask(partition, alloc, insert(199))?;
+    assert!(rt; matches!(reply, Reply::Placed(Serial(0))));
     Ok(())
 }
 
@@ -83,21 +138,16 @@ fn partition_refuses_at_its_limit(rt: HostRuntime) -> Result<(), Refusal> {
 fn partition_refuses_keys_outside(rt: HostRuntime) -> Result<(), Refusal> {
     let alloc = rt.alloc();
     let mut partition = Partition::open(alloc, KeyRange::new(100, 200)?, 10)?;
-    for key in [50, 200] {
-        let refused = ask(&mut partition, alloc, insert(key));
-        assert!(rt; matches!(refused, Err(Refusal::KeyOutside)), "key {key}");
-    }
-    assert!(rt; partition.history().is_empty());
-    let (reply, _receipt) = ask(&mut partition, alloc, insert(199))?;
-    assert!(rt; matches!(reply, Reply::Placed(Serial(0))));
-    Ok(())
+    let told = insert_outside(&rt, &mut partition, alloc);
+    drop(partition);
+    told
 }
 
 #[test]
 fn partition_refuses_bad_limits(rt: HostRuntime) {
     for limit in [0, 1000001] {
-        let refused = Partition::open(rt.alloc(), KeyRange::all(), limit);
-        assert!(rt; matches!(refused, Err(Refusal::BadLimit)), "limit {limit}");
+        let refused = Partition::open(rt.alloc(), KeyRange::all(), limit).err();
+        assert!(rt; matches!(refused, Some(Refusal::BadLimit)), "limit {limit}");
     }
 }
 
@@ -165,14 +215,16 @@ fn assert_pieces(
     Ok(())
 }
 
-/// A partition of the keys 10, 20, 30 and 40, which waited until the first count; cracked at 15 and 25.
-fn cracked(rt: &impl Abort, alloc: Global) -> Result<Partition, Refusal> {
-    let mut partition = Partition::open(alloc, KeyRange::all(), 1000)?;
-    insert_all(&mut partition, alloc, &[10, 20, 30, 40])?;
-    assert_rows(rt, &partition, 0, 4)?;
-    assert_count(rt, &mut partition, alloc, KeyRange::all(), 4)?;
-    assert_count(rt, &mut partition, alloc, KeyRange::new(15, 25)?, 1)?;
-    Ok(partition)
+/// Inserts the keys 10, 20, 30 and 40, which wait until the first count, and cracks at 15 and 25.
+fn fill_and_crack(
+    rt: &impl Abort,
+    partition: &mut Partition,
+    alloc: Global,
+) -> Result<(), Refusal> {
+    insert_all(partition, alloc, &[10, 20, 30, 40])?;
+    assert_rows(rt, partition, 0, 4)?;
+    assert_count(rt, partition, alloc, KeyRange::all(), 4)?;
+    assert_count(rt, partition, alloc, KeyRange::new(15, 25)?, 1)
 }
 
 /// Asserts that six rows stand in the column, in three pieces.
@@ -182,13 +234,25 @@ fn assert_merged(rt: &impl Abort, partition: &Partition) -> Result<(), Refusal> 
     assert_pieces(rt, partition, &[(0, 1), (15, 2), (25, 3)])
 }
 
+/// Inserts two rows into what was cracked, and counts one of them.
+fn crack_and_merge(
+    rt: &impl Abort,
+    partition: &mut Partition,
+    alloc: Global,
+) -> Result<(), Refusal> {
+    fill_and_crack(rt, partition, alloc)?;
+    insert_all(partition, alloc, &[17, 90])?;
+    assert_rows(rt, partition, 4, 2)?;
+    assert_count(rt, partition, alloc, KeyRange::new(15, 25)?, 2)?;
+    assert_merged(rt, partition)
+}
+
 /// Rows wait until a count needs one of them; then all are merged, and no row is lost from sight on the way.
 #[test]
 fn partition_cracks_and_merges(rt: HostRuntime) -> Result<(), Refusal> {
     let alloc = rt.alloc();
-    let mut partition = cracked(&rt, alloc)?;
-    insert_all(&mut partition, alloc, &[17, 90])?;
-    assert_rows(&rt, &partition, 4, 2)?;
-    assert_count(&rt, &mut partition, alloc, KeyRange::new(15, 25)?, 2)?;
-    assert_merged(&rt, &partition)
+    let mut partition = Partition::open(alloc, KeyRange::all(), 1000)?;
+    let told = crack_and_merge(&rt, &mut partition, alloc);
+    drop(partition);
+    told
 }

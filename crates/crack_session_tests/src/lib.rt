@@ -1,0 +1,9 @@
+//! Tests that run through the public calls of the plain table, a partition and a session: what no clause says.
+#![tactic(auto)]
+
+#[cfg(test)]
+mod part;
+#[cfg(test)]
+mod plain;
+#[cfg(test)]
+mod session;
