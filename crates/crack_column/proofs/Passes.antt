@@ -7,7 +7,7 @@ use Rattle.std.proofs.lemmas.List.Edits.{Swapped, swapped_from_swap}
 use Rattle.std.proofs.lemmas.List.{ext_get_or, map-set, get_or_default, length-map, get_or-map, get_or-set_same, get_or-set_other}
 use Rattle.std.proofs.lemmas.Bool.{cases_eq}
 use Rattle.crack_arena.specs.Arena.{Cell, Handle, times}
-use Rattle.crack_arena.specs.Times.{times-set, times_head, times-nil, times_other, times_at}
+use Rattle.crack_arena.specs.Times.{times-set, times_head, times-nil, times_other, times_map_at}
 use Rattle.crack_row.specs.declared.Row.{Row}
 use Rattle.crack_column.specs.declared.place.Place.{Place}
 use Rattle.crack_arena.specs.Rows.{key_at}
@@ -131,8 +131,6 @@ learned_all cells hs ps ps' n i past part = λ k d l. rw (get_or_default ps' k d
 -- where no key is unknown, each that a place knows is read
 pub all_read : (cells : List (Cell Row)) (hs : List Handle) (ps : List Place) → times unknown (map remembered_of ps) ≡ 0 → All (Knows cells hs) ps → All (Read cells hs) ps
 all_read cells hs ps none known = λ k d h. elim (known k d h) [
-  | inl u ↦
-      let at : get_or (map remembered_of ps) k 0 ≡ unknown = get_or-map remembered_of ps k d 0 h ∙ u in
-      absurd (omega (arith, none, times_at unknown (map remembered_of ps) k 0 (omega (arith, length-map ps remembered_of)) at))
+  | inl u ↦ absurd (omega (arith, none, times_map_at unknown remembered_of ps k d h u))
   | inr r ↦ r
 ]
