@@ -4,9 +4,8 @@ use Rattle.crack_row.specs.declared.command.Policy.{Policy}
 use Rattle.crack_row.specs.declared.command.Policy.TheVariants.{Complete}
 use Rattle.crack_state.specs.declared.MergeReport.{MergeReport}
 use Rattle.crack_state.specs.State.{State, Carried, IsIntact}
-use Rattle.crack_state.specs.Steps.{appended}
+use Rattle.crack_state.specs.Steps.{appended, Pushes}
 use Rattle.crack_state.specs.Merge.{Follows, Tallies}
-use Rattle.crack_state.specs.FollowLaws.{Pushes}
 
 -- a carry: the hand is pushed on from piece to piece, and what is in hand at the last becomes the column's last row
 pub record Carries (c : Carried) (t : State) : Type 0 where
