@@ -1,20 +1,18 @@
 -- What a count of a range within a partition's keys says of the plain rows.
-use Rattle.std.proofs.Common.{◌≡◌, ℕ, ◌+◌, ◌≤◌, ◌-◌, List, [], ◌∷◌, Option, Some, None, Bool, true, false, cond, arith, refl, sym, ap, ◌∙◌}
-use Rattle.std.specs.Prelude.{◌==◌}
-use Rattle.std.specs.List.{All, cons_option, count_by}
-use Rattle.std.specs.Option.{IfSome}
+use Rattle.std.proofs.Common.{◌≡◌, ℕ, ◌+◌, ◌≤◌, ◌-◌, List, [], ◌∷◌, Bool, false, cond, arith, refl, sym, ap, ◌∙◌}
+use Rattle.std.specs.List.{All, count_by}
 use Rattle.std.specs.List.Sorted.{IsPermutation}
 use Rattle.std.proofs.lemmas.Bool.Decides.{nat_tests}
-use Rattle.std.proofs.lemmas.List.Elements.{All-nil, All-cons, All-head, All-tail}
+use Rattle.std.proofs.lemmas.List.Elements.{All-head, All-tail}
 use Rattle.std.proofs.lemmas.List.Sorted.{All-permutation}
 use Rattle.std.proofs.lemmas.List.Sums.{sum_by-cons}
 use Rattle.crack_row.specs.Ranges.{Range, IsIn, is_in, clipped}
 use Rattle.crack_row.specs.declared.Row.{Row}
-use Rattle.crack_arena.specs.Arena.{Cell, times, slots}
 use Rattle.crack_plain.specs.Plain.{in_range}
-use Rattle.crack_state.specs.State.{State, live_value, live_from, live_rows, AreWithin, IsIntact}
+use Rattle.crack_state.specs.State.{State, live_rows, IsIntact}
 use Rattle.crack_state.specs.Merge.{IsSettled, edge}
 use Rattle.crack_state.specs.SettledLaws.{count-settled}
+use Rattle.crack_state.specs.LiveLaws.{live_rows-within}
 
 -- of these keys the same are in a range and in what it has in common with them
 is_in-clipped : (r keys : Range) (k : ℕ) → IsIn keys k → is_in (clipped r keys) k ≡ is_in r k
