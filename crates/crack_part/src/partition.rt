@@ -1,10 +1,10 @@
 //! Commands and their history.
 ghost use Rattle.std.specs.Prelude.{◌≡◌, ◌⊎◌, ◌+◌, ◌<◌, ◌≤◌, ◌↔◌, ◌^◌, List, [], ◌∷◌, ◌++◌, length, count_by, IsTrue, IsOk, IfOk, IfErr, OnErr, OnOk, Err, vec_len, vec_capacity};
 ghost use Rattle.std.specs.List.Sorted.{IsPermutation};
-ghost use Rattle.crack_row.specs.Ranges.{Range, clipped};
+ghost use Rattle.crack_row.specs.Ranges.{clipped};
 ghost use Rattle.crack_row.specs.Layouts.{IsLayout};
 ghost use Rattle.crack_plain.specs.Plain.{PlainState, reply_to, after, in_range, IsWithin, IsLegal};
-ghost use Rattle.crack_state.specs.State.{State, IsIntact, live_rows};
+ghost use Rattle.crack_state.specs.State.{IsIntact, live_rows};
 ghost use Rattle.crack_state.specs.Steps.{SameButRoom};
 ghost use Rattle.crack_state.specs.Merge.{IsCracked, Merges, Tallies};
 ghost use Rattle.crack_merge.specs.Merges.{Stops};
