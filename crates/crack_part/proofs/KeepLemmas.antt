@@ -80,11 +80,6 @@ IsIntact-spared policy keys (Count range) s t spared intact = elim spared [
   | inr done ↦ done.stops.intact
 ]
 
--- nothing was done but to room
-pub Spares-room : (policy : Policy) (keys : Range) (command : Command) (s t : State) → SameButRoom s t → Spares policy keys command s t
-Spares-room policy keys (Insert key payload) s t same = same
-Spares-room policy keys (Count range) s t same = inl same
-
 -- a whole merge is one that stopped at its end
 Leaves-rest : (policy : Policy) (s t : State) (r : Range) → Leaves policy s t r → LeavesRest policy s t
 Leaves-rest Complete s t r leaves = by_test (is_touched s r) leaves.0

@@ -242,12 +242,9 @@ Refines-both s u v r a b =
 pub live_rows-refined : (IsNew : ℕ → Type 0) (s u : State) → RefinesBy IsNew s u → live_rows u ≡ live_rows s
 live_rows-refined IsNew s u refined = ap live_rows refined.same
 
--- the cells stay, and the pending columns, and the tally
+-- the cells stay, and the pending deletions
 pub cells-refined : (IsNew : ℕ → Type 0) (s u : State) → RefinesBy IsNew s u → u.cells ≡ s.cells
 cells-refined IsNew s u refined = ap (λ (x : State). x.cells) refined.same
-
-pub pending_in-refined : (IsNew : ℕ → Type 0) (s u : State) → RefinesBy IsNew s u → u.pending_in ≡ s.pending_in
-pending_in-refined IsNew s u refined = ap (λ (x : State). x.pending_in) refined.same
 
 pub pending_out-refined : (IsNew : ℕ → Type 0) (s u : State) → RefinesBy IsNew s u → u.pending_out ≡ s.pending_out
 pending_out-refined IsNew s u refined = ap (λ (x : State). x.pending_out) refined.same
