@@ -6,10 +6,10 @@ use Rattle.crack_row.specs.declared.command.Policy.TheVariants.{Complete}
 use Rattle.crack_arena.specs.Arena.{times, slots}
 use Rattle.crack_arena.specs.Times.{times-nil}
 use Rattle.crack_state.specs.State.{State, Carried, IsIntact}
-use Rattle.crack_state.specs.Steps.{lifted, SameButRoom}
+use Rattle.crack_state.specs.Steps.{lifted, SameButRoom, Pushes}
 use Rattle.crack_state.specs.Merge.{Follows, Tallies}
 use Rattle.crack_state.specs.StepLaws.{IsIntact-room}
-use Rattle.crack_state.specs.FollowLaws.{Pushes, Follows-trans, Follows-room, Follows-lifted, length_marks-Follows, Tallies-trans, Tallies-room}
+use Rattle.crack_state.specs.FollowLaws.{Follows-trans, Follows-room, Follows-lifted, length_marks-Follows, Tallies-trans, Tallies-room}
 use Rattle.crack_merge.specs.Merges.{Carries, PutsIn}
 use Rattle.crack_merge.specs.CarryLaws.{Follows-Carries, Tallies-Carries}
 

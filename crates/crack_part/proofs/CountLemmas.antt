@@ -1,37 +1,17 @@
 -- What a count of a range within a partition's keys says of the plain rows.
-use Rattle.std.proofs.Common.{◌≡◌, ℕ, ◌+◌, ◌≤◌, ◌-◌, List, [], ◌∷◌, Option, Some, None, Bool, true, false, cond, arith, refl, sym, ap, ◌∙◌}
-use Rattle.std.specs.Prelude.{◌==◌}
-use Rattle.std.specs.List.{All, cons_option, count_by}
-use Rattle.std.specs.Option.{IfSome}
+use Rattle.std.proofs.Common.{◌≡◌, ℕ, ◌≤◌, ◌-◌, List, [], ◌∷◌, Bool, false, cond, arith, refl, sym, ap, ◌∙◌}
+use Rattle.std.specs.List.{All, count_by}
 use Rattle.std.specs.List.Sorted.{IsPermutation}
 use Rattle.std.proofs.lemmas.Bool.Decides.{nat_tests}
-use Rattle.std.proofs.lemmas.List.Elements.{All-nil, All-cons, All-head, All-tail}
+use Rattle.std.proofs.lemmas.List.Elements.{All-head, All-tail}
 use Rattle.std.proofs.lemmas.List.Sorted.{All-permutation}
 use Rattle.std.proofs.lemmas.List.Sums.{sum_by-cons}
 use Rattle.crack_row.specs.Ranges.{Range, IsIn, is_in, in_range, clipped}
 use Rattle.crack_row.specs.declared.Row.{Row}
-use Rattle.crack_arena.specs.Arena.{Cell, times, slots}
-use Rattle.crack_state.specs.State.{State, live_value, live_from, live_rows, AreWithin, IsIntact}
+use Rattle.crack_state.specs.State.{State, live_rows, IsIntact}
 use Rattle.crack_state.specs.Merge.{IsSettled, edge}
 use Rattle.crack_state.specs.SettledLaws.{count-settled}
-
--- the keys of the live rows are the partition's
-live_from-within : (keys : Range) (doomed : List ℕ) (n : ℕ) (cells : List (Cell Row)) → AreWithin keys cells → All (λ (r : Row). IsIn keys r.key.0) (live_from doomed n cells)
-live_from-within keys doomed n [] within = All-nil _
-live_from-within keys doomed n (c ∷ cs) within =
-    let rest = live_from-within keys doomed (n + 1) cs (All-tail (λ (c : Cell Row). IfSome c.value (λ r. IsIn keys r.key.0)) c cs within) in
-    by_value (live_value doomed n c) (by_test (times n doomed == 0) c.value (All-head (λ (c : Cell Row). IfSome c.value (λ r. IsIn keys r.key.0)) c cs within)) rest
-  where
-    by_test : (b : Bool) (o : Option Row) → IfSome o (λ r. IsIn keys r.key.0) → IfSome (cond b o None) (λ r. IsIn keys r.key.0)
-    by_test true o in_keys = in_keys
-    by_test false o in_keys = tt
-
-    by_value : (o : Option Row) → IfSome o (λ r. IsIn keys r.key.0) → All (λ (r : Row). IsIn keys r.key.0) (live_from doomed (n + 1) cs) → All (λ (r : Row). IsIn keys r.key.0) (cons_option o (live_from doomed (n + 1) cs))
-    by_value None in_keys rest = rest
-    by_value (Some r) in_keys rest = All-cons (λ (r : Row). IsIn keys r.key.0) r (live_from doomed (n + 1) cs) in_keys rest
-
-live_rows-within : (s : State) → IsIntact s [] → All (λ (r : Row). IsIn s.keys r.key.0) (live_rows s)
-live_rows-within s intact = live_from-within s.keys (slots s.pending_out) 0 s.cells intact.within
+use Rattle.crack_state.specs.LiveLaws.{live_rows-within}
 
 -- of these keys the same are in a range and in what it has in common with them
 is_in-clipped : (r keys : Range) (k : ℕ) → IsIn keys k → is_in (clipped r keys) k ≡ is_in r k

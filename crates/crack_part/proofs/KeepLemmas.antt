@@ -1,14 +1,27 @@
--- What cracks and merges keep of a store.
-use Rattle.std.proofs.Common.{[], length, refl, ap, ◌∙◌, inl, inr}
+-- What cracks and merges keep of a store, and how it stands where they found no memory.
+use Rattle.std.proofs.Common.{◌≡◌, ◌+◌, Bool, true, false, cond, [], length, refl, sym, ap, subst, ◌∙◌, inl, inr, arith}
 use Rattle.std.proofs.lemmas.Bool.{cases_lt}
-use Rattle.crack_row.specs.Ranges.{Range}
+use Rattle.std.proofs.lemmas.List.{drop_all}
+use Rattle.crack_row.specs.Ranges.{Range, clipped}
+use Rattle.crack_row.specs.declared.command.Command.{Command}
+use Rattle.crack_row.specs.declared.command.Command.TheVariants.{Insert, Count}
 use Rattle.crack_row.specs.declared.command.Policy.{Policy}
-use Rattle.crack_state.specs.State.{State, IsIntact}
+use Rattle.crack_row.specs.declared.command.Policy.TheVariants.{Complete}
+use Rattle.crack_state.specs.State.{State, IsIntact, live_rows, freed_of}
 use Rattle.crack_state.specs.Steps.{SameButRoom}
-use Rattle.crack_state.specs.Merge.{Refines, Follows}
+use Rattle.crack_state.specs.Merge.{Refines, Follows, Merges, Tallies, Leaves, is_touched}
+use Rattle.crack_state.specs.StepLaws.{IsIntact-room}
 use Rattle.crack_state.specs.CrackLaws.{keys-refined, live_rows-refined, cells-refined, pending_out-refined}
-use Rattle.crack_state.specs.FollowLaws.{Follows-room}
-use Rattle.crack_part.specs.Parts.{Keeps, ReadsRange, CracksAndMerges}
+use Rattle.crack_state.specs.FollowLaws.{Follows-trans, Follows-room, Tallies-trans, Tallies-room, length_marks-Follows}
+use Rattle.crack_merge.specs.Merges.{LeavesRest, Stops}
+use Rattle.crack_part.specs.Parts.{ReadsRange, CracksAndMerges, StopsRead, Prepares, Spares}
+
+-- the same rows for commands to see, as many cells, and as many of them freed or still to be
+pub record Keeps (s t : State) : Type 0 where
+  pub ends : t.keys ≡ s.keys
+  pub live : live_rows t ≡ live_rows s
+  pub cells : length t.cells ≡ length s.cells
+  pub freed : freed_of t.cells + length t.pending_out ≡ freed_of s.cells + length s.pending_out
 
 pub Keeps-refl : (s : State) → Keeps s s
 Keeps-refl s = record { ends = refl; live = refl; cells = refl; freed = refl }
@@ -48,3 +61,67 @@ IsIntact-reads policy s t r reads intact = elim (cases_lt r.low r.high) [
   | inl filled ↦ (reads.settled filled).merges.intact
   | inr empty ↦ rw (reads.empty empty) intact
 ]
+
+Keeps-stops : (policy : Policy) (s t : State) (r : Range) → StopsRead policy s t r → Keeps s t
+Keeps-stops policy s t r read = elim read [
+  | inl same ↦ Keeps-room s t same
+  | inr done ↦ Keeps-trans s done.cracked t (Keeps-refined s done.cracked r done.refines) (Keeps-follows done.cracked t done.stops.follows)
+]
+
+-- a command that found no memory leaves the live rows as they were
+pub Keeps-spared : (policy : Policy) (keys : Range) (command : Command) (s t : State) → Spares policy keys command s t → Keeps s t
+Keeps-spared policy keys (Insert key payload) s t spared = Keeps-room s t spared
+Keeps-spared policy keys (Count range) s t spared = Keeps-stops policy s t (clipped range keys) spared
+
+pub IsIntact-spared : (policy : Policy) (keys : Range) (command : Command) (s t : State) → Spares policy keys command s t → IsIntact s [] → IsIntact t []
+IsIntact-spared policy keys (Insert key payload) s t spared intact = IsIntact-room s t [] spared intact
+IsIntact-spared policy keys (Count range) s t spared intact = elim spared [
+  | inl same ↦ IsIntact-room s t [] same intact
+  | inr done ↦ done.stops.intact
+]
+
+-- a whole merge is one that stopped at its end
+Leaves-rest : (policy : Policy) (s t : State) (r : Range) → Leaves policy s t r → LeavesRest policy s t
+Leaves-rest Complete s t r leaves = by_test (is_touched s r) leaves.0
+  where
+    by_test : (b : Bool) → t.pending_in ≡ cond b [] s.pending_in → LeavesRest Complete s t
+    by_test true none = (length s.pending_in, omega arith, rw (drop_all (length s.pending_in) s.pending_in (omega arith)) none)
+    by_test false all = (0, omega arith, all)
+
+Leaves-none : (policy : Policy) (s t : State) (r : Range) → s.pending_out ≡ [] → Leaves policy s t r → t.pending_out ≡ s.pending_out
+Leaves-none Complete s t r none leaves = by_test (is_touched s r) leaves.1
+  where
+    by_test : (b : Bool) → t.pending_out ≡ cond b [] s.pending_out → t.pending_out ≡ s.pending_out
+    by_test true gone = gone ∙ sym none
+    by_test false same = same
+
+Stops-merged : (policy : Policy) (s t u : State) (r : Range) → s.pending_out ≡ [] → Merges policy s t r → Tallies policy s t → SameButRoom t u → Stops policy s u
+Stops-merged policy s t u r none merges tallies room =
+    let rest = Leaves-rest policy s t r merges.leaves in
+    let same_in : u.pending_in ≡ t.pending_in = ap (λ (x : State). x.pending_in) room.same in
+    let same_out : u.pending_out ≡ t.pending_out = ap (λ (x : State). x.pending_out) room.same in
+    record {
+      follows = Follows-trans s t u merges.follows (Follows-room t u room);
+      intact = IsIntact-room t u [] room merges.intact;
+      tallies = Tallies-trans policy s t u (length_marks-Follows s t merges.follows) tallies (Tallies-room policy t u room);
+      taken = by_policy policy rest same_in;
+      pending_out = same_out ∙ Leaves-none policy s t r none merges.leaves;
+    }
+  where
+    by_policy : (p : Policy) → LeavesRest p s t → u.pending_in ≡ t.pending_in → LeavesRest p s u
+    by_policy Complete rest same = (rest.0, rest.1, same ∙ rest.2)
+
+-- a range was read, and no memory was found afterwards
+StopsRead-read : (policy : Policy) (s u t : State) (r : Range) → s.pending_out ≡ [] → ReadsRange policy s u r → SameButRoom u t → StopsRead policy s t r
+StopsRead-read policy s u t r none reads room = elim (cases_lt r.low r.high) [
+  | inl filled ↦
+      let done = reads.settled filled in
+      let still : done.cracked.pending_out ≡ [] = pending_out-refined _ s done.cracked done.refines ∙ none in
+      inr (record { filled = filled; cracked = done.cracked; refines = done.refines; stops = Stops-merged policy done.cracked u t r still done.merges done.tallies room })
+  | inr empty ↦ inl (subst (λ (x : State). SameButRoom x t) (reads.empty empty) room)
+]
+
+-- prepared, and then not performed
+pub Spares-prepared : (policy : Policy) (keys : Range) (command : Command) (s u t : State) → s.pending_out ≡ [] → Prepares policy keys command s u → SameButRoom u t → Spares policy keys command s t
+Spares-prepared policy keys (Insert key payload) s u t none prepared same = subst (λ (x : State). SameButRoom x t) prepared same
+Spares-prepared policy keys (Count range) s u t none prepared same = StopsRead-read policy s u t (clipped range keys) none prepared same

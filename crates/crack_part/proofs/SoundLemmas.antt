@@ -3,7 +3,7 @@ use Rattle.std.proofs.Common.{◌≡◌, ℕ, ◌<◌, ◌≤◌, List, [], ◌�
 use Rattle.std.specs.List.{All}
 use Rattle.std.specs.List.Sorted.{IsPermutation}
 use Rattle.std.proofs.lemmas.List.Sorted.{IsPermutation-sym, IsPermutation-trans, IsPermutation-cons, IsPermutation-to_front, All-permutation}
-use Rattle.crack_row.specs.Ranges.{Range, IsIn, clipped}
+use Rattle.crack_row.specs.Ranges.{IsIn, clipped}
 use Rattle.crack_row.specs.declared.TheConstants.{GREATEST_LIMIT}
 use Rattle.crack_row.specs.declared.Key.{Key}
 use Rattle.crack_row.specs.declared.Payload.{Payload}
@@ -22,8 +22,8 @@ use Rattle.crack_state.specs.Steps.{IsAdmissible, admitted, SameButRoom}
 use Rattle.crack_state.specs.StepLaws.{IsIntact-room}
 use Rattle.crack_state.specs.KeyedLaws.{handle_of-fresh}
 use Rattle.crack_state.specs.AdmitLaws.{IsIntact-admitted, live_rows-admitted, freed-admitted, cells-admitted}
-use Rattle.crack_part.specs.Parts.{Part, IsSound, Keeps, Serves, Spares, Prepares, Performs, MayPerform, state_of, placed}
-use Rattle.crack_part.proofs.KeepLemmas.{Keeps-trans, Keeps-room, Keeps-reads, IsIntact-reads}
+use Rattle.crack_part.specs.Parts.{Part, IsSound, Serves, Prepares, Performs, MayPerform, state_of, placed}
+use Rattle.crack_part.proofs.KeepLemmas.{Keeps, Keeps-room, Keeps-reads, IsIntact-reads}
 
 -- no reply takes a row out
 gone_none : (r : Reply) → is_gone r ≡ false
@@ -74,11 +74,6 @@ pub Serves-performed : (policy : Policy) (p : Part) (command : Command) (u t : S
 Serves-performed policy p (Insert key payload) u t prepared performed =
     subst (λ (s : State). SameButRoom (admitted (placed p key payload) s) t) prepared performed
 Serves-performed policy p (Count range) u t prepared performed = rw performed prepared
-
--- prepared, and then not performed
-pub Spares-prepared : (policy : Policy) (keys : Range) (command : Command) (s u t : State) → Prepares policy keys command s u → Keeps s u → SameButRoom u t → Spares command s t
-Spares-prepared policy keys (Insert key payload) s u t prepared keeps same = subst (λ (v : State). SameButRoom v t) prepared same
-Spares-prepared policy keys (Count range) s u t prepared keeps same = Keeps-trans s u t keeps (Keeps-room u t same)
 
 -- the live rows, and what the history bounds, are as they were
 pub IsSound-kept : (p : Part) (t : State) → IsSound p → Keeps p.store t → IsIntact t [] → IsSound (record p { store = t })

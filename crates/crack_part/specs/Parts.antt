@@ -1,5 +1,5 @@
 -- What contracts see of a partition, and what holds of each.
-use Rattle.std.specs.Prelude.{◌≡◌, ℕ, ◌+◌, ◌<◌, ◌≤◌, List, [], length}
+use Rattle.std.specs.Prelude.{◌≡◌, ◌⊎◌, ℕ, ◌+◌, ◌<◌, ◌≤◌, List, [], length}
 use Rattle.std.specs.List.Sorted.{IsPermutation}
 use Rattle.crack_row.specs.Ranges.{Range, clipped}
 use Rattle.crack_row.specs.declared.TheConstants.{GREATEST_LIMIT}
@@ -15,6 +15,7 @@ use Rattle.crack_plain.specs.Totals.{inserted, deleted}
 use Rattle.crack_state.specs.State.{State, IsIntact, live_rows, freed_of}
 use Rattle.crack_state.specs.Steps.{admitted, IsAdmissible, SameButRoom}
 use Rattle.crack_state.specs.Merge.{Refines, Merges, Tallies}
+use Rattle.crack_merge.specs.Merges.{Stops}
 
 -- its keys, how many entries its history may have, its history, the serial of the next row, and the store of its rows
 pub record Part : Type 0 where
@@ -69,18 +70,22 @@ abbrev pub Serves : Policy → Part → Command → State → Type 0
 Serves policy part (Insert key payload) t = SameButRoom (admitted (placed part key payload) part.store) t
 Serves policy part (Count range) t = ReadsRange policy part.store t (clipped range part.keys)
 
--- what is as it was where no memory was found for a range: the rows that commands see, the number of cells, and how often
--- cells were freed or are still to be
-pub record Keeps (s t : State) : Type 0 where
-  pub ends : t.keys ≡ s.keys
-  pub live : live_rows t ≡ live_rows s
-  pub cells : length t.cells ≡ length s.cells
-  pub freed : freed_of t.cells + length t.pending_out ≡ freed_of s.cells + length s.pending_out
+-- a store is cracked at the ends of a range, and its merge found no memory on the way
+pub record CracksAndStops (policy : Policy) (s t : State) (r : Range) : Type 0 where
+  pub filled : r.low < r.high
+  pub cracked : State
+  pub refines : Refines s cracked r
+  pub stops : Stops policy cracked t
 
--- what is as it was where no memory was found for a command: for an insert everything
-abbrev pub Spares : Command → State → State → Type 0
-Spares (Insert key payload) s t = SameButRoom s t
-Spares (Count range) s t = Keeps s t
+-- what a read of a range that found no memory did to a store: nothing, or the store is cracked at the ends of the range, no bound
+-- else is new, and the merge went as far as it came
+abbrev pub StopsRead : Policy → State → State → Range → Type 0
+StopsRead policy s t r = SameButRoom s t ⊎ CracksAndStops policy s t r
+
+-- what a command that found no memory did to the store: an insert nothing, all else may have read the range within the keys in part
+abbrev pub Spares : Policy → Range → Command → State → State → Type 0
+Spares policy keys (Insert key payload) s t = SameButRoom s t
+Spares policy keys (Count range) s t = StopsRead policy s t (clipped range keys)
 
 -- what a command does to the store before it is replied: all but an insert read the range within the keys
 abbrev pub Prepares : Policy → Range → Command → State → State → Type 0

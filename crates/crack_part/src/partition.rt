@@ -1,15 +1,15 @@
 //! Commands and their history.
 ghost use Rattle.std.specs.Prelude.{◌≡◌, ◌⊎◌, ◌+◌, ◌<◌, ◌≤◌, ◌↔◌, ◌^◌, List, [], ◌∷◌, ◌++◌, length, count_by, IsTrue, IsOk, IfOk, IfErr, OnErr, OnOk, Err, vec_len, vec_capacity};
 ghost use Rattle.std.specs.List.Sorted.{IsPermutation};
-ghost use Rattle.crack_row.specs.Ranges.{Range, clipped, in_range};
+ghost use Rattle.crack_row.specs.Ranges.{clipped, in_range};
 ghost use Rattle.crack_row.specs.Layouts.{IsLayout};
 ghost use Rattle.crack_plain.specs.Plain.{PlainState, reply_to, after, IsWithin, IsLegal};
-ghost use Rattle.crack_state.specs.State.{State, IsIntact, live_rows};
+ghost use Rattle.crack_state.specs.State.{IsIntact, live_rows};
 ghost use Rattle.crack_state.specs.Steps.{SameButRoom};
 ghost use Rattle.crack_state.specs.Merge.{IsCracked, Merges, Tallies};
 ghost use Rattle.crack_merge.specs.Merges.{Stops};
 ghost use Rattle.crack_store.specs.Parts.{no_cells, IsLayoutOf};
-ghost use Rattle.crack_part.specs.Parts.{state_of, IsLimit, IsSound, IsFaithful, CracksAndMerges, ReadsRange, Keeps, Serves, Spares, Prepares, MayPerform, Performs};
+ghost use Rattle.crack_part.specs.Parts.{state_of, IsLimit, IsSound, IsFaithful, CracksAndMerges, ReadsRange, StopsRead, Serves, Spares, Prepares, MayPerform, Performs};
 
 use crack_merge::merge_complete;
 use crack_row::{
@@ -107,7 +107,8 @@ impl Partition {
 
     /// Answers one command of a worker and keeps it in the history. The second reply is a copy, for a receipt.
     /// Refused, in this order: with 4 where the command brings a key that isn't the partition's, with 6 where the history
-    /// is full, with 8 where no memory is found. After 4 and 6 nothing has changed, after 8 at most where rows stand.
+    /// is full, with 8 where no memory is found. After 4 and 6 nothing has changed. After 8 an insert has changed nothing, and a
+    /// count has at most cracked the column at the ends of its range and merged in part, or in whole.
     /// An insert is O(1). A count cracks the pieces in which its ends fall, merges by the policy what its range needs, and
     /// is then O(log pieces).
     pub fn apply(
@@ -124,7 +125,7 @@ impl Partition {
         ensures opened { (self.new.keys ≡ self.old.keys) × (self.new.limit ≡ self.old.limit) }
 
         ensures err { OnErr result (self.new.history ≡ self.old.history) }
-        ensures spared { OnErr result (Spares command self.old.store self.new.store) }
+        ensures spared { OnErr result (Spares policy self.old.keys command self.old.store self.new.store) }
         ensures same { (IsWithin self.old.keys command → ⊥) ⊎ (self.old.limit ≤ length self.old.history) → self.new ≡ self.old }
         ensures outside { (IsWithin self.old.keys command → ⊥) → result ≡ Err Refusal.KeyOutside }
         ensures full { IsWithin self.old.keys command → self.old.limit ≤ length self.old.history → result ≡ Err (Refusal.HistoryFull self.old.limit) }
@@ -181,9 +182,8 @@ fn prepare(
     requires none_doomed { store.old.pending_out ≡ [] }
     ensures reply { IfOk result (λ reply. (plain : PlainState) → IsFaithful store.old next plain → reply ≡ reply_to plain command.now) }
     ensures prepared { OnOk result (Prepares policy keys command.now store.old store.new) }
-    ensures spared { OnErr result (Spares command.now store.old store.new) }
+    ensures spared { OnErr result (Spares policy keys command.now store.old store.new) }
     ensures intact { IsIntact store.new [] }
-    ensures keeps { Keeps store.old store.new }
     ensures err { IfErr result (λ e. e ≡ Refusal.OutOfMemory) }
 {
     match command {
@@ -211,8 +211,8 @@ fn count(
     requires none_doomed { store.old.pending_out ≡ [] }
     ensures count { IfOk result (λ n. (plain : List Row) → IsPermutation (live_rows store.old) plain → n ≡ count_by (in_range range) plain) }
     ensures reads { OnOk result (ReadsRange policy store.old store.new (clipped range keys)) }
+    ensures stopped { OnErr result (StopsRead policy store.old store.new (clipped range keys)) }
     ensures intact { IsIntact store.new [] }
-    ensures keeps { Keeps store.old store.new }
     ensures err { IfErr result (λ e. e ≡ Refusal.OutOfMemory) }
 {
     store.facts();
@@ -239,8 +239,8 @@ fn settle(
     requires high { range.high ≤ store.old.keys.high }
     requires none_doomed { store.old.pending_out ≡ [] }
     ensures settled { OnOk result (CracksAndMerges policy store.old store.new range) }
+    ensures stopped { OnErr result (StopsRead policy store.old store.new range) }
     ensures intact { IsIntact store.new [] }
-    ensures keeps { Keeps store.old store.new }
     ensures err { IfErr result (λ e. e ≡ Refusal.OutOfMemory) }
 {
     if let Err(refusal) = store.crack(range) {

@@ -113,10 +113,6 @@ once_filled s r (m ∷ ns) is owned n =
     let free_is : times n s.free ≡ times n (m ∷ ns) = ap (times n) is in
     rw (length-set s.cells m c) (omega (arith, owned.once n, times-places n s.column s.pending_in s.free [], free_is, times-cons n m ns, times_one n m, times-nil n))
 
--- the admitted row's cell is read by its handle
-pub read-admitted : (row : Row) (s : State) → IsIntact s [] → read (admitted row s).cells (next_handle s) ≡ Some row
-read-admitted row s intact = read-new s.cells (admitted row s).cells (next_handle s) row (filled s row s.free refl intact.owned)
-
 -- the cell that the next row gets has none now
 pub vacant : (s : State) (free : List ℕ) → s.free ≡ free → AreEmpty s.cells s.free → (cell_at s.cells (handle_for s.cells free).slot).value ≡ None
 vacant s [] is empty = ap (λ (c : Cell Row). c.value) (get_or_past s.cells (length s.cells) empty_cell (omega arith))

@@ -12,7 +12,7 @@ use Rattle.crack_row.specs.declared.Row.{Row}
 use Rattle.crack_arena.specs.Arena.{Cell, Handle, read, cell_at, empty_cell, slots}
 use Rattle.crack_arena.specs.Times.{times-append, times-map-IsPermutation}
 use Rattle.crack_index.specs.declared.mark.Mark.{Mark}
-use Rattle.crack_index.specs.Marks.{Rising, Fits, HasBound, added, next_mark, last_mark, start_of, end_of}
+use Rattle.crack_index.specs.Marks.{Rising, Fits, added, next_mark, last_mark, start_of, end_of}
 use Rattle.crack_index.specs.MarkLaws.{next_mark-is, last_mark-is, All-added, Contains-kept, HasBound-added, Rising-added, HasBound-mark, HasBound-contains}
 use Rattle.crack_arena.specs.Rows.{key_of_row, key_at}
 use Rattle.crack_column.specs.Column.{IsDividedAt}
@@ -173,28 +173,6 @@ RefinesAt-cracked s u hand bound c intact =
       ];
     }
 
--- a store refines itself, where the bounds are there
-pub RefinesBy-refl : (IsNew : ℕ → Type 0) (s : State) → ((b : ℕ) → IsNew b → HasBound s.marks b) → RefinesBy IsNew s s
-RefinesBy-refl IsNew s there = record {
-  same = refl;
-  long = refl;
-  pieces = λ p q is_p is_q. IsPermutation-refl (between p q s.column);
-  kept = λ m is. is;
-  added = there;
-  only = λ b has. inl has;
-}
-
--- room alone
-pub RefinesBy-room : (IsNew : ℕ → Type 0) (s u : State) (column_room in_room : ℕ) → RefinesBy IsNew s u → RefinesBy IsNew s (record u { column_room = column_room; in_room = in_room })
-RefinesBy-room IsNew s u column_room in_room refined = record {
-  same = ap (λ (x : State). let y : State = record x { column_room = column_room; in_room = in_room } in y) refined.same;
-  long = refined.long;
-  pieces = refined.pieces;
-  kept = refined.kept;
-  added = refined.added;
-  only = refined.only;
-}
-
 -- the place of a mark is one where pieces begin and end
 cut_of : (s : State) (m : Mark) → Contains s.marks m → Contains (cuts s) m.position
 cut_of s m is =
@@ -260,29 +238,16 @@ Refines-both s u v r a b =
     ])
     (RefinesBy-trans (λ n. (n ≡ r.low) × (s.keys.low < n) × (n < s.keys.high)) (λ n. (n ≡ r.high) × (u.keys.low < n) × (n < u.keys.high)) s u v a b)
 
--- at an end of the partition, or at a bound that is there, nothing is cracked
-pub RefinesAt-end : (s : State) (bound : ℕ) → (bound ≤ s.keys.low) ⊎ (s.keys.high ≤ bound) → RefinesAt s s bound
-RefinesAt-end s bound end = RefinesBy-refl (λ b. (b ≡ bound) × (s.keys.low < b) × (b < s.keys.high)) s (λ b is. elim end [ inl l ↦ absurd (omega (arith, is.0, is.1)) | inr l ↦ absurd (omega (arith, is.0, is.2)) ])
-
-pub RefinesAt-there : (s : State) (bound : ℕ) → HasBound s.marks bound → RefinesAt s s bound
-RefinesAt-there s bound there = RefinesBy-refl (λ b. (b ≡ bound) × (s.keys.low < b) × (b < s.keys.high)) s (λ b is. rw is.0 there)
-
 -- commands see the same rows
 pub live_rows-refined : (IsNew : ℕ → Type 0) (s u : State) → RefinesBy IsNew s u → live_rows u ≡ live_rows s
 live_rows-refined IsNew s u refined = ap live_rows refined.same
 
--- the cells stay, and the pending columns, and the tally
+-- the cells stay, and the pending deletions
 pub cells-refined : (IsNew : ℕ → Type 0) (s u : State) → RefinesBy IsNew s u → u.cells ≡ s.cells
 cells-refined IsNew s u refined = ap (λ (x : State). x.cells) refined.same
 
-pub pending_in-refined : (IsNew : ℕ → Type 0) (s u : State) → RefinesBy IsNew s u → u.pending_in ≡ s.pending_in
-pending_in-refined IsNew s u refined = ap (λ (x : State). x.pending_in) refined.same
-
 pub pending_out-refined : (IsNew : ℕ → Type 0) (s u : State) → RefinesBy IsNew s u → u.pending_out ≡ s.pending_out
 pending_out-refined IsNew s u refined = ap (λ (x : State). x.pending_out) refined.same
-
-pub tally-refined : (IsNew : ℕ → Type 0) (s u : State) → RefinesBy IsNew s u → u.tally ≡ s.tally
-tally-refined IsNew s u refined = ap (λ (x : State). x.tally) refined.same
 
 -- what was refined by a range is cracked by it
 pub IsCracked-refined : (s u : State) (r : Range) → Refines s u r → IsCracked u r

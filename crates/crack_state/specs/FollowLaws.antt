@@ -9,10 +9,10 @@ use Rattle.crack_row.specs.declared.command.Policy.{Policy}
 use Rattle.crack_row.specs.declared.command.Policy.TheVariants.{Complete}
 use Rattle.crack_arena.specs.Arena.{Handle}
 use Rattle.crack_index.specs.declared.mark.Mark.{Mark}
-use Rattle.crack_index.specs.Marks.{next_mark, last_mark, bounds_of}
+use Rattle.crack_index.specs.Marks.{next_mark, last_mark}
 use Rattle.crack_index.specs.MarkLaws.{bounds_of-lowered_at}
 use Rattle.crack_state.specs.State.{State, Carried, IsIntact, greatest}
-use Rattle.crack_state.specs.Steps.{hand_key, piece_end, more, lifted, lifted_last, pushed_on, appended, returned, pulled_back, exchanged, SameButRoom, bounds_above}
+use Rattle.crack_state.specs.Steps.{hand_key, piece_end, more, lifted, lifted_last, pushed_on, appended, returned, pulled_back, exchanged, SameButRoom, Pushes, bounds_above}
 use Rattle.crack_state.specs.Merge.{Follows, Counts, IsExact, Tallies, MayEvict}
 use Rattle.crack_state.specs.PieceLaws.{bounds_of-raise_next, bounds_of-lower_last, length-bounds}
 use Rattle.crack_state.specs.StepLaws.{bounds_above-pushed_on}
@@ -86,9 +86,6 @@ length-remove (x ∷ xs) (suc i) h = omega (arith, length-remove xs i (omega ari
 MayEvict-trans : (policy : Policy) (s t u : State) → MayEvict policy s t → MayEvict policy t u → MayEvict policy s u
 MayEvict-trans Complete s t u a b = b ∙ a
 
-MayEvict-refl : (policy : Policy) (s : State) → MayEvict policy s s
-MayEvict-refl Complete s = refl
-
 -- no counter is at its greatest number, if none is later on
 IsExact-before : (policy : Policy) (s t : State) → Tallies policy s t → IsExact t.tally → IsExact s.tally
 IsExact-before policy s t tallies exact = record {
@@ -97,17 +94,6 @@ IsExact-before policy s t tallies exact = record {
   evicted = omega (arith, tallies.evicted_rises, exact.evicted);
   moved = omega (arith, tallies.moved_rises, exact.moved);
   pulled = omega (arith, tallies.pulled_rises, exact.pulled);
-}
-
-pub Tallies-refl : (policy : Policy) (s : State) → Tallies policy s s
-Tallies-refl policy s = record {
-  put_in_rises = omega arith;
-  taken_out_rises = omega arith;
-  evicted_rises = omega arith;
-  moved_rises = omega arith;
-  pulled_rises = omega arith;
-  counts = λ _. record { put_in = refl; taken_out = refl; moved = omega arith; pulled = omega arith };
-  evicts = MayEvict-refl policy s;
 }
 
 Counts-trans : (s t u : State) (q : ℕ) → Counts s t q → Counts t u q → Counts s u q
@@ -146,41 +132,6 @@ Tallies-room policy s t room = rw room.same (by_policy policy)
 -- fewer bounds are above a key than there are pieces
 pub bounds_above-few : (key : ℕ) (marks : List Mark) → bounds_above key marks ≤ length marks
 bounds_above-few key marks = count_by-le-length (λ (m : Mark). nat_lt key m.bound.0) marks
-
--- what the pushes of a carry keep, from a hand that was lifted on: each brings the hand nearer to the column's end
-pub record Pushes (b c : Carried) : Type 0 where
-  pub keys : c.store.keys ≡ b.store.keys
-  pub cells : c.store.cells ≡ b.store.cells
-  pub bounds : bounds_of c.store.marks ≡ bounds_of b.store.marks
-  pub pending_in : c.store.pending_in ≡ b.store.pending_in
-  pub pending_out : c.store.pending_out ≡ b.store.pending_out
-  pub long : length c.store.column ≡ length b.store.column
-  pub room : c.store.column_room ≡ b.store.column_room
-  pub in_room : c.store.in_room ≡ b.store.in_room
-  pub put_in : c.store.tally.put_in ≡ b.store.tally.put_in
-  pub taken_out : c.store.tally.taken_out ≡ b.store.tally.taken_out
-  pub evicted : c.store.tally.evicted ≡ b.store.tally.evicted
-  pub pulled : c.store.tally.pulled ≡ b.store.tally.pulled
-  pub moved_rises : b.store.tally.moved ≤ c.store.tally.moved
-  pub moved : c.store.tally.moved + bounds_above (hand_key c) c.store.marks ≤ b.store.tally.moved + bounds_above (hand_key b) b.store.marks
-
-pub Pushes-refl : (c : Carried) → Pushes c c
-Pushes-refl c = record {
-  keys = refl;
-  cells = refl;
-  bounds = refl;
-  pending_in = refl;
-  pending_out = refl;
-  long = refl;
-  room = refl;
-  in_room = refl;
-  put_in = refl;
-  taken_out = refl;
-  evicted = refl;
-  pulled = refl;
-  moved_rises = omega arith;
-  moved = omega arith;
-}
 
 pub Pushes-pushed_on : (b c : Carried) → piece_end c.store (hand_key c) < length c.store.column → IsIntact c.store (c.hand ∷ []) → Pushes b c → Pushes b (pushed_on c)
 Pushes-pushed_on b c ends intact pushes =

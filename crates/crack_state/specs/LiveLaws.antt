@@ -3,14 +3,16 @@ use Rattle.std.proofs.Common.{◌≡◌, ◌≢◌, ℕ, zero, suc, ◌+◌, ◌
 use Rattle.std.specs.Prelude.{◌==◌}
 use Rattle.std.specs.List.{All, cons_option, filter_map}
 use Rattle.std.specs.List.Sorted.{IsPermutation}
+use Rattle.std.specs.Option.{IfSome}
 use Rattle.std.proofs.lemmas.List.Sorted.{IsPermutation-refl, IsPermutation-cons, IsPermutation-trans, IsPermutation-middle, IsPermutation-sym}
 use Rattle.std.proofs.lemmas.List.{append-nil}
-use Rattle.std.proofs.lemmas.List.Elements.{filter_map-append, All-head, All-tail}
+use Rattle.std.proofs.lemmas.List.Elements.{filter_map-append, All-nil, All-cons, All-head, All-tail}
 use Rattle.std.proofs.lemmas.Bool.{cases_eq, lt-ltb, le-ltb}
+use Rattle.crack_row.specs.Ranges.{Range, IsIn}
 use Rattle.crack_row.specs.declared.Row.{Row}
 use Rattle.crack_arena.specs.Arena.{Cell, Handle, times, cell_at, empty_cell, slots}
 use Rattle.crack_arena.specs.Times.{times-nil, times-cons, times_one, times_other, times_head, times-append}
-use Rattle.crack_state.specs.State.{State, places, Reads, IsOwned, IsIntact, AreEmpty, live_value, live_from, live_rows, live_read, held}
+use Rattle.crack_state.specs.State.{State, places, Reads, IsOwned, IsIntact, AreEmpty, AreWithin, live_value, live_from, live_rows, live_read, held}
 use Rattle.crack_state.specs.CellLaws.{read_is_value}
 
 -- where cells and doomed agree on what is live, the live rows are the same
@@ -143,3 +145,21 @@ live_rows-held s hand intact =
     let parts : filter_map (live_at s) (places s hand) ≡ held s s.column ++ held s s.pending_in ++ held s hand =
     rw (filter_map-append (live_at s) (slots s.column ++ slots s.pending_in ++ s.free) (slots hand), filter_map-append (live_at s) (slots s.column ++ slots s.pending_in) s.free, filter_map-append (live_at s) (slots s.column) (slots s.pending_in), held-slots s s.column owned.column_reads, held-slots s s.pending_in owned.pending_reads, held-slots s hand owned.hand_reads, held-free s s.free intact.empty, append-nil) refl in
     rw parts at (live_rows-places s hand owned)
+
+-- the keys of the live rows are the partition's
+pub live_from-within : (keys : Range) (doomed : List ℕ) (n : ℕ) (cells : List (Cell Row)) → AreWithin keys cells → All (λ (r : Row). IsIn keys r.key.0) (live_from doomed n cells)
+live_from-within keys doomed n [] within = All-nil _
+live_from-within keys doomed n (c ∷ cs) within =
+    let rest = live_from-within keys doomed (n + 1) cs (All-tail (λ (c : Cell Row). IfSome c.value (λ r. IsIn keys r.key.0)) c cs within) in
+    by_value (live_value doomed n c) (by_test (times n doomed == 0) c.value (All-head (λ (c : Cell Row). IfSome c.value (λ r. IsIn keys r.key.0)) c cs within)) rest
+  where
+    by_test : (b : Bool) (o : Option Row) → IfSome o (λ r. IsIn keys r.key.0) → IfSome (cond b o None) (λ r. IsIn keys r.key.0)
+    by_test true o in_keys = in_keys
+    by_test false o in_keys = tt
+
+    by_value : (o : Option Row) → IfSome o (λ r. IsIn keys r.key.0) → All (λ (r : Row). IsIn keys r.key.0) (live_from doomed (n + 1) cs) → All (λ (r : Row). IsIn keys r.key.0) (cons_option o (live_from doomed (n + 1) cs))
+    by_value None in_keys rest = rest
+    by_value (Some r) in_keys rest = All-cons (λ (r : Row). IsIn keys r.key.0) r (live_from doomed (n + 1) cs) in_keys rest
+
+pub live_rows-within : (s : State) → IsIntact s [] → All (λ (r : Row). IsIn s.keys r.key.0) (live_rows s)
+live_rows-within s intact = live_from-within s.keys (slots s.pending_out) 0 s.cells intact.within

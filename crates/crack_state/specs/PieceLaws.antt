@@ -80,23 +80,6 @@ piece_start-behind s key k d rising obeyed within below = by_last (last_mark key
         let is_last = last_mark-is key s.marks m rising some in
         Divides-order (column_keys s) (get_or s.marks k d) m (obeyed k d within) (Divides-listed (column_keys s) s.marks m obeyed is_last.listed) (is_last.greatest k d within below)
 
--- a piece begins at or before its end
-pub piece_start-le : (s : State) (key : ℕ) → Rising s.marks → IsObeyed s.marks (column_keys s) → piece_start s key ≤ piece_end s key
-piece_start-le s key rising obeyed = by_last (last_mark key s.marks) refl
-  where
-    after : (m : Mark) (next : Option Mark) → last_mark key s.marks ≡ Some m → next_mark key s.marks ≡ next → m.position ≤ end_of (length s.column) next
-    after m None some none =
-        let is_last = last_mark-is key s.marks m rising some in
-        omega (arith, (Divides-listed (column_keys s) s.marks m obeyed is_last.listed).within, length-map s.column (key_at s.cells))
-    after m (Some n) some found =
-        let is_last = last_mark-is key s.marks m rising some in
-        let is_next = next_mark-is key s.marks n rising found in
-        Divides-order (column_keys s) m n (Divides-listed (column_keys s) s.marks m obeyed is_last.listed) (Divides-listed (column_keys s) s.marks n obeyed is_next.listed) (omega (arith, is_last.below, is_next.above))
-
-    by_last : (last : Option Mark) → last_mark key s.marks ≡ last → start_of last ≤ piece_end s key
-    by_last None none = omega arith
-    by_last (Some m) some = after m (next_mark key s.marks) some refl
-
 -- 1 for a bound above the key
 abbrev above_by : ℕ → Mark → ℕ
 above_by key m = cond (ltb key m.bound.0) 1 0

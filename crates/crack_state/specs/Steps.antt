@@ -1,12 +1,12 @@
 -- What each step does to a store: the row that moves, the bounds that move with it, and the counter that rises.
-use Rattle.std.specs.Prelude.{◌≡◌, ℕ, ◌+◌, ◌-◌, ◌<◌, ◌^◌, ◌==◌, nat_lt, min, map, take, drop, length, count_by, List, [], ◌∷◌, ◌++◌, Option, Some, None, slice_index_or, slice_set}
+use Rattle.std.specs.Prelude.{◌≡◌, ℕ, ◌+◌, ◌-◌, ◌<◌, ◌≤◌, ◌^◌, ◌==◌, nat_lt, min, map, take, drop, length, count_by, List, [], ◌∷◌, ◌++◌, Option, Some, None, slice_index_or, slice_set}
 use Rattle.std.specs.List.{remove, position_or_len}
 use Rattle.crack_row.specs.Ranges.{IsIn}
 use Rattle.crack_row.specs.declared.Bound.{Bound}
 use Rattle.crack_row.specs.declared.Row.{Row}
 use Rattle.crack_arena.specs.Arena.{Handle, times, handle_for, cells_with, slots}
 use Rattle.crack_index.specs.declared.mark.Mark.{Mark}
-use Rattle.crack_index.specs.Marks.{HasBound, added, next_mark, last_mark, start_of, end_of, raised, lowered, lowered_at}
+use Rattle.crack_index.specs.Marks.{HasBound, added, next_mark, last_mark, start_of, end_of, raised, lowered, lowered_at, bounds_of}
 use Rattle.crack_arena.specs.Rows.{key_at}
 use Rattle.crack_column.specs.Column.{unknown, Cracks}
 use Rattle.crack_state.specs.declared.MergeReport.{MergeReport}
@@ -172,3 +172,20 @@ pub record SameButRoom (s t : State) : Type 0 where
 -- how many bounds are above a key
 abbrev pub bounds_above : ℕ → List Mark → ℕ
 bounds_above key marks = count_by (λ (m : Mark). nat_lt key m.bound.0) marks
+
+-- what the pushes of a carry keep, from a hand that was lifted on: each brings the hand nearer to the column's end
+pub record Pushes (b c : Carried) : Type 0 where
+  pub keys : c.store.keys ≡ b.store.keys
+  pub cells : c.store.cells ≡ b.store.cells
+  pub bounds : bounds_of c.store.marks ≡ bounds_of b.store.marks
+  pub pending_in : c.store.pending_in ≡ b.store.pending_in
+  pub pending_out : c.store.pending_out ≡ b.store.pending_out
+  pub long : length c.store.column ≡ length b.store.column
+  pub room : c.store.column_room ≡ b.store.column_room
+  pub in_room : c.store.in_room ≡ b.store.in_room
+  pub put_in : c.store.tally.put_in ≡ b.store.tally.put_in
+  pub taken_out : c.store.tally.taken_out ≡ b.store.tally.taken_out
+  pub evicted : c.store.tally.evicted ≡ b.store.tally.evicted
+  pub pulled : c.store.tally.pulled ≡ b.store.tally.pulled
+  pub moved_rises : b.store.tally.moved ≤ c.store.tally.moved
+  pub moved : c.store.tally.moved + bounds_above (hand_key c) c.store.marks ≤ b.store.tally.moved + bounds_above (hand_key b) b.store.marks

@@ -1,5 +1,4 @@
-use Rattle.crack_state.specs.Steps.{hand_key, bounds_above}
-use Rattle.crack_state.specs.FollowLaws.{Pushes}
+use Rattle.crack_state.specs.Steps.{hand_key, bounds_above, Pushes}
 use Rattle.crack_merge.proofs.carries.carry.Given as goal
 
 abbrev pub invariant-pieces : goal.invariant-pieces
