@@ -1,3 +1,4 @@
 mod NextLemmas
 mod EdgeLemmas
 mod AdmitLemmas
+mod FlagLemmas

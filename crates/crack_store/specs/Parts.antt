@@ -9,6 +9,7 @@ use Rattle.crack_arena.specs.Arena.{Handle, times, slots}
 use Rattle.crack_state.specs.declared.MergeReport.{MergeReport}
 use Rattle.crack_state.specs.State.{State, IsIntact, handle_of}
 use Rattle.crack_store.specs.declared.parts.Parts.{Parts}
+use Rattle.crack_store.specs.Flags.{AreFlagsOf}
 
 -- the parts as lists
 abbrev pub state_of : Parts → State
@@ -27,15 +28,11 @@ state_of p = record {
   in_room = p.pending_in.room;
 }
 
--- every cell has a mark in both pending columns
-pub record AreCovered (p : Parts) : Type 0 where
-  pub pending_in : length p.arena.cells ≤ p.pending_in.known
-  pub pending_out : length p.arena.cells ≤ p.pending_out.known
-
--- what the parts keep, with no hand or one
+-- what the parts keep, with no hand or one; each cell has two flags, which say whether it is pending and whether it is doomed
 pub record AreIntact (p : Parts) (hand : List Handle) : Type 0 where
   pub intact : IsIntact (state_of p) hand
-  pub covered : AreCovered p
+  pub in_flags : AreFlagsOf p.in_flags (length p.arena.cells) p.pending_in.handles
+  pub out_flags : AreFlagsOf p.out_flags (length p.arena.cells) p.pending_out.handles
 
 -- nothing was counted
 abbrev pub no_report : MergeReport

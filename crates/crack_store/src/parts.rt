@@ -3,6 +3,7 @@ ghost use Rattle.std.specs.Prelude.{◌≡◌, ℕ, ◌+◌, ◌<◌, ◌≤◌,
 ghost use Rattle.crack_state.specs.Merge.{RefinesAt};
 ghost use Rattle.crack_store.specs.Parts.{state_of, AreIntact};
 
+use crate::flags::Flags;
 use crack_arena::{Arena, Handle};
 use crack_column::CrackerColumn;
 use crack_index::CrackerIndex;
@@ -22,6 +23,10 @@ pub(crate) struct Parts {
     pub(crate) index: CrackerIndex,
     pub(crate) pending_in: PendingIn,
     pub(crate) pending_out: PendingOut,
+    /// Which cells the pending insertions name.
+    pub(crate) in_flags: Flags,
+    /// Which cells the pending deletions name.
+    pub(crate) out_flags: Flags,
     /// The handle of each live row, by its serial.
     pub(crate) serials: IndexMap<u64, Handle<Row>>,
     pub(crate) tally: MergeReport,

@@ -11,6 +11,7 @@ ghost use Rattle.crack_state.specs.Merge.{Refines, IsCracked, edge};
 ghost use Rattle.crack_store.specs.Parts.{no_cells, pending_by, bound_above, IsLayoutOf};
 
 use crate::Carrying;
+use crate::flags::Flags;
 use crate::parts::{Parts, crack_at};
 use crack_arena::{Arena, Handle};
 use crack_column::CrackerColumn;
@@ -55,6 +56,8 @@ impl Store {
                 index: CrackerIndex::new(alloc),
                 pending_in: PendingIn::new(alloc),
                 pending_out: PendingOut::new(alloc),
+                in_flags: Flags::new(alloc),
+                out_flags: Flags::new(alloc),
                 serials: IndexMap::new(alloc),
                 tally: MergeReport {
                     put_in: 0,
@@ -85,13 +88,14 @@ impl Store {
     {
         let cells = self.parts.arena.cells() + 1;
         self.parts.pending_in.reserve(1)?;
-        self.parts.pending_in.cover(cells)?;
-        self.parts.pending_out.cover(cells)?;
+        self.parts.in_flags.cover(cells)?;
+        self.parts.out_flags.cover(cells)?;
         self.parts.arena.reserve(1)?;
         self.parts.serials.reserve(1)?;
         let handle = self.parts.arena.put_reserved(row);
         let _ = self.parts.serials.insert(row.serial.0, handle);
         self.parts.pending_in.push(handle);
+        self.parts.in_flags.set(handle.slot());
         Ok(())
     }
 
@@ -101,7 +105,7 @@ impl Store {
         ensures none { IfNone result (handle_of self.now.serials serial.0 ≡ None) }
     {
         match self.parts.serials.get(&serial.0) {
-            Some(handle) => Some(self.parts.pending_in.contains(handle.slot())),
+            Some(handle) => Some(self.parts.in_flags.contains(handle.slot())),
             None => None,
         }
     }
@@ -143,6 +147,7 @@ impl Store {
     {
         let Store { mut parts } = self;
         let hand = parts.pending_in.take(place);
+        parts.in_flags.clear(hand.slot());
         parts.tally.put_in = parts.tally.put_in.saturating_add(1);
         Carrying { parts, hand }
     }

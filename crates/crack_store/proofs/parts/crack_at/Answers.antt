@@ -34,7 +34,8 @@ returns-clause-intact c =
     let new = record old { column = c.crack_two-place.new.self; index = c.add.new.self } in
     record {
       intact = IsIntact-cracked (state_of old) (state_of new) [] c.args.bound (cracked c) c.requires.intact.intact;
-      covered = record { pending_in = c.requires.intact.covered.pending_in; pending_out = c.requires.intact.covered.pending_out };
+      in_flags = c.requires.intact.in_flags;
+      out_flags = c.requires.intact.out_flags;
     }
 
 pub returns-clause-refined : goal.returns-clause-refined
