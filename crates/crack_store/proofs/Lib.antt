@@ -2,3 +2,4 @@ mod NextLemmas
 mod EdgeLemmas
 mod AdmitLemmas
 mod FlagLemmas
+mod MissingLemmas

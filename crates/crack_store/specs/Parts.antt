@@ -1,10 +1,10 @@
 -- What a contract sees of the parts of a store.
-use Rattle.std.specs.Prelude.{◌≡◌, ◌≤◌, ◌+◌, ◌-◌, ℕ, Bool, nat_lt, List, [], length, Option, Some, None}
+use Rattle.std.specs.Prelude.{◌≡◌, ◌<◌, ◌+◌, ◌-◌, ℕ, Bool, nat_lt, List, [], length, Option, Some, None}
 use Rattle.std.specs.Option.{option_map}
 use Rattle.crack_row.specs.Ranges.{Range}
 use Rattle.crack_row.specs.declared.layout.Layout.{Layout}
 use Rattle.crack_index.specs.declared.mark.Mark.{Mark}
-use Rattle.crack_index.specs.Marks.{next_mark, pieces_from}
+use Rattle.crack_index.specs.Marks.{HasBound, next_mark, pieces_from}
 use Rattle.crack_arena.specs.Arena.{Handle, times, slots}
 use Rattle.crack_state.specs.declared.MergeReport.{MergeReport}
 use Rattle.crack_state.specs.State.{State, IsIntact, handle_of}
@@ -33,6 +33,16 @@ pub record AreIntact (p : Parts) (hand : List Handle) : Type 0 where
   pub intact : IsIntact (state_of p) hand
   pub in_flags : AreFlagsOf p.in_flags (length p.arena.cells) p.pending_in.handles
   pub out_flags : AreFlagsOf p.out_flags (length p.arena.cells) p.pending_out.handles
+
+-- the bound lies strictly between the partition's ends, and doesn't stand in the index
+pub record IsMissing (s : State) (bound : ℕ) : Type 0 where
+  pub low : s.keys.low < bound
+  pub high : bound < s.keys.high
+  pub apart : HasBound s.marks bound → ⊥
+
+-- the bound is an end of the partition or lies outside, or stands in the index
+abbrev pub Stands : State → ℕ → Type 0
+Stands s bound = s.keys.low < bound → bound < s.keys.high → HasBound s.marks bound
 
 -- nothing was counted
 abbrev pub no_report : MergeReport

@@ -12,7 +12,7 @@ ghost use Rattle.crack_store.specs.Parts.{no_cells, pending_by, bound_above, IsL
 
 use crate::Carrying;
 use crate::flags::Flags;
-use crate::parts::{Parts, crack_at};
+use crate::parts::{Parts, crack_at, is_missing};
 use crack_arena::{Arena, Handle};
 use crack_column::CrackerColumn;
 use crack_index::CrackerIndex;
@@ -111,7 +111,7 @@ impl Store {
     }
 
     /// Cracks the column at both ends of the range: each that is no end of the partition then stands in the index.
-    /// O(size of their pieces + bounds); O(log bounds) for an end that is there already.
+    /// O(size of their pieces + bounds); O(log bounds) for an end that is there already, which takes no memory.
     /// Refused with 8 where it finds no memory; all is then as it was.
     pub fn crack(&mut self, range: KeyRange) -> Result<(), Refusal>
         ensures ok { OnOk result (Refines self.old self.new range) }
@@ -120,7 +120,9 @@ impl Store {
         ensures same { OnErr result (SameButRoom self.old self.new) }
         ensures err { IfErr result (λ e. e ≡ Refusal.OutOfMemory) }
     {
-        self.parts.index.reserve(2)?;
+        let low = is_missing(&self.parts, range.low());
+        let high = is_missing(&self.parts, range.high());
+        self.parts.index.reserve(low as usize + high as usize)?;
         crack_at(&mut self.parts, range.low());
         crack_at(&mut self.parts, range.high());
         Ok(())
