@@ -2,13 +2,12 @@
 ghost use Rattle.std.specs.Prelude.{◌≡◌, ℕ, ◌+◌, ◌-◌, ◌<◌, ◌≤◌, ◌∷◌, [], length, IfOk, IfErr, OnOk, OnErr, IfNone, None};
 ghost use Rattle.std.specs.List.Sorted.{IsPermutation};
 ghost use Rattle.crack_row.specs.Layouts.{IsLayout};
-ghost use Rattle.crack_index.specs.Marks.{HasBound};
 ghost use Rattle.crack_arena.specs.Rows.{keys_at};
 ghost use Rattle.crack_pending.specs.Pending.{StandsAt, Finds};
 ghost use Rattle.crack_state.specs.State.{State, IsIntact, live_rows, handle_of};
 ghost use Rattle.crack_state.specs.Steps.{lifted, admitted, IsAdmissible, SameButRoom};
 ghost use Rattle.crack_state.specs.Merge.{Refines, IsCracked, edge};
-ghost use Rattle.crack_store.specs.Parts.{no_cells, pending_by, bound_above, IsLayoutOf};
+ghost use Rattle.crack_store.specs.Parts.{Stands, no_cells, pending_by, bound_above, IsLayoutOf};
 
 use crate::Carrying;
 use crate::flags::Flags;
@@ -166,7 +165,7 @@ impl Store {
 
     /// The place at which the rows at or above the bound begin. O(log bounds).
     fn edge(&self, bound: Bound) -> usize
-        requires { self.now.keys.low < bound.0 → bound.0 < self.now.keys.high → HasBound self.now.marks bound.0 }
+        requires { Stands self.now bound.0 }
         ensures { result ≡ edge self.now bound.0 }
     {
         if bound <= self.parts.keys.low() {
