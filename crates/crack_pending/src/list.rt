@@ -1,7 +1,7 @@
 //! The lists of pending rows.
 ghost use Rattle.std.specs.Prelude.{◌≡◌, ℕ, ◌+◌, ◌<◌, ◌≤◌, ◌↔◌, ◌∷◌, [], ◌++◌, length, IsTrue, IfSome, IfNone, IfErr, OnOk, OnErr};
 ghost use Rattle.std.specs.List.{remove};
-ghost use Rattle.crack_arena.specs.Rows.{key_at, keys_at};
+ghost use Rattle.crack_arena.specs.Rows.{keys_at};
 ghost use Rattle.crack_pending.specs.Pending.{StandsAt, IsFirstAt, Finds};
 
 use crate::gap::GapList;

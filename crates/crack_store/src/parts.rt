@@ -1,5 +1,5 @@
 //! What a store and a store with a cell in hand are made of.
-ghost use Rattle.std.specs.Prelude.{◌≡◌, ℕ, ◌+◌, ◌<◌, ◌≤◌, [], IsTrue, IsFalse};
+ghost use Rattle.std.specs.Prelude.{◌≡◌, ◌+◌, ◌<◌, ◌≤◌, [], IsTrue, IsFalse};
 ghost use Rattle.crack_state.specs.Merge.{RefinesAt};
 ghost use Rattle.crack_store.specs.Parts.{state_of, AreIntact, IsMissing, Stands};
 

@@ -1,5 +1,5 @@
 //! The store.
-ghost use Rattle.std.specs.Prelude.{◌≡◌, ℕ, ◌+◌, ◌-◌, ◌<◌, ◌≤◌, ◌∷◌, [], length, IfOk, IfErr, OnOk, OnErr, IfNone, None};
+ghost use Rattle.std.specs.Prelude.{◌≡◌, ◌+◌, ◌-◌, ◌<◌, ◌≤◌, ◌∷◌, [], length, IfOk, IfErr, OnOk, OnErr, IfNone, None};
 ghost use Rattle.std.specs.List.Sorted.{IsPermutation};
 ghost use Rattle.crack_row.specs.Layouts.{IsLayout};
 ghost use Rattle.crack_arena.specs.Rows.{keys_at};
@@ -16,7 +16,7 @@ use crack_arena::{Arena, Handle};
 use crack_column::CrackerColumn;
 use crack_index::CrackerIndex;
 use crack_pending::{PendingIn, PendingOut};
-use crack_row::{Bound, Key, KeyRange, Layout, PieceList, Refusal, Row, Serial};
+use crack_row::{Bound, KeyRange, Layout, PieceList, Refusal, Row, Serial};
 use crack_state::MergeReport;
 use indexmap::IndexMap;
 use std::alloc::Global;
