@@ -1,25 +1,16 @@
--- Laws of what a push and a take do to a list of handles, for the crates above.
-use Rattle.std.proofs.Common.{◌≡◌, ℕ, suc, ◌+◌, ◌-◌, ◌<◌, Bool, false, List, [], ◌∷◌, ◌++◌, map, length, get_or, take, drop, filter, All, refl, sym, ap, ◌∙◌, inl, inr, arith}
+-- Laws of lists of handles, for the crates above.
+use Rattle.std.proofs.Common.{◌≡◌, ℕ, suc, ◌+◌, ◌-◌, ◌<◌, ◌≤◌, Bool, false, List, [], ◌∷◌, ◌++◌, map, length, get_or, take, drop, filter, refl, sym, ap, ◌∙◌, inl, inr, arith}
 use Rattle.std.specs.List.{remove}
-use Rattle.std.proofs.lemmas.Bool.{cases_eq, cases_lt}
+use Rattle.std.proofs.lemmas.Bool.{cases_lt}
 use Rattle.std.proofs.lemmas.List.{map-append, take-map, drop-map, take-append-drop, drop_more, get_or-map, get_or_default, length-map}
-use Rattle.std.proofs.lemmas.List.Edits.{length-remove, get_or-remove_below, get_or-remove_above}
+use Rattle.std.proofs.lemmas.List.Edits.{length-remove, get_or-remove_above}
 use Rattle.std.proofs.lemmas.List.Elements.{filter-append}
 use Rattle.crack_arena.specs.Arena.{Handle, times, slots}
-use Rattle.crack_arena.specs.Times.{times-nil, times-cons, times_one, times_head, times_other, times-append, times-remove}
-use Rattle.crack_pending.specs.Pending.{AreApart, StandsAt}
+use Rattle.crack_arena.specs.Times.{times_one, times_head, times-remove}
+use Rattle.crack_pending.specs.Pending.{StandsAt}
 
 pub map-remove : {X Y : Type 0} (f : X → Y) (xs : List X) (i : ℕ) → map f (remove xs i) ≡ remove (map f xs) i
 map-remove f xs i = rw (map-append f (take i xs) (drop (suc i) xs), take-map f i xs, drop-map f (suc i) xs) refl
-
--- what holds of each element holds of each that is left
-pub All-remove : {X : Type 0} (P : X → Type 0) (xs : List X) (i : ℕ) → i < length xs → All P xs → All P (remove xs i)
-All-remove P xs i within all = λ k d short.
-    let long = length-remove xs i within in
-    elim (cases_lt k i) [
-      | inl l ↦ rw (get_or-remove_below xs i d k l within) (all k d (omega arith))
-      | inr l ↦ rw (get_or-remove_above xs i d k l within) (all (k + 1) d (omega arith))
-    ]
 
 -- where an element that fails a test is taken, those that pass it stay, in order
 pub filter-remove : {X : Type 0} (p : X → Bool) (xs : List X) (i : ℕ) (d : X) → i < length xs → p (get_or xs i d) ≡ false → filter p (remove xs i) ≡ filter p xs
@@ -29,21 +20,14 @@ filter-remove p xs i d within fails =
     let whole : filter p xs ≡ filter p (take i xs) ++ filter p (drop i xs) = rw (← filter-append p (take i xs) (drop i xs), take-append-drop i xs) refl in
     sym (whole ∙ rw (rest, fails, filter-append p (take i xs) (drop (suc i) xs)) refl)
 
-pub slots-push : (handles : List Handle) (h : Handle) → slots (handles ++ h ∷ []) ≡ slots handles ++ h.slot ∷ []
-slots-push handles h = map-append (λ (x : Handle). x.slot) handles (h ∷ [])
-
 pub slots-remove : (handles : List Handle) (i : ℕ) → slots (remove handles i) ≡ remove (slots handles) i
 slots-remove handles i = map-remove (λ (x : Handle). x.slot) handles i
-
--- a handle names its cell once more when it comes
-pub times-push : (n : ℕ) (handles : List Handle) (h : Handle) → times n (slots (handles ++ h ∷ [])) ≡ times n (slots handles) + times n (h.slot ∷ [])
-times-push n handles h = rw (slots-push handles h) (times-append n (slots handles) (h.slot ∷ []))
 
 slot_of_place : (handles : List Handle) (i d : ℕ) (h : Handle) → StandsAt handles i h → get_or (slots handles) i d ≡ h.slot
 slot_of_place handles i d h stands =
     get_or-map (λ (x : Handle). x.slot) handles i h d stands.within ∙ ap (λ (x : Handle). x.slot) (sym stands.is)
 
--- and once less when it goes
+-- a handle names its cell once less when it goes
 pub times-take : (n : ℕ) (handles : List Handle) (i : ℕ) (h : Handle) → StandsAt handles i h → times n (slots (remove handles i)) + times n (h.slot ∷ []) ≡ times n (slots handles)
 times-take n handles i h stands =
     let within : i < length (slots handles) = omega (arith, stands.within, length-map handles (λ (x : Handle). x.slot)) in
@@ -57,34 +41,9 @@ StandsAt-names handles i h stands = omega (arith, times-take h.slot handles i h 
 pub StandsAt-get_or : (handles : List Handle) (i : ℕ) (d : Handle) → i < length handles → StandsAt handles i (get_or handles i d)
 StandsAt-get_or handles i d within = record { within = within; is = get_or_default handles i d (get_or handles i d) within }
 
--- one of the handles names the cell
-pub record IsNamed (handles : List Handle) (n : ℕ) : Type 0 where
-  pub place : ℕ
-  pub handle : Handle
-  pub stands : StandsAt handles place handle
-  pub slot : handle.slot ≡ n
-
--- a cell's number that stands among the handles' is named by one of them
-pub IsNamed-from : (handles : List Handle) (n : ℕ) → 0 < times n (slots handles) → IsNamed handles n
-IsNamed-from [] n some = absurd (omega (arith, some, times-nil n))
-IsNamed-from (h ∷ hs) n some = elim (cases_eq h.slot n) [
-  | inl e ↦ record { place = 0; handle = h; stands = record { within = omega arith; is = refl }; slot = e }
-  | inr ne ↦
-      let rest : 0 < times n (slots hs) = omega (arith, some, times-cons n h.slot (slots hs), times_one n h.slot, times_other n h.slot ne) in
-      let named = IsNamed-from hs n rest in
-      record { place = suc named.place; handle = named.handle; stands = record { within = omega (arith, named.stands.within); is = named.stands.is }; slot = named.slot }
-]
-
--- handles of cells of their own stay so
-pub AreApart-push : (handles : List Handle) (h : Handle) → times h.slot (slots handles) ≡ 0 → AreApart handles → AreApart (handles ++ h ∷ [])
-AreApart-push handles h new apart = λ n.
-    elim (cases_eq h.slot n) [
-      | inl e ↦ rw (← e) (omega (arith, times-push h.slot handles h, times_head h.slot [], times-nil h.slot))
-      | inr ne ↦ omega (arith, apart n, times-push n handles h, times_other n h.slot ne)
-    ]
-
-pub AreApart-take : (handles : List Handle) (i : ℕ) (h : Handle) → StandsAt handles i h → AreApart handles → AreApart (remove handles i)
-AreApart-take handles i h stands apart = λ n. omega (arith, apart n, times-take n handles i h stands)
+-- no two of the handles name one cell
+abbrev pub AreApart : List Handle → Type 0
+AreApart handles = (n : ℕ) → times n (slots handles) ≤ 1
 
 -- no handle that is left names the cell of the one that was taken
 pub times_taken : (handles : List Handle) (i : ℕ) (h : Handle) → StandsAt handles i h → AreApart handles → times h.slot (slots (remove handles i)) ≡ 0

@@ -1,5 +1,4 @@
 pub mod Gap
 pub mod Laws
-pub mod Marks
 pub mod Pending
 pub mod Searches

@@ -1,9 +1,9 @@
 -- Laws of the searches for a key, for the crates above.
-use Rattle.std.proofs.Common.{◌≡◌, ℕ, ◌+◌, ◌<◌, ◌≤◌, ◌⊎◌, true, false, List, [], ◌∷◌, ◌++◌, length, get_or, All, refl, sym, ap, ◌∙◌, inl, inr, arith}
+use Rattle.std.proofs.Common.{◌≡◌, ℕ, ◌+◌, ◌<◌, ◌≤◌, true, false, List, [], ◌∷◌, ◌++◌, length, get_or, All, refl, sym, ap, ◌∙◌, inl, inr, arith}
 use Rattle.std.specs.Prelude.{slice_index}
 use Rattle.std.specs.List.{remove, list_any}
 use Rattle.std.proofs.lemmas.Bool.{cases_lt, lt-ltb, le-ltb, le-leb, lt-leb}
-use Rattle.std.proofs.lemmas.List.{map-append, get_or-map, get_or_append_left, length-map}
+use Rattle.std.proofs.lemmas.List.{get_or-map, get_or_append_left, length-map}
 use Rattle.std.proofs.lemmas.List.Edits.{get_or-remove_below}
 use Rattle.std.proofs.lemmas.List.Folds.{list_any_at, list_any_none}
 use Rattle.crack_row.specs.Ranges.{Range, IsIn, is_in}
@@ -11,19 +11,13 @@ use Rattle.crack_row.specs.declared.Row.{Row}
 use Rattle.crack_arena.specs.Arena.{Cell, Handle}
 use Rattle.crack_arena.specs.Rows.{key_at, keys_at}
 use Rattle.crack_pending.specs.Pending.{StandsAt, NoneIn, IsFirstIn}
-use Rattle.crack_pending.specs.Laws.{map-remove, StandsAt-get_or}
+use Rattle.crack_pending.specs.Laws.{StandsAt-get_or}
 
 module _ (cells : List (Cell Row)) where
   -- the key that stands at a handle's place is its row's
   pub keys_at-StandsAt : (handles : List Handle) (i : ℕ) (h : Handle) → StandsAt handles i h → slice_index (keys_at cells handles) i ≡ key_at cells h
   keys_at-StandsAt handles i h stands =
       get_or-map (key_at cells) handles i h 0 stands.within ∙ ap (key_at cells) (sym stands.is)
-
-  pub keys_at-push : (handles : List Handle) (h : Handle) → keys_at cells (handles ++ h ∷ []) ≡ keys_at cells handles ++ key_at cells h ∷ []
-  keys_at-push handles h = map-append (key_at cells) handles (h ∷ [])
-
-  pub keys_at-remove : (handles : List Handle) (i : ℕ) → keys_at cells (remove handles i) ≡ remove (keys_at cells handles) i
-  keys_at-remove handles i = map-remove (key_at cells) handles i
 
   pub length-keys_at : (handles : List Handle) → length (keys_at cells handles) ≡ length handles
   length-keys_at handles = length-map handles (key_at cells)
@@ -63,16 +57,6 @@ IsFirstIn-join range keys from between place order none first = record {
   before = NoneIn-join range keys from between place none first.before;
 }
 
--- a key that isn't in the range lies below or above it
-pub below_or_above : (range : Range) (key : ℕ) → ¬ IsIn range key → (key < range.low) ⊎ (range.high ≤ key)
-below_or_above range key other = elim (cases_lt key range.low) [
-  | inl l ↦ inl l
-  | inr l ↦ elim (cases_lt key range.high) [
-    | inl m ↦ absurd (other (l, m))
-    | inr m ↦ inr m
-  ]
-]
-
 -- the test of a range says whether the key lies in it
 pub is_in-true : (range : Range) (key : ℕ) → IsIn range key → is_in range key ≡ true
 is_in-true range key inside = rw (le-leb range.low key inside.0, lt-ltb key range.high inside.1) refl
@@ -92,9 +76,6 @@ module _ (range : Range) (cells : List (Cell Row)) (handles : List Handle) where
   NoneIn-All none = λ k d within.
       let stands = StandsAt-get_or handles k d within in
       rw (← keys_at-StandsAt cells handles k (get_or handles k d) stands) (none k (omega arith) (omega (arith, within, length-keys_at cells handles)))
-
-  pub NoneIn-outside : NoneIn range (keys_at cells handles) 0 (length (keys_at cells handles)) → All (λ h. (key_at cells h < range.low) ⊎ (range.high ≤ key_at cells h)) handles
-  NoneIn-outside none = λ k d within. below_or_above range (key_at cells (get_or handles k d)) (NoneIn-All none k d within)
 
   pub list_any-missed : NoneIn range (keys_at cells handles) 0 (length (keys_at cells handles)) → list_any (λ h. is_in range (key_at cells h)) handles ≡ false
   list_any-missed none =

@@ -1,9 +1,8 @@
 //! The lists of pending rows.
-ghost use Rattle.std.specs.Prelude.{◌≡◌, ℕ, ◌+◌, ◌<◌, ◌≤◌, ◌↔◌, ◌∷◌, [], ◌++◌, length, All, IsTrue, IfSome, IfNone, IfErr, OnOk, OnErr, max, nat_lt};
+ghost use Rattle.std.specs.Prelude.{◌≡◌, ℕ, ◌+◌, ◌<◌, ◌≤◌, ◌↔◌, ◌∷◌, [], ◌++◌, length, IsTrue, IfSome, IfNone, IfErr, OnOk, OnErr};
 ghost use Rattle.std.specs.List.{remove};
-ghost use Rattle.crack_arena.specs.Arena.{times, slots};
-ghost use Rattle.crack_arena.specs.Rows.{key_at, keys_at};
-ghost use Rattle.crack_pending.specs.Pending.{AreApart, StandsAt, Finds};
+ghost use Rattle.crack_arena.specs.Rows.{keys_at};
+ghost use Rattle.crack_pending.specs.Pending.{StandsAt, IsFirstAt, Finds};
 
 use crate::gap::GapList;
 use crack_arena::{Arena, Handle, key_of};
@@ -25,36 +24,29 @@ pub type PendingIn = PendingList<Insertions>;
 /// The rows that wait for a command to take them out of the cracker column.
 pub type PendingOut = PendingList<Deletions>;
 
-/// The handles of pending rows in the order of their arrival, each of a cell of its own, with a mark for each cell that
-/// says whether one of them names it (the pending columns of Idreos, Kersten and Manegold, Updating a cracked database,
+/// The handles of pending rows in the order of their arrival (the pending columns of "Updating a Cracked Database",
 /// SIGMOD 2007).
 #[derive(Drop)]
 pub struct PendingList<Kind> {
     list: GapList,
-    marks: Vec<bool>,
     kind: PhantomData<Kind>,
 }
 
 impl<Kind> Model for PendingList<Kind> {
-    ghost use Rattle.std.specs.Prelude.{vec_len};
     ghost use Rattle.crack_pending.specs.Pending.{Pending};
-    ghost use Rattle.crack_pending.specs.Marks.{AreMarked};
 
     ghost Value = { Pending };
 
-    ghost view = { λ p. record { handles = p.list.handles; room = p.list.room; known = vec_len p.marks } };
-
-    ghost invariant = { λ p. AreMarked p.marks.items p.list.handles };
+    ghost view = { λ p. record { handles = p.list.handles; room = p.list.room } };
 }
 
 impl<Kind> PendingList<Kind> {
     /// An empty list. It takes no memory.
     pub fn new(alloc: Global) -> Self
-        ensures { result ≡ record { handles = []; room = 0; known = 0 } }
+        ensures { result ≡ record { handles = []; room = 0 } }
     {
         PendingList {
             list: GapList::new(alloc),
-            marks: Vec::new(alloc),
             kind: PhantomData,
         }
     }
@@ -70,31 +62,13 @@ impl<Kind> PendingList<Kind> {
         self.list.reserve(additional)
     }
 
-    /// Gives each cell with a number below `cells` a mark; amortised O(1) for each new one. Refused with 8 alone.
-    pub fn cover(&mut self, cells: usize) -> Result<(), Refusal>
-        ensures ok { OnOk result (self.new ≡ record self.old { known = max self.old.known cells }) }
-        ensures same { OnErr result (self.new ≡ self.old) }
-        ensures full { OnErr result (self.old.known < cells) }
-        ensures err { IfErr result (λ e. e ≡ Refusal.OutOfMemory) }
-    {
-        if cells > self.marks.len() {
-            self.marks.resize(cells, false)?;
-        }
-        Ok(())
-    }
-
-    /// Puts the handle behind all others. Its cell has a mark, and no handle of the list names that cell. O(1).
+    /// Puts the handle behind all others. It takes no memory. O(1).
     pub fn push(&mut self, handle: Handle<Row>)
-        requires room { 0 < self.old.room }
-        requires known { handle.slot < self.old.known }
-        requires apart { times handle.slot (slots self.old.handles) ≡ 0 }
+        requires { 0 < self.old.room }
         ensures handles { self.new.handles ≡ self.old.handles ++ handle ∷ [] }
         ensures room { self.new.room + 1 ≡ self.old.room }
-        ensures known { self.new.known ≡ self.old.known }
     {
         self.list.push(handle);
-        let slot = handle.slot() as usize;
-        self.marks[slot] = true;
     }
 
     /// The handle at the place, counted from the first arrival. O(1).
@@ -105,19 +79,15 @@ impl<Kind> PendingList<Kind> {
         self.list.at(place)
     }
 
-    /// Takes the handle at the place; the later ones close up, and its cell's mark is cleared. It takes no memory.
+    /// Takes the handle at the place; the later ones close up. It takes no memory.
     /// O(1) at the place of the last take, so taking k of i rows at rising places costs O(i + k) in all.
     pub fn take(&mut self, place: usize) -> Handle<Row>
         requires { place < length self.old.handles }
         ensures value { StandsAt self.old.handles place result }
         ensures handles { self.new.handles ≡ remove self.old.handles place }
         ensures room { self.new.room ≡ self.old.room + 1 }
-        ensures known { self.new.known ≡ self.old.known }
     {
-        let handle = self.list.take(place);
-        let slot = handle.slot() as usize;
-        self.marks[slot] = false;
-        handle
+        self.list.take(place)
     }
 
     /// The first place whose row has its key in the range. O(len).
@@ -140,30 +110,17 @@ impl<Kind> PendingList<Kind> {
         None
     }
 
-    /// The place of the handle. O(len) where a handle of its cell is in the list, else O(1).
+    /// The first place where the handle stands; none where it stands nowhere. O(len).
     pub fn place_of(&self, handle: Handle<Row>) -> Option<usize>
-        ensures found { IfSome result (λ place. StandsAt self.now.handles place handle) }
+        ensures found { IfSome result (λ place. IsFirstAt self.now.handles handle place) }
         ensures none { IfNone result ((place : ℕ) → ¬ StandsAt self.now.handles place handle) }
     {
-        if !self.contains(handle.slot()) {
-            return None;
-        }
         'places: for place in 0..self.list.len() {
             if self.list.at(place) == handle {
                 return Some(place);
             }
         }
         None
-    }
-
-    /// Whether a handle of this cell is in the list. O(1).
-    pub fn contains(&self, slot: u32) -> bool
-        ensures { result ≡ nat_lt 0 (times slot (slots self.now.handles)) }
-    {
-        match self.marks.get(slot as usize) {
-            Some(mark) => *mark,
-            None => false,
-        }
     }
 
     /// How many handles.
@@ -178,13 +135,5 @@ impl<Kind> PendingList<Kind> {
         ensures { IsTrue result ↔ (length self.now.handles ≡ 0) }
     {
         self.list.len() == 0
-    }
-
-    /// Does nothing. Its contract says what is so of every list.
-    pub fn facts(&self)
-        ensures apart { AreApart self.now.handles }
-        ensures known { All (λ h. h.slot < self.now.known) self.now.handles }
-    {
-        let _ = &self.list;
     }
 }

@@ -1,19 +1,18 @@
 -- Where the ends of a range stand in a column that was cracked by it.
-use Rattle.std.proofs.Common.{◌≡◌, ℕ, ◌<◌, ◌≤◌, ◌^◌, ◌-◌, List, length, false, refl, sym, ap, ◌∙◌, inl, inr, arith}
+use Rattle.std.proofs.Common.{◌≡◌, ℕ, ◌<◌, ◌≤◌, ◌^◌, ◌-◌, List, length, inl, inr, arith}
 use Rattle.std.specs.List.{All}
-use Rattle.std.specs.Ordering.{is_le, nat_cmp}
-use Rattle.std.proofs.lemmas.Bool.{cases_lt, lt-leb, le-leb, true≢false}
-use Rattle.std.proofs.lemmas.Cmp.{ranked, by_ranked}
+use Rattle.std.proofs.lemmas.Bool.{cases_lt, lt-leb, le-leb}
 use Rattle.std.proofs.lemmas.List.{length-map}
 use Rattle.crack_arena.specs.Arena.{Handle}
 use Rattle.crack_index.specs.declared.mark.Mark.{Mark}
-use Rattle.crack_index.specs.Marks.{HasBound, place_of}
+use Rattle.crack_index.specs.Marks.{place_of}
 use Rattle.crack_index.specs.MarkLaws.{HasBound-contains, place_of-mark, Rising-positions}
 use Rattle.crack_arena.specs.Rows.{key_at}
 use Rattle.crack_state.specs.State.{State, IsIntact, column_keys}
 use Rattle.crack_state.specs.Merge.{edge}
 use Rattle.crack_state.specs.PieceLaws.{Divides-listed}
 use Rattle.crack_state.specs.LayoutLaws.{cells-intact}
+use Rattle.crack_store.specs.Parts.{Stands}
 
 -- every bound stands at a place of the column, or at its end
 pub positions_within : (s : State) (hand : List Handle) → IsIntact s hand → All (λ (m : Mark). m.position ≤ length s.column) s.marks
@@ -21,10 +20,6 @@ positions_within s hand intact = λ k d h. omega (arith, (intact.obeyed k d h).w
 
 pub positions_small : (s : State) (hand : List Handle) → IsIntact s hand → All (λ (m : Mark). m.position < 2 ^ 64 - 1) s.marks
 positions_small s hand intact = λ k d h. omega (arith, positions_within s hand intact k d h, cells-intact s hand intact, intact.few_cells)
-
--- an end of the partition, or a bound that stands in the index
-abbrev pub Stands : State → ℕ → Type 0
-Stands s bound = s.keys.low < bound → bound < s.keys.high → HasBound s.marks bound
 
 pub edge_within : (s : State) (hand : List Handle) (bound : ℕ) → IsIntact s hand → Stands s bound → edge s bound ≤ length s.column
 edge_within s hand bound intact stands =
@@ -54,7 +49,3 @@ edge_order s hand low high intact order low_stands high_stands =
             rw (lt-leb low s.keys.low l, lt-leb s.keys.high low (omega arith), lt-leb high s.keys.low (omega arith), lt-leb s.keys.high high h, from_place, to_place) (Rising-positions s.marks from.0 to.0 intact.rising from.1 to.1 (omega (arith, from.2, to.2)))
       ]
     ]
-
--- what a comparison of bounds tells
-pub above_from_not_le : (a b : ℕ) → is_le (nat_cmp a b) ≡ false → b < a
-above_from_not_le a b h = by_ranked (a < b) (a ≡ b) (b < a) (nat_cmp a b) (ranked a b _ refl) (λ e _. absurd (true≢false (sym (ap is_le e) ∙ h))) (λ e _. absurd (true≢false (sym (ap is_le e) ∙ h))) (λ _ l. l)

@@ -1,3 +1,5 @@
 mod NextLemmas
 mod EdgeLemmas
 mod AdmitLemmas
+mod FlagLemmas
+mod MissingLemmas

@@ -1,14 +1,15 @@
 -- What a contract sees of the parts of a store.
-use Rattle.std.specs.Prelude.{◌≡◌, ◌≤◌, ◌+◌, ◌-◌, ℕ, Bool, nat_lt, List, [], length, Option, Some, None}
+use Rattle.std.specs.Prelude.{◌≡◌, ◌<◌, ◌+◌, ◌-◌, ℕ, Bool, nat_lt, List, [], length, Option, Some, None}
 use Rattle.std.specs.Option.{option_map}
 use Rattle.crack_row.specs.Ranges.{Range}
 use Rattle.crack_row.specs.declared.layout.Layout.{Layout}
 use Rattle.crack_index.specs.declared.mark.Mark.{Mark}
-use Rattle.crack_index.specs.Marks.{next_mark, pieces_from}
+use Rattle.crack_index.specs.Marks.{HasBound, next_mark, pieces_from}
 use Rattle.crack_arena.specs.Arena.{Handle, times, slots}
 use Rattle.crack_state.specs.declared.MergeReport.{MergeReport}
 use Rattle.crack_state.specs.State.{State, IsIntact, handle_of}
 use Rattle.crack_store.specs.declared.parts.Parts.{Parts}
+use Rattle.crack_store.specs.Flags.{AreFlagsOf}
 
 -- the parts as lists
 abbrev pub state_of : Parts → State
@@ -27,15 +28,21 @@ state_of p = record {
   in_room = p.pending_in.room;
 }
 
--- every cell has a mark in both pending columns
-pub record AreCovered (p : Parts) : Type 0 where
-  pub pending_in : length p.arena.cells ≤ p.pending_in.known
-  pub pending_out : length p.arena.cells ≤ p.pending_out.known
-
--- what the parts keep, with no hand or one
+-- what the parts keep, with no hand or one; each cell has two flags, which say whether it is pending and whether it is doomed
 pub record AreIntact (p : Parts) (hand : List Handle) : Type 0 where
   pub intact : IsIntact (state_of p) hand
-  pub covered : AreCovered p
+  pub in_flags : AreFlagsOf p.in_flags (length p.arena.cells) p.pending_in.handles
+  pub out_flags : AreFlagsOf p.out_flags (length p.arena.cells) p.pending_out.handles
+
+-- the bound lies strictly between the partition's ends, and doesn't stand in the index
+pub record IsMissing (s : State) (bound : ℕ) : Type 0 where
+  pub low : s.keys.low < bound
+  pub high : bound < s.keys.high
+  pub apart : HasBound s.marks bound → ⊥
+
+-- the bound is an end of the partition or lies outside, or stands in the index
+abbrev pub Stands : State → ℕ → Type 0
+Stands s bound = s.keys.low < bound → bound < s.keys.high → HasBound s.marks bound
 
 -- nothing was counted
 abbrev pub no_report : MergeReport

@@ -1,5 +1,5 @@
 //! A store with one cell in hand.
-ghost use Rattle.std.specs.Prelude.{◌≡◌, ℕ, ◌+◌, ◌-◌, ◌<◌, ◌≤◌, ◌∷◌, [], length, All, Some};
+ghost use Rattle.std.specs.Prelude.{◌≡◌, ◌-◌, ◌<◌, ◌≤◌, ◌∷◌, [], length, All, Some};
 ghost use Rattle.crack_arena.specs.Arena.{read, times, slots};
 ghost use Rattle.crack_index.specs.Marks.{piece_at, next_mark, Rising};
 ghost use Rattle.crack_state.specs.State.{IsIntact, live_rows};

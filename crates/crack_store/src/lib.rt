@@ -5,6 +5,7 @@
 #![tactic(auto)]
 
 pub mod carrying;
+mod flags;
 mod parts;
 pub mod store;
 

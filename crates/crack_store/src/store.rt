@@ -1,22 +1,22 @@
 //! The store.
-ghost use Rattle.std.specs.Prelude.{◌≡◌, ℕ, ◌+◌, ◌-◌, ◌<◌, ◌≤◌, ◌∷◌, [], length, IfOk, IfErr, OnOk, OnErr, IfNone, None};
+ghost use Rattle.std.specs.Prelude.{◌≡◌, ◌+◌, ◌-◌, ◌<◌, ◌≤◌, ◌∷◌, [], length, IfOk, IfErr, OnOk, OnErr, IfNone, None};
 ghost use Rattle.std.specs.List.Sorted.{IsPermutation};
 ghost use Rattle.crack_row.specs.Layouts.{IsLayout};
-ghost use Rattle.crack_index.specs.Marks.{HasBound};
 ghost use Rattle.crack_arena.specs.Rows.{keys_at};
 ghost use Rattle.crack_pending.specs.Pending.{StandsAt, Finds};
 ghost use Rattle.crack_state.specs.State.{State, IsIntact, live_rows, handle_of};
 ghost use Rattle.crack_state.specs.Steps.{lifted, admitted, IsAdmissible, SameButRoom};
 ghost use Rattle.crack_state.specs.Merge.{Refines, IsCracked, edge};
-ghost use Rattle.crack_store.specs.Parts.{no_cells, pending_by, bound_above, IsLayoutOf};
+ghost use Rattle.crack_store.specs.Parts.{Stands, no_cells, pending_by, bound_above, IsLayoutOf};
 
 use crate::Carrying;
-use crate::parts::{Parts, crack_at};
+use crate::flags::Flags;
+use crate::parts::{Parts, crack_at, is_missing};
 use crack_arena::{Arena, Handle};
 use crack_column::CrackerColumn;
 use crack_index::CrackerIndex;
 use crack_pending::{PendingIn, PendingOut};
-use crack_row::{Bound, Key, KeyRange, Layout, PieceList, Refusal, Row, Serial};
+use crack_row::{Bound, KeyRange, Layout, PieceList, Refusal, Row, Serial};
 use crack_state::MergeReport;
 use indexmap::IndexMap;
 use std::alloc::Global;
@@ -55,6 +55,8 @@ impl Store {
                 index: CrackerIndex::new(alloc),
                 pending_in: PendingIn::new(alloc),
                 pending_out: PendingOut::new(alloc),
+                in_flags: Flags::new(alloc),
+                out_flags: Flags::new(alloc),
                 serials: IndexMap::new(alloc),
                 tally: MergeReport {
                     put_in: 0,
@@ -85,13 +87,14 @@ impl Store {
     {
         let cells = self.parts.arena.cells() + 1;
         self.parts.pending_in.reserve(1)?;
-        self.parts.pending_in.cover(cells)?;
-        self.parts.pending_out.cover(cells)?;
+        self.parts.in_flags.cover(cells)?;
+        self.parts.out_flags.cover(cells)?;
         self.parts.arena.reserve(1)?;
         self.parts.serials.reserve(1)?;
         let handle = self.parts.arena.put_reserved(row);
         let _ = self.parts.serials.insert(row.serial.0, handle);
         self.parts.pending_in.push(handle);
+        self.parts.in_flags.set(handle.slot());
         Ok(())
     }
 
@@ -101,13 +104,13 @@ impl Store {
         ensures none { IfNone result (handle_of self.now.serials serial.0 ≡ None) }
     {
         match self.parts.serials.get(&serial.0) {
-            Some(handle) => Some(self.parts.pending_in.contains(handle.slot())),
+            Some(handle) => Some(self.parts.in_flags.contains(handle.slot())),
             None => None,
         }
     }
 
     /// Cracks the column at both ends of the range: each that is no end of the partition then stands in the index.
-    /// O(size of their pieces + bounds); O(log bounds) for an end that is there already.
+    /// O(size of their pieces + bounds); O(log bounds) for an end that is there already, which takes no memory.
     /// Refused with 8 where it finds no memory; all is then as it was.
     pub fn crack(&mut self, range: KeyRange) -> Result<(), Refusal>
         ensures ok { OnOk result (Refines self.old self.new range) }
@@ -116,7 +119,9 @@ impl Store {
         ensures same { OnErr result (SameButRoom self.old self.new) }
         ensures err { IfErr result (λ e. e ≡ Refusal.OutOfMemory) }
     {
-        self.parts.index.reserve(2)?;
+        let low = is_missing(&self.parts, range.low());
+        let high = is_missing(&self.parts, range.high());
+        self.parts.index.reserve(low as usize + high as usize)?;
         crack_at(&mut self.parts, range.low());
         crack_at(&mut self.parts, range.high());
         Ok(())
@@ -143,6 +148,7 @@ impl Store {
     {
         let Store { mut parts } = self;
         let hand = parts.pending_in.take(place);
+        parts.in_flags.clear(hand.slot());
         parts.tally.put_in = parts.tally.put_in.saturating_add(1);
         Carrying { parts, hand }
     }
@@ -159,7 +165,7 @@ impl Store {
 
     /// The place at which the rows at or above the bound begin. O(log bounds).
     fn edge(&self, bound: Bound) -> usize
-        requires { self.now.keys.low < bound.0 → bound.0 < self.now.keys.high → HasBound self.now.marks bound.0 }
+        requires { Stands self.now bound.0 }
         ensures { result ≡ edge self.now bound.0 }
     {
         if bound <= self.parts.keys.low() {

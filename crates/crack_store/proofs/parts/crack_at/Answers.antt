@@ -1,10 +1,8 @@
-use Rattle.std.proofs.Common.{[], refl, sym, ◌∙◌}
-use Rattle.std.proofs.lemmas.Bool.{true≢false}
+use Rattle.std.proofs.Common.{◌≡◌, ◌<◌, [], refl}
 use Rattle.crack_state.specs.Steps.{CracksAt}
 use Rattle.crack_state.specs.PieceLaws.{piece_end-le}
-use Rattle.crack_state.specs.CrackLaws.{IsIntact-cracked, RefinesAt-cracked}
+use Rattle.crack_state.specs.CrackLaws.{IsIntact-cracked, RefinesAt-cracked, RefinesBy-refl}
 use Rattle.crack_store.specs.Parts.{state_of}
-use Rattle.crack_store.proofs.EdgeLemmas.{above_from_not_le}
 use Rattle.crack_store.proofs.parts.crack_at.Goals as goal
 
 pub crack_two-place-requires-clause-within : goal.crack_two-place-requires-clause-within
@@ -18,12 +16,12 @@ add-requires-clause-order c = c.piece_of-piece.ensures.fits c.crack_two-place.re
 -- the bound's own piece was cracked by it
 cracked : (c : goal.After-add) → CracksAt (state_of c.args.parts.now) (state_of (record c.args.parts.now { column = c.crack_two-place.new.self; index = c.add.new.self })) c.args.bound
 cracked c =
-    let s = state_of c.args.parts.now in
+    let missing = c.is_missing.ensures.missing c.if-not-is_missing.false in
     record {
       place = c.crack_two-place.result;
-      missing = λ there. true≢false (sym (c.position.ensures.found.1 there) ∙ sym c.is_some.ensures ∙ c.if-is_some.false);
-      low = rw c.low.ensures.value at (above_from_not_le c.args.bound.0 c.low.result.0 (sym c.if-le.ensures));
-      high = rw c.high.ensures.value at (above_from_not_le c.high.result.0 c.args.bound.0 (sym c.if-le-2.ensures));
+      missing = missing.apart;
+      low = missing.low;
+      high = missing.high;
       cracks = rw (c.piece_of-piece.ensures.value, c.len.ensures.value) at c.crack_two-place.ensures.cracked;
       after = rw (c.crack_two-place.ensures.room, c.add.ensures.marks) refl;
     }
@@ -34,7 +32,8 @@ returns-clause-intact c =
     let new = record old { column = c.crack_two-place.new.self; index = c.add.new.self } in
     record {
       intact = IsIntact-cracked (state_of old) (state_of new) [] c.args.bound (cracked c) c.requires.intact.intact;
-      covered = record { pending_in = c.requires.intact.covered.pending_in; pending_out = c.requires.intact.covered.pending_out };
+      in_flags = c.requires.intact.in_flags;
+      out_flags = c.requires.intact.out_flags;
     }
 
 pub returns-clause-refined : goal.returns-clause-refined
@@ -42,3 +41,9 @@ returns-clause-refined c =
     let old = c.args.parts.now in
     let new = record old { column = c.crack_two-place.new.self; index = c.add.new.self } in
     RefinesAt-cracked (state_of old) (state_of new) [] c.args.bound (cracked c) c.requires.intact.intact
+
+pub returns-then-not-is_missing-clause-refined : goal.returns-then-not-is_missing-clause-refined
+returns-then-not-is_missing-clause-refined c =
+    let s = state_of c.args.parts.now in
+    let stands = c.is_missing.ensures.stands c.if-not-is_missing.true in
+    RefinesBy-refl (λ b. (b ≡ c.args.bound.0) × (s.keys.low < b) × (b < s.keys.high)) s (λ b is. rw is.0 (stands (rw is.0 at is.1) (rw is.0 at is.2)))

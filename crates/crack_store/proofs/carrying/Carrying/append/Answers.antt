@@ -19,5 +19,6 @@ invariant_of-result c =
     let marks : c.raise_next.new.index.marks ≡ raise_next (next_mark (hand_key carried) s.marks) s.marks = rw key at c.raise_next.ensures.marks in
     record {
       intact = rw (c.append.ensures.after, marks) (IsIntact-appended carried ends c.self.invariant.intact);
-      covered = record { pending_in = c.self.invariant.covered.pending_in; pending_out = c.self.invariant.covered.pending_out };
+      in_flags = c.self.invariant.in_flags;
+      out_flags = c.self.invariant.out_flags;
     }

@@ -33,7 +33,8 @@ pub invariant_of-self : goal.invariant_of-self
 invariant_of-self c =
     record {
       intact = rw (c.swap_in-self-inside.ensures.after, marks c, c.saturating_add-self-inside.ensures, hand c, place c) (IsIntact-pushed_on (before c) (room c) c.self.invariant.intact);
-      covered = record { pending_in = c.self.invariant.covered.pending_in; pending_out = c.self.invariant.covered.pending_out };
+      in_flags = c.self.invariant.in_flags;
+      out_flags = c.self.invariant.out_flags;
     }
 
 pub returns-clause-after : goal.returns-clause-after
