@@ -12,7 +12,7 @@ use Rattle.crack_row.specs.declared.Row.{Row}
 use Rattle.crack_arena.specs.Arena.{Cell, Handle, read, cell_at, empty_cell, slots}
 use Rattle.crack_arena.specs.Times.{times-append, times-map-IsPermutation}
 use Rattle.crack_index.specs.declared.mark.Mark.{Mark}
-use Rattle.crack_index.specs.Marks.{Rising, Fits, added, next_mark, last_mark, start_of, end_of}
+use Rattle.crack_index.specs.Marks.{Rising, Fits, added, next_mark, last_mark, start_of, end_of, HasBound}
 use Rattle.crack_index.specs.MarkLaws.{next_mark-is, last_mark-is, All-added, Contains-kept, HasBound-added, Rising-added, HasBound-mark, HasBound-contains}
 use Rattle.crack_arena.specs.Rows.{key_of_row, key_at}
 use Rattle.crack_column.specs.Column.{IsDividedAt}
@@ -189,6 +189,17 @@ cuts_kept IsNew s u refined p is =
     let front : In 0 = (0, omega arith, refl) in
     let back : In (length u.column) = Contains-append_right (0 ∷ map position u.marks) (length u.column ∷ []) (length u.column) (0, omega arith, refl) in
     All-contains In (cuts s) p (All-cons In 0 (map position s.marks ++ length s.column ∷ []) front (All-push In (map position s.marks) (length s.column) positions (subst In refined.long back))) is
+
+-- a store refines itself, where the bounds are there
+pub RefinesBy-refl : (IsNew : ℕ → Type 0) (s : State) → ((b : ℕ) → IsNew b → HasBound s.marks b) → RefinesBy IsNew s s
+RefinesBy-refl IsNew s there = record {
+  same = refl;
+  long = refl;
+  pieces = λ p q is_p is_q. IsPermutation-refl (between p q s.column);
+  kept = λ m is. is;
+  added = there;
+  only = λ b has. inl has;
+}
 
 -- one refinement after another
 pub RefinesBy-trans : (IsNew IsNewer : ℕ → Type 0) (s u v : State) → RefinesBy IsNew s u → RefinesBy IsNewer u v → RefinesBy (λ b. IsNew b ⊎ IsNewer b) s v

@@ -2,7 +2,7 @@
 use Rattle.std.specs.Prelude.{◌≡◌, ◌⊎◌, ℕ, Bool, ◌+◌, ◌-◌, ◌*◌, ◌<◌, ◌≤◌, ◌||◌, nat_le, if◌then◌else◌, List, [], ◌∷◌, ◌++◌, length, map, filter, Contains}
 use Rattle.std.specs.List.{All, filter_map, between, list_any}
 use Rattle.std.specs.List.Sorted.{IsPermutation}
-use Rattle.crack_row.specs.Ranges.{Range, is_in}
+use Rattle.crack_row.specs.Ranges.{Range, is_in, in_range}
 use Rattle.crack_row.specs.declared.Row.{Row}
 use Rattle.crack_row.specs.declared.command.Policy.{Policy}
 use Rattle.crack_row.specs.declared.command.Policy.TheVariants.{Complete}
@@ -12,10 +12,6 @@ use Rattle.crack_index.specs.Marks.{HasBound, bounds_of, place_of}
 use Rattle.crack_arena.specs.Rows.{key_at}
 use Rattle.crack_state.specs.declared.MergeReport.{MergeReport}
 use Rattle.crack_state.specs.State.{State, Reads, IsIntact, live_rows, freed_of, greatest}
-
--- whether the row's key is in the range
-abbrev pub in_range : Range → Row → Bool
-in_range r row = is_in r row.key.0
 
 -- the key is outside the range
 abbrev pub IsOutside : Range → ℕ → Type 0

@@ -9,7 +9,7 @@ use Rattle.std.proofs.lemmas.List.Edits.{split_between, get_or-between, length-b
 use Rattle.std.proofs.lemmas.List.Sorted.{length_permutation, sum_by-IsPermutation}
 use Rattle.std.proofs.lemmas.List.Sums.{length-filter}
 use Rattle.std.proofs.lemmas.Bool.{cases_lt, lt-ltb, le-ltb, le-leb, lt-leb, true≢false, and_left, and_right}
-use Rattle.crack_row.specs.Ranges.{Range}
+use Rattle.crack_row.specs.Ranges.{Range, in_range}
 use Rattle.crack_row.specs.declared.Row.{Row}
 use Rattle.crack_arena.specs.Arena.{Cell, Handle, times, read, cell_at, slots}
 use Rattle.crack_index.specs.Marks.{HasBound, place_of}
@@ -19,7 +19,7 @@ use Rattle.crack_column.specs.Column.{IsDividedAt}
 use Rattle.crack_column.specs.Divisions.{IsDividedAt-end, IsDividedAt-order}
 use Rattle.crack_state.specs.State.{State, places, Reads, IsOwned, IsIntact, column_keys, live_rows}
 use Rattle.crack_state.specs.Steps.{place_in}
-use Rattle.crack_state.specs.Merge.{in_range, IsOutside, ReadsOutside, IsCracked, edge, stretch, IsSettled}
+use Rattle.crack_state.specs.Merge.{IsOutside, ReadsOutside, IsCracked, edge, stretch, IsSettled}
 use Rattle.crack_state.specs.OwnedLaws.{place_in-within, place_in-found}
 use Rattle.crack_state.specs.CellLaws.{read_is_value}
 use Rattle.crack_state.specs.LiveLaws.{live_at, live_value-none, numbers, times-numbers, live_from-numbers, IsPermutation-filter_map_times}

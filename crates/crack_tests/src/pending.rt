@@ -1,5 +1,4 @@
-//! Pending rows stand in the order of their arrival, the later ones close up, and a mark says of each cell whether one of
-//! them names it.
+//! Pending rows stand in the order of their arrival, and the later ones close up.
 
 use crack_arena::{Arena, Handle};
 use crack_pending::{PendingIn, PendingList, PendingOut};
@@ -19,15 +18,8 @@ fn put(rt: &impl Abort, arena: &mut Arena<Row>, key: u32) -> Result<Handle<Row>,
     })?)
 }
 
-fn push<Kind>(
-    rt: &impl Abort,
-    pending: &mut PendingList<Kind>,
-    handle: Handle<Row>,
-) -> Result<(), Fail> {
+fn push<Kind>(pending: &mut PendingList<Kind>, handle: Handle<Row>) -> Result<(), Fail> {
     pending.reserve(1)?;
-    pending.cover(handle.slot() as usize + 1)?;
-    let there = pending.contains(handle.slot());
-    assert!(rt; !there);
     pending.push(handle);
     Ok(())
 }
@@ -40,7 +32,7 @@ fn push_keys<Kind>(
 ) -> Result<(), Fail> {
     for key in keys {
         let handle = put(rt, arena, *key)?;
-        push(rt, pending, handle)?;
+        push(pending, handle)?;
     }
     Ok(())
 }
@@ -136,7 +128,7 @@ fn close_up<Kind>(
     assert_keys(rt, arena, pending, &[40, 10, 20]);
     let forty = take(rt, pending, 0);
     assert_eq!(rt; key_of(arena, forty), Some(40));
-    push(rt, pending, thirty)?;
+    push(pending, thirty)?;
     assert_keys(rt, arena, pending, &[10, 20, 30]);
     Ok(())
 }
@@ -153,8 +145,8 @@ fn closes_up<Kind: Drop>(
     told
 }
 
-/// Takes one of two rows, and asserts what is said of its cell before and after.
-fn take_marked<Kind>(
+/// Takes one of two rows, and asserts where it stands before and after.
+fn take_placed<Kind>(
     rt: &impl Abort,
     arena: &mut Arena<Row>,
     pending: &mut PendingList<Kind>,
@@ -163,21 +155,49 @@ fn take_marked<Kind>(
     push_keys(rt, arena, pending, &[40, 10])?;
     assert!(rt; !pending.is_empty());
     let ten = at(rt, pending, 1);
-    assert!(rt; pending.contains(ten.slot()));
     assert_eq!(rt; pending.place_of(ten), Some(1));
     take(rt, pending, 1);
-    assert!(rt; !pending.contains(ten.slot()));
     assert_eq!(rt; pending.place_of(ten), None);
     Ok(())
 }
 
-fn marks<Kind: Drop>(
+fn has_places<Kind: Drop>(
     rt: &impl Abort,
     alloc: Global,
     mut pending: PendingList<Kind>,
 ) -> Result<(), Fail> {
     let mut arena = Arena::new(alloc);
-    let told = take_marked(rt, &mut arena, &mut pending);
+    let told = take_placed(rt, &mut arena, &mut pending);
+    drop(pending);
+    drop(arena);
+    told
+}
+
+/// Pushes a handle twice, and takes it at the first of its places and then at the other.
+fn take_both<Kind>(
+    rt: &impl Abort,
+    arena: &mut Arena<Row>,
+    pending: &mut PendingList<Kind>,
+) -> Result<(), Fail> {
+    push_keys(rt, arena, pending, &[40, 10, 30])?;
+    let ten = at(rt, pending, 1);
+    push(pending, ten)?;
+    assert_keys(rt, arena, pending, &[40, 10, 30, 10]);
+    assert_eq!(rt; pending.place_of(ten), Some(1));
+    take(rt, pending, 1);
+    assert_eq!(rt; pending.place_of(ten), Some(2));
+    take(rt, pending, 2);
+    assert_eq!(rt; pending.place_of(ten), None);
+    Ok(())
+}
+
+fn has_first_places<Kind: Drop>(
+    rt: &impl Abort,
+    alloc: Global,
+    mut pending: PendingList<Kind>,
+) -> Result<(), Fail> {
+    let mut arena = Arena::new(alloc);
+    let told = take_both(rt, &mut arena, &mut pending);
     drop(pending);
     drop(arena);
     told
@@ -196,9 +216,15 @@ fn later_ones_close_up(rt: HostRuntime) -> Result<(), Fail> {
 }
 
 #[test]
-fn a_mark_goes_with_its_row(rt: HostRuntime) -> Result<(), Fail> {
-    marks(&rt, rt.alloc(), PendingIn::new(rt.alloc()))?;
-    marks(&rt, rt.alloc(), PendingOut::new(rt.alloc()))
+fn a_place_goes_with_its_row(rt: HostRuntime) -> Result<(), Fail> {
+    has_places(&rt, rt.alloc(), PendingIn::new(rt.alloc()))?;
+    has_places(&rt, rt.alloc(), PendingOut::new(rt.alloc()))
+}
+
+#[test]
+fn the_first_of_two_places(rt: HostRuntime) -> Result<(), Fail> {
+    has_first_places(&rt, rt.alloc(), PendingIn::new(rt.alloc()))?;
+    has_first_places(&rt, rt.alloc(), PendingOut::new(rt.alloc()))
 }
 
 /// Takes every second row of those with the keys 0 to 999.
