@@ -129,6 +129,8 @@ impl Store {
 
     /// Makes room for one more place in the column and one more pending insertion.
     /// Refused with 8 where it finds no memory; all is then as it was.
+    // inlined, it makes the compiler copy whole stores in a merge
+    #[inline(never)]
     pub fn make_room(&mut self) -> Result<(), Refusal>
         ensures same { SameButRoom self.old self.new }
         ensures column { OnOk result (0 < self.new.column_room) }
