@@ -137,7 +137,7 @@ def measure_column(table, runs):
     first, later = middle_of(ours, "first"), middle_of(ours, "later")
     table.line(f"first crack of {ROWS} rows, keys by the arena", first, middle_of(theirs, "first"), 1.5)
     table.line("the same, beside a crack that remembers no key", first, middle_of(theirs, "through"))
-    table.line("16 later cracks, keys and handles side by side", later, middle_of(theirs, "later"), 1.5)
+    table.line("16 later cracks, over keys that are known", later, middle_of(theirs, "later"), 1.5)
 
 
 def measure_partition(table, runs):

@@ -19,13 +19,16 @@ fn key_of(arena: &Arena<Row>, handle: Handle) -> u32 {
     arena.get(handle).map_or(0, |row| row.key)
 }
 
-/// Reads each key that isn't known.
-pub fn learn(places: &mut [Place], handles: &[Handle], arena: &Arena<Row>) {
+/// Reads each key that isn't known. How many are known now.
+pub fn learn(places: &mut [Place], handles: &[Handle], arena: &Arena<Row>) -> usize {
+    let mut learned = 0;
     for place in places {
         if place.key == UNKNOWN {
             place.key = key_of(arena, handles[place.ticket as usize]);
+            learned += (place.key != UNKNOWN) as usize;
         }
     }
+    learned
 }
 
 /// Puts the keys below the bound first, and gives their number.

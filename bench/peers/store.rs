@@ -66,6 +66,7 @@ impl Index {
 struct Column {
     handles: Vec<Handle>,
     places: Vec<Place>,
+    unread: usize,
 }
 
 impl Column {
@@ -84,17 +85,21 @@ impl Column {
             ticket: self.handles.len() as u32,
         });
         self.handles.push(handle);
+        self.unread += 1;
     }
 
     fn swap_in(&mut self, place: usize, handle: Handle) -> Handle {
         let here = &mut self.places[place];
         here.key = UNKNOWN;
+        self.unread += 1;
         mem::replace(&mut self.handles[here.ticket as usize], handle)
     }
 
     fn crack_two(&mut self, from: usize, to: usize, bound: u64, arena: &Arena<Row>) -> usize {
         let places = &mut self.places[from..to];
-        learn(places, &self.handles, arena);
+        if self.unread > 0 {
+            self.unread -= learn(places, &self.handles, arena);
+        }
         from + partition(places, bound)
     }
 }

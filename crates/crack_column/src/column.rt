@@ -21,7 +21,9 @@ const MOST_PLACES: usize = 4294967296;
 /// which bear a ticket and the key of its row. A key is asked of the arena once; only the greatest key is asked for again.
 #[derive(Drop)]
 pub struct CrackerColumn {
+    /// By ticket.
     handles: Vec<Handle<Row>>,
+    /// In cracked order; those behind `len` keep their tickets for later rows.
     places: Vec<Place>,
     len: usize,
     /// No fewer than the places whose key isn't known.

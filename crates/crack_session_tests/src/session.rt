@@ -366,15 +366,17 @@ fn assert_few_writes(rt: &impl Abort, counted: &CountedWriter, reads: u64) {
     assert_eq!(rt; counted.left, 0);
 }
 
-/// A session of many replies, over devices that count.
+/// A session of many replies, over devices that count; the writer keeps so many bytes before it writes.
 fn count_the_writes<D: Desk + Drop>(
     rt: &impl Abort,
     alloc: Global,
     mut desk: D,
+    input: &[u8],
+    room: usize,
+    statements: u64,
 ) -> Result<(), Fail> {
-    let input = insert_often(alloc)?;
     let mut reader = Watched::new(CountedReader {
-        bytes: input.as_slice(),
+        bytes: input,
         reads: 0,
     });
     let device = CountedWriter {
@@ -382,9 +384,9 @@ fn count_the_writes<D: Desk + Drop>(
         flushes: 0,
         left: 0,
     };
-    let mut writer = Watched::new(BufWriter::new(alloc, device)?);
+    let mut writer = Watched::new(BufWriter::with_capacity(alloc, room, device)?);
     let result = serve(alloc, &mut desk, Policy::Complete, &mut reader, &mut writer);
-    assert_eq!(rt; result.ok().ok_or("a fault")?.statements, 1001);
+    assert_eq!(rt; result.ok().ok_or("a fault")?.statements, statements);
     let buffered = writer.into_inner();
     assert_few_writes(rt, buffered.get_ref(), reader.into_inner().reads);
     Ok(())
@@ -393,8 +395,20 @@ fn count_the_writes<D: Desk + Drop>(
 /// What is written is handed on before each read and at the end, and so is buffered to at most a write for each read.
 #[test]
 fn writes_are_as_few_as_reads(rt: HostRuntime) -> Result<(), Fail> {
+    let input = insert_often(rt.alloc())?;
     let desk = OneDesk::open(rt.alloc(), GREATEST_LIMIT)?;
-    count_the_writes(&rt, rt.alloc(), desk)
+    count_the_writes(&rt, rt.alloc(), desk, input.as_slice(), 8192, 1001)
+}
+
+/// So it is where each two bytes get ten, if the writer keeps the replies to a whole read.
+#[test]
+fn short_lines_get_few_writes(rt: HostRuntime) -> Result<(), Fail> {
+    let mut input = Vec::new(rt.alloc());
+    for _ in 0..8192 {
+        input.extend_from_slice(b"x\n")?;
+    }
+    let desk = OneDesk::open(rt.alloc(), GREATEST_LIMIT)?;
+    count_the_writes(&rt, rt.alloc(), desk, input.as_slice(), 24576, 8192)
 }
 
 /// A desk by itself: what it is asked, how many it accepted, and that there is one partition.

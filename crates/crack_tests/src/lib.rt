@@ -12,4 +12,6 @@ mod merge;
 #[cfg(test)]
 mod pending;
 #[cfg(test)]
+mod row;
+#[cfg(test)]
 mod store;

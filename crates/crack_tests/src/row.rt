@@ -1,0 +1,66 @@
+//! Copies of replies, lists of pieces, common parts of ranges, and a writer that takes nothing.
+
+use crack_row::{Bound, KeyRange, PieceList, PieceSize, Reply, Serial, Watched};
+use std::io;
+use std::io::Write;
+use std::test::Fail;
+
+/// A writer that takes none of its bytes.
+#[derive(Drop)]
+struct Full;
+
+impl Write for Full {
+    fn write(&mut self, buf: &[u8]) -> io::Result<usize> {
+        let _ = buf.len();
+        Ok(0)
+    }
+
+    fn flush(&mut self) -> io::Result<()> {
+        Ok(())
+    }
+}
+
+#[test]
+fn replies_are_copied(rt: HostRuntime) -> Result<(), Fail> {
+    let placed = Reply::Placed(Serial(3)).copy(rt.alloc())?;
+    assert!(rt; matches!(placed, Reply::Placed(Serial(3))));
+    let counted = Reply::Counted(4).copy(rt.alloc())?;
+    assert!(rt; matches!(counted, Reply::Counted(4)));
+    Ok(())
+}
+
+#[test]
+fn pieces_go_in_and_out(rt: HostRuntime) -> Result<(), Fail> {
+    let piece = PieceSize {
+        low: Bound(0),
+        high: Bound(15),
+        size: 2,
+    };
+    let mut pieces = Vec::new(rt.alloc());
+    pieces.push(piece)?;
+    let list = PieceList::from_vec(pieces);
+    assert_eq!(rt; list.as_slice(), [piece].as_slice());
+    let given_back = list.into_vec();
+    assert_eq!(rt; given_back.as_slice(), [piece].as_slice());
+    Ok(())
+}
+
+/// Two ranges that meet have nothing in common: the empty range at the other's low end.
+#[test]
+fn ranges_that_meet(rt: HostRuntime) -> Result<(), Fail> {
+    let common = KeyRange::new(0, 50)?.clip(KeyRange::new(50, 60)?);
+    assert!(rt; common.is_empty());
+    assert_eq!(rt; common.low(), Bound(50));
+    assert_eq!(rt; common.high(), Bound(50));
+    Ok(())
+}
+
+#[test]
+fn a_writer_that_takes_none(rt: HostRuntime) -> Result<(), Fail> {
+    let mut writer = Watched::new(Full);
+    assert_eq!(rt; writer.write(b"")?, 0);
+    assert!(rt; !writer.failed());
+    assert_eq!(rt; writer.write(b"bye")?, 0);
+    assert!(rt; writer.failed());
+    Ok(())
+}
