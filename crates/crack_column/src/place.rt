@@ -8,7 +8,7 @@ ghost use Rattle.crack_column.specs.Tickets.{ticket_of, remembered_of, handle_of
 use crack_arena::{Arena, Handle, key_of};
 use crack_row::{Bound, Row};
 
-/// Stands for a key that isn't remembered. A row whose key it is is asked for that key by each crack.
+/// Stands for a key that isn't remembered. A row with this very key is asked for it by each crack.
 pub(crate) const UNKNOWN: u32 = u32::MAX;
 
 /// What a crack exchanges, 8 bytes: the key of a row, once a crack has read it, and the ticket under which its handle is kept.
