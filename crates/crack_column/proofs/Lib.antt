@@ -1,2 +1,5 @@
+pub mod Cracking
+pub mod Divisions
 pub mod Passes
+pub mod Remembering
 pub mod TicketLaws

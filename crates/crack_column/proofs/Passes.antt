@@ -7,7 +7,7 @@ use Rattle.std.proofs.lemmas.List.Edits.{Swapped, swapped_from_swap}
 use Rattle.std.proofs.lemmas.List.{ext_get_or, map-set, get_or_default, length-map, get_or-map, get_or-set_same, get_or-set_other}
 use Rattle.std.proofs.lemmas.Bool.{cases_eq}
 use Rattle.crack_arena.specs.Arena.{Cell, Handle, times}
-use Rattle.crack_arena.specs.Times.{times-set, times_head, times-nil, times_other, times_map_at}
+use Rattle.crack_arena.proofs.Times.{times-set, times_head, times-nil, times_other, times_map_at}
 use Rattle.crack_row.specs.declared.Row.{Row}
 use Rattle.crack_column.specs.declared.place.Place.{Place}
 use Rattle.crack_arena.specs.Rows.{key_at}

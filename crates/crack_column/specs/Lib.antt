@@ -1,5 +1,2 @@
 pub mod Column
-pub mod Divisions
-pub mod Remembering
-pub mod Cracking
 pub mod Tickets

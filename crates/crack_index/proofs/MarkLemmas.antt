@@ -10,7 +10,7 @@ use Rattle.std.proofs.lemmas.List.Edits.{split_between, length-between, get_or-b
 use Rattle.crack_row.specs.declared.Bound.{Bound}
 use Rattle.crack_row.specs.declared.layout.PieceSize.{PieceSize}
 use Rattle.crack_index.specs.declared.mark.Mark.{Mark}
-use Rattle.crack_index.specs.MarkLaws.{last_mark-is, last_mark-none, HasBound-mark, HasBound-contains, place_of-mark}
+use Rattle.crack_index.proofs.MarkLaws.{last_mark-is, last_mark-none, HasBound-mark, HasBound-contains, place_of-mark}
 use Rattle.crack_index.specs.Marks.{no_mark, Rising, HasBound, place_of, raised, lowered, lowered_at, one_up, one_down, next_mark, last_mark, added, size_between, pieces_from}
 
 pub bounds_rise : (marks : List Mark) → Rising marks → IsNonDecreasingBy (λ (m : Mark). m.bound.0) marks

@@ -4,14 +4,14 @@ use Rattle.std.specs.List.{remove}
 use Rattle.std.proofs.lemmas.List.{drop-drop, length-drop}
 use Rattle.crack_row.specs.declared.command.Policy.TheVariants.{Complete}
 use Rattle.crack_arena.specs.Arena.{times, slots}
-use Rattle.crack_arena.specs.Times.{times-nil}
+use Rattle.crack_arena.proofs.Times.{times-nil}
 use Rattle.crack_state.specs.State.{State, Carried, IsIntact}
 use Rattle.crack_state.specs.Steps.{lifted, SameButRoom, Pushes}
 use Rattle.crack_state.specs.Merge.{Follows, Tallies}
-use Rattle.crack_state.specs.StepLaws.{IsIntact-room}
-use Rattle.crack_state.specs.FollowLaws.{Follows-trans, Follows-room, Follows-lifted, length_marks-Follows, Tallies-trans, Tallies-room}
+use Rattle.crack_state.proofs.StepLaws.{IsIntact-room}
+use Rattle.crack_state.proofs.FollowLaws.{Follows-trans, Follows-room, Follows-lifted, length_marks-Follows, Tallies-trans, Tallies-room}
 use Rattle.crack_merge.specs.Merges.{Carries, PutsIn}
-use Rattle.crack_merge.specs.CarryLaws.{Follows-Carries, Tallies-Carries}
+use Rattle.crack_merge.proofs.CarryLaws.{Follows-Carries, Tallies-Carries}
 
 -- room is made, and the first pending insertion is lifted and carried
 pub PutsIn-next : (s t v u : State) (k : ℕ) → PutsIn s t k → SameButRoom t v → 0 < length t.pending_in → IsIntact t [] → Carries (lifted 0 v) u → PutsIn s u (k + 1)

@@ -1,3 +1,4 @@
-mod Touched
 mod Carrying
 mod Merging
+mod Touched
+pub mod CarryLaws

@@ -5,7 +5,7 @@ use Rattle.crack_row.specs.Ranges.{Range}
 use Rattle.crack_row.specs.declared.command.Policy.TheVariants.{Complete}
 use Rattle.crack_state.specs.State.{State, IsIntact}
 use Rattle.crack_state.specs.Merge.{IsCracked, Merges, is_touched}
-use Rattle.crack_state.specs.MergeLaws.{Merges-touched}
+use Rattle.crack_state.proofs.MergeLaws.{Merges-touched}
 use Rattle.crack_merge.specs.Merges.{PutsIn}
 
 -- every pending insertion was put in

@@ -7,7 +7,7 @@ use Rattle.crack_row.specs.declared.Row.{Row}
 use Rattle.crack_arena.specs.Arena.{Cell, Handle}
 use Rattle.crack_arena.specs.Rows.{key_at, keys_at}
 use Rattle.crack_pending.specs.Pending.{Finds}
-use Rattle.crack_pending.specs.Searches.{list_any-found, list_any-missed}
+use Rattle.crack_pending.proofs.Searches.{list_any-found, list_any-missed}
 use Rattle.crack_state.specs.State.{State}
 use Rattle.crack_state.specs.Merge.{is_touched}
 

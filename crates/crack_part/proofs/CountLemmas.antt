@@ -10,8 +10,8 @@ use Rattle.crack_row.specs.Ranges.{Range, IsIn, is_in, in_range, clipped}
 use Rattle.crack_row.specs.declared.Row.{Row}
 use Rattle.crack_state.specs.State.{State, live_rows, IsIntact}
 use Rattle.crack_state.specs.Merge.{IsSettled, edge}
-use Rattle.crack_state.specs.SettledLaws.{count-settled}
-use Rattle.crack_state.specs.LiveLaws.{live_rows-within}
+use Rattle.crack_state.proofs.SettledLaws.{count-settled}
+use Rattle.crack_state.proofs.LiveLaws.{live_rows-within}
 
 -- of these keys the same are in a range and in what it has in common with them
 is_in-clipped : (r keys : Range) (k : ℕ) → IsIn keys k → is_in (clipped r keys) k ≡ is_in r k

@@ -10,9 +10,9 @@ use Rattle.crack_row.specs.declared.command.Policy.TheVariants.{Complete}
 use Rattle.crack_state.specs.State.{State, IsIntact, live_rows, freed_of}
 use Rattle.crack_state.specs.Steps.{SameButRoom}
 use Rattle.crack_state.specs.Merge.{Refines, Follows, Merges, Tallies, Leaves, is_touched}
-use Rattle.crack_state.specs.StepLaws.{IsIntact-room}
-use Rattle.crack_state.specs.CrackLaws.{keys-refined, live_rows-refined, cells-refined, pending_out-refined}
-use Rattle.crack_state.specs.FollowLaws.{Follows-trans, Follows-room, Tallies-trans, Tallies-room, length_marks-Follows}
+use Rattle.crack_state.proofs.StepLaws.{IsIntact-room}
+use Rattle.crack_state.proofs.CrackLaws.{keys-refined, live_rows-refined, cells-refined, pending_out-refined}
+use Rattle.crack_state.proofs.FollowLaws.{Follows-trans, Follows-room, Tallies-trans, Tallies-room, length_marks-Follows}
 use Rattle.crack_merge.specs.Merges.{LeavesRest, Stops}
 use Rattle.crack_part.specs.Parts.{ReadsRange, CracksAndMerges, StopsRead, Prepares, Spares}
 

@@ -16,12 +16,12 @@ use Rattle.crack_row.specs.declared.command.Reply.TheVariants.{Placed, Counted}
 use Rattle.crack_row.specs.declared.command.Entry.{Entry}
 use Rattle.crack_plain.specs.Plain.{PlainState, after, reply_to, IsWithin}
 use Rattle.crack_plain.specs.Totals.{is_placed, is_gone, deleted, deleted-cons, inserted-push, deleted-push, inserted-le-accepted}
-use Rattle.crack_plain.specs.Laws.{IsLegal-push, replay-push, next-le-accepted, IsNumbered-replay}
+use Rattle.crack_plain.proofs.Laws.{IsLegal-push, replay-push, next-le-accepted, IsNumbered-replay}
 use Rattle.crack_state.specs.State.{State, live_rows, IsIntact}
 use Rattle.crack_state.specs.Steps.{IsAdmissible, admitted, SameButRoom}
-use Rattle.crack_state.specs.StepLaws.{IsIntact-room}
-use Rattle.crack_state.specs.KeyedLaws.{handle_of-fresh}
-use Rattle.crack_state.specs.AdmitLaws.{IsIntact-admitted, live_rows-admitted, freed-admitted, cells-admitted}
+use Rattle.crack_state.proofs.StepLaws.{IsIntact-room}
+use Rattle.crack_state.proofs.KeyedLaws.{handle_of-fresh}
+use Rattle.crack_state.proofs.AdmitLaws.{IsIntact-admitted, live_rows-admitted, freed-admitted, cells-admitted}
 use Rattle.crack_part.specs.Parts.{Part, IsSound, Serves, Prepares, Performs, MayPerform, state_of, placed}
 use Rattle.crack_part.proofs.KeepLemmas.{Keeps, Keeps-room, Keeps-reads, IsIntact-reads}
 

@@ -1,4 +1,2 @@
 pub mod Gap
-pub mod Laws
 pub mod Pending
-pub mod Searches

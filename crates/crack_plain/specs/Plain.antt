@@ -1,7 +1,12 @@
 -- The plain table: rows changed by commands and filtered by ranges, with no piece, handle, pending row, policy or lock.
-use Rattle.std.specs.Prelude.{◌≡◌, ℕ, ◌+◌, ◌<◌, ◌≤◌, List, [], ◌∷◌, ◌++◌, length, count_by, All, AllPairs}
+use Rattle.std.specs.Prelude.{◌≡◌, ℕ, ◌+◌, ◌<◌, ◌≤◌, List, [], ◌∷◌, ◌++◌, length, count_by, All, AllPairs, Option, Some, None, IfSome, Bool, true, false}
 use Rattle.crack_row.specs.Ranges.{Range, IsIn, in_range}
+use Rattle.crack_row.specs.Commands.{change_of, key_of}
+use Rattle.crack_row.specs.Replies.{IsFlat}
+use Rattle.crack_row.specs.declared.Key.{Key}
 use Rattle.crack_row.specs.declared.Row.{Row}
+use Rattle.crack_row.specs.declared.command.Change.{Change}
+use Rattle.crack_row.specs.declared.command.Change.TheVariants.{Place}
 use Rattle.crack_row.specs.declared.command.Command.{Command}
 use Rattle.crack_row.specs.declared.command.Command.TheVariants.{Insert, Count}
 use Rattle.crack_row.specs.declared.command.Reply.{Reply}
@@ -27,15 +32,24 @@ abbrev pub reply_to : PlainState → Command → Reply
 reply_to s (Insert key payload) = Placed (record { 0 = s.next })
 reply_to s (Count range) = Counted (count_by (in_range range) s.rows)
 
+-- the state that a change leaves: a row that is placed gets the next serial
+abbrev pub changed : PlainState → Option Change → PlainState
+changed s None = s
+changed s (Some (Place key payload)) = record { rows = s.rows ++ record { serial = record { 0 = s.next }; key = key; payload = payload } ∷ []; next = s.next + 1 }
+
 -- the state that a command leaves
 abbrev pub after : PlainState → Command → PlainState
-after s (Insert key payload) = record { rows = s.rows ++ record { serial = record { 0 = s.next }; key = key; payload = payload } ∷ []; next = s.next + 1 }
-after s (Count range) = s
+after s command = changed s (change_of command)
 
--- the command is answered from what is there
-abbrev pub TakesNoMemory : Command → Type 0
-TakesNoMemory (Insert key payload) = ⊥
-TakesNoMemory (Count range) = Unit {0}
+-- whether a change places a row
+abbrev pub places_row : Option Change → Bool
+places_row None = false
+places_row (Some (Place key payload)) = true
+
+-- the command is answered from what is there: no row is placed, and the reply has no list
+pub record TakesNoMemory (s : PlainState) (command : Command) : Type 0 where
+  pub places : places_row (change_of command) ≡ false
+  pub flat : IsFlat (reply_to s command)
 
 -- the reply, and the state afterwards; the policy is no argument
 abbrev pub answer : PlainState → Command → Reply × PlainState
@@ -57,19 +71,17 @@ AreReplies s (e ∷ es) = (e.reply ≡ reply_to s e.command) × AreReplies (afte
 
 -- the key that a command brings, if any, is one of these
 abbrev pub IsWithin : Range → Command → Type 0
-IsWithin keys (Insert key payload) = IsIn keys key.0
-IsWithin keys (Count range) = Unit {0}
+IsWithin keys command = IfSome (key_of command) (λ (key : Key). IsIn keys key.0)
 
 -- each key that an entry brings is one of these
-abbrev pub AreWithin : Range → List Entry → Type 0
-AreWithin keys [] = Unit {0}
-AreWithin keys (e ∷ es) = IsWithin keys e.command × AreWithin keys es
+abbrev pub BringWithin : Range → List Entry → Type 0
+BringWithin keys entries = All (λ (e : Entry). IsWithin keys e.command) entries
 
 -- what a partition of these keys, whose history may have so many entries, may have answered
 pub record IsLegal (keys : Range) (limit : ℕ) (history : List Entry) : Type 0 where
   pub replies : AreReplies no_rows history
-  pub within : AreWithin keys history
-  pub short : length history ≤ limit
+  pub within : BringWithin keys history
+  pub limited : length history ≤ limit
 
 -- a plain table: its state, and how many commands it accepted
 pub record Table : Type 0 where

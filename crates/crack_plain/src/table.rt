@@ -53,21 +53,21 @@ impl PlainTable {
     /// How many commands it accepted.
     pub fn accepted(&self) -> u64
         ensures value { result ≡ self.now.accepted }
-        ensures bounded { self.now.accepted ≤ MOST_ACCEPTED }
+        ensures bounded { self.now.accepted ≤ 4294967295 }
     {
         self.accepted
     }
 
     /// Answers one command. An insert is O(1), all else O(rows).
     /// Refused with 8 where an insert finds no memory, and with 6 once `MOST_ACCEPTED` commands were accepted.
-    pub fn apply(&mut self, _alloc: Global, command: &Command) -> Result<Reply, Refusal>
+    pub fn apply(&mut self, command: &Command) -> Result<Reply, Refusal>
         ensures reply { IfOk result (λ reply. reply ≡ (answer self.old.state command.now).0) }
         ensures state { OnOk result (self.new.state ≡ (answer self.old.state command.now).1) }
         ensures accepted { OnOk result (self.new.accepted ≡ self.old.accepted + 1) }
         ensures err { OnErr result (self.new ≡ self.old) }
-        ensures full { MOST_ACCEPTED ≤ self.old.accepted → result ≡ Err (Refusal.HistoryFull MOST_ACCEPTED) }
-        ensures room { self.old.accepted < MOST_ACCEPTED → IfErr result (λ e. e ≡ Refusal.OutOfMemory) }
-        ensures spare { TakesNoMemory command.now → self.old.accepted < MOST_ACCEPTED → IsOk result }
+        ensures full { 4294967295 ≤ self.old.accepted → result ≡ Err (Refusal.HistoryFull 4294967295) }
+        ensures room { self.old.accepted < 4294967295 → IfErr result (λ e. e ≡ Refusal.OutOfMemory) }
+        ensures spare { TakesNoMemory self.old.state command.now → self.old.accepted < 4294967295 → IsOk result }
     {
         if self.accepted == MOST_ACCEPTED {
             return Err(Refusal::HistoryFull {

@@ -1,5 +1,6 @@
 //! What is asked of a partition, and what it answers.
 ghost use Rattle.std.specs.Prelude.{◌≡◌, IfOk, IfErr, IsOk};
+ghost use Rattle.crack_row.specs.Commands.{change_of, range_of, key_of};
 ghost use Rattle.crack_row.specs.Replies.{IsFlat};
 
 use crate::{Key, KeyRange, Payload, Refusal, Serial};
@@ -12,6 +13,48 @@ pub enum Command {
     Insert { key: Key, payload: Payload },
     /// Counts the rows whose key is in the range.
     Count(KeyRange),
+}
+
+/// What a command is to change in the rows.
+#[derive(Clone, Copy, Debug)]
+pub enum Change {
+    /// A row more, which gets the next serial.
+    Place { key: Key, payload: Payload },
+}
+
+impl Command {
+    /// The change that it makes to the rows, if any.
+    pub fn change(&self) -> Option<Change>
+        ensures { result ≡ change_of self.now }
+    {
+        match self {
+            Command::Insert { key, payload } => Some(Change::Place {
+                key: *key,
+                payload: *payload,
+            }),
+            Command::Count(_) => None,
+        }
+    }
+
+    /// The range that it reads, if any.
+    pub fn range(&self) -> Option<KeyRange>
+        ensures { result ≡ range_of self.now }
+    {
+        match self {
+            Command::Insert { key: _, payload: _ } => None,
+            Command::Count(range) => Some(*range),
+        }
+    }
+
+    /// The key that it brings, if any.
+    pub fn key(&self) -> Option<Key>
+        ensures { result ≡ key_of self.now }
+    {
+        match self.change() {
+            Some(Change::Place { key, payload: _ }) => Some(key),
+            None => None,
+        }
+    }
 }
 
 /// Which pending rows a range command merges into the column ("Updating a Cracked Database", SIGMOD 2007).

@@ -7,7 +7,7 @@ pub mod range;
 pub mod refusal;
 pub mod watched;
 
-pub use command::{Command, Entry, Policy, Reply};
+pub use command::{Change, Command, Entry, Policy, Reply};
 pub use layout::{Layout, PieceList, PieceSize};
 pub use range::KeyRange;
 pub use refusal::Refusal;

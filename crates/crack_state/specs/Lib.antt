@@ -1,17 +1,3 @@
 pub mod State
 pub mod Steps
 pub mod Merge
-pub mod ObeyedLaws
-pub mod OwnedLaws
-pub mod CellLaws
-pub mod PieceLaws
-pub mod StepLaws
-pub mod FollowLaws
-pub mod LiveLaws
-pub mod AdmitLaws
-pub mod CrackLaws
-pub mod SettledLaws
-pub mod LayoutLaws
-pub mod BuryLaws
-pub mod MergeLaws
-pub mod KeyedLaws

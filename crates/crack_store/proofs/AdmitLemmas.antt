@@ -4,10 +4,10 @@ use Rattle.std.proofs.lemmas.Bool.{cases_lt, le-ltb}
 use Rattle.std.proofs.lemmas.List.{length_push}
 use Rattle.crack_row.specs.declared.Row.{Row}
 use Rattle.crack_arena.specs.Arena.{Cell, Handle, times, cell_at, handle_for, cells_with}
-use Rattle.crack_arena.specs.Times.{times_head}
+use Rattle.crack_arena.proofs.Times.{times_head}
 use Rattle.crack_state.specs.State.{State, places, IsIntact}
 use Rattle.crack_state.specs.Steps.{next_handle}
-use Rattle.crack_state.specs.OwnedLaws.{times-places}
+use Rattle.crack_state.proofs.OwnedLaws.{times-places}
 
 -- its number is that of a cell, or the next
 next_within : (s : State) (free : List ℕ) → s.free ≡ free → IsIntact s [] → (handle_for s.cells free).slot < length s.cells + 1

@@ -4,11 +4,11 @@ use Rattle.std.specs.List.{remove}
 use Rattle.std.proofs.lemmas.Bool.{cases_eq, lt-ltb}
 use Rattle.std.proofs.lemmas.List.{get_or-set_same, get_or-set_other}
 use Rattle.crack_arena.specs.Arena.{Handle, times, slots}
-use Rattle.crack_arena.specs.Times.{times-nil, times_head, times_other}
+use Rattle.crack_arena.proofs.Times.{times-nil, times_head, times_other}
 use Rattle.crack_state.specs.State.{State, IsIntact}
 use Rattle.crack_state.specs.Steps.{no_handle}
-use Rattle.crack_state.specs.OwnedLaws.{times-pushed, times-removed, HandApart, hand_apart}
-use Rattle.crack_state.specs.StepLaws.{IsIntact-lifted}
+use Rattle.crack_state.proofs.OwnedLaws.{times-pushed, times-removed, HandApart, hand_apart}
+use Rattle.crack_state.proofs.StepLaws.{IsIntact-lifted}
 use Rattle.crack_store.specs.Flags.{AreMarked}
 
 -- where there is neither flag nor handle

@@ -2,10 +2,10 @@
 use Rattle.std.proofs.Common.{◌≡◌, ℕ, ◌+◌, ◌<◌, ◌≤◌, Bool, true, false, refl, ap, arith}
 use mir.Val.{bool_byte}
 use Rattle.crack_row.specs.Ranges.{Range}
-use Rattle.crack_index.specs.MarkLaws.{HasBound-contains, HasBound-mark}
+use Rattle.crack_index.proofs.MarkLaws.{HasBound-contains, HasBound-mark}
 use Rattle.crack_state.specs.State.{State}
 use Rattle.crack_state.specs.Merge.{RefinesAt}
-use Rattle.crack_state.specs.CrackLaws.{keys-refined}
+use Rattle.crack_state.proofs.CrackLaws.{keys-refined}
 use Rattle.crack_store.specs.Parts.{IsMissing, Stands}
 
 -- a bound that is missing after another was cracked was missing before

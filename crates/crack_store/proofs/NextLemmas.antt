@@ -7,7 +7,7 @@ use Rattle.std.proofs.lemmas.List.Elements.{All-contains}
 use Rattle.crack_row.specs.declared.Bound.{Bound}
 use Rattle.crack_index.specs.declared.mark.Mark.{Mark}
 use Rattle.crack_index.specs.Marks.{Rising, HasBound, place_of, next_mark, pair_of, raised}
-use Rattle.crack_index.specs.MarkLaws.{next_mark-is, HasBound-mark, place_of-mark}
+use Rattle.crack_index.proofs.MarkLaws.{next_mark-is, HasBound-mark, place_of-mark}
 use Rattle.crack_state.specs.Steps.{raise_next}
 
 -- the mark of a bound with its place

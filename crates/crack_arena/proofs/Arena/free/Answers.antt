@@ -1,6 +1,6 @@
 use Rattle.std.proofs.Common.{◌≡◌, ◌-◌, is_some, true, sym, ap, length, vec_capacity, length-set, subst, List}
 use Rattle.crack_arena.specs.Arena.{read, Handle, Cell, Arena, KeepsSpent, IsSpent}
-use Rattle.crack_arena.specs.Laws.{KeepsSpent-freed_at, IsSpent-freed_at, read_spent_after}
+use Rattle.crack_arena.proofs.Laws.{KeepsSpent-freed_at, IsSpent-freed_at, read_spent_after}
 use Rattle.crack_arena.specs.Links.{cells_of}
 use Rattle.crack_arena.proofs.ArenaLemmas.{IsLinked-free, full_from_read, freed_view}
 use Rattle.crack_arena.proofs.Arena.free.Goals as goal

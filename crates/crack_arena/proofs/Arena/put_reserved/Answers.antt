@@ -1,6 +1,6 @@
 use Rattle.std.proofs.Common.{◌≡◌, ◌-◌, sym, ap, ◌∙◌, arith, refl, length, vec_capacity, length-set, subst, List}
 use Rattle.crack_arena.specs.Arena.{Cell, Arena, KeepsSpent}
-use Rattle.crack_arena.specs.Laws.{KeepsSpent-put_in}
+use Rattle.crack_arena.proofs.Laws.{KeepsSpent-put_in}
 use Rattle.crack_arena.specs.Links.{content_link, link_at}
 use Rattle.crack_arena.proofs.ArenaLemmas.{IsLinked-push, IsLinked-fill, head_is_vacant, room_to_push, read_content, full_is_not_head, handle_for_head, put_filled}
 use Rattle.crack_arena.proofs.Arena.put_reserved.Goals as goal

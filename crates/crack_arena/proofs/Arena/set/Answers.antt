@@ -1,6 +1,6 @@
 use Rattle.std.proofs.Common.{◌≡◌, is_some, true, sym, ap, ◌∙◌, refl, subst, length-set, List}
 use Rattle.crack_arena.specs.Arena.{read, Handle, Cell, Arena, KeepsSpent}
-use Rattle.crack_arena.specs.Laws.{KeepsSpent-set_at}
+use Rattle.crack_arena.proofs.Laws.{KeepsSpent-set_at}
 use Rattle.crack_arena.specs.Links.{cells_of}
 use Rattle.crack_arena.proofs.ArenaLemmas.{IsLinked-write, full_from_read, written_view, read_content}
 use Rattle.crack_arena.proofs.Arena.set.Goals as goal

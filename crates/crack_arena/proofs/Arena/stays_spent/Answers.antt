@@ -1,4 +1,4 @@
-use Rattle.crack_arena.specs.Laws.{read_spent_after}
+use Rattle.crack_arena.proofs.Laws.{read_spent_after}
 use Rattle.crack_arena.proofs.Arena.stays_spent.Goals as goal
 
 pub returns : goal.returns

@@ -1,7 +1,7 @@
 use Rattle.std.proofs.Common.{◌≡◌, map, arith}
 use Rattle.std.proofs.lemmas.List.Sorted.{IsPermutation-map, All-permutation}
 use Rattle.crack_arena.specs.Arena.{times}
-use Rattle.crack_arena.specs.Times.{times-IsPermutation}
+use Rattle.crack_arena.proofs.Times.{times-IsPermutation}
 use Rattle.crack_column.specs.Column.{unknown}
 use Rattle.crack_column.specs.Tickets.{ticket_of, remembered_of, Read}
 use Rattle.crack_column.proofs.Passes.{all_read}

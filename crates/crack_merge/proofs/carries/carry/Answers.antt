@@ -1,5 +1,5 @@
 use Rattle.std.proofs.Common.{arith}
-use Rattle.crack_state.specs.FollowLaws.{Pushes-pushed_on}
+use Rattle.crack_state.proofs.FollowLaws.{Pushes-pushed_on}
 use Rattle.crack_merge.proofs.Carrying.{kept-Pushes}
 use Rattle.crack_merge.proofs.carries.carry.Goals as goal
 

@@ -1,5 +1,5 @@
 use Rattle.std.proofs.Common.{sym, ◌∙◌, arith}
-use Rattle.crack_state.specs.MergeLaws.{IsCracked-follows, Merges-untouched}
+use Rattle.crack_state.proofs.MergeLaws.{IsCracked-follows, Merges-untouched}
 use Rattle.crack_merge.proofs.Merging.{Merges-PutsIn}
 use Rattle.crack_merge.proofs.complete.merge_complete.Goals as goal
 

@@ -1,7 +1,7 @@
 use Rattle.std.proofs.Common.{◌≡◌, ◌<◌, [], refl}
 use Rattle.crack_state.specs.Steps.{CracksAt}
-use Rattle.crack_state.specs.PieceLaws.{piece_end-le}
-use Rattle.crack_state.specs.CrackLaws.{IsIntact-cracked, RefinesAt-cracked, RefinesBy-refl}
+use Rattle.crack_state.proofs.PieceLaws.{piece_end-le}
+use Rattle.crack_state.proofs.CrackLaws.{IsIntact-cracked, RefinesAt-cracked, RefinesBy-refl}
 use Rattle.crack_store.specs.Parts.{state_of}
 use Rattle.crack_store.proofs.parts.crack_at.Goals as goal
 

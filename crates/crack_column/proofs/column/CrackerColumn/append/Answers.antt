@@ -1,7 +1,7 @@
 use Rattle.std.proofs.Common.{arith}
-use Rattle.crack_arena.specs.Times.{times-le-length}
+use Rattle.crack_arena.proofs.Times.{times-le-length}
 use Rattle.crack_column.specs.Column.{unknown}
-use Rattle.crack_column.specs.Remembering.{Remembers-append}
+use Rattle.crack_column.proofs.Remembering.{Remembers-append}
 use Rattle.crack_column.specs.Tickets.{handles_in, keys_in}
 use Rattle.crack_column.proofs.TicketLaws.{length-keys_in, unknown-push}
 use Rattle.crack_column.proofs.column.CrackerColumn.append.Goals as goal

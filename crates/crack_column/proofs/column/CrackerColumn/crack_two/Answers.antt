@@ -1,7 +1,7 @@
 use Rattle.std.proofs.Common.{◌≡◌, ◌≤◌, ◌+◌, length, arith, refl}
 use Rattle.crack_arena.specs.Arena.{times}
 use Rattle.crack_column.specs.Column.{unknown, Remembers, Cracks}
-use Rattle.crack_column.specs.Cracking.{Cracks-remembers, length-Cracks}
+use Rattle.crack_column.proofs.Cracking.{Cracks-remembers, length-Cracks}
 use Rattle.crack_column.specs.Tickets.{AreDrawn, Turns, handles_in, keys_in}
 use Rattle.crack_column.proofs.TicketLaws.{length-in, Knows-Remembers, AreDrawn-Turns, Cracks-Turns, length-Turns, unread-Turns, unknown-between}
 use Rattle.crack_column.proofs.column.CrackerColumn.crack_two.Goals as goal

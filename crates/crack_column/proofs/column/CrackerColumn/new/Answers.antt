@@ -1,5 +1,5 @@
 use Rattle.std.proofs.Common.{arith, refl}
-use Rattle.crack_arena.specs.Times.{times-nil}
+use Rattle.crack_arena.proofs.Times.{times-nil}
 use Rattle.crack_column.specs.Column.{unknown}
 use Rattle.crack_column.proofs.column.CrackerColumn.new.Goals as goal
 

@@ -1,6 +1,6 @@
 use Rattle.std.proofs.Common.{◌≤◌, arith}
 use Rattle.crack_column.specs.Tickets.{keys_in}
-use Rattle.crack_column.specs.Remembering.{Remembers-take}
+use Rattle.crack_column.proofs.Remembering.{Remembers-take}
 use Rattle.crack_column.proofs.TicketLaws.{length-in, handles-shorter, keys-shorter, unknown-take}
 use Rattle.crack_column.proofs.column.CrackerColumn.pop.Goals as goal
 

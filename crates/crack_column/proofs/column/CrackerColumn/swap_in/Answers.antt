@@ -1,9 +1,9 @@
 use Rattle.std.proofs.Common.{◌<◌, length, Some, arith, refl, sym, ap, ◌∙◌}
 use Rattle.crack_arena.specs.Arena.{Handle}
-use Rattle.crack_arena.specs.Times.{times-le-length}
+use Rattle.crack_arena.proofs.Times.{times-le-length}
 use Rattle.crack_column.specs.Column.{unknown}
 use Rattle.crack_column.specs.Tickets.{keys_in}
-use Rattle.crack_column.specs.Remembering.{Remembers-set}
+use Rattle.crack_column.proofs.Remembering.{Remembers-set}
 use Rattle.crack_column.proofs.TicketLaws.{length-in, length-keys_in, unknown-set, AreDrawn-Kept, length-Kept, handles-swapped, keys-swapped, stands_at}
 use Rattle.crack_column.proofs.column.CrackerColumn.swap_in.Goals as goal
 

@@ -1,4 +1,4 @@
-use Rattle.crack_index.specs.MarkLaws.{Rising-added}
+use Rattle.crack_index.proofs.MarkLaws.{Rising-added}
 use Rattle.crack_index.proofs.index.CrackerIndex.add.Goals as goal
 
 pub invariant_of-self : goal.invariant_of-self

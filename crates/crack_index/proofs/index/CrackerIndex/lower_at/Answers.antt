@@ -1,7 +1,7 @@
 use Rattle.std.proofs.Common.{List, length, arith, ap}
 use Rattle.crack_index.specs.declared.mark.Mark.{Mark}
 use Rattle.crack_index.specs.Marks.{lowered_at}
-use Rattle.crack_index.specs.MarkLaws.{Rising-lowered_at}
+use Rattle.crack_index.proofs.MarkLaws.{Rising-lowered_at}
 use Rattle.crack_index.proofs.MarkLemmas.{with_slice}
 use Rattle.crack_index.proofs.index.CrackerIndex.lower_at.Goals as goal
 

@@ -1,6 +1,6 @@
 use Rattle.std.proofs.Common.{◌≡◌, rules}
 use Rattle.crack_index.specs.Marks.{Rising, last_mark, next_mark, start_of, end_of}
-use Rattle.crack_index.specs.MarkLaws.{piece_order, Fits-piece}
+use Rattle.crack_index.proofs.MarkLaws.{piece_order, Fits-piece}
 use Rattle.crack_index.proofs.index.CrackerIndex.piece_of.Goals as goal
 
 pub returns-clause-order : goal.returns-clause-order

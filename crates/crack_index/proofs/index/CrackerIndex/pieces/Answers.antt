@@ -3,7 +3,7 @@ use Rattle.std.specs.Prelude.{sum_by}
 use Rattle.std.proofs.lemmas.Result.{IfOk-weaker}
 use Rattle.crack_row.specs.declared.layout.PieceSize.{PieceSize}
 use Rattle.crack_index.specs.Marks.{pieces_from}
-use Rattle.crack_index.specs.MarkLaws.{AreJoined-pieces, sum_of_sizes}
+use Rattle.crack_index.proofs.MarkLaws.{AreJoined-pieces, sum_of_sizes}
 use Rattle.crack_index.proofs.index.CrackerIndex.pieces.Goals as goal
 
 pub returns-clause-joined : goal.returns-clause-joined

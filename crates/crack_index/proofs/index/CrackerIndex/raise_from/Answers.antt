@@ -1,7 +1,7 @@
 use Rattle.std.proofs.Common.{List, length, arith, ap}
 use Rattle.crack_index.specs.declared.mark.Mark.{Mark}
 use Rattle.crack_index.specs.Marks.{raised, place_of}
-use Rattle.crack_index.specs.MarkLaws.{Rising-raised}
+use Rattle.crack_index.proofs.MarkLaws.{Rising-raised}
 use Rattle.crack_index.proofs.MarkLemmas.{with_slice}
 use Rattle.crack_index.proofs.index.CrackerIndex.raise_from.Goals as goal
 

@@ -1,7 +1,7 @@
 use Rattle.std.proofs.Common.{rules, ◌≡◌, [], ◌∷◌, ◌++◌, Result, Ok, Err, OnErr, arith, refl, ap, ◌∙◌}
 use Rattle.crack_row.specs.declared.command.Entry.{Entry}
 use Rattle.crack_plain.specs.Plain.{replay, IsWithin}
-use Rattle.crack_plain.specs.Laws.{replay-push}
+use Rattle.crack_plain.proofs.Laws.{replay-push}
 use Rattle.crack_part.specs.Parts.{Part}
 use Rattle.crack_part.proofs.KeepLemmas.{Keeps-spared, IsIntact-spared, Spares-prepared}
 use Rattle.crack_part.proofs.SoundLemmas.{none_doomed, next-le-limit, MayPerform-within, Serves-performed, IsSound-kept, IsSound-served}

@@ -2,7 +2,7 @@ use Rattle.std.proofs.Common.{◌≡◌, sym, ◌∙◌}
 use Rattle.std.proofs.lemmas.Bool.{true≢false}
 use Rattle.std.specs.Prelude.{slice_index}
 use Rattle.crack_arena.specs.Rows.{keys_at}
-use Rattle.crack_pending.specs.Searches.{keys_at-StandsAt, NoneIn-more}
+use Rattle.crack_pending.proofs.Searches.{keys_at-StandsAt, NoneIn-more}
 use Rattle.crack_pending.proofs.list.PendingList.next_in.Goals as goal
 
 pub places-preserved : goal.places-preserved

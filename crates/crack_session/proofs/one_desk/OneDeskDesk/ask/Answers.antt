@@ -1,6 +1,6 @@
 use Rattle.std.proofs.Common.{◌≤◌, length, arith, subst, sym}
 use Rattle.crack_part.specs.Parts.{state_of}
-use Rattle.crack_plain.specs.Laws.{length_rows-le-accepted}
+use Rattle.crack_plain.proofs.Laws.{length_rows-le-accepted}
 use Rattle.crack_session.specs.Desks.{IsSmall}
 use Rattle.crack_session.proofs.Replying.{IsSmall-reply_to}
 use Rattle.crack_session.proofs.one_desk.OneDeskDesk.ask.Goals.{in-Ok, in-Err}

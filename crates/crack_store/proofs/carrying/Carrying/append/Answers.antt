@@ -2,7 +2,7 @@ use Rattle.std.proofs.Common.{◌≡◌, ◌∷◌, [], length}
 use Rattle.crack_index.specs.Marks.{next_mark}
 use Rattle.crack_state.specs.State.{Carried}
 use Rattle.crack_state.specs.Steps.{hand_key, piece_end, raise_next}
-use Rattle.crack_state.specs.StepLaws.{IsIntact-appended}
+use Rattle.crack_state.proofs.StepLaws.{IsIntact-appended}
 use Rattle.crack_store.specs.Parts.{state_of}
 use Rattle.crack_store.proofs.EdgeLemmas.{positions_small}
 use Rattle.crack_store.proofs.carrying.Carrying.append.Goals as goal

@@ -1,4 +1,4 @@
-use Rattle.crack_state.specs.PieceLaws.{piece_end-le}
+use Rattle.crack_state.proofs.PieceLaws.{piece_end-le}
 use Rattle.crack_store.specs.Parts.{state_of}
 use Rattle.crack_store.proofs.carrying.Carrying.own_piece.Goals as goal
 

@@ -3,7 +3,7 @@ use Rattle.std.proofs.lemmas.Option.{get_or_from_slice_get}
 use Rattle.crack_index.specs.Marks.{next_mark}
 use Rattle.crack_state.specs.State.{Carried}
 use Rattle.crack_state.specs.Steps.{hand_key, piece_end, raise_next}
-use Rattle.crack_state.specs.StepLaws.{IsIntact-pushed_on, bounds_above-pushed_on}
+use Rattle.crack_state.proofs.StepLaws.{IsIntact-pushed_on, bounds_above-pushed_on}
 use Rattle.crack_store.specs.Parts.{state_of}
 use Rattle.crack_store.proofs.EdgeLemmas.{positions_small}
 use Rattle.crack_store.proofs.carrying.Carrying.push_on.Goals as goal

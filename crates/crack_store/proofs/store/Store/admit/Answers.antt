@@ -5,8 +5,8 @@ use Rattle.indexmap.proofs.CallerLemmas.{insert_entry-new}
 use Rattle.crack_arena.specs.Arena.{cells_with}
 use Rattle.crack_state.specs.State.{handle_of}
 use Rattle.crack_state.specs.Steps.{IsAdmissible, SameButRoom, admitted, next_handle}
-use Rattle.crack_state.specs.StepLaws.{IsIntact-room}
-use Rattle.crack_state.specs.AdmitLaws.{IsIntact-admitted, live_rows-admitted}
+use Rattle.crack_state.proofs.StepLaws.{IsIntact-room}
+use Rattle.crack_state.proofs.AdmitLaws.{IsIntact-admitted, live_rows-admitted}
 use Rattle.crack_store.specs.Parts.{state_of}
 use Rattle.crack_store.proofs.AdmitLemmas.{next_known, length_cells_with}
 use Rattle.crack_store.proofs.FlagLemmas.{AreMarked-push}

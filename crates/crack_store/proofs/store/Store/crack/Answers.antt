@@ -1,6 +1,6 @@
 use Rattle.std.proofs.Common.{◌≡◌, false}
 use Rattle.crack_state.specs.Merge.{RefinesAt, Refines}
-use Rattle.crack_state.specs.CrackLaws.{Refines-both, IsCracked-refined}
+use Rattle.crack_state.proofs.CrackLaws.{Refines-both, IsCracked-refined}
 use Rattle.crack_store.specs.Parts.{state_of, Stands}
 use Rattle.crack_store.proofs.MissingLemmas.{room_left}
 use Rattle.crack_store.proofs.store.Store.crack.Goals as goal

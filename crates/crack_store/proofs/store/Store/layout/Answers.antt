@@ -1,7 +1,7 @@
 use Rattle.std.proofs.Common.{◌≡◌, ◌+◌, ◌-◌, [], length, refl, arith, ◌∙◌}
 use Rattle.crack_row.specs.declared.layout.Layout.{Layout}
 use Rattle.crack_index.specs.Marks.{pieces_from}
-use Rattle.crack_state.specs.LayoutLaws.{cells-intact, rows-intact, pending_out-few, IsLayout-intact}
+use Rattle.crack_state.proofs.LayoutLaws.{cells-intact, rows-intact, pending_out-few, IsLayout-intact}
 use Rattle.crack_store.specs.Parts.{state_of}
 use Rattle.crack_store.proofs.store.Store.layout.Goals as goal
 

@@ -1,7 +1,7 @@
 use Rattle.std.proofs.Common.{◌≡◌, ◌<◌, false, length, get_or, ◌∙◌, arith, length-set}
 use Rattle.std.proofs.lemmas.List.{get_or_default}
 use Rattle.crack_state.specs.Steps.{no_handle}
-use Rattle.crack_state.specs.StepLaws.{IsIntact-lifted}
+use Rattle.crack_state.proofs.StepLaws.{IsIntact-lifted}
 use Rattle.crack_store.specs.Parts.{state_of}
 use Rattle.crack_store.proofs.FlagLemmas.{lifted_apart, AreMarked-take}
 use Rattle.crack_store.proofs.store.Store.lift.Goals as goal

@@ -8,7 +8,7 @@ use Rattle.std.proofs.lemmas.Bool.{cases_eq, cases_lt, ne_eqb, eq-eqb, eqb-true,
 use Rattle.std.proofs.lemmas.List.Elements.{All-set, All-push, All-cons, All-nil, All-get_or, All-head, All-append, All-take, All-drop}
 use Rattle.crack_row.specs.declared.Row.{Row}
 use Rattle.crack_arena.specs.Arena.{Cell, Handle, times, slots}
-use Rattle.crack_arena.specs.Times.{times-nil, times-cons, times_one, times_other, times_head, times_apart, times-append, times-set}
+use Rattle.crack_arena.proofs.Times.{times-nil, times-cons, times_one, times_other, times_head, times_apart, times-append, times-set}
 use Rattle.crack_state.specs.State.{places_in, Reads, IsOwned}
 use Rattle.crack_state.specs.Steps.{place_in}
 

@@ -11,7 +11,7 @@ use Rattle.crack_row.specs.declared.Row.{Row}
 use Rattle.crack_arena.specs.Arena.{Cell, Handle}
 use Rattle.crack_arena.specs.Rows.{key_at, keys_at}
 use Rattle.crack_pending.specs.Pending.{StandsAt, NoneIn, IsFirstIn}
-use Rattle.crack_pending.specs.Laws.{StandsAt-get_or}
+use Rattle.crack_pending.proofs.Laws.{StandsAt-get_or}
 
 module _ (cells : List (Cell Row)) where
   -- the key that stands at a handle's place is its row's

@@ -11,12 +11,12 @@ use Rattle.std.proofs.lemmas.Bool.{cases_eq, cases_lt, ne_eqb, eq-eqb, eqb-true,
 use Rattle.crack_row.specs.Ranges.{IsIn}
 use Rattle.crack_row.specs.declared.Row.{Row}
 use Rattle.crack_arena.specs.Arena.{Cell, Handle, times, read, cell_at, empty_cell, handle_for, cells_with, slots}
-use Rattle.crack_arena.specs.Times.{times-nil, times-cons, times_one, times_other, times_head, times_apart, times-append}
+use Rattle.crack_arena.proofs.Times.{times-nil, times-cons, times_one, times_other, times_head, times_apart, times-append}
 use Rattle.crack_state.specs.State.{State, places, Reads, IsOwned, IsIntact, IsKeyed, IsLiveAt, AreEmpty, AreWithin, handle_of, freed_of, live_from, live_rows}
 use Rattle.crack_state.specs.Steps.{next_handle, admitted, IsAdmissible}
-use Rattle.crack_state.specs.OwnedLaws.{times-places, times-pushed}
-use Rattle.crack_state.specs.CellLaws.{AgreeOff, read-off, Reads-off, keys-off, Remembers-off, read-value}
-use Rattle.crack_state.specs.LiveLaws.{live_from-less, live_from-push}
+use Rattle.crack_state.proofs.OwnedLaws.{times-places, times-pushed}
+use Rattle.crack_state.proofs.CellLaws.{AgreeOff, read-off, Reads-off, keys-off, Remembers-off, read-value}
+use Rattle.crack_state.proofs.LiveLaws.{live_from-less, live_from-push}
 
 -- one cell got a value, and no other changed
 pub record Filled (cells after : List (Cell Row)) (h : Handle) (r : Row) : Type 0 where

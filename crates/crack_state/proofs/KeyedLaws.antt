@@ -5,7 +5,7 @@ use Rattle.std.proofs.lemmas.List.Elements.{All-contains}
 use Rattle.crack_row.specs.declared.Row.{Row}
 use Rattle.crack_arena.specs.Arena.{Cell, Handle, times, read, empty_cell, slots}
 use Rattle.crack_state.specs.State.{State, IsKeyed, IsLiveAt, IsIntact, handle_of, live_value, live_from, live_rows}
-use Rattle.crack_state.specs.CellLaws.{read-value, cell_within}
+use Rattle.crack_state.proofs.CellLaws.{read-value, cell_within}
 
 -- a cell's live row is among the live rows
 pub Contains-live_from : (doomed : List ℕ) (n : ℕ) (cs : List (Cell Row)) (at : ℕ) (r : Row) → at < length cs → live_value doomed (n + at) (get_or cs at empty_cell) ≡ Some r → Contains (live_from doomed n cs) r

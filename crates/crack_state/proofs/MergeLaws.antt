@@ -11,8 +11,8 @@ use Rattle.crack_arena.specs.Arena.{Cell, Handle}
 use Rattle.crack_arena.specs.Rows.{key_at}
 use Rattle.crack_state.specs.State.{State, IsIntact}
 use Rattle.crack_state.specs.Merge.{IsOutside, ReadsOutside, IsCracked, Follows, Merges, is_touched}
-use Rattle.crack_state.specs.FollowLaws.{Follows-refl}
-use Rattle.crack_state.specs.SettledLaws.{IsSettled-of}
+use Rattle.crack_state.proofs.FollowLaws.{Follows-refl}
+use Rattle.crack_state.proofs.SettledLaws.{IsSettled-of}
 
 -- what follows a store that was cracked by a range is cracked by it
 pub IsCracked-follows : (s t : State) (r : Range) → Follows s t → IsCracked s r → IsCracked t r

@@ -6,7 +6,7 @@ use Rattle.std.proofs.lemmas.List.{map-append, take-map, drop-map, take-append-d
 use Rattle.std.proofs.lemmas.List.Edits.{length-remove, get_or-remove_above}
 use Rattle.std.proofs.lemmas.List.Elements.{filter-append}
 use Rattle.crack_arena.specs.Arena.{Handle, times, slots}
-use Rattle.crack_arena.specs.Times.{times_one, times_head, times-remove}
+use Rattle.crack_arena.proofs.Times.{times_one, times_head, times-remove}
 use Rattle.crack_pending.specs.Pending.{StandsAt}
 
 pub map-remove : {X Y : Type 0} (f : X → Y) (xs : List X) (i : ℕ) → map f (remove xs i) ≡ remove (map f xs) i

@@ -4,7 +4,7 @@ use Rattle.crack_row.specs.declared.command.Policy.{Policy}
 use Rattle.crack_state.specs.State.{State, Carried, IsIntact}
 use Rattle.crack_state.specs.Steps.{appended, lifted}
 use Rattle.crack_state.specs.Merge.{Follows, Tallies}
-use Rattle.crack_state.specs.FollowLaws.{Follows-trans, Follows-appended, Follows-Pushes, Tallies-carried}
+use Rattle.crack_state.proofs.FollowLaws.{Follows-trans, Follows-appended, Follows-Pushes, Tallies-carried}
 use Rattle.crack_merge.specs.Merges.{Carries}
 
 pub Follows-Carries : (c : Carried) (t : State) → Carries c t → Follows c.store t

@@ -10,12 +10,12 @@ use Rattle.crack_row.specs.declared.command.Policy.TheVariants.{Complete}
 use Rattle.crack_arena.specs.Arena.{Handle}
 use Rattle.crack_index.specs.declared.mark.Mark.{Mark}
 use Rattle.crack_index.specs.Marks.{next_mark, last_mark}
-use Rattle.crack_index.specs.MarkLaws.{bounds_of-lowered_at}
+use Rattle.crack_index.proofs.MarkLaws.{bounds_of-lowered_at}
 use Rattle.crack_state.specs.State.{State, Carried, IsIntact, greatest}
 use Rattle.crack_state.specs.Steps.{hand_key, piece_end, more, lifted, lifted_last, pushed_on, appended, returned, pulled_back, exchanged, SameButRoom, Pushes, bounds_above}
 use Rattle.crack_state.specs.Merge.{Follows, Counts, IsExact, Tallies, MayEvict}
-use Rattle.crack_state.specs.PieceLaws.{bounds_of-raise_next, bounds_of-lower_last, length-bounds}
-use Rattle.crack_state.specs.StepLaws.{bounds_above-pushed_on}
+use Rattle.crack_state.proofs.PieceLaws.{bounds_of-raise_next, bounds_of-lower_last, length-bounds}
+use Rattle.crack_state.proofs.StepLaws.{bounds_above-pushed_on}
 
 pub Follows-refl : (s : State) → Follows s s
 Follows-refl s = record { keys = refl; live = refl; bounds = refl; cells = refl; freed = refl }

@@ -11,9 +11,9 @@ use Rattle.std.proofs.lemmas.Bool.{cases_eq, lt-ltb, le-ltb}
 use Rattle.crack_row.specs.Ranges.{Range, IsIn}
 use Rattle.crack_row.specs.declared.Row.{Row}
 use Rattle.crack_arena.specs.Arena.{Cell, Handle, times, cell_at, empty_cell, slots}
-use Rattle.crack_arena.specs.Times.{times-nil, times-cons, times_one, times_other, times_head, times-append}
+use Rattle.crack_arena.proofs.Times.{times-nil, times-cons, times_one, times_other, times_head, times-append}
 use Rattle.crack_state.specs.State.{State, places, Reads, IsOwned, IsIntact, AreEmpty, AreWithin, live_value, live_from, live_rows, live_read, held}
-use Rattle.crack_state.specs.CellLaws.{read_is_value}
+use Rattle.crack_state.proofs.CellLaws.{read_is_value}
 
 -- where cells and doomed agree on what is live, the live rows are the same
 pub live_from-agree : (doomed left : List ℕ) (n : ℕ) (cs ds : List (Cell Row)) → length cs ≡ length ds → ((k : ℕ) → k < length cs → live_value doomed (n + k) (get_or cs k empty_cell) ≡ live_value left (n + k) (get_or ds k empty_cell)) → live_from doomed n cs ≡ live_from left n ds

@@ -9,11 +9,11 @@ use Rattle.std.proofs.lemmas.List.Elements.{All-map}
 use Rattle.crack_row.specs.Ranges.{Range}
 use Rattle.crack_index.specs.declared.mark.Mark.{Mark}
 use Rattle.crack_index.specs.Marks.{Rising, raised, lowered, lowered_at, next_mark, last_mark, start_of, end_of, bounds_of}
-use Rattle.crack_index.specs.MarkLaws.{next_mark-is, next_mark-none, last_mark-is, last_mark-none, bounds_of-raised, bounds_of-lowered, Rising-raised, Rising-lowered}
+use Rattle.crack_index.proofs.MarkLaws.{next_mark-is, next_mark-none, last_mark-is, last_mark-none, bounds_of-raised, bounds_of-lowered, Rising-raised, Rising-lowered}
 use Rattle.crack_arena.specs.Rows.{key_at}
 use Rattle.crack_state.specs.State.{State, Divides, IsObeyed, AreInside, column_keys}
 use Rattle.crack_state.specs.Steps.{piece_start, piece_end, raise_next, lower_last, bounds_above}
-use Rattle.crack_state.specs.ObeyedLaws.{Divides-order}
+use Rattle.crack_state.proofs.ObeyedLaws.{Divides-order}
 
 -- a mark that is listed divides the keys
 pub Divides-listed : (keys : List ℕ) (marks : List Mark) (m : Mark) → IsObeyed marks keys → Contains marks m → Divides keys m

@@ -10,20 +10,20 @@ use Rattle.crack_row.specs.Ranges.{Range, IsIn}
 use Rattle.crack_row.specs.declared.Bound.{Bound}
 use Rattle.crack_row.specs.declared.Row.{Row}
 use Rattle.crack_arena.specs.Arena.{Cell, Handle, read, cell_at, empty_cell, slots}
-use Rattle.crack_arena.specs.Times.{times-append, times-map-IsPermutation}
+use Rattle.crack_arena.proofs.Times.{times-append, times-map-IsPermutation}
 use Rattle.crack_index.specs.declared.mark.Mark.{Mark}
 use Rattle.crack_index.specs.Marks.{Rising, Fits, added, next_mark, last_mark, start_of, end_of, HasBound}
-use Rattle.crack_index.specs.MarkLaws.{next_mark-is, last_mark-is, All-added, Contains-kept, HasBound-added, Rising-added, HasBound-mark, HasBound-contains}
+use Rattle.crack_index.proofs.MarkLaws.{next_mark-is, last_mark-is, All-added, Contains-kept, HasBound-added, Rising-added, HasBound-mark, HasBound-contains}
 use Rattle.crack_arena.specs.Rows.{key_of_row, key_at}
 use Rattle.crack_column.specs.Column.{IsDividedAt}
-use Rattle.crack_column.specs.Divisions.{IsDividedAt-zero, IsDividedAt-end}
-use Rattle.crack_column.specs.Cracking.{length-Cracks, Cracks-apart, Cracks-around, Cracks-whole, Cracks-divides, Cracks-keeps, Cracks-remembers}
+use Rattle.crack_column.proofs.Divisions.{IsDividedAt-zero, IsDividedAt-end}
+use Rattle.crack_column.proofs.Cracking.{length-Cracks, Cracks-apart, Cracks-around, Cracks-whole, Cracks-divides, Cracks-keeps, Cracks-remembers}
 use Rattle.crack_state.specs.State.{State, Reads, Divides, IsObeyed, AreWithin, IsOwned, IsIntact, column_keys, live_rows}
 use Rattle.crack_state.specs.Steps.{piece_start, piece_end, CracksAt}
 use Rattle.crack_state.specs.Merge.{IsInner, IsCracked, cuts, RefinesBy, RefinesAt, Refines}
-use Rattle.crack_state.specs.OwnedLaws.{times-places}
-use Rattle.crack_state.specs.CellLaws.{read_is_value, cell_within}
-use Rattle.crack_state.specs.PieceLaws.{Divides-listed, piece_end-le, piece_end-before, piece_start-behind}
+use Rattle.crack_state.proofs.OwnedLaws.{times-places}
+use Rattle.crack_state.proofs.CellLaws.{read_is_value, cell_within}
+use Rattle.crack_state.proofs.PieceLaws.{Divides-listed, piece_end-le, piece_end-before, piece_start-behind}
 
 -- the key of what a handle reads is the partition's
 pub key_within : (keys : Range) (cells : List (Cell Row)) (h : Handle) → AreWithin keys cells → Reads cells h → IsIn keys (key_at cells h)

@@ -1,15 +1,20 @@
 -- What follows from the definitions of the plain table.
-use Rattle.std.specs.Prelude.{◌≡◌, ℕ, ◌+◌, ◌<◌, ◌≤◌, List, [], ◌∷◌, ◌++◌, length, if◌then◌else◌}
-use Rattle.std.proofs.Common.{arith, length-append, ap, refl, ◌∙◌}
+use Rattle.std.specs.Prelude.{◌≡◌, ℕ, ◌+◌, ◌<◌, ◌≤◌, List, [], ◌∷◌, ◌++◌, length, if◌then◌else◌, Option, Some, None, pos, ◌-ℤ◌}
+use Rattle.std.proofs.Common.{arith, length-append, ap, refl, sym, ◌∙◌}
+use Rattle.std.proofs.Math.IntN.{+ℤ-neg_ℤ_cancel}
 use Rattle.std.proofs.lemmas.List.Elements.{All-nil, All-push}
 use Rattle.std.proofs.lemmas.List.Quantifiers.{all_pairs_push}
 use Rattle.crack_row.specs.Ranges.{Range}
+use Rattle.crack_row.specs.Commands.{change_of}
 use Rattle.crack_row.specs.declared.Row.{Row}
+use Rattle.crack_row.specs.declared.command.Change.{Change}
+use Rattle.crack_row.specs.declared.command.Change.TheVariants.{Place}
 use Rattle.crack_row.specs.declared.command.Command.{Command}
 use Rattle.crack_row.specs.declared.command.Command.TheVariants.{Insert, Count}
 use Rattle.crack_row.specs.declared.command.Entry.{Entry}
-use Rattle.crack_plain.specs.Plain.{PlainState, no_rows, IsNumbered, reply_to, after, replay_from, replay, AreReplies, IsWithin, AreWithin, IsLegal}
-use Rattle.crack_plain.specs.Totals.{is_placed, is_gone, accepted, inserted, deleted, held, inserted-cons, deleted-cons, inserted-le-accepted}
+use Rattle.crack_plain.specs.Plain.{PlainState, no_rows, IsNumbered, reply_to, after, replay_from, replay, AreReplies, changed, IsWithin, BringWithin, IsLegal}
+use Rattle.crack_plain.specs.Totals.{is_placed, is_gone, accepted, inserted, deleted, held}
+use Rattle.crack_plain.proofs.TotalLaws.{inserted-cons, deleted-cons, inserted-le-accepted}
 
 -- one list of entries after another
 pub replay_from-append : (s : PlainState) (xs ys : List Entry) → replay_from s (xs ++ ys) ≡ replay_from (replay_from s xs) ys
@@ -27,30 +32,33 @@ pub AreReplies-push : (s : PlainState) (es : List Entry) (e : Entry) → AreRepl
 AreReplies-push s [] e replies reply = (reply, tt)
 AreReplies-push s (x ∷ es) e replies reply = (replies.0, AreReplies-push (after s x.command) es e replies.1 reply)
 
-pub AreWithin-push : (keys : Range) (es : List Entry) (e : Entry) → AreWithin keys es → IsWithin keys e.command → AreWithin keys (es ++ e ∷ [])
-AreWithin-push keys [] e within new = (new, tt)
-AreWithin-push keys (x ∷ es) e within new = (within.0, AreWithin-push keys es e within.1 new)
+pub BringWithin-push : (keys : Range) (es : List Entry) (e : Entry) → BringWithin keys es → IsWithin keys e.command → BringWithin keys (es ++ e ∷ [])
+BringWithin-push keys es e within new = All-push (λ (x : Entry). IsWithin keys x.command) es e within new
 
 pub IsLegal-push : (keys : Range) (limit : ℕ) (es : List Entry) (e : Entry) → IsLegal keys limit es → length es < limit → IsWithin keys e.command → e.reply ≡ reply_to (replay es) e.command → IsLegal keys limit (es ++ e ∷ [])
 IsLegal-push keys limit es e legal room within reply = record {
   replies = AreReplies-push no_rows es e legal.replies reply;
-  within = AreWithin-push keys es e legal.within within;
-  short = omega (arith, length-append es (e ∷ []));
+  within = BringWithin-push keys es e legal.within within;
+  limited = omega (arith, length-append es (e ∷ []));
 }
 
 -- no row
 pub IsNumbered-no_rows : IsNumbered no_rows
 IsNumbered-no_rows = record { rising = λ i j d i_lt_j j_lt. omega arith; below = All-nil _ }
 
--- each command keeps the serials in order
-pub IsNumbered-after : (s : PlainState) (command : Command) → IsNumbered s → IsNumbered (after s command)
-IsNumbered-after s (Insert key payload) numbered =
+-- each change keeps the serials in order
+pub IsNumbered-changed : (s : PlainState) (change : Option Change) → IsNumbered s → IsNumbered (changed s change)
+IsNumbered-changed s None numbered = numbered
+IsNumbered-changed s (Some (Place key payload)) numbered =
     let row : Row = record { serial = record { 0 = s.next }; key = key; payload = payload } in
     record {
       rising = all_pairs_push (λ (earlier later : Row). earlier.serial.0 < later.serial.0) s.rows row numbered.rising (λ k d k_lt. numbered.below k d k_lt);
       below = All-push (λ (r : Row). r.serial.0 < s.next + 1) s.rows row (λ k d k_lt. let earlier = numbered.below k d k_lt in omega (arith, earlier)) (omega arith);
     }
-IsNumbered-after s (Count range) numbered = numbered
+
+-- and so does each command
+pub IsNumbered-after : (s : PlainState) (command : Command) → IsNumbered s → IsNumbered (after s command)
+IsNumbered-after s command numbered = IsNumbered-changed s (change_of command) numbered
 
 pub IsNumbered-replay_from : (s : PlainState) (es : List Entry) → IsNumbered s → IsNumbered (replay_from s es)
 IsNumbered-replay_from s [] numbered = numbered
@@ -91,8 +99,14 @@ length_rows-replay_from s (e ∷ es) replies =
     omega (arith, later, now, placed, gone)
 
 -- the rows are those that were placed, less those that went
-pub length_rows-replay : (es : List Entry) → AreReplies no_rows es → length (replay es).rows ≡ held es
+pub length_rows-replay : (es : List Entry) → AreReplies no_rows es → length (replay es).rows + deleted es ≡ inserted es
 length_rows-replay es replies = omega (arith, length_rows-replay_from no_rows es replies)
+
+pub held-replay : (es : List Entry) → AreReplies no_rows es → pos (length (replay es).rows) ≡ held es
+held-replay es replies =
+    let left : ℕ = length (replay es).rows in
+    let gone : ℕ = deleted es in
+    sym (ap (λ (n : ℕ). pos n -ℤ pos gone) (sym (length_rows-replay es replies)) ∙ +ℤ-neg_ℤ_cancel (pos left) (pos gone))
 
 -- there are no more rows than entries
 pub length_rows-le-accepted : (es : List Entry) → AreReplies no_rows es → length (replay es).rows ≤ accepted es

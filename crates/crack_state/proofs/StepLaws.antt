@@ -6,15 +6,15 @@ use Rattle.std.proofs.lemmas.List.{map-set, map-append, length-map, get_or-map, 
 use Rattle.crack_arena.specs.Arena.{Handle, times, slots}
 use Rattle.crack_index.specs.declared.mark.Mark.{Mark}
 use Rattle.crack_index.specs.Marks.{Rising, next_mark, last_mark, end_of, start_of}
-use Rattle.crack_index.specs.MarkLaws.{next_mark-is, next_mark-none, last_mark-is, Rising-lowered_at}
+use Rattle.crack_index.proofs.MarkLaws.{next_mark-is, next_mark-none, last_mark-is, Rising-lowered_at}
 use Rattle.crack_arena.specs.Rows.{key_at}
 use Rattle.crack_state.specs.declared.MergeReport.{MergeReport}
 use Rattle.crack_state.specs.State.{State, Carried, column_keys, IsObeyed, AreInside, IsCounted, IsIntact, greatest}
 use Rattle.crack_state.specs.Steps.{hand_key, piece_start, piece_end, raise_next, lower_last, more, no_handle, put_at, lifted, lifted_last, pushed_on, appended, returned, pulled_back, exchanged, SameButRoom, bounds_above}
-use Rattle.crack_state.specs.ObeyedLaws.{Divides-set, Obeyed-raised, Obeyed-push, Obeyed-push_raised, Obeyed-lowered, Obeyed-lowered_at}
-use Rattle.crack_state.specs.PieceLaws.{Divides-listed, Rising-raise_next, Rising-lower_last, AreInside-raise_next, AreInside-lower_last, AreInside-lowered_at, piece_end-le, piece_end-before, piece_start-behind, bounds_above-less}
-use Rattle.crack_state.specs.OwnedLaws.{IsOwned-exchange, IsOwned-appended, IsOwned-returned, IsOwned-lifted, IsOwned-lifted_last}
-use Rattle.crack_column.specs.Remembering.{Remembers-set, Remembers-append, Remembers-take}
+use Rattle.crack_state.proofs.ObeyedLaws.{Divides-set, Obeyed-raised, Obeyed-push, Obeyed-push_raised, Obeyed-lowered, Obeyed-lowered_at}
+use Rattle.crack_state.proofs.PieceLaws.{Divides-listed, Rising-raise_next, Rising-lower_last, AreInside-raise_next, AreInside-lower_last, AreInside-lowered_at, piece_end-le, piece_end-before, piece_start-behind, bounds_above-less}
+use Rattle.crack_state.proofs.OwnedLaws.{IsOwned-exchange, IsOwned-appended, IsOwned-returned, IsOwned-lifted, IsOwned-lifted_last}
+use Rattle.crack_column.proofs.Remembering.{Remembers-set, Remembers-append, Remembers-take}
 
 -- a counter that is raised still fits
 pub IsCounted-put_in : (tally : MergeReport) → IsCounted tally → IsCounted (record tally { put_in = more tally.put_in })

@@ -13,18 +13,18 @@ use Rattle.crack_row.specs.Ranges.{Range, in_range}
 use Rattle.crack_row.specs.declared.Row.{Row}
 use Rattle.crack_arena.specs.Arena.{Cell, Handle, times, read, cell_at, slots}
 use Rattle.crack_index.specs.Marks.{HasBound, place_of}
-use Rattle.crack_index.specs.MarkLaws.{HasBound-contains, place_of-mark}
+use Rattle.crack_index.proofs.MarkLaws.{HasBound-contains, place_of-mark}
 use Rattle.crack_arena.specs.Rows.{key_of_row, key_at}
 use Rattle.crack_column.specs.Column.{IsDividedAt}
-use Rattle.crack_column.specs.Divisions.{IsDividedAt-end, IsDividedAt-order}
+use Rattle.crack_column.proofs.Divisions.{IsDividedAt-end, IsDividedAt-order}
 use Rattle.crack_state.specs.State.{State, places, Reads, IsOwned, IsIntact, column_keys, live_rows}
 use Rattle.crack_state.specs.Steps.{place_in}
 use Rattle.crack_state.specs.Merge.{IsOutside, ReadsOutside, IsCracked, edge, stretch, IsSettled}
-use Rattle.crack_state.specs.OwnedLaws.{place_in-within, place_in-found}
-use Rattle.crack_state.specs.CellLaws.{read_is_value}
-use Rattle.crack_state.specs.LiveLaws.{live_at, live_value-none, numbers, times-numbers, live_from-numbers, IsPermutation-filter_map_times}
-use Rattle.crack_state.specs.CrackLaws.{column_keys-within}
-use Rattle.crack_state.specs.PieceLaws.{Divides-listed}
+use Rattle.crack_state.proofs.OwnedLaws.{place_in-within, place_in-found}
+use Rattle.crack_state.proofs.CellLaws.{read_is_value}
+use Rattle.crack_state.proofs.LiveLaws.{live_at, live_value-none, numbers, times-numbers, live_from-numbers, IsPermutation-filter_map_times}
+use Rattle.crack_state.proofs.CrackLaws.{column_keys-within}
+use Rattle.crack_state.proofs.PieceLaws.{Divides-listed}
 
 -- a bound that stands, or is an end of the partition, divides the column at its edge
 pub edge-divides : (s : State) (hand : List Handle) (bound : ℕ) → IsIntact s hand → s.keys.low ≤ bound → bound ≤ s.keys.high → (s.keys.low < bound → bound < s.keys.high → HasBound s.marks bound) → IsDividedAt bound (column_keys s) (edge s bound)

@@ -12,13 +12,13 @@ use Rattle.crack_row.specs.declared.Row.{Row}
 use Rattle.crack_row.specs.declared.layout.Layout.{Layout}
 use Rattle.crack_row.specs.Layouts.{IsLayout, AreJoined}
 use Rattle.crack_arena.specs.Arena.{Handle, times, read, slots}
-use Rattle.crack_arena.specs.Times.{times-nil, times-cons, times_one, times_other, times-append}
+use Rattle.crack_arena.proofs.Times.{times-nil, times-cons, times_one, times_other, times-append}
 use Rattle.crack_index.specs.Marks.{pieces_from}
-use Rattle.crack_index.specs.MarkLaws.{AreJoined-pieces, sum_of_sizes}
+use Rattle.crack_index.proofs.MarkLaws.{AreJoined-pieces, sum_of_sizes}
 use Rattle.crack_arena.specs.Rows.{key_at}
 use Rattle.crack_state.specs.State.{State, places, Reads, IsOwned, IsIntact, live_rows, held}
-use Rattle.crack_state.specs.OwnedLaws.{times-places}
-use Rattle.crack_state.specs.LiveLaws.{live_rows-held, numbers, times-numbers, IsPermutation-filter_map_times}
+use Rattle.crack_state.proofs.OwnedLaws.{times-places}
+use Rattle.crack_state.proofs.LiveLaws.{live_rows-held, numbers, times-numbers, IsPermutation-filter_map_times}
 
 all_some : (ns : List ℕ) → filter_map (λ n. Some n) ns ≡ ns
 all_some [] = refl

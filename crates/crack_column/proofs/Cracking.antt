@@ -12,7 +12,7 @@ use Rattle.crack_arena.specs.Arena.{Cell, Handle}
 use Rattle.crack_row.specs.declared.Row.{Row}
 use Rattle.crack_arena.specs.Rows.{key_at}
 use Rattle.crack_column.specs.Column.{Remembers, IsDividedAt, Cracks}
-use Rattle.crack_column.specs.Divisions.{IsDividedAt-count}
+use Rattle.crack_column.proofs.Divisions.{IsDividedAt-count}
 
 -- what stands where in a list whose middle was replaced
 pub record Replaced {X : Type 0} (from to : ℕ) (old piece new : List X) : Type 0 where

@@ -11,15 +11,15 @@ use Rattle.crack_row.specs.declared.Row.{Row}
 use Rattle.crack_row.specs.declared.command.Policy.{Policy}
 use Rattle.crack_row.specs.declared.command.Policy.TheVariants.{Complete}
 use Rattle.crack_arena.specs.Arena.{Cell, Handle, times, read, cell_at, empty_cell, slots}
-use Rattle.crack_arena.specs.Times.{times-nil, times-cons, times_one, times_other, times_head, times-append}
+use Rattle.crack_arena.proofs.Times.{times-nil, times-cons, times_one, times_other, times_head, times-append}
 use Rattle.crack_state.specs.State.{State, Carried, Reads, IsIntact, IsKeyed, IsLiveAt, AreEmpty, freed_of, live_rows, greatest}
 use Rattle.crack_state.specs.Steps.{hand_key, place_in, IsDoomed, lifted, buried, Pushes}
 use Rattle.crack_state.specs.Merge.{Follows, Tallies, MayEvict}
-use Rattle.crack_state.specs.OwnedLaws.{times-removed, times-places, All-removed, place_in-within, place_in-found, HandApart, hand_apart}
-use Rattle.crack_state.specs.CellLaws.{AgreeOff-set, read-off, Reads-off, keys-off, Remembers-off, generation_of_read}
-use Rattle.crack_state.specs.LiveLaws.{live_from-agree, live_value-none}
-use Rattle.crack_state.specs.StepLaws.{IsCounted-taken_out}
-use Rattle.crack_state.specs.FollowLaws.{raised_counter, length-remove, bounds_above-few}
+use Rattle.crack_state.proofs.OwnedLaws.{times-removed, times-places, All-removed, place_in-within, place_in-found, HandApart, hand_apart}
+use Rattle.crack_state.proofs.CellLaws.{AgreeOff-set, read-off, Reads-off, keys-off, Remembers-off, generation_of_read}
+use Rattle.crack_state.proofs.LiveLaws.{live_from-agree, live_value-none}
+use Rattle.crack_state.proofs.StepLaws.{IsCounted-taken_out}
+use Rattle.crack_state.proofs.FollowLaws.{raised_counter, length-remove, bounds_above-few}
 
 -- what is known of a doomed hand
 pub record DoomedHand (s : State) (hand : Handle) : Type 0 where

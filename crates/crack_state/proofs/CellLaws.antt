@@ -9,7 +9,7 @@ use Rattle.crack_arena.specs.Arena.{Cell, Handle, times, read, cell_at, empty_ce
 use Rattle.crack_arena.specs.Rows.{key_of_row, key_at}
 use Rattle.crack_column.specs.Column.{Remembers}
 use Rattle.crack_state.specs.State.{Reads}
-use Rattle.crack_state.specs.OwnedLaws.{apart_from_times}
+use Rattle.crack_state.proofs.OwnedLaws.{apart_from_times}
 
 -- what a handle reads is its cell's value
 pub read-value : (cells : List (Cell Row)) (h : Handle) (r : Row) → read cells h ≡ Some r → (cell_at cells h.slot).value ≡ Some r

@@ -1,0 +1,14 @@
+pub mod AdmitLaws
+pub mod BuryLaws
+pub mod CellLaws
+pub mod CrackLaws
+pub mod FollowLaws
+pub mod KeyedLaws
+pub mod LayoutLaws
+pub mod LiveLaws
+pub mod MergeLaws
+pub mod ObeyedLaws
+pub mod OwnedLaws
+pub mod PieceLaws
+pub mod SettledLaws
+pub mod StepLaws
