@@ -8,14 +8,14 @@ use Rattle.std.proofs.lemmas.List.Edits.{length-between, get_or-between, get_or-
 use Rattle.std.proofs.lemmas.List.Sorted.{All-permutation, IsPermutation-map, IsPermutation-append_right, IsPermutation-append_left, length_permutation}
 use Rattle.std.proofs.lemmas.Option.{slice_get-get_or}
 use Rattle.std.proofs.lemmas.Bool.{cases_eq, cases_lt}
-use Rattle.crack_arena.specs.Arena.{Cell, Handle, times}
+use Rattle.crack_arena.specs.Arena.{Cell, Handle, times, no_handle, StandsAt}
 use Rattle.crack_arena.proofs.Times.{times-map-remove, times_map_at, times_head, times-nil, times-map-append, times_one, times_other, times-cons, times-le-length, times-IsPermutation, times-append, times-set}
 use Rattle.crack_row.specs.declared.Row.{Row}
 use Rattle.crack_column.specs.declared.place.Place.{Place}
 use Rattle.crack_arena.specs.Rows.{key_at}
 use Rattle.crack_column.specs.Column.{unknown, Remembers, Cracks}
 use Rattle.crack_column.proofs.Cracking.{Replaced, replaced}
-use Rattle.crack_column.specs.Tickets.{no_handle, no_place, ticket_of, remembered_of, handle_of, handles_in, keys_in, Knows, AreDrawn, Kept, Turns, forgotten}
+use Rattle.crack_column.specs.Tickets.{no_place, ticket_of, remembered_of, handle_of, handles_in, keys_in, Knows, AreDrawn, Kept, Turns, forgotten}
 
 -- two places don't bear one ticket
 apart : (ps : List Place) (i j : ℕ) → i < length ps → j < length ps → j ≢ i → times (get_or ps i no_place).ticket (map ticket_of ps) ≤ 1 → (get_or ps j no_place).ticket ≢ (get_or ps i no_place).ticket

@@ -2,15 +2,11 @@
 use Rattle.std.specs.Prelude.{◌≡◌, ℕ, ◌+◌, ◌-◌, ◌<◌, ◌≤◌, ◌^◌, ◌⊎◌, List, ◌++◌, length, map, take, drop, All, slice_index_or, slice_set, min}
 use Rattle.std.specs.List.{between}
 use Rattle.std.specs.List.Sorted.{IsPermutation}
-use Rattle.crack_arena.specs.Arena.{Cell, Handle, times}
+use Rattle.crack_arena.specs.Arena.{Cell, Handle, times, no_handle}
 use Rattle.crack_row.specs.declared.Row.{Row}
 use Rattle.crack_column.specs.declared.place.Place.{Place}
 use Rattle.crack_arena.specs.Rows.{key_at}
 use Rattle.crack_column.specs.Column.{unknown, IsDividedAt}
-
--- what stands where there is no handle
-abbrev pub no_handle : Handle
-no_handle = record { slot = 0; generation = 0 }
 
 abbrev pub ticket_of : Place → ℕ
 ticket_of p = p.ticket

@@ -1,10 +1,10 @@
 //! The cracker column, and how a crack divides a stretch of it.
 ghost use Rattle.std.specs.Prelude.{◌≡◌, ℕ, ◌+◌, ◌-◌, ◌<◌, ◌≤◌, ◌^◌, ◌↔◌, List, [], ◌∷◌, ◌++◌, Some, length, map, vec_len, slice_get, slice_set, slice_index_or, vec_capacity, IsTrue, OnOk, OnErr, IfErr, All, MatchOption, take, drop};
 ghost use Rattle.std.specs.List.{between};
-ghost use Rattle.crack_arena.specs.Arena.{Cell, times};
+ghost use Rattle.crack_arena.specs.Arena.{Cell, times, StandsAt, IsFirstAt, IsAbsent};
 ghost use Rattle.crack_row.specs.declared.Row.{Row as RowValue};
 ghost use Rattle.crack_arena.specs.Rows.{key_at};
-ghost use Rattle.crack_column.specs.Column.{unknown, Remembers, StillRemembers, Cracks, IsFirstAt, IsAbsent};
+ghost use Rattle.crack_column.specs.Column.{unknown, Remembers, StillRemembers, Cracks};
 ghost use Rattle.crack_column.specs.Tickets.{AreDrawn, remembered_of, Knows, Turns, Kept, handles_in, keys_in, room_in};
 
 use crate::place::{Place, UNKNOWN, crack};
@@ -80,7 +80,7 @@ impl CrackerColumn {
     /// The handle at the place, counted from 0. O(1).
     pub fn at(&self, place: usize) -> Handle<Row>
         requires { place < length self.now.handles }
-        ensures { slice_get self.now.handles place ≡ Some result }
+        ensures { StandsAt self.now.handles place result }
     {
         self.handles[self.places[place].ticket as usize]
     }

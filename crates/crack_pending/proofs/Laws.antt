@@ -5,9 +5,8 @@ use Rattle.std.proofs.lemmas.Bool.{cases_lt}
 use Rattle.std.proofs.lemmas.List.{map-append, take-map, drop-map, take-append-drop, drop_more, get_or-map, get_or_default, length-map}
 use Rattle.std.proofs.lemmas.List.Edits.{length-remove, get_or-remove_above}
 use Rattle.std.proofs.lemmas.List.Elements.{filter-append}
-use Rattle.crack_arena.specs.Arena.{Handle, times, slots}
+use Rattle.crack_arena.specs.Arena.{Handle, times, slots, StandsAt}
 use Rattle.crack_arena.proofs.Times.{times_one, times_head, times-remove}
-use Rattle.crack_pending.specs.Pending.{StandsAt}
 
 pub map-remove : {X Y : Type 0} (f : X → Y) (xs : List X) (i : ℕ) → map f (remove xs i) ≡ remove (map f xs) i
 map-remove f xs i = rw (map-append f (take i xs) (drop (suc i) xs), take-map f i xs, drop-map f (suc i) xs) refl

@@ -8,9 +8,9 @@ use Rattle.std.proofs.lemmas.List.Edits.{get_or-remove_below}
 use Rattle.std.proofs.lemmas.List.Folds.{list_any_at, list_any_none}
 use Rattle.crack_row.specs.Ranges.{Range, IsIn, is_in}
 use Rattle.crack_row.specs.declared.Row.{Row}
-use Rattle.crack_arena.specs.Arena.{Cell, Handle}
+use Rattle.crack_arena.specs.Arena.{Cell, Handle, StandsAt, no_handle}
 use Rattle.crack_arena.specs.Rows.{key_at, keys_at}
-use Rattle.crack_pending.specs.Pending.{StandsAt, NoneIn, IsFirstIn}
+use Rattle.crack_pending.specs.Pending.{NoneIn, IsFirstIn}
 use Rattle.crack_pending.proofs.Laws.{StandsAt-get_or}
 
 module _ (cells : List (Cell Row)) where
@@ -84,7 +84,6 @@ module _ (range : Range) (cells : List (Cell Row)) (handles : List Handle) where
   -- a search that finds a place: a row of the list has its key in the range
   pub list_any-found : (from place : ℕ) → IsFirstIn range (keys_at cells handles) from place → list_any (λ h. is_in range (key_at cells h)) handles ≡ true
   list_any-found from place first =
-      let d : Handle = record { slot = 0; generation = 0 } in
       let within : place < length handles = omega (arith, first.within, length-keys_at cells handles) in
-      let key = keys_at-StandsAt cells handles place (get_or handles place d) (StandsAt-get_or handles place d within) in
-      list_any_at (λ h. is_in range (key_at cells h)) handles place d within (is_in-true range (key_at cells (get_or handles place d)) (rw key at first.holds))
+      let key = keys_at-StandsAt cells handles place (get_or handles place no_handle) (StandsAt-get_or handles place no_handle within) in
+      list_any_at (λ h. is_in range (key_at cells h)) handles place no_handle within (is_in-true range (key_at cells (get_or handles place no_handle)) (rw key at first.holds))

@@ -3,7 +3,8 @@ use Rattle.std.proofs.lemmas.List.{get_or_default}
 use Rattle.std.proofs.lemmas.Bool.{cases_eq, eq-eqb, ne_eqb}
 use Rattle.crack_arena.specs.Rows.{key_at}
 use Rattle.crack_column.specs.Column.{unknown}
-use Rattle.crack_column.specs.Tickets.{no_handle, no_place}
+use Rattle.crack_arena.specs.Arena.{no_handle}
+use Rattle.crack_column.specs.Tickets.{no_place}
 use Rattle.crack_column.proofs.Passes.{IsLearned-read, IsLearned-known, drawn-IsLearned, learned_all}
 use Rattle.crack_column.proofs.place.learn.Goals as goal
 use Rattle.crack_column.proofs.place.learn.Goals.{then-places-i, else-places-i}
