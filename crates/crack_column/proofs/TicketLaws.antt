@@ -3,12 +3,12 @@ use Rattle.std.proofs.Common.{◌≡◌, ◌≢◌, ℕ, zero, suc, ◌+◌, ◌
 use Rattle.std.specs.Prelude.{remove}
 use Rattle.std.specs.List.{All, between}
 use Rattle.std.specs.List.Sorted.{IsPermutation}
-use Rattle.std.proofs.lemmas.List.{ext_get_or, append_assoc, take-append-drop, drop-drop, take-map, take_all, length-map, get_or-map, get_or-take, length-take-le, get_or-set_same, get_or-set_other, get_or_append_left, get_or_push, map-append, get_or_default}
+use Rattle.std.proofs.lemmas.List.{ext_get_or, append_assoc, take-append-drop, drop-drop, take-map, length-map, get_or-map, get_or-take, length-take-le, get_or-set_same, get_or-set_other, get_or_append_left, get_or_push, map-append, get_or_default}
 use Rattle.std.proofs.lemmas.List.Edits.{length-between, get_or-between, get_or-remove_below, get_or-remove_above, length-remove}
 use Rattle.std.proofs.lemmas.List.Sorted.{All-permutation, IsPermutation-map, IsPermutation-append_right, IsPermutation-append_left, length_permutation}
 use Rattle.std.proofs.lemmas.Option.{slice_get-get_or}
 use Rattle.std.proofs.lemmas.Bool.{cases_eq, cases_lt}
-use Rattle.crack_arena.specs.Arena.{Cell, Handle, times, no_handle, StandsAt}
+use Rattle.crack_arena.specs.Arena.{Cell, Handle, times, no_handle}
 use Rattle.crack_arena.proofs.Times.{times-map-remove, times_map_at, times_head, times-nil, times-map-append, times_one, times_other, times-cons, times-le-length, times-IsPermutation, times-append, times-set}
 use Rattle.crack_row.specs.declared.Row.{Row}
 use Rattle.crack_column.specs.declared.tag.Tag.{Tag}
@@ -60,13 +60,6 @@ key_in ts len k d within inside =
 
 -- a row was put at a place
 module _ (hs : List Handle) (ts : List Tag) (place : ℕ) (h : Handle) (hs' : List Handle) (ts' : List Tag) (out : Handle) (len : ℕ) (are : AreDrawn hs ts len) (inside : place < length ts) (kept : Kept hs ts place h hs' ts' out) where
-  ticket : ℕ
-  ticket = (get_or ts place no_tag).ticket
-
-  drawn_here : ticket < length hs
-  unfolding ticket
-  drawn_here = are.drawn place no_tag inside
-
   pub length-Kept : length ts' ≡ length ts
   length-Kept = rw kept.tags_are (length-set ts place (forgotten (get_or ts place no_tag)))
 
@@ -142,17 +135,6 @@ module _ (hs : List Handle) (ts : List Tag) (place : ℕ) (h : Handle) (hs' : Li
         | inr ne ↦ rw (get_or_append_left (handles_in hs ts len) (h ∷ []) no_handle k (omega arith), handle_in hs ts len k no_handle are.within (omega arith)) (other_handle k ne (omega (arith, are.within)))
       ]))
 
-  pub keys-longer : place ≡ len → keys_in ts' (len + 1) ≡ keys_in ts len ++ unknown ∷ []
-  keys-longer last =
-      let within : len + 1 ≤ length ts' = omega (arith, length-Kept) in
-      let long = length-keys_in ts len are.within in
-      let long_now = length-keys_in ts' (len + 1) within in
-      ext_get_or 0 (keys_in ts' (len + 1)) (keys_in ts len ++ unknown ∷ []) (omega (arith, length-append (keys_in ts len) (unknown ∷ []))) (λ k l.
-      rw (key_in ts' (len + 1) k 0 within (omega arith)) (elim (cases_eq k place) [
-        | inl e ↦ rw (get_or_push (keys_in ts len) unknown 0 k (omega arith), e, tag_now) refl
-        | inr ne ↦ rw (get_or_append_left (keys_in ts len) (unknown ∷ []) 0 k (omega arith), key_in ts len k 0 are.within (omega arith), other_tag k ne) refl
-      ]))
-
 -- a row was put behind all others, under a new ticket
 module _ (hs : List Handle) (ts : List Tag) (h : Handle) (are : AreDrawn hs ts (length ts)) where
   pub AreDrawn-draw : length ts < 2 ^ 32 → AreDrawn (hs ++ h ∷ []) (ts ++ record { key = unknown; ticket = length hs } ∷ []) (length ts + 1)
@@ -191,14 +173,6 @@ module _ (hs : List Handle) (ts : List Tag) (h : Handle) (are : AreDrawn hs ts (
         | inr ne ↦ rw (get_or_append_left (handles_in hs ts (length ts)) (h ∷ []) no_handle k (omega arith), handle_in hs ts (length ts) k no_handle are.within (omega arith), get_or_append_left ts (t ∷ []) no_tag k (omega arith)) (get_or_append_left hs (h ∷ []) no_handle (get_or ts k no_tag).ticket (are.drawn k no_tag (omega arith)))
       ]))
 
-  pub keys-draw : keys_in (ts ++ record { key = unknown; ticket = length hs } ∷ []) (length ts + 1) ≡ keys_in ts (length ts) ++ unknown ∷ []
-  keys-draw =
-      let t : Tag = record { key = unknown; ticket = length hs } in
-      let within : length ts + 1 ≤ length (ts ++ t ∷ []) = omega (arith, length-append ts (t ∷ [])) in
-      let all : take (length ts + 1) (ts ++ t ∷ []) ≡ ts ++ t ∷ [] = take_all (length ts + 1) (ts ++ t ∷ []) (omega (arith, length-append ts (t ∷ []))) in
-      let before : take (length ts) ts ≡ ts = take_all (length ts) ts (omega arith) in
-      rw (all, before) (map-append remembered_of ts (t ∷ []))
-
 split_in_three : {X : Type 0} (xs : List X) (from to : ℕ) → from ≤ to → xs ≡ take from xs ++ (between from to xs ++ drop to xs)
 split_in_three xs from to order =
     let on : from + (to - from) ≡ to = omega arith in
@@ -214,7 +188,7 @@ stretch_of f d ts len from to within end =
     ext_get_or d (between from to (map f (take len ts))) (map f (between from to ts)) (omega (arith, length-map (between from to ts) f)) (λ k l.
     rw (get_or-between (map f (take len ts)) from to k d (omega arith), get_or-map f (take len ts) (from + k) no_tag d (omega (arith, length-take-le len ts within)), get_or-take len ts (from + k) no_tag (omega arith), get_or-map f (between from to ts) k no_tag d (omega arith), get_or-between ts from to k no_tag (omega arith)) refl)
 
--- how many keys are unknown: after one was forgotten, with one more, in a part
+-- how many keys are unknown: after one was forgotten, with one more, in a stretch
 pub unknown-set : (ks : List ℕ) (place : ℕ) → place < length ks → times unknown (set ks place unknown) ≤ times unknown ks + 1
 unknown-set ks place inside = omega (arith, times-set unknown ks place unknown 0 inside, times_head unknown [], times-nil unknown)
 
@@ -272,12 +246,6 @@ module _ (cells : List (Cell Row)) (hs : List Handle) (bound from to : ℕ) (ts 
   -- a crack of the tags is one of the handles
   long_old : length (handles_in hs ts len) ≡ len
   long_old = length-in hs ts len are.within
-
-  long_new : length (handles_in hs ts' len) ≡ len
-  long_new = length-in hs ts' len (omega (arith, at.len, are.within))
-
-  piece_long : length (map (handle_of hs) turned.stretch) ≡ to - from
-  piece_long = length-map turned.stretch (handle_of hs) ∙ stretch_long
 
   keys_read : map remembered_of turned.stretch ≡ map (key_at cells) (map (handle_of hs) turned.stretch)
   keys_read =

@@ -222,12 +222,7 @@ fn keep(
 }
 
 /// Keeps the handle at the place behind the last: under the ticket that stands there, or under a new one.
-fn keep_last(
-    handles: &mut Vec<Handle<Row>>,
-    tags: &mut Vec<Tag>,
-    len: usize,
-    handle: Handle<Row>,
-)
+fn keep_last(handles: &mut Vec<Handle<Row>>, tags: &mut Vec<Tag>, len: usize, handle: Handle<Row>)
     requires are { AreDrawn handles.old.items tags.old.items len }
     requires room { 0 < room_in (vec_len tags.old) (vec_capacity handles.old) (vec_capacity tags.old) len }
     ensures are { AreDrawn handles.new.items tags.new.items (len + 1) }
