@@ -206,7 +206,7 @@ impl Store {
         let pieces = self
             .parts
             .index
-            .pieces(self.parts.alloc, self.parts.keys, self.column_len())?;
+            .pieces(self.parts.keys, self.column_len())?;
         Ok(Layout {
             rows: column - pending_out + pending_in,
             column,
