@@ -2,26 +2,26 @@ use Rattle.std.proofs.Common.{◌≡◌, ◌+◌, ◌-◌, [], length, refl, ari
 use Rattle.crack_row.specs.declared.layout.Layout.{Layout}
 use Rattle.crack_index.specs.Marks.{pieces_from}
 use Rattle.crack_state.proofs.LayoutLaws.{cells-intact, rows-intact, pending_out-few, IsLayout-intact}
-use Rattle.crack_store.specs.Parts.{state_of}
+use Rattle.crack_store.specs.Inside.{lists_of}
 use Rattle.crack_store.proofs.store.Store.layout.Goals as goal
 
 pub overflow_sub-result : goal.overflow_sub-result
 overflow_sub-result c =
-    let s = state_of c.self.inside.parts in
+    let s = lists_of c.self.inside.inside in
     let column : c.column_len-column.result ≡ length s.column = rw (← c.self.view_is) at c.column_len-column.ensures in
     let pending_out : c.pending_out-pending_out.result ≡ length s.pending_out = rw (← c.self.view_is) at c.pending_out-pending_out.ensures in
     omega (arith, column, pending_out, pending_out-few s c.self.invariant.intact.owned)
 
 pub overflow_add-result : goal.overflow_add-result
 overflow_add-result c =
-    let s = state_of c.self.inside.parts in
+    let s = lists_of c.self.inside.inside in
     let column : c.column_len-column.result ≡ length s.column = rw (← c.self.view_is) at c.column_len-column.ensures in
     let pending_in : c.pending_in-pending_in.result ≡ length s.pending_in = rw (← c.self.view_is) at c.pending_in-pending_in.ensures in
     omega (arith, column, pending_in, cells-intact s [] c.self.invariant.intact, c.self.invariant.intact.few_cells)
 
 pub returns-clause-equations : goal.returns-clause-equations
 returns-clause-equations c =
-    let s = state_of c.self.inside.parts in
+    let s = lists_of c.self.inside.inside in
     let column : c.column_len-column.result ≡ length s.column = rw (← c.self.view_is) at c.column_len-column.ensures in
     let again : c.column_len.result ≡ length s.column = rw (← c.self.view_is) at c.column_len.ensures in
     let pending_in : c.pending_in-pending_in.result ≡ length s.pending_in = rw (← c.self.view_is) at c.pending_in-pending_in.ensures in
@@ -42,7 +42,7 @@ returns-clause-equations c =
 
 pub returns-clause-live : goal.returns-clause-live
 returns-clause-live c =
-    let s = state_of c.self.inside.parts in
+    let s = lists_of c.self.inside.inside in
     let column : c.column_len-column.result ≡ length s.column = rw (← c.self.view_is) at c.column_len-column.ensures in
     let pending_in : c.pending_in-pending_in.result ≡ length s.pending_in = rw (← c.self.view_is) at c.pending_in-pending_in.ensures in
     let pending_out : c.pending_out-pending_out.result ≡ length s.pending_out = rw (← c.self.view_is) at c.pending_out-pending_out.ensures in

@@ -1,7 +1,7 @@
 //! What a store and a store with a cell in hand are made of.
 ghost use Rattle.std.specs.Prelude.{◌≡◌, ◌+◌, ◌<◌, ◌≤◌, [], IsTrue, IsFalse};
-ghost use Rattle.crack_state.specs.Merge.{RefinesAt};
-ghost use Rattle.crack_store.specs.Parts.{state_of, AreIntact, IsMissing, Stands};
+ghost use Rattle.crack_state.specs.Merge.{RefinesAt, Stands};
+ghost use Rattle.crack_store.specs.Inside.{lists_of, KeepsIntact, IsMissing};
 
 use crate::flags::Flags;
 use crack_arena::{Arena, Handle};
@@ -15,7 +15,7 @@ use std::alloc::Global;
 
 /// The partition's keys, its cells, and the lists in which they stand.
 #[derive(Drop)]
-pub(crate) struct Parts {
+pub(crate) struct Inside {
     pub(crate) alloc: Global,
     pub(crate) keys: KeyRange,
     pub(crate) arena: Arena<Row>,
@@ -24,41 +24,41 @@ pub(crate) struct Parts {
     pub(crate) pending_in: PendingIn,
     pub(crate) pending_out: PendingOut,
     /// Which cells the pending insertions name.
-    pub(crate) in_flags: Flags,
-    /// Which cells the pending deletions name.
-    pub(crate) out_flags: Flags,
+    pub(crate) flags: Flags,
     /// The handle of each live row, by its serial.
     pub(crate) serials: IndexMap<u64, Handle<Row>>,
     pub(crate) tally: MergeReport,
 }
 
 /// Whether the bound lies between the partition's ends and isn't in the index. O(log bounds).
-pub(crate) fn is_missing(parts: &Parts, bound: Bound) -> bool
-    ensures missing { IsTrue result → IsMissing (state_of parts.now) bound.0 }
-    ensures stands { IsFalse result → Stands (state_of parts.now) bound.0 }
+pub(crate) fn is_missing(inside: &Inside, bound: Bound) -> bool
+    ensures missing { IsTrue result → IsMissing (lists_of inside.now) bound.0 }
+    ensures stands { IsFalse result → Stands (lists_of inside.now) bound.0 }
     ensures small { IsTrue result → bound.0 < GREATEST_BOUND }
 {
-    parts.keys.low() < bound && bound < parts.keys.high() && parts.index.position(bound).is_none()
+    inside.keys.low() < bound
+        && bound < inside.keys.high()
+        && inside.index.position(bound).is_none()
 }
 
 /// Cracks the bound's own piece by it, unless the bound is there or is an end of the partition. Takes no memory.
 /// O(size of the piece + bounds); O(log bounds) where nothing is cracked.
-pub(crate) fn crack_at(parts: &mut Parts, bound: Bound)
-    requires intact { AreIntact parts.old [] }
-    requires room { IsMissing (state_of parts.old) bound.0 → 0 < parts.old.index.room }
-    ensures intact { AreIntact parts.new [] }
-    ensures refined { RefinesAt (state_of parts.old) (state_of parts.new) bound.0 }
-    ensures room { parts.old.index.room ≤ parts.new.index.room + 1 }
-    ensures kept { Stands (state_of parts.old) bound.0 → parts.new.index.room ≡ parts.old.index.room }
+pub(crate) fn crack_at(inside: &mut Inside, bound: Bound)
+    requires intact { KeepsIntact inside.old [] }
+    requires room { IsMissing (lists_of inside.old) bound.0 → 0 < inside.old.index.room }
+    ensures intact { KeepsIntact inside.new [] }
+    ensures refined { RefinesAt (lists_of inside.old) (lists_of inside.new) bound.0 }
+    ensures room { inside.old.index.room ≤ inside.new.index.room + 1 }
+    ensures kept { Stands (lists_of inside.old) bound.0 → inside.new.index.room ≡ inside.old.index.room }
 {
-    if !is_missing(parts, bound) {
+    if !is_missing(inside, bound) {
         return;
     }
-    let piece = parts
+    let piece = inside
         .index
-        .piece_of(Key(bound.0 as u32), parts.column.len());
-    let place = parts
+        .piece_of(Key(bound.0 as u32), inside.column.len());
+    let place = inside
         .column
-        .crack_two(piece.from, piece.to, bound, &parts.arena);
-    parts.index.add(bound, place);
+        .crack_two(piece.from, piece.to, bound, &inside.arena);
+    inside.index.add(bound, place);
 }
