@@ -137,6 +137,24 @@ pub record Pushes (b c : Carried) : Type 0 where
 pub bounds_above-few : (key : ℕ) (marks : List Mark) → bounds_above key marks ≤ length marks
 bounds_above-few key marks = count_by-le-length (λ (m : Mark). nat_lt key m.bound.0) marks
 
+pub Pushes-refl : (c : Carried) → Pushes c c
+Pushes-refl c = record {
+  keys = refl;
+  cells = refl;
+  bounds = refl;
+  pending_in = refl;
+  pending_out = refl;
+  long = refl;
+  room = refl;
+  in_room = refl;
+  put_in = refl;
+  taken_out = refl;
+  evicted = refl;
+  pulled = refl;
+  moved_rises = omega arith;
+  moved = omega arith;
+}
+
 pub Pushes-pushed_on : (b c : Carried) → piece_end c.store (hand_key c) < length c.store.column → IsIntact c.store (c.hand ∷ []) → Pushes b c → Pushes b (pushed_on c)
 Pushes-pushed_on b c ends intact pushes =
     let nearer = bounds_above-pushed_on c ends intact in

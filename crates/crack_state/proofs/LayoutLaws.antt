@@ -1,22 +1,19 @@
 -- How many cells, rows and places an intact store has, and that its layout is one.
 use Rattle.std.proofs.Common.{◌≡◌, ◌≢◌, ℕ, suc, ◌+◌, ◌-◌, ◌≤◌, Bool, true, false, ltb, List, [], ◌∷◌, ◌++◌, length, cond, Option, Some, None, IsSome, refl, sym, ap, ◌∙◌, inl, inr, arith, length-append}
 use Rattle.std.specs.Prelude.{◌==◌}
-use Rattle.std.specs.List.{All, cons_option, filter_map, range_with_len}
+use Rattle.std.specs.List.{All, cons_option, filter_map, range_with_len, sum_by}
 use Rattle.std.proofs.lemmas.List.FromFn.{length-range_with_len}
 use Rattle.std.specs.List.Sorted.{IsPermutation}
 use Rattle.std.proofs.lemmas.List.{length-map}
 use Rattle.std.proofs.lemmas.List.Elements.{filter_map-append, All-head, All-tail}
 use Rattle.std.proofs.lemmas.List.Sorted.{length_permutation}
 use Rattle.std.proofs.lemmas.Bool.{cases_eq, eq-eqb, ne_eqb, true≢false}
-use Rattle.crack_row.specs.declared.Bound.{Bound}
 use Rattle.crack_row.specs.declared.Row.{Row}
 use Rattle.crack_row.specs.declared.layout.Layout.{Layout}
+use Rattle.crack_row.specs.declared.layout.PieceSize.{PieceSize}
 use Rattle.crack_row.specs.Layouts.{IsLayout, AreJoined}
 use Rattle.crack_arena.specs.Arena.{Handle, times, read, slots}
 use Rattle.crack_arena.proofs.Times.{times-nil, times-cons, times_one, times_other, times-append}
-use Rattle.crack_index.specs.Marks.{pieces_from}
-use Rattle.crack_index.proofs.MarkLaws.{AreJoined-pieces, sum_of_sizes}
-use Rattle.crack_arena.specs.Rows.{key_at}
 use Rattle.crack_state.specs.State.{State, places, Reads, IsOwned, IsIntact, live_rows, live_among}
 use Rattle.crack_state.proofs.OwnedLaws.{times-places}
 use Rattle.crack_state.proofs.LiveLaws.{live_rows-among, times-range, IsPermutation-filter_map_times}
@@ -133,15 +130,11 @@ rows-intact s hand intact =
       length-live_among s hand owned.hand_reads,
     )
 
--- the layout that an intact store tells meets the layout equations
-pub IsLayout-intact : (s : State) (low high : Bound) (layout : Layout) → low.0 ≡ s.keys.low → high.0 ≡ s.keys.high → layout.column ≡ length s.column → layout.pending_in ≡ length s.pending_in → layout.pending_out ≡ length s.pending_out → layout.cells ≡ length s.cells → layout.free ≡ length s.free → layout.rows ≡ layout.column - layout.pending_out + layout.pending_in → layout.pieces ≡ pieces_from low 0 s.marks high (length s.column) → IsIntact s [] → IsLayout s.keys layout
-IsLayout-intact s low high layout is_low is_high column pending_in pending_out cells free rows pieces intact =
-    let few : length s.pending_out ≤ length s.column = pending_out-few s intact.owned in
-    let total = sum_of_sizes low 0 s.marks high (length s.column) intact.rising (λ k d h. omega arith) (λ k d h. omega (arith, (intact.obeyed k d h).within, length-map s.column (key_at s.cells))) (omega arith) in
-    let joined : AreJoined low.0 high.0 layout.pieces = rw pieces (AreJoined-pieces low 0 s.marks high (length s.column)) in
-    record {
-      sizes = rw (pieces, column) (omega (arith, total));
-      cells = omega (arith, column, pending_in, free, cells, cells-intact s [] intact);
-      rows = omega (arith, rows, column, pending_out, few);
-      joined = rw (is_low, is_high) at joined;
-    }
+-- the layout that an intact store tells meets the layout equations, where its pieces do
+pub IsLayout-intact : (s : State) (layout : Layout) → layout.column ≡ length s.column → layout.pending_in ≡ length s.pending_in → layout.pending_out ≡ length s.pending_out → layout.cells ≡ length s.cells → layout.free ≡ length s.free → layout.rows ≡ layout.column - layout.pending_out + layout.pending_in → sum_by (λ (p : PieceSize). p.size) layout.pieces ≡ length s.column → AreJoined s.keys.low s.keys.high layout.pieces → IsIntact s [] → IsLayout s.keys layout
+IsLayout-intact s layout column pending_in pending_out cells free rows sizes joined intact = record {
+  sizes = omega arith;
+  cells = omega (arith, cells-intact s [] intact);
+  rows = omega (arith, pending_out-few s intact.owned);
+  joined = joined;
+}

@@ -11,12 +11,10 @@ use crack_pending::{PendingIn, PendingOut};
 use crack_row::{Bound, GREATEST_BOUND, Key, KeyRange, Row};
 use crack_state::MergeReport;
 use indexmap::IndexMap;
-use std::alloc::Global;
 
 /// The partition's keys, its cells, and the lists in which they stand.
 #[derive(Drop)]
 pub(crate) struct Inside {
-    pub(crate) alloc: Global,
     pub(crate) keys: KeyRange,
     pub(crate) arena: Arena<Row>,
     pub(crate) column: CrackerColumn,

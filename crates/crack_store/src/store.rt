@@ -49,7 +49,6 @@ impl Store {
     {
         Store {
             inside: Inside {
-                alloc,
                 keys,
                 arena: Arena::new(alloc),
                 column: CrackerColumn::new(alloc),
@@ -208,7 +207,7 @@ impl Store {
         let pieces = self
             .inside
             .index
-            .pieces(self.inside.alloc, self.inside.keys, self.column_len())?;
+            .pieces(self.inside.keys, self.column_len())?;
         Ok(Layout {
             rows: column - pending_out + pending_in,
             column,
