@@ -1,6 +1,5 @@
 -- What a carry leaves as it was, and what it counts.
-use Rattle.std.proofs.Common.{◌≡◌, ℕ, ◌<◌, ◌∷◌, [], length, refl, arith}
-use Rattle.std.proofs.Common.{◌≤◌}
+use Rattle.std.proofs.Common.{◌≡◌, ℕ, ◌<◌, ◌∷◌, [], length, refl}
 use Rattle.crack_row.specs.declared.command.Policy.{Policy}
 use Rattle.crack_state.specs.State.{State, Carried, IsIntact}
 use Rattle.crack_state.specs.Steps.{appended, lifted, pushed_on}
@@ -17,8 +16,8 @@ pub record EndsAt (b : Carried) (t : State) : Type 0 where
 
 -- a carry that goes on from where pushes have led
 ends_from : (b c : Carried) (t : State) → Pushes b c → IsIntact c.store (c.hand ∷ []) → Carries c t → EndsAt b t
-ends_from b c t pushes intact (ends c at_end) = record { last = c; pushes = pushes; is = refl }
-ends_from b c t pushes intact (goes_on c t before rest) = ends_from b (pushed_on c) t (Pushes-pushed_on b c before intact pushes) (IsIntact-pushed_on c before intact) rest
+ends_from b c t pushes intact (ends d at_end) = record { last = d; pushes = pushes; is = refl }
+ends_from b c t pushes intact (goes_on d u before rest) = ends_from b (pushed_on d) u (Pushes-pushed_on b d before intact pushes) (IsIntact-pushed_on d before intact) rest
 
 -- a carry of a pending insertion that was lifted
 pub EndsAt-lifted : (s t : State) (i : ℕ) → i < length s.pending_in → IsIntact s [] → Carries (lifted i s) t → EndsAt (lifted i s) t
