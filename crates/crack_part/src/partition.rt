@@ -133,12 +133,7 @@ impl Partition {
         ensures full { IsWithin self.old.keys command → self.old.limit ≤ length self.old.history → result ≡ Err (Refusal.HistoryFull self.old.limit) }
         ensures room { IsWithin self.old.keys command → length self.old.history < self.old.limit → IfErr result (λ e. e ≡ Refusal.OutOfMemory) }
     {
-        if !allows(self.keys, &command) {
-            return Err(Refusal::KeyOutside);
-        }
-        if self.history.len() as u64 >= self.limit {
-            return Err(Refusal::HistoryFull { length: self.limit });
-        }
+        self.may_keep(&command)?;
         self.history.reserve(1)?;
         let copies = serve(
             &mut self.store,
@@ -155,6 +150,22 @@ impl Partition {
         };
         push_reserved(&mut self.history, entry);
         Ok((copies.reply, copies.receipt))
+    }
+
+    /// Refuses, in this order, a command that brings a key that isn't the partition's, and any where the history is full.
+    fn may_keep(&self, command: &Command) -> Result<(), Refusal>
+        ensures ok { OnOk result (IsWithin self.now.keys command.now × (length self.now.history < self.now.limit)) }
+        ensures err { OnErr result ((IsWithin self.now.keys command.now → ⊥) ⊎ (self.now.limit ≤ length self.now.history)) }
+        ensures outside { (IsWithin self.now.keys command.now → ⊥) → result ≡ Err Refusal.KeyOutside }
+        ensures full { IsWithin self.now.keys command.now → self.now.limit ≤ length self.now.history → result ≡ Err (Refusal.HistoryFull self.now.limit) }
+    {
+        if !allows(self.keys, command) {
+            return Err(Refusal::KeyOutside);
+        }
+        if self.history.len() as u64 >= self.limit {
+            return Err(Refusal::HistoryFull { length: self.limit });
+        }
+        Ok(())
     }
 }
 
@@ -222,11 +233,11 @@ fn prepare(
 {
     match range {
         Some(range) => {
-            let within = range.clip(keys);
-            if within.is_empty() {
+            let common = range.clip(keys);
+            if common.is_empty() {
                 return Ok(());
             }
-            settle(store, alloc, keys, within, policy)
+            settle(store, alloc, keys, common, policy)
         }
         None => Ok(()),
     }
@@ -336,11 +347,12 @@ fn perform(store: &mut Store, next: &mut u64, change: Option<Change>) -> Result<
     ensures err { IfErr result (λ e. e ≡ Refusal.OutOfMemory) }
 {
     if let Some(Change::Place { key, payload }) = change {
-        store.admit(Row {
+        let row = Row {
             serial: Serial(*next),
             key,
             payload,
-        })?;
+        };
+        store.admit(row)?;
         *next += 1;
     }
     Ok(())

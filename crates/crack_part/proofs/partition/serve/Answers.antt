@@ -1,4 +1,4 @@
-use Rattle.std.proofs.Common.{rules, Result, Ok, Err, OnErr, refl}
+use Rattle.std.proofs.Common.{Result, Ok, Err, OnErr, refl}
 use Rattle.crack_part.proofs.KeepLemmas.{Spares-prepared}
 use Rattle.crack_part.proofs.partition.serve.Goals as goal
 

@@ -12,8 +12,8 @@ serve-requires-clause-none_doomed c = none_doomed _ c.self.invariant
 
 pub serve-requires-clause-admissible : goal.serve-requires-clause-admissible
 serve-requires-clause-admissible c =
-    let within : IsWithin c.self.inside.keys c.args.command = search rules in
-    λ ready prepared. MayPerform-prepared c.args.policy _ c.args.command ready c.self.invariant within prepared
+    let kept = rw (← c.self.view_is) at c.in_ok-may_keep.ensures.ok in
+    λ ready prepared. MayPerform-prepared c.args.policy _ c.args.command ready c.self.invariant kept.0 prepared
 
 pub serve-requires-clause-small : goal.serve-requires-clause-small
 serve-requires-clause-small c = let next = next-le-limit _ c.self.invariant in omega (arith, next)
@@ -28,11 +28,11 @@ invariant_of-self-in_err-copies c =
 pub invariant_of-self-2 : goal.invariant_of-self-2
 invariant_of-self-2 c =
     let e : Entry = record { worker = c.args.worker; command = c.args.command; reply = c.in_ok-copies.copies.kept } in
-    let within : IsWithin c.self.inside.keys c.args.command = search rules in
+    let kept = rw (← c.self.view_is) at c.in_ok-may_keep.ensures.ok in
     let raised = c.in_ok-copies.ensures.next (replay c.self.inside.history.items) c.self.invariant.faithful.serial in
     let said = c.in_ok-copies.ensures.replies (replay c.self.inside.history.items) c.self.invariant.faithful in
     let grown : c.push_reserved.new.items.items ≡ c.self.inside.history.items ++ e ∷ [] = search rules in
-    rw grown (IsSound-served c.args.policy _ e c.serve.new.next c.serve.new.store c.self.invariant (omega arith) within (c.in_ok-copies.ensures.copied.1 ∙ said) raised c.in_ok-copies.ensures.served)
+    rw grown (IsSound-served c.args.policy _ e c.serve.new.next c.serve.new.store c.self.invariant kept.1 kept.0 (c.in_ok-copies.ensures.copied.1 ∙ said) raised c.in_ok-copies.ensures.served)
 
 pub returns-clause-state : goal.returns-clause-state
 returns-clause-state c =
