@@ -90,7 +90,7 @@ SoFar-read {u} {line} known new s goes = record { front = s.front; rest = s.rest
 
 -- the input of a session that begins
 abbrev pub start_input : Input
-start_input = record { unread = []; reads = MOST_READS; ended = false }
+start_input = record { line = []; joined = true; unread = []; reads = MOST_READS; ended = false }
 
 -- a line is taken
 pub IsPaid-taken : (start old new : Input) (known0 known : Option (List ℕ)) → IsPaid start old known0 known → new.reads ≡ old.reads → new.ended ≡ old.ended → IsPaid start new known0 known

@@ -1,7 +1,7 @@
 -- The lines of a session's bytes.
-use Rattle.std.specs.Prelude.{◌≡◌, ℕ, ◌+◌, ◌*◌, ◌-◌, ◌<◌, ◌≤◌, Bool, true, false, List, [], ◌∷◌, length, take, slice_index, Option, None, Some, ◌==◌, ◌||◌, if◌then◌else◌}
+use Rattle.std.specs.Prelude.{◌≡◌, ℕ, ◌+◌, ◌*◌, ◌-◌, ◌<◌, ◌≤◌, Bool, true, false, List, [], ◌∷◌, ◌++◌, length, take, slice_index, Option, Some, ◌==◌, ◌||◌, if◌then◌else◌}
 use Rattle.std.specs.Io.KnownBytes.{prepend_known}
-use Rattle.crack_session.specs.declared.input.TheConstants.{BUFFER_BYTES, KEPT_BYTES}
+use Rattle.crack_session.specs.declared.input.TheConstants.{READ_BYTES, KEPT_BYTES}
 
 -- b goes onto the first of the lines
 abbrev pub onto_first : ℕ → List (List ℕ) → List (List ℕ)
@@ -36,8 +36,11 @@ has_feed (b ∷ bs) = b == 10 || has_feed bs
 abbrev pub kept_of : List ℕ → List ℕ
 kept_of line = take KEPT_BYTES line
 
--- what is read and not yet used, how many more reads there may be, and whether a read brought nothing
+-- the line that was found last, or as much of the next one as is read; whether what isn't used yet stands
+-- right behind it; what is read and not yet used; how many more reads there may be; whether a read brought nothing
 pub record Input : Type 0 where
+  pub line : List ℕ
+  pub joined : Bool
   pub unread : List ℕ
   pub reads : ℕ
   pub ended : Bool
@@ -58,10 +61,18 @@ IsPaid old new remaining remaining' = new.ended ≡ false → (old.ended ≡ fal
 
 -- falls with each line
 abbrev pub left_of : Input → ℕ
-left_of input = (BUFFER_BYTES + 1) * input.reads + length input.unread
+left_of input = (READ_BYTES + 1) * input.reads + length input.unread
 
--- From these bytes on, the next line was this, or there was none; what is ahead then is new.
-abbrev pub IsNextLine : List ℕ → Option (List ℕ) → Option (List ℕ) → Type 0
-IsNextLine bytes None new = bytes ≡ []
-IsNextLine bytes (Some line) new = (0 < length bytes) × (line ≡ kept_of (first_line bytes))
+-- From these bytes on, there was no line, or this was the next one, as far as lines are kept; what is ahead then is new.
+abbrev pub IsNextLine : List ℕ → Bool → List ℕ → Option (List ℕ) → Type 0
+IsNextLine bytes false line new = bytes ≡ []
+IsNextLine bytes true line new = (0 < length bytes) × (kept_of line ≡ kept_of (first_line bytes))
     × (new ≡ Some (after_line bytes))
+
+-- From these bytes on, what was taken is the begin of a line: it has no line feed.
+pub record IsBegun (bytes : List ℕ) (remaining : Option (List ℕ)) : Type 0 where
+  pub front : List ℕ
+  pub rest : List ℕ
+  pub split : bytes ≡ front ++ rest
+  pub none : has_feed front ≡ false
+  pub left : remaining ≡ Some rest

@@ -1,5 +1,6 @@
 -- The texts of replies and refusals: a line each.
-use Rattle.std.specs.Prelude.{ℕ, List, [], ◌++◌, codes, decimal}
+use Rattle.std.specs.Prelude.{ℕ, ◌<◌, List, [], ◌++◌, length, take, Option, codes, decimal}
+use Rattle.std.specs.Io.KnownBytes.{Appends}
 use Rattle.crack_row.specs.declared.command.Reply.{Reply}
 use Rattle.crack_row.specs.declared.command.Reply.TheVariants.{Placed, Counted}
 use Rattle.crack_row.specs.declared.refusal.Refusal.{Refusal}
@@ -19,3 +20,7 @@ carried_text _ = []
 -- a refusal's number, and what it carries
 abbrev pub refusal_text : Refusal → List ℕ
 refusal_text refusal = codes "refused " ++ decimal (code_of refusal) ++ carried_text refusal ++ codes "\n"
+
+-- of the text a front is written that is shorter than it
+abbrev pub AppendsFront : Option (List ℕ) → Option (List ℕ) → List ℕ → Type 0
+AppendsFront old new text = (n : ℕ) × (n < length text) × Appends old new (take n text)

@@ -1,29 +1,32 @@
-//! The lines of a reader.
-ghost use Rattle.std.specs.Prelude.{◌≡◌, ℕ, ◌+◌, ◌<◌, ◌≤◌, ◌++◌, ◌⊎◌, List, [], length, take, drop, true, false, Some, MatchBool, IfOk, IfErr, IfSome, OnOk};
+//! The lines of a reader, in the place where they were read to.
+ghost use Rattle.std.specs.Prelude.{◌≡◌, ℕ, ◌+◌, ◌-◌, ◌^◌, ◌<◌, ◌≤◌, ◌++◌, ◌⊎◌, min, List, [], length, take, drop, true, false, Some, MatchBool, IfOk, IfErr, OnOk};
 ghost use Rattle.std.specs.Io.KnownBytes.{Keeps};
-ghost use Rattle.crack_row.specs.Devices.{device, has_failed};
-ghost use Rattle.crack_session.specs.Lines.{first_line, after_line, has_feed, kept_of, ahead, left_of, IsNextLine, IsPaid, KnowsEnd};
+ghost use Rattle.crack_row.specs.Devices.{device, has_failed, reads_of};
+ghost use Rattle.crack_session.specs.Lines.{first_line, after_line, has_feed, kept_of, ahead, left_of, IsNextLine, IsBegun, IsPaid, KnowsEnd};
 
 use crate::MOST_READS;
-use crate::fixed_bytes::FixedBytes;
 use crate::output::flush;
 use crack_row::{Refusal, Watched};
 use std::io::{Read, Write};
 use std::marker::Model;
 
 /// How many bytes are read at a time, at most.
-const BUFFER_BYTES: usize = 4096;
+const READ_BYTES: usize = 4096;
 
-/// How many bytes of a line are kept: one that has more is too long, whatever the rest is.
+/// How many bytes of a line are kept while the rest of it is read: one that has more is too long,
+/// whatever the rest is.
 const KEPT_BYTES: usize = 202;
 
-/// The bytes of a line that are kept.
-pub type Line = FixedBytes<KEPT_BYTES>;
+/// Room for the bytes of a read, and in front of them for a line that begins before them.
+const ROOM_BYTES: usize = KEPT_BYTES + READ_BYTES;
 
-/// What is read and not yet used. Takes no memory.
+/// What is read, of which the front is the line that was found last, and the back isn't used yet.
+/// Takes no memory.
 #[derive(Drop)]
 pub struct LineReader {
-    bytes: [u8; BUFFER_BYTES],
+    bytes: [u8; ROOM_BYTES],
+    line_start: usize,
+    line_end: usize,
     at: usize,
     end: usize,
     reads: u64,
@@ -31,15 +34,22 @@ pub struct LineReader {
 }
 
 impl Model for LineReader {
-    ghost use Rattle.std.specs.Prelude.{◌≤◌, slice_range};
+    ghost use Rattle.std.specs.Prelude.{◌≤◌, ◌==◌, slice_range};
     ghost use Rattle.crack_session.specs.Lines.{Input};
-    ghost use Rattle.crack_session.specs.declared.input.TheConstants.{BUFFER_BYTES};
+    ghost use Rattle.crack_session.specs.declared.input.TheConstants.{ROOM_BYTES};
 
     ghost Value = { Input };
 
-    ghost view = { λ r. record { unread = slice_range r.bytes r.at r.end; reads = r.reads; ended = r.ended } };
+    ghost view = { λ r. record {
+        line = slice_range r.bytes r.line_start r.line_end;
+        joined = r.line_end == r.at;
+        unread = slice_range r.bytes r.at r.end;
+        reads = r.reads;
+        ended = r.ended
+    } };
 
-    ghost invariant = { λ r. (r.at ≤ r.end) × (r.end ≤ BUFFER_BYTES) };
+    ghost invariant = { λ r. (r.line_start ≤ r.line_end) × (r.line_end ≤ r.at) × (r.at ≤ r.end)
+        × (r.end ≤ ROOM_BYTES) };
 }
 
 impl LineReader {
@@ -50,7 +60,9 @@ impl LineReader {
         ensures ended { result.ended ≡ false }
     {
         LineReader {
-            bytes: [0; BUFFER_BYTES],
+            bytes: [0; ROOM_BYTES],
+            line_start: 0,
+            line_end: 0,
             at: 0,
             end: 0,
             reads: MOST_READS,
@@ -58,18 +70,37 @@ impl LineReader {
         }
     }
 
-    /// Takes what is read up to a line feed, or all of it, and says whether there was one.
-    fn take_line(&mut self, line: &mut Line) -> bool
-        ensures found { result ≡ has_feed self.old.unread }
-        ensures rest { MatchBool result (self.new.unread ≡ after_line self.old.unread) (self.new.unread ≡ []) }
-        ensures line { MatchBool result (line.new ≡ kept_of (line.old ++ first_line self.old.unread)) (line.new ≡ kept_of (line.old ++ self.old.unread)) }
+    /// The line that was found last, without its line feed.
+    pub fn line(&self) -> &[u8]
+        ensures { result.now ≡ self.now.line }
+    {
+        &self.bytes[self.line_start..self.line_end]
+    }
+
+    /// Begins a line where the bytes begin that aren't used yet.
+    fn begin_line(&mut self)
+        ensures line { (self.new.line ≡ []) × (self.new.joined ≡ true) }
+        ensures unread { self.new.unread ≡ self.old.unread }
         ensures reads { (self.new.reads ≡ self.old.reads) × (self.new.ended ≡ self.old.ended) }
     {
-        let unread = &self.bytes[self.at..self.end];
-        let place = feed_at(unread);
-        line.push_what_fits(&unread[..place]);
-        if place < unread.len() {
-            self.at += place + 1;
+        self.line_start = self.at;
+        self.line_end = self.at;
+    }
+
+    /// Adds to the line what is read up to a line feed, or all of it, and says whether there was one.
+    fn take_line(&mut self) -> bool
+        requires { self.old.joined ≡ true }
+        ensures found { result ≡ has_feed self.old.unread }
+        ensures rest { MatchBool result (self.new.unread ≡ after_line self.old.unread)
+            ((self.new.unread ≡ []) × (self.new.joined ≡ true)) }
+        ensures line { MatchBool result (self.new.line ≡ self.old.line ++ first_line self.old.unread)
+            (self.new.line ≡ self.old.line ++ self.old.unread) }
+        ensures reads { (self.new.reads ≡ self.old.reads) × (self.new.ended ≡ self.old.ended) }
+    {
+        let place = feed_at(&self.bytes[self.at..self.end]);
+        self.line_end = self.at + place;
+        if self.line_end < self.end {
+            self.at = self.line_end + 1;
             true
         } else {
             self.at = self.end;
@@ -77,28 +108,48 @@ impl LineReader {
         }
     }
 
+    /// Moves the begun line in front of the room that is read to, as far as it is kept.
+    fn make_room(&mut self)
+        requires { (self.old.joined ≡ true) × (self.old.unread ≡ []) }
+        ensures line { self.new.line ≡ kept_of self.old.line }
+        ensures unread { (self.new.unread ≡ []) × (self.new.joined ≡ true) }
+        ensures reads { (self.new.reads ≡ self.old.reads) × (self.new.ended ≡ self.old.ended) }
+    {
+        let kept = (self.line_end - self.line_start).min(KEPT_BYTES);
+        let from = self.line_start;
+        self.bytes.copy_within(from..from + kept, KEPT_BYTES - kept);
+        self.line_start = KEPT_BYTES - kept;
+        self.line_end = KEPT_BYTES;
+        self.at = KEPT_BYTES;
+        self.end = KEPT_BYTES;
+    }
+
     /// Reads more, where nothing is left to use; a read that brings nothing ends the input.
     fn refill<R: Read>(&mut self, reader: &mut Watched<R>) -> Result<(), Refusal>
-        requires unread { self.old.unread ≡ [] }
+        requires line { (self.old.joined ≡ true) × (self.old.unread ≡ []) }
         requires goes_on { self.old.ended ≡ false }
+        ensures line { (self.new.joined ≡ true) × (kept_of self.new.line ≡ kept_of self.old.line) }
         ensures bytes { OnOk result ((u : List ℕ) → R.remaining (device reader.old) ≡ Some u →
             ahead self.new (R.remaining (device reader.new)) ≡ Some u) }
+        ensures still { IfErr result (λ _. Keeps (R.remaining (device reader.old)) (R.remaining (device reader.new))) }
         ensures end { KnowsEnd self.new (R.remaining (device reader.new)) }
-        ensures paid { IsPaid self.old self.new (R.remaining (device reader.old)) (R.remaining (device reader.new)) }
+        ensures paid { OnOk result (IsPaid self.old self.new (R.remaining (device reader.old)) (R.remaining (device reader.new))) }
         ensures reads { OnOk result (self.new.reads + 1 ≡ self.old.reads) }
-        ensures few { length self.new.unread ≤ BUFFER_BYTES }
+        ensures counted { (reads_of reader.new ≡ min (reads_of reader.old + (self.old.reads - self.new.reads)) (2 ^ 64 - 1))
+            × (self.new.reads ≤ self.old.reads) }
+        ensures few { OnOk result (length self.new.unread ≤ READ_BYTES) }
         ensures unfailed { OnOk result (has_failed reader.new ≡ has_failed reader.old) }
         ensures err { IfErr result (λ e. (e ≡ Refusal.ReadFault)
-            × ((has_failed reader.new ≡ true) ⊎ ((self.new.reads ≡ 0) × (self.new.ended ≡ false)))) }
+            × ((has_failed reader.new ≡ true) ⊎ ((self.new.reads ≡ 0) × (self.new ≡ self.old)))) }
     {
         if self.reads == 0 {
             return Err(Refusal::ReadFault);
         }
-        match reader.read(&mut self.bytes) {
+        self.reads -= 1;
+        self.make_room();
+        match reader.read(&mut self.bytes[KEPT_BYTES..]) {
             Ok(count) => {
-                self.reads -= 1;
-                self.at = 0;
-                self.end = count;
+                self.end = KEPT_BYTES + count;
                 self.ended = count == 0;
                 Ok(())
             }
@@ -107,34 +158,42 @@ impl LineReader {
     }
 }
 
-/// The next line of a reader. Nothing is read while a line is there,
+/// Finds the next line of a reader, and says whether there is one. Nothing is read while a line is there,
 /// and what is written is handed on before each read.
 pub fn next_line<R: Read, W: Write>(
     input: &mut LineReader,
     reader: &mut Watched<R>,
     writer: &mut Watched<W>,
-) -> Result<Option<Line>, Refusal>
+) -> Result<bool, Refusal>
     requires { KnowsEnd input.old (R.remaining (device reader.old)) }
-    ensures line { IfOk result (λ line. (u : List ℕ) →
+    ensures line { IfOk result (λ found. (u : List ℕ) →
         ahead input.old (R.remaining (device reader.old)) ≡ Some u →
-        IsNextLine u line (ahead input.new (R.remaining (device reader.new)))) }
-    ensures falls { IfOk result (λ line. IfSome line (λ _. left_of input.new < left_of input.old)) }
+        IsNextLine u found input.new.line (ahead input.new (R.remaining (device reader.new)))) }
+    ensures falls { IfOk result (λ found. found ≡ true → left_of input.new < left_of input.old) }
     ensures end { KnowsEnd input.new (R.remaining (device reader.new)) }
-    ensures paid { IsPaid input.old input.new (R.remaining (device reader.old)) (R.remaining (device reader.new)) }
+    ensures paid { OnOk result (IsPaid input.old input.new (R.remaining (device reader.old)) (R.remaining (device reader.new))) }
+    ensures counted { (reads_of reader.new ≡ min (reads_of reader.old + (input.old.reads - input.new.reads)) (2 ^ 64 - 1))
+        × (input.new.reads ≤ input.old.reads) }
     ensures bytes { Keeps (W.contents (device writer.old)) (W.contents (device writer.new)) }
     ensures unfailed { OnOk result ((has_failed reader.new ≡ has_failed reader.old)
         × (has_failed writer.new ≡ has_failed writer.old)) }
+    // Where there is an error, the bytes that were taken are the begin of a line, as far as they are known.
+    ensures begun { IfErr result (λ _. (u : List ℕ) →
+        ahead input.old (R.remaining (device reader.old)) ≡ Some u →
+        IsBegun u (R.remaining (device reader.new))) }
+    // A read failed, or none may be made any more.
     ensures err { IfErr result (λ e. ((e ≡ Refusal.WriteFault) × (has_failed writer.new ≡ true))
         ⊎ ((e ≡ Refusal.ReadFault)
-        × ((has_failed reader.new ≡ true) ⊎ ((input.new.reads ≡ 0) × (input.new.ended ≡ false))))) }
+        × ((has_failed reader.new ≡ true) ⊎ ((input.new.reads ≡ 0) × (input.new.ended ≡ false)
+        × IsPaid input.old input.new (R.remaining (device reader.old)) (R.remaining (device reader.new)))))) }
 {
-    let mut line = Line::new();
+    input.begin_line();
     'reading: loop {
-        if input.take_line(&mut line) {
-            return Ok(Some(line));
+        if input.take_line() {
+            return Ok(true);
         }
         if input.ended {
-            return Ok(if line.is_empty() { None } else { Some(line) });
+            return Ok(!input.line().is_empty());
         }
         flush(writer)?;
         input.refill(reader)?;

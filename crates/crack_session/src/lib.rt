@@ -3,7 +3,6 @@
 
 mod answer;
 pub mod desk;
-mod fixed_bytes;
 mod input;
 pub mod one_desk;
 mod output;

@@ -1,90 +1,96 @@
-//! The texts of replies and refusals.
-ghost use Rattle.std.specs.Prelude.{◌≡◌, ◌+◌, ◌≤◌, ◌++◌, length, decimal, codes};
-ghost use Rattle.crack_session.specs.Texts.{reply_text, refusal_text, carried_text};
+//! The texts of replies and refusals, to a writer.
+ghost use Rattle.std.specs.Prelude.{◌≡◌, ◌+◌, ◌≤◌, ◌++◌, true, length, decimal, codes, IfErr, OnOk};
+ghost use Rattle.std.specs.Io.KnownBytes.{Appends};
+ghost use Rattle.crack_row.specs.Devices.{device, has_failed};
+ghost use Rattle.crack_session.specs.Texts.{reply_text, refusal_text, carried_text, AppendsFront};
 
-use crate::fixed_bytes::FixedBytes;
-use crack_row::{Refusal, Reply};
+use crate::output::send;
+use arrayvec::ArrayVec;
+use crack_row::{Refusal, Reply, Watched};
+use std::io::Write;
 
-/// The greatest length of a line of text.
-const TEXT_BYTES: usize = 256;
+/// Room for a line of text: words, up to two numbers of 20 digits, and a line feed.
+const TEXT_BYTES: usize = 64;
 
 /// A line of text in the making.
-pub type Text = FixedBytes<TEXT_BYTES>;
+type Text = ArrayVec<u8, TEXT_BYTES>;
 
-/// The line of a partition's reply.
-pub fn reply_line(part: u32, reply: &Reply) -> Text
-    ensures { result ≡ reply_text part reply.now }
+/// Writes the line of a partition's reply.
+pub fn write_reply<W: Write>(part: u32, reply: &Reply, writer: &mut Watched<W>) -> Result<(), Refusal>
+    ensures ok { OnOk result (Appends (W.contents (device writer.old)) (W.contents (device writer.new)) (reply_text part reply.now)) }
+    ensures unfailed { OnOk result (has_failed writer.new ≡ has_failed writer.old) }
+    ensures err { IfErr result (λ e. (e ≡ Refusal.WriteFault) × (has_failed writer.new ≡ true)) }
+    ensures front { IfErr result (λ _. AppendsFront (W.contents (device writer.old)) (W.contents (device writer.new)) (reply_text part reply.now)) }
 {
+    let mut text = Text::new();
     match reply {
-        Reply::Placed(serial) => placed_line(part, serial.0),
-        Reply::Counted(count) => number_line(b"count ", *count),
+        Reply::Placed(serial) => {
+            push(&mut text, b"row ");
+            push_number(&mut text, part as u64);
+            push(&mut text, b".");
+            push_number(&mut text, serial.0);
+        }
+        Reply::Counted(count) => {
+            push(&mut text, b"count ");
+            push_number(&mut text, *count);
+        }
     }
+    push(&mut text, b"\n");
+    send(writer, text.as_slice())
 }
 
-/// The line of a row that was placed.
-fn placed_line(part: u32, serial: u64) -> Text
-    ensures { result ≡ codes "row " ++ decimal part ++ codes "." ++ decimal serial ++ codes "\n" }
+/// Writes the line of a refusal.
+pub fn write_refusal<W: Write>(refusal: &Refusal, writer: &mut Watched<W>) -> Result<(), Refusal>
+    ensures ok { OnOk result (Appends (W.contents (device writer.old)) (W.contents (device writer.new)) (refusal_text refusal.now)) }
+    ensures unfailed { OnOk result (has_failed writer.new ≡ has_failed writer.old) }
+    ensures err { IfErr result (λ e. (e ≡ Refusal.WriteFault) × (has_failed writer.new ≡ true)) }
+    ensures front { IfErr result (λ _. AppendsFront (W.contents (device writer.old)) (W.contents (device writer.new)) (refusal_text refusal.now)) }
 {
     let mut text = Text::new();
-    text.push(b"row ");
-    push_number(&mut text, part as u64);
-    text.push(b".");
-    push_number(&mut text, serial);
-    text.push(b"\n");
-    text
-}
-
-/// A word, a number and a line feed.
-fn number_line(word: &[u8], number: u64) -> Text
-    requires { length word.now ≤ 20 }
-    ensures { result ≡ word.now ++ decimal number ++ codes "\n" }
-{
-    let mut text = Text::new();
-    text.push(word);
-    push_number(&mut text, number);
-    text.push(b"\n");
-    text
-}
-
-/// The line of a refusal.
-pub fn refusal_line(refusal: &Refusal) -> Text
-    ensures { result ≡ refusal_text refusal.now }
-{
-    let mut text = Text::new();
-    text.push(b"refused ");
+    push(&mut text, b"refused ");
     push_number(&mut text, refusal.code() as u64);
     push_carried(&mut text, refusal);
-    text.push(b"\n");
-    text
+    push(&mut text, b"\n");
+    send(writer, text.as_slice())
+}
+
+/// Writes bytes and a line feed.
+pub fn write_text<W: Write>(bytes: &[u8], writer: &mut Watched<W>) -> Result<(), Refusal>
+    ensures ok { OnOk result (Appends (W.contents (device writer.old)) (W.contents (device writer.new)) (bytes.now ++ codes "\n")) }
+    ensures unfailed { OnOk result (has_failed writer.new ≡ has_failed writer.old) }
+    ensures err { IfErr result (λ e. (e ≡ Refusal.WriteFault) × (has_failed writer.new ≡ true)) }
+    ensures front { IfErr result (λ _. AppendsFront (W.contents (device writer.old)) (W.contents (device writer.new)) (bytes.now ++ codes "\n")) }
+{
+    send(writer, bytes)?;
+    send(writer, b"\n")
 }
 
 /// Adds what a refusal carries, behind a space.
 fn push_carried(text: &mut Text, refusal: &Refusal)
-    requires { length text.old + 21 ≤ TEXT_BYTES }
-    ensures value { text.new ≡ text.old ++ carried_text refusal.now }
-    ensures short { length text.new ≤ length text.old + 21 }
+    requires { length text.old.items + 21 ≤ TEXT_BYTES }
+    ensures value { text.new.items ≡ text.old.items ++ carried_text refusal.now }
+    ensures short { length text.new.items ≤ length text.old.items + 21 }
 {
     if let Refusal::HistoryFull { length } = refusal {
-        text.push(b" ");
+        push(text, b" ");
         push_number(text, *length);
     }
 }
 
-/// The line that ends a session.
-pub fn bye_line() -> Text
-    ensures { result ≡ codes "bye\n" }
-{
-    let mut text = Text::new();
-    text.push(b"bye\n");
-    text
-}
-
 /// Adds a number in decimal: 20 digits at most.
 fn push_number(text: &mut Text, number: u64)
-    requires { length text.old + 20 ≤ TEXT_BYTES }
-    ensures digits { text.new ≡ text.old ++ decimal number }
-    ensures short { length text.new ≤ length text.old + 20 }
+    requires { length text.old.items + 20 ≤ TEXT_BYTES }
+    ensures digits { text.new.items ≡ text.old.items ++ decimal number }
+    ensures short { length text.new.items ≤ length text.old.items + 20 }
 {
     let mut digits = itoa::Buffer::new();
-    text.push(digits.format(number).as_bytes());
+    push(text, digits.format(number).as_bytes());
+}
+
+/// Adds bytes, for which there is room.
+fn push(text: &mut Text, bytes: &[u8])
+    requires { length text.old.items + length bytes.now ≤ TEXT_BYTES }
+    ensures { text.new.items ≡ text.old.items ++ bytes.now }
+{
+    let _room = text.try_extend_from_slice(bytes);
 }
