@@ -4,6 +4,6 @@ pub mod Following
 pub mod Going
 pub mod Reading
 pub mod Replying
-pub mod Responding
 pub mod Sending
+pub mod WholeLines
 pub mod Words

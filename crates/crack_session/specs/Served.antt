@@ -21,6 +21,12 @@ pub record AreAnswered (limit : ℕ) (splits : List Bound) (tables : List Table)
   pub short_is : short ≡ first_short answers
   pub left_is : left ≡ Some new
 
+-- These statements are answered in order, and the texts of the answers are written, each of them whole.
+pub record AreTold (limit : ℕ) (splits : List Bound) (tables : List Table) (readings : List Reading) (out : List ℕ) (short : Option ℕ) (left : Option (List Table)) (written : Option (List ℕ)) : Type 0 where
+  pub texts : List (List ℕ)
+  pub answered : AreAnswered limit splits tables readings texts short left
+  pub written_is : written ≡ Some (out ++ concat texts)
+
 -- on Ok all statements are counted
 pub record IsCounted (bytes : List ℕ) (end : End) : Type 0 where
   pub statements_are : end.statements ≡ length (statements bytes)
@@ -32,22 +38,14 @@ pub record IsDone (bytes : List ℕ) (fault : Fault) (remaining : Option (List �
   pub whole : fault.refusal ≡ ReadFault → (taken rest : List ℕ) → remaining ≡ Some rest → bytes ≡ taken ++ rest →
       fault.done ≡ length (statements (whole_lines taken))
 
--- on Ok all statements are answered, and the texts of the answers are written
-pub record IsServed (limit : ℕ) (splits : List Bound) (tables : List Table) (bytes out : List ℕ) (end : End) (left : Option (List Table)) (written : Option (List ℕ)) : Type 0 where
-  pub texts : List (List ℕ)
-  pub answered : AreAnswered limit splits tables (statements bytes) texts end.first_short left
-  pub written_is : written ≡ Some (out ++ concat texts)
+-- on Ok all statements are answered
+abbrev pub IsServed : ℕ → List Bound → List Table → List ℕ → List ℕ → End → Option (List Table) → Option (List ℕ) → Type 0
+IsServed limit splits tables bytes out end left written = AreTold limit splits tables (statements bytes) out end.first_short left written
 
--- on a fault between two statements those that are done are answered, and nothing follows their texts
-pub record IsCutBetween (limit : ℕ) (splits : List Bound) (tables : List Table) (bytes out : List ℕ) (fault : Fault) (left : Option (List Table)) (written : Option (List ℕ)) : Type 0 where
-  pub texts : List (List ℕ)
-  pub answered : AreAnswered limit splits tables (take fault.done (statements bytes)) texts fault.first_short left
-  pub written_is : written ≡ Some (out ++ concat texts)
-
--- on a fault of the writer in a text, one more statement is answered, and a front of its text follows the others
+-- where the writer failed in a text: one statement more is answered than is done, and a front of its text follows the others
 pub record IsCutWithin (limit : ℕ) (splits : List Bound) (tables : List Table) (bytes out : List ℕ) (fault : Fault) (left : Option (List Table)) (written : Option (List ℕ)) : Type 0 where
   pub refusal_is : fault.refusal ≡ WriteFault
-  pub one_more : fault.done + 1 ≤ length (statements bytes)
+  pub one_more : fault.done < length (statements bytes)
   pub texts : List (List ℕ)
   pub text : List ℕ
   pub answered : AreAnswered limit splits tables (take (fault.done + 1) (statements bytes)) (texts ++ text ∷ []) fault.first_short left
@@ -55,7 +53,7 @@ pub record IsCutWithin (limit : ℕ) (splits : List Bound) (tables : List Table)
   pub cut : count < length text
   pub written_is : written ≡ Some (out ++ (concat texts ++ take count text))
 
--- on a fault
+-- on a fault the statements that are done are answered, and nothing follows their texts, or a front of one more
 abbrev pub IsCutOff : ℕ → List Bound → List Table → List ℕ → List ℕ → Fault → Option (List Table) → Option (List ℕ) → Type 0
-IsCutOff limit splits tables bytes out fault left written = IsCutBetween limit splits tables bytes out fault left written
+IsCutOff limit splits tables bytes out fault left written = AreTold limit splits tables (take fault.done (statements bytes)) out fault.first_short left written
     ⊎ IsCutWithin limit splits tables bytes out fault left written
