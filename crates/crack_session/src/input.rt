@@ -1,5 +1,5 @@
 //! The lines of a reader, in the place where they were read to.
-ghost use Rattle.std.specs.Prelude.{◌≡◌, ℕ, ◌+◌, ◌-◌, ◌^◌, ◌<◌, ◌≤◌, ◌++◌, ◌⊎◌, min, List, [], length, take, drop, true, false, Some, MatchBool, IfOk, IfErr, OnErr, OnOk};
+ghost use Rattle.std.specs.Prelude.{◌≡◌, ℕ, ◌+◌, ◌-◌, ◌^◌, ◌<◌, ◌≤◌, ◌++◌, ◌⊎◌, min, List, [], length, take, drop, slice_range, true, false, Some, MatchBool, IfOk, IfErr, OnErr, OnOk};
 ghost use Rattle.std.specs.Io.KnownBytes.{Keeps};
 ghost use Rattle.crack_row.specs.Devices.{device, has_failed, reads_of};
 ghost use Rattle.crack_session.specs.Lines.{first_line, after_line, has_feed, kept_of, ahead, left_of, IsNextLine, IsBegun, IsPaid, KnowsEnd};
@@ -108,22 +108,6 @@ impl LineReader {
         }
     }
 
-    /// Moves the begun line in front of the room that is read to, as far as it is kept.
-    fn make_room(&mut self)
-        requires { (self.old.joined ≡ true) × (self.old.unread ≡ []) }
-        ensures line { self.new.line ≡ kept_of self.old.line }
-        ensures unread { (self.new.unread ≡ []) × (self.new.joined ≡ true) }
-        ensures reads { (self.new.reads ≡ self.old.reads) × (self.new.ended ≡ self.old.ended) }
-    {
-        let kept = (self.line_end - self.line_start).min(KEPT_BYTES);
-        let from = self.line_start;
-        self.bytes.copy_within(from..from + kept, KEPT_BYTES - kept);
-        self.line_start = KEPT_BYTES - kept;
-        self.line_end = KEPT_BYTES;
-        self.at = KEPT_BYTES;
-        self.end = KEPT_BYTES;
-    }
-
     /// Reads more, where nothing is left to use; a read that brings nothing ends the input.
     fn refill<R: Read>(&mut self, reader: &mut Watched<R>) -> Result<(), Refusal>
         requires line { (self.old.joined ≡ true) × (self.old.unread ≡ []) }
@@ -142,11 +126,16 @@ impl LineReader {
         ensures err { IfErr result (λ e. (e ≡ Refusal.ReadFault)
             × ((has_failed reader.new ≡ true) ⊎ ((self.new.reads ≡ 0) × (self.new ≡ self.old)))) }
     {
+        let _counted = reader.reads();
         if self.reads == 0 {
             return Err(Refusal::ReadFault);
         }
         self.reads -= 1;
-        self.make_room();
+        let kept = move_back(&mut self.bytes, self.line_start, self.line_end);
+        self.line_start = KEPT_BYTES - kept;
+        self.line_end = KEPT_BYTES;
+        self.at = KEPT_BYTES;
+        self.end = KEPT_BYTES;
         match reader.read(&mut self.bytes[KEPT_BYTES..]) {
             Ok(count) => {
                 self.end = KEPT_BYTES + count;
@@ -191,6 +180,7 @@ pub fn next_line<R: Read, W: Write>(
         × ((has_failed reader.new ≡ true) ⊎ ((input.new.reads ≡ 0) × (input.new.ended ≡ false)
         × IsPaid input.old input.new (R.remaining (device reader.old)) (R.remaining (device reader.new)))))) }
 {
+    let _counted = reader.reads();
     input.begin_line();
     'reading: loop {
         if input.take_line() {
@@ -204,9 +194,22 @@ pub fn next_line<R: Read, W: Write>(
     }
 }
 
+/// Moves a begun line in front of the room that is read to, as far as it is kept, and says how many bytes these are.
+fn move_back(bytes: &mut [u8; ROOM_BYTES], start: usize, end: usize) -> usize
+    requires ordered { start ≤ end }
+    requires within { end ≤ ROOM_BYTES }
+    ensures short { result ≤ KEPT_BYTES }
+    ensures line { slice_range bytes.new (KEPT_BYTES - result) KEPT_BYTES ≡ kept_of (slice_range bytes.old start end) }
+{
+    let kept = (end - start).min(KEPT_BYTES);
+    bytes.copy_within(start..start + kept, KEPT_BYTES - kept);
+    kept
+}
+
 /// The place of the first line feed, or the length.
 #[tactic(auto, using(crate::proofs::Feeds::first_line_at, crate::proofs::Feeds::after_line_at, crate::proofs::Feeds::has_feed_at, crate::proofs::Feeds::no_feed_more, crate::proofs::Feeds::all_first_line, crate::proofs::Feeds::after_line_at))]
 fn feed_at(bytes: &[u8]) -> usize
+    ensures within { result ≤ length bytes.now }
     ensures front { take result bytes.now ≡ first_line bytes.now }
     ensures found { has_feed bytes.now ≡ true → (result < length bytes.now)
         × (drop (result + 1) bytes.now ≡ after_line bytes.now) }
