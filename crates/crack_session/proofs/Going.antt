@@ -208,3 +208,7 @@ Going-quit {limit} {splits} {all} rest {k} {short} {s0} {s} {out0} {out} q g e =
 -- the next line is a statement
 pub Going-line : {limit : ℕ} {splits : List Bound} {all : List Reading} {k : ℕ} {short : Option ℕ} {how : How} {s0 s : Option (List Table)} {out0 : Option (List ℕ)} (out out' : Option (List ℕ)) (u line : List ℕ) (r : Reading) → Going limit splits all (statements u) k short how s0 s out0 out → Keeps out out' → 0 < length u → kept_of line ≡ kept_of (first_line u) → reading_of line ≡ Some r → Going limit splits all (r ∷ cond (is_quit r) [] (statements (after_line u))) k short how s0 s out0 out'
 Going-line out out' u line r g h some kept said = Going-left _ (Going-kept out out' g h) (next_some u line r some kept said)
+
+-- the next line is a statement, and is answered
+pub Going-answered : {limit : ℕ} {splits : List Bound} {all : List Reading} {s0 s : Option (List Table)} {out0 out : Option (List ℕ)} (out1 : Option (List ℕ)) (u line : List ℕ) (r : Reading) (old new : Progress) (s' : Option (List Table)) (out' : Option (List ℕ)) → Going limit splits all (statements u) old.statements old.first_short InputEnded s0 s out0 out → Keeps out out1 → 0 < length u → kept_of line ≡ kept_of (first_line u) → reading_of line ≡ Some r → Responds limit splits r old new (Ok tt) s s' out1 out' → new.statements ≡ old.statements + 1 → Going limit splits all (cond (is_quit r) [] (statements (after_line u))) new.statements new.first_short (cond (is_quit r) Quit InputEnded) s0 s' out0 out'
+Going-answered {limit} {splits} {all} {s0} {s} {out0} {out} out1 u line r old new s' out' g h some kept said responds n = Going-more r old new s' out' (Going-line out out1 u line r g h some kept said) responds n

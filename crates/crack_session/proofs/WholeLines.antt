@@ -97,6 +97,13 @@ AreUsed-more {bytes} {k} u line r n a h kept said goes more = record {
   whole = used_whole a.used u;
 }
 
+-- where the input goes on behind a line, the line has its feed
+pub line_feeds : (u : List ℕ) (ended : Bool) → (has_feed u ≡ false → ended ≡ true) → ended ≡ false → has_feed u ≡ true
+line_feeds u ended last goes_on = ⊎_elim
+    (λ (h : has_feed u ≡ true). h)
+    (λ (h : has_feed u ≡ false). absurd (false≢true (sym goes_on ∙ last h)))
+    (cases_Bool (has_feed u))
+
 -- the rest of known bytes is one
 same_rest : (known : Option (List ℕ)) (xs ys : List ℕ) → known ≡ Some xs → known ≡ Some ys → xs ≡ ys
 same_rest known xs ys e f = let both : ◌≡◌ {A = Option (List ℕ)} (Some xs) (Some ys) = sym e ∙ f in cc

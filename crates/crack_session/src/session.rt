@@ -169,6 +169,8 @@ pub fn serve<D: Desk, R: Read, W: Write>(
         ⊎ ((reads_of reader.new ≡ min (reads_of reader.old + 1000000000) (2 ^ 64 - 1))
         × ((bytes : List ℕ) → R.remaining (device reader.old) ≡ Some bytes → 1000000000 ≤ length bytes))))) }
 {
+    // Its count of reads is a number of 64 bits.
+    let _reads = reader.reads();
     let mut input = LineReader::new();
     let mut progress = Progress {
         statements: 0,
