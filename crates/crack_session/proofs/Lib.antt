@@ -2,6 +2,7 @@ pub mod Feeds
 pub mod Finishing
 pub mod Following
 pub mod Going
+pub mod Numbers
 pub mod Ranges
 pub mod Reading
 pub mod Replying

@@ -1,9 +1,11 @@
 -- Words and numbers.
-use Rattle.std.proofs.Common.{◌≡◌, ℕ, ◌+◌, ◌<◌, ◌≤◌, true, false, eqb, List, [], ◌∷◌, ◌++◌, length, take, drop, get_or, refl, sym, ap, ◌∙◌, subst, arith, ⊎_elim, append-nil, length-take}
-use Rattle.std.proofs.lemmas.Bool.{or_parts, false≢true, ne_eqb, cases_lt}
+use Rattle.std.proofs.Common.{◌≡◌, ℕ, ◌+◌, ◌<◌, ◌≤◌, true, false, eqb, ltb, filter, Some, None, List, [], ◌∷◌, ◌++◌, length, take, drop, get_or, refl, sym, ap, ◌∙◌, subst, arith, ⊎_elim, append-nil, length-take}
+use Rattle.std.proofs.lemmas.Bool.{or_parts, false≢true, ne_eqb, cases_lt, cases_Bool, le-ltb}
 use Rattle.std.proofs.lemmas.List.{take_more, at_drop_more, take-append-drop, drop_all, drop_more}
 use Rattle.std.proofs.Math.Seq.{drop-nil}
-use Rattle.crack_session.specs.Grammar.{parts, words, is_word, has_space, IsFirstWord}
+use Rattle.std.specs.List.{list_all}
+use Rattle.crack_session.specs.Lines.{onto_first, without_return}
+use Rattle.crack_session.specs.Grammar.{between_spaces, words, is_word, has_space, of_words, reading_of, IsFirstWord}
 
 -- a space more at the front
 pub words_space : (xs : List ℕ) (i : ℕ) → i < length xs → get_or xs i 0 ≡ 32 → words (drop i xs) ≡ words xs → words (drop (i + 1) xs) ≡ words xs
@@ -28,26 +30,26 @@ no_space_more xs i below none here =
     let other : eqb (get_or xs i 0) 32 ≡ false = ne_eqb _ _ here in
     rw (take_more xs i 0 below, has_space-append (take i xs) (get_or xs i 0 ∷ []) none, other) refl
 
-parts_word : (w : List ℕ) → has_space w ≡ false → parts w ≡ w ∷ []
-parts_word [] h = refl
-parts_word (b ∷ bs) h =
+spaces_word : (w : List ℕ) → has_space w ≡ false → between_spaces w ≡ w ∷ []
+spaces_word [] h = refl
+spaces_word (b ∷ bs) h =
     let each = or_parts (eqb b 32) (has_space bs) h in
     let other : eqb b 32 ≡ false = each.0 in
-    rw (other, parts_word bs each.1) refl
+    rw (other, spaces_word bs each.1) refl
 
-parts_space : (w more : List ℕ) → has_space w ≡ false → parts (w ++ 32 ∷ more) ≡ w ∷ parts more
-parts_space [] more h = refl
-parts_space (b ∷ bs) more h =
+spaces_space : (w more : List ℕ) → has_space w ≡ false → between_spaces (w ++ 32 ∷ more) ≡ w ∷ between_spaces more
+spaces_space [] more h = refl
+spaces_space (b ∷ bs) more h =
     let each = or_parts (eqb b 32) (has_space bs) h in
     let other : eqb b 32 ≡ false = each.0 in
-    rw (other, parts_space bs more each.1) refl
+    rw (other, spaces_space bs more each.1) refl
 
 -- a word, and the end or a space behind it
 words_end : (w : List ℕ) → has_space w ≡ false → is_word w ≡ true → words w ≡ w ∷ []
-words_end w h some = rw (parts_word w h, some) refl
+words_end w h some = rw (spaces_word w h, some) refl
 
 words_front : (w more : List ℕ) → has_space w ≡ false → is_word w ≡ true → words (w ++ 32 ∷ more) ≡ w ∷ words (32 ∷ more)
-words_front w more h some = rw (parts_space w more h, some) refl
+words_front w more h some = rw (spaces_space w more h, some) refl
 
 no_text : (w : List ℕ) → is_word w ≡ false → w ≡ []
 no_text [] e = refl
@@ -80,3 +82,50 @@ first_word bytes xs n same front within none space = record {
       let nothing = nothing_left xs n within empty front space in
       (sym same ∙ ap words nothing, ap (λ z. words (drop n z)) nothing ∙ ap words (drop-nil n));
 }
+
+-- what has a byte that is no space has a word
+word_onto : (b : ℕ) (rest : List (List ℕ)) → filter is_word (onto_first b rest) ≡ [] → ⊥
+word_onto b [] h = cc
+word_onto b (w ∷ ws) h = cc
+
+no_word_blank : (xs : List ℕ) → words xs ≡ [] → list_all (λ b. eqb b 32) xs ≡ true
+no_word_blank [] h = refl
+no_word_blank (b ∷ bs) h = ⊎_elim
+    (λ (e : eqb b 32 ≡ true). let rest : words bs ≡ [] = rw e at h in rw (e, no_word_blank bs rest) refl)
+    (λ (e : eqb b 32 ≡ false). let onto : filter is_word (onto_first b (between_spaces bs)) ≡ [] = rw e at h in absurd (word_onto b (between_spaces bs) onto))
+    (cases_Bool (eqb b 32))
+
+blank_no_word : (xs : List ℕ) → list_all (λ b. eqb b 32) xs ≡ true → words xs ≡ []
+blank_no_word [] h = refl
+blank_no_word (b ∷ bs) h = ⊎_elim
+    (λ (e : eqb b 32 ≡ true). let rest : list_all (λ b. eqb b 32) bs ≡ true = rw e at h in rw e (blank_no_word bs rest))
+    (λ (e : eqb b 32 ≡ false). let none : false ≡ true = rw e at h in absurd (false≢true none))
+    (cases_Bool (eqb b 32))
+
+-- a line of spaces alone says nothing
+pub reading_blank : (raw line word rest : List ℕ) → line ≡ without_return raw → length line ≤ 200 → IsFirstWord line word rest → is_word word ≡ false → reading_of raw ≡ None
+unfolding reading_of
+reading_blank raw line word rest is short first none =
+    let blank : list_all (λ b. eqb b 32) (without_return raw) ≡ true = ap (list_all (λ b. eqb b 32)) (sym is) ∙ no_word_blank line (first.none none).0 in
+    let test : ltb 200 (length (without_return raw)) ≡ false = le-ltb _ _ (omega (arith, ap length is, short)) in
+    rw (test, blank) refl
+
+-- another line is read by its words
+pub reading_named : (raw line word rest : List ℕ) → line ≡ without_return raw → length line ≤ 200 → IsFirstWord line word rest → is_word word ≡ true → reading_of raw ≡ Some (of_words (word ∷ words rest))
+unfolding reading_of
+reading_named raw line word rest is short first some =
+    let test : ltb 200 (length (without_return raw)) ≡ false = le-ltb _ _ (omega (arith, ap length is, short)) in
+    let all : words (without_return raw) ≡ word ∷ words rest = ap words (sym is) ∙ first.some some in
+    ⊎_elim
+    (λ (blank : list_all (λ b. eqb b 32) (without_return raw) ≡ true). absurd (let none = sym (blank_no_word (without_return raw) blank) ∙ all in cc))
+    (λ (other : list_all (λ b. eqb b 32) (without_return raw) ≡ false). rw (test, other, all) refl)
+    (cases_Bool (list_all (λ b. eqb b 32) (without_return raw)))
+
+-- whether a word is there is whether it has a length
+pub is_word_some : (w : List ℕ) → 0 < length w → is_word w ≡ true
+is_word_some [] h = absurd (omega arith)
+is_word_some (b ∷ bs) h = refl
+
+pub is_word_none : (w : List ℕ) → length w ≡ 0 → is_word w ≡ false
+is_word_none [] h = refl
+is_word_none (b ∷ bs) h = absurd (omega arith)

@@ -15,19 +15,19 @@ use Rattle.crack_session.specs.Lines.{lines, onto_first, without_return}
 abbrev pub Reading : Type 0
 Reading = Result Statement Refusal
 
--- the parts between spaces
-abbrev pub parts : List ℕ → List (List ℕ)
-parts [] = [] ∷ []
-parts (b ∷ bs) = if b == 32 then [] ∷ parts bs else onto_first b (parts bs)
+-- what stands between spaces
+abbrev pub between_spaces : List ℕ → List (List ℕ)
+between_spaces [] = [] ∷ []
+between_spaces (b ∷ bs) = if b == 32 then [] ∷ between_spaces bs else onto_first b (between_spaces bs)
 
--- whether a part is a word: it has a byte
+-- whether it is a word: it has a byte
 abbrev pub is_word : List ℕ → Bool
 is_word [] = false
 is_word (b ∷ bs) = true
 
--- the words: the parts between spaces that aren't empty
+-- the words: what stands between spaces and isn't empty
 abbrev pub words : List ℕ → List (List ℕ)
-words line = filter is_word (parts line)
+words line = filter is_word (between_spaces line)
 
 -- whether there is a space
 abbrev pub has_space : List ℕ → Bool
@@ -51,6 +51,15 @@ value_on n (b ∷ bs) = value_on (n * 10 + (b - 48)) bs
 -- a NUMBER: 1 to MOST_DIGITS decimal digits, leading zeros too
 abbrev pub number_of : List ℕ → Option ℕ
 number_of word = if is_word word && nat_le (length word) MOST_DIGITS && list_all is_digit word then Some (value_on 0 word) else None
+
+-- the number that the first of the words is, if it is one, and what stands behind that word
+abbrev pub IsFirstNumber : List ℕ → Option ℕ → List ℕ → Type 0
+IsFirstNumber bytes number rest = (word : List ℕ) × IsFirstWord bytes word rest × (number ≡ number_of word)
+
+-- these words are two numbers
+abbrev pub AreTwoNumbers : List (List ℕ) → ℕ → ℕ → Type 0
+AreTwoNumbers line m n = (first : List ℕ) × (second : List ℕ) × (line ≡ first ∷ second ∷ [])
+    × (number_of first ≡ Some m) × (number_of second ≡ Some n)
 
 -- a number that is at most the greatest
 abbrev pub if_at_most : ℕ → ℕ → Option ℕ
@@ -82,6 +91,10 @@ abbrev pub count_of : List (List ℕ) → Reading
 count_of (low ∷ high ∷ []) = count_from (number_of low) (number_of high)
 count_of _ = Err BadStatement
 
+-- these words aren't two numbers, so neither an insert nor a count has them
+abbrev pub AreNotTwoNumbers : List (List ℕ) → Type 0
+AreNotTwoNumbers line = (insert_of line ≡ Err BadStatement) × (count_of line ≡ Err BadStatement)
+
 -- `quit`
 abbrev pub quit_of : List (List ℕ) → Reading
 quit_of [] = Ok Quit
@@ -92,13 +105,9 @@ abbrev pub of_words : List (List ℕ) → Reading
 of_words [] = Err BadStatement
 of_words (name ∷ arguments) = if bytes_eq name (codes "insert") then insert_of arguments else if bytes_eq name (codes "count") then count_of arguments else if bytes_eq name (codes "quit") then quit_of arguments else Err BadStatement
 
--- the statement of a line
-unfoldable pub statement_of : List ℕ → Reading
-statement_of line = of_words (words line)
-
 -- what a line is read as, its carriage return dropped: nothing where it is blank, and no statement where it is too long
 unfoldable pub reading_of : List ℕ → Option Reading
-reading_of line = if nat_lt LINE_BYTES (length (without_return line)) then Some (Err BadStatement) else if list_all (λ b. b == 32) (without_return line) then None else Some (statement_of (without_return line))
+reading_of line = if nat_lt LINE_BYTES (length (without_return line)) then Some (Err BadStatement) else if list_all (λ b. b == 32) (without_return line) then None else Some (of_words (words (without_return line)))
 
 -- whether the session ends with it
 abbrev pub is_quit : Reading → Bool

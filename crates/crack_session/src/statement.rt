@@ -1,14 +1,17 @@
 //! The statement language, as far as a session knows it.
-ghost use Rattle.std.specs.Prelude.{◌≡◌, ◌+◌, ◌-◌, ◌<◌, ◌≤◌, ◌∷◌, ◌≢◌, ◌==◌, true, false, [], length, Ok, Err, take, IfSome, IfNone, slice_index};
+ghost use Rattle.std.specs.Prelude.{◌≡◌, ◌<◌, ◌≤◌, ◌∷◌, ◌≢◌, ◌↔◌, true, false, length, IsTrue, Some, take, IfSome, IfNone, slice_index};
 ghost use Rattle.std.specs.List.{list_all};
 ghost use Rattle.crack_session.specs.Lines.{without_return};
-ghost use Rattle.crack_session.specs.Grammar.{statement_of, reading_of, of_words, words, insert_of, insert_from, count_of, count_from, quit_of, number_up_to, number_of, value_on, is_digit, is_quit, has_space, IsFirstWord};
+ghost use Rattle.crack_session.specs.Grammar.{reading_of, of_words, words, insert_of, insert_from, if_at_most, count_of, count_from, quit_of, number_of, value_on, is_digit, is_quit, has_space, IsFirstWord, IsFirstNumber, AreTwoNumbers, AreNotTwoNumbers};
 
 use crate::LINE_BYTES;
 use crack_row::{GREATEST_KEY, GREATEST_PAYLOAD, Key, KeyRange, Payload, Refusal};
 
 /// The greatest number of digits of a number in a statement, leading zeros counted.
 pub(crate) const MOST_DIGITS: usize = 20;
+
+/// So many digits fit 64 bits, whatever they are.
+const SHORT_DIGITS: usize = 19;
 
 /// What a line asks.
 #[derive(Clone, Copy, Debug)]
@@ -21,7 +24,8 @@ pub enum Statement {
     Quit,
 }
 
-/// What a line says, unless it is blank. Takes no memory.
+/// What a line says, unless it is blank: a statement, or why it is none. Refused with 2 where the ends of a range
+/// are out of order or too great, else with 1. Takes no memory.
 #[tactic(auto, unfolding(crate::specs::Grammar::reading_of))]
 pub fn read_line(line: &[u8]) -> Option<Result<Statement, Refusal>>
     ensures { result ≡ reading_of line.now }
@@ -30,10 +34,11 @@ pub fn read_line(line: &[u8]) -> Option<Result<Statement, Refusal>>
     if line.len() > LINE_BYTES {
         return Some(Err(Refusal::BadStatement));
     }
-    if is_blank(line) {
+    let (name, rest) = next_word(line);
+    if name.is_empty() {
         return None;
     }
-    Some(parse_statement(line))
+    Some(parse_named(name, rest))
 }
 
 /// Whether a line says that the session ends.
@@ -55,26 +60,6 @@ fn without_return(line: &[u8]) -> &[u8]
     }
 }
 
-/// Whether there are spaces alone.
-fn is_blank(line: &[u8]) -> bool
-    ensures { result ≡ list_all (λ b. b == 32) line.now }
-{
-    line.iter().all(|b| *b == b' ')
-}
-
-/// The statement of a line. Refused with 2 where the ends of a range are out of order or too great,
-/// else with 1. Takes no memory.
-#[tactic(auto, unfolding(crate::specs::Grammar::statement_of))]
-pub fn parse_statement(line: &[u8]) -> Result<Statement, Refusal>
-    ensures { result ≡ statement_of line.now }
-{
-    let (name, rest) = next_word(line);
-    if name.is_empty() {
-        return Err(Refusal::BadStatement);
-    }
-    parse_named(name, rest)
-}
-
 /// The statement of a name and of what stands behind it.
 fn parse_named(name: &[u8], rest: &[u8]) -> Result<Statement, Refusal>
     ensures { result ≡ of_words (name.now ∷ words rest.now) }
@@ -94,7 +79,7 @@ fn parse_named(name: &[u8], rest: &[u8]) -> Result<Statement, Refusal>
 fn parse_insert(rest: &[u8]) -> Result<Statement, Refusal>
     ensures { result ≡ insert_of (words rest.now) }
 {
-    match two_words(rest) {
+    match two_numbers(rest) {
         Some((key, payload)) => insert_from(key, payload),
         None => Err(Refusal::BadStatement),
     }
@@ -104,7 +89,7 @@ fn parse_insert(rest: &[u8]) -> Result<Statement, Refusal>
 fn parse_count(rest: &[u8]) -> Result<Statement, Refusal>
     ensures { result ≡ count_of (words rest.now) }
 {
-    match two_words(rest) {
+    match two_numbers(rest) {
         Some((low, high)) => count_from(low, high),
         None => Err(Refusal::BadStatement),
     }
@@ -122,42 +107,90 @@ fn parse_quit(rest: &[u8]) -> Result<Statement, Refusal>
     }
 }
 
-/// An insert of a key and a payload as they are written.
-fn insert_from(key: &[u8], payload: &[u8]) -> Result<Statement, Refusal>
-    ensures { result ≡ insert_from (number_up_to GREATEST_KEY key.now) (number_up_to GREATEST_PAYLOAD payload.now) }
+/// An insert of a key and a payload, where they are small enough.
+fn insert_from(key: u128, payload: u128) -> Result<Statement, Refusal>
+    ensures { result ≡ insert_from (if_at_most GREATEST_KEY key) (if_at_most GREATEST_PAYLOAD payload) }
 {
-    let key = read_number_up_to(GREATEST_KEY, key);
-    let payload = read_number_up_to(GREATEST_PAYLOAD, payload);
-    match (key, payload) {
-        (Some(key), Some(payload)) => Ok(Statement::Insert {
-            key: Key(key),
-            payload: Payload(payload),
-        }),
-        _ => Err(Refusal::BadStatement),
+    if key <= GREATEST_KEY as u128 && payload <= GREATEST_PAYLOAD as u128 {
+        Ok(Statement::Insert {
+            key: Key(key as u32),
+            payload: Payload(payload as u32),
+        })
+    } else {
+        Err(Refusal::BadStatement)
     }
 }
 
-/// A count of a range whose ends are written so.
-fn count_from(low: &[u8], high: &[u8]) -> Result<Statement, Refusal>
-    ensures { result ≡ count_from (number_of low.now) (number_of high.now) }
+/// A count of a range between these ends.
+fn count_from(low: u128, high: u128) -> Result<Statement, Refusal>
+    ensures { result ≡ count_from (Some low) (Some high) }
 {
-    match (read_number(low), read_number(high)) {
-        (Some(low), Some(high)) => match KeyRange::new(low, high) {
-            Ok(range) => Ok(Statement::Count(range)),
-            Err(refusal) => Err(refusal),
+    match KeyRange::new(low, high) {
+        Ok(range) => Ok(Statement::Count(range)),
+        Err(refusal) => Err(refusal),
+    }
+}
+
+/// The numbers, where there are exactly two words and both are numbers.
+fn two_numbers(bytes: &[u8]) -> Option<(u128, u128)>
+    ensures some { IfSome result (λ pair. AreTwoNumbers (words bytes.now) pair.0 pair.1) }
+    ensures none { IfNone result (AreNotTwoNumbers (words bytes.now)) }
+{
+    let (first, rest) = next_number(bytes);
+    let (second, rest) = next_number(rest);
+    let (more, _) = next_word(rest);
+    match first {
+        None => None,
+        Some(first) => match second {
+            None => None,
+            Some(second) => {
+                if more.is_empty() {
+                    Some((first, second))
+                } else {
+                    None
+                }
+            }
         },
-        _ => Err(Refusal::BadStatement),
     }
 }
 
-/// A number that is at most the greatest.
-fn read_number_up_to(greatest: u32, word: &[u8]) -> Option<u32>
-    ensures { result ≡ number_up_to greatest word.now }
+/// The number that the first word is, if it is one, and what stands behind the word.
+fn next_number(bytes: &[u8]) -> (Option<u128>, &[u8])
+    ensures { IsFirstNumber bytes.now result.0 result.1.now }
 {
-    match read_number(word) {
-        Some(number) if number <= greatest as u128 => Some(number as u32),
-        _ => None,
+    let word = without_spaces(bytes);
+    let (value, end) = leading_digits(&word[..word.len().min(SHORT_DIGITS)]);
+    if end > 0 && ends_at(word, end) {
+        return (Some(value as u128), &word[end..]);
     }
+    let (word, rest) = next_word(bytes);
+    (read_number(word), rest)
+}
+
+/// Whether a word ends there: at a space, or where the bytes end.
+fn ends_at(bytes: &[u8], end: usize) -> bool
+    requires { end ≤ length bytes.now }
+    ensures { IsTrue result ↔ (end < length bytes.now → slice_index bytes.now end ≡ 32) }
+{
+    end == bytes.len() || bytes[end] == b' '
+}
+
+/// The digits at the front: their value, and how many there are.
+#[tactic(auto, using(crate::proofs::Numbers::digits_more, crate::proofs::Numbers::value_more, crate::proofs::Numbers::digit_bounds))]
+fn leading_digits(bytes: &[u8]) -> (u64, usize)
+    requires { length bytes.now ≤ SHORT_DIGITS }
+    ensures within { result.1 ≤ length bytes.now }
+    ensures digits { list_all is_digit (take result.1 bytes.now) ≡ true }
+    ensures value { result.0 ≡ value_on 0 (take result.1 bytes.now) }
+{
+    let mut value: u64 = 0;
+    for (i, b) in bytes.iter().enumerate() {
+        if !is_digit(*b) {
+            return (value, i);
+        }
+        value = value * 10 + (*b - b'0') as u64;
+    }
+    (value, bytes.len())
 }
 
 /// A number of 1 to `MOST_DIGITS` digits.
@@ -175,7 +208,14 @@ fn read_number(word: &[u8]) -> Option<u128>
 fn all_digits(word: &[u8]) -> bool
     ensures { result ≡ list_all is_digit word.now }
 {
-    word.iter().all(|b| b'0' <= *b && *b < b'9' + 1)
+    word.iter().all(|b| is_digit(*b))
+}
+
+/// Whether it is a decimal digit.
+fn is_digit(b: u8) -> bool
+    ensures { result ≡ is_digit b }
+{
+    b'0' <= b && b < b'9' + 1
 }
 
 /// The number that digits spell.
@@ -189,21 +229,6 @@ fn value_of(word: &[u8]) -> u128
         value = value * 10 + (*b - b'0') as u128;
     }
     value
-}
-
-/// The words, where there are exactly two.
-fn two_words(bytes: &[u8]) -> Option<(&[u8], &[u8])>
-    ensures some { IfSome result (λ pair. words bytes.now ≡ pair.0.now ∷ pair.1.now ∷ []) }
-    ensures none { IfNone result (length (words bytes.now) ≢ 2) }
-{
-    let (first, rest) = next_word(bytes);
-    let (second, rest) = next_word(rest);
-    let (third, _) = next_word(rest);
-    if !second.is_empty() && third.is_empty() {
-        Some((first, second))
-    } else {
-        None
-    }
 }
 
 /// The first word, and what stands behind it. It is empty where there is none.
