@@ -1,5 +1,4 @@
 use Rattle.std.proofs.Common.{sym, ap, ◌∙◌, arith, rules, Some, codes}
-use Rattle.crack_session.specs.Grammar.{words}
 use Rattle.crack_session.proofs.Words.{reading_blank, reading_named, is_word_none, is_word_some}
 use Rattle.crack_session.proofs.statement.read_line.Goals as goal
 
