@@ -1,9 +1,10 @@
 -- Line feeds and lines.
-use Rattle.std.proofs.Common.{◌≡◌, ℕ, ◌+◌, ◌<◌, ◌≤◌, true, false, eqb, List, [], ◌∷◌, ◌++◌, length, take, drop, get_or, refl, sym, ap, ◌∙◌, arith, ⊎_elim, add-one, drop-cons, suc, zero, append-nil}
-use Rattle.std.proofs.lemmas.Bool.{or_parts, cases_Bool, ne_eqb, false≢true}
+use Rattle.std.proofs.Common.{◌≡◌, ℕ, ◌+◌, ◌<◌, ◌≤◌, true, false, eqb, Some, None, List, [], ◌∷◌, ◌++◌, length, take, drop, get_or, refl, sym, ap, ◌∙◌, arith, ⊎_elim, add-one, drop-cons, suc, zero, append-nil}
+use Rattle.std.proofs.lemmas.Bool.{or_parts, cases_Bool, ne_eqb, eq-eqb, eqb-true, false≢true}
 use Rattle.std.proofs.lemmas.List.{take_more, take-append-drop, take_all, drop-drop}
 use Rattle.std.proofs.lemmas.Slice.{between_is}
 use Rattle.std.specs.List.{slice_range}
+use Rattle.memchr.specs.Find.{Nowhere, Passes, IsFirstByte, is_byte}
 use Rattle.crack_session.specs.Lines.{lines, first_line, after_line, has_feed}
 
 -- a front without a line feed belongs to the first line
@@ -86,6 +87,19 @@ no_feed_more xs i below none here =
     let other : eqb (get_or xs i 0) 10 ≡ false = ne_eqb _ _ here in
     rw (take_more xs i 0 below, has_feed-append (take i xs) (get_or xs i 0 ∷ []) none, other) refl
 
+-- what a search for a feed finds
+no_feed_before : (xs : List ℕ) (n : ℕ) → Nowhere (Passes (is_byte 10) xs) 0 n → n ≤ length xs → has_feed (take n xs) ≡ false
+no_feed_before xs zero none within = refl
+no_feed_before xs (suc n) none within =
+    let before = no_feed_before xs n (λ k low high. none k low (omega arith)) (omega arith) in
+    rw (sym (add-one n)) (no_feed_more xs n (omega arith) before (λ here. none n (omega arith) (omega arith) (eq-eqb _ _ here)))
+
+pub feed_found : (xs : List ℕ) (k : ℕ) → IsFirstByte (is_byte 10) xs (Some k) → (k < length xs) × (has_feed (take k xs) ≡ false) × (get_or xs k 0 ≡ 10)
+feed_found xs k first = (first.0.high, no_feed_before xs k first.0.before (omega arith), eqb-true _ _ first.1)
+
+pub no_feed_found : (xs : List ℕ) → IsFirstByte (is_byte 10) xs None → has_feed xs ≡ false
+no_feed_found xs none = ap has_feed (sym (take_all (length xs) xs (omega arith))) ∙ no_feed_before xs (length xs) none (omega arith)
+
 -- without a feed, the first line is all there is
 pub all_first_line : (xs : List ℕ) → has_feed xs ≡ false → first_line xs ≡ xs
 all_first_line [] h = refl
@@ -101,25 +115,8 @@ none_after (b ∷ bs) h =
     let other : eqb b 10 ≡ false = parts.0 in
     rw (other, none_after bs parts.1) refl
 
-pub all_front : (xs : List ℕ) (i : ℕ) → length xs ≤ i → has_feed (take i xs) ≡ false → take (length xs) xs ≡ first_line xs
-all_front xs i past none =
-    let whole : take i xs ≡ xs = take_all i xs past in
-    let none' : has_feed xs ≡ false = rw whole at none in
-    take_all (length xs) xs (omega arith) ∙ sym (all_first_line xs none')
-
 -- keeping and then adding is adding and then keeping
 pub take-take-append : (n : ℕ) (xs ys : List ℕ) → take n (take n xs ++ ys) ≡ take n (xs ++ ys)
 take-take-append zero xs ys = refl
 take-take-append (suc n) [] ys = refl
 take-take-append (suc n) (x ∷ xs) ys = ap (λ z. x ∷ z) (take-take-append n xs ys)
-
--- the rest of a part
-pub drop-between : (xs : List ℕ) (i j k : ℕ) → drop k (slice_range xs i j) ≡ slice_range xs (i + k) j
-drop-between xs i j k = ap (drop k) (between_is xs i j) ∙ drop-drop k i (take j xs) ∙ sym (between_is xs (i + k) j)
-
--- what stands behind a line feed that was found in a part
-pub rest_after : (xs : List ℕ) (i j p : ℕ) (u : List ℕ) → slice_range xs i j ≡ u → (has_feed (slice_range xs i j) ≡ true → (p < length (slice_range xs i j)) × (drop (p + 1) (slice_range xs i j) ≡ after_line (slice_range xs i j))) → (has_feed (slice_range xs i j) ≡ false → p ≡ length (slice_range xs i j)) → p < length (slice_range xs i j) → slice_range xs (i + (p + 1)) j ≡ after_line u
-rest_after xs i j p u is found none below = ⊎_elim
-    (λ (e : has_feed (slice_range xs i j) ≡ true). sym (drop-between xs i j (p + 1)) ∙ (found e).1 ∙ ap after_line is)
-    (λ (e : has_feed (slice_range xs i j) ≡ false). let at = none e in absurd (omega arith))
-    (cases_Bool (has_feed (slice_range xs i j)))

@@ -7,6 +7,7 @@ ghost use Rattle.crack_session.specs.Lines.{first_line, after_line, has_feed, ke
 use crate::MOST_READS;
 use crate::output::flush;
 use crack_row::{Refusal, Watched};
+use memchr::memchr;
 use std::io::{Read, Write};
 use std::marker::Model;
 
@@ -207,7 +208,6 @@ fn move_back(bytes: &mut [u8; ROOM_BYTES], start: usize, end: usize) -> usize
 }
 
 /// The place of the first line feed, or the length.
-#[tactic(auto, using(crate::proofs::Feeds::first_line_at, crate::proofs::Feeds::after_line_at, crate::proofs::Feeds::has_feed_at, crate::proofs::Feeds::no_feed_more, crate::proofs::Feeds::all_first_line, crate::proofs::Feeds::after_line_at))]
 fn feed_at(bytes: &[u8]) -> usize
     ensures within { result ≤ length bytes.now }
     ensures front { take result bytes.now ≡ first_line bytes.now }
@@ -215,10 +215,8 @@ fn feed_at(bytes: &[u8]) -> usize
         × (drop (result + 1) bytes.now ≡ after_line bytes.now) }
     ensures none { has_feed bytes.now ≡ false → result ≡ length bytes.now }
 {
-    for (i, b) in bytes.iter().enumerate() {
-        if *b == b'\n' {
-            return i;
-        }
+    match memchr(b'\n', bytes) {
+        Some(place) => place,
+        None => bytes.len(),
     }
-    bytes.len()
 }

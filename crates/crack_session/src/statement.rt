@@ -155,6 +155,7 @@ fn two_numbers(bytes: &[u8]) -> Option<(u128, u128)>
 }
 
 /// The number that the first word is, if it is one, and what stands behind the word.
+#[inline(always)]
 fn next_number(bytes: &[u8]) -> (Option<u128>, &[u8])
     ensures { IsFirstNumber bytes.now result.0 result.1.now }
 {
@@ -163,6 +164,15 @@ fn next_number(bytes: &[u8]) -> (Option<u128>, &[u8])
     if end > 0 && ends_at(word, end) {
         return (Some(value as u128), &word[end..]);
     }
+    other_number(bytes)
+}
+
+/// The same, whatever the first word is.
+#[cold]
+#[inline(never)]
+fn other_number(bytes: &[u8]) -> (Option<u128>, &[u8])
+    ensures { IsFirstNumber bytes.now result.0 result.1.now }
+{
     let (word, rest) = next_word(bytes);
     (read_number(word), rest)
 }
@@ -188,7 +198,7 @@ fn leading_digits(bytes: &[u8]) -> (u64, usize)
         if !is_digit(*b) {
             return (value, i);
         }
-        value = value * 10 + (*b - b'0') as u64;
+        value = value * 10 + (*b as u64 - b'0' as u64);
     }
     (value, bytes.len())
 }
