@@ -1,5 +1,5 @@
 -- What cracks and merges keep of a store, and how it stands where they found no memory.
-use Rattle.std.proofs.Common.{◌≡◌, ◌+◌, ◌<◌, Bool, true, false, cond, [], length, Option, Some, None, IfSome, refl, sym, ap, subst, ◌∙◌, inl, inr, arith}
+use Rattle.std.proofs.Common.{◌≡◌, ◌+◌, ◌<◌, ◌≤◌, Bool, true, false, cond, [], length, Option, Some, None, IfSome, refl, sym, ap, subst, ◌∙◌, inl, inr, arith}
 use Rattle.std.proofs.lemmas.Bool.{cases_lt}
 use Rattle.std.proofs.lemmas.List.{drop_all}
 use Rattle.crack_row.specs.Ranges.{Range, clipped}
@@ -46,6 +46,13 @@ Keeps-refined s u r refines =
 
 pub Keeps-settled : (policy : Policy) (s t : State) (r : Range) → CracksAndMerges policy s t r → Keeps s t
 Keeps-settled policy s t r done = Keeps-trans s done.cracked t (Keeps-refined s done.cracked r done.refines) (Keeps-follows done.cracked t done.merges.follows)
+
+-- nothing is read of an empty range
+pub ReadsRange-none : (policy : Policy) (s : State) (r : Range) → r.high ≤ r.low → ReadsRange policy s s r
+ReadsRange-none policy s r none = record { empty = λ e. refl; settled = λ filled. absurd (omega arith) }
+
+pub ReadsRange-settled : (policy : Policy) (s t : State) (r : Range) → r.low < r.high → CracksAndMerges policy s t r → ReadsRange policy s t r
+ReadsRange-settled policy s t r filled done = record { empty = λ e. absurd (omega arith); settled = λ f. done }
 
 -- a read of a range leaves the live rows as they were
 Keeps-reads : (policy : Policy) (s t : State) (r : Range) → ReadsRange policy s t r → Keeps s t

@@ -16,3 +16,10 @@ returns-in_err-perform-clause-spared c =
     let prepared = rw c.range.ensures at c.in_ok-prepare.ensures.prepared in
     let same = c.in_err-perform.ensures.same in
     on_err c.from_residual-in_err-perform.result (Spares-prepared c.args.policy c.args.keys _ c.args.store.now c.prepare.new.store c.perform.new.store c.requires.none_doomed prepared same.0, same.1)
+
+pub returns-clause-served : goal.returns-clause-served
+returns-clause-served c = record {
+  ready = c.prepare.new.store;
+  prepared = rw c.range.ensures at c.in_ok-prepare.ensures.prepared;
+  performed = rw c.change.ensures at c.in_ok-perform.ensures.performed;
+}

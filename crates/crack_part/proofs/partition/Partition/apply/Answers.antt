@@ -1,7 +1,8 @@
-use Rattle.std.proofs.Common.{rules, ◌≡◌, [], ◌∷◌, ◌++◌, arith, ap, ◌∙◌}
+use Rattle.std.proofs.Common.{List, [], ◌∷◌, ◌++◌, arith, ap, ◌∙◌}
 use Rattle.crack_row.specs.Commands.{range_of}
 use Rattle.crack_row.specs.declared.command.Entry.{Entry}
-use Rattle.crack_plain.specs.Plain.{replay, IsWithin}
+use Rattle.crack_row.specs.declared.command.Reply.{Reply}
+use Rattle.crack_plain.specs.Plain.{replay}
 use Rattle.crack_plain.proofs.Laws.{replay-push}
 use Rattle.crack_part.proofs.KeepLemmas.{Keeps-spared, IsIntact-spared}
 use Rattle.crack_part.proofs.SoundLemmas.{none_doomed, next-le-limit, MayPerform-prepared, IsSound-kept, IsSound-served}
@@ -31,11 +32,25 @@ invariant_of-self-2 c =
     let kept = rw (← c.self.view_is) at c.in_ok-may_keep.ensures.ok in
     let raised = c.in_ok-copies.ensures.next (replay c.self.inside.history.items) c.self.invariant.faithful.serial in
     let said = c.in_ok-copies.ensures.replies (replay c.self.inside.history.items) c.self.invariant.faithful in
-    let grown : c.push_reserved.new.items.items ≡ c.self.inside.history.items ++ e ∷ [] = search rules in
+    let grown = c.push_reserved.ensures ∙ ap (λ (h : List Entry). h ++ e ∷ []) c.reserve.ensures.items in
     rw grown (IsSound-served c.args.policy _ e c.serve.new.next c.serve.new.store c.self.invariant kept.1 kept.0 (c.in_ok-copies.ensures.copied.1 ∙ said) raised c.in_ok-copies.ensures.served)
 
 pub returns-clause-state : goal.returns-clause-state
 returns-clause-state c =
     let e : Entry = record { worker = c.args.worker; command = c.args.command; reply = c.in_ok-copies.copies.kept } in
-    let grown : c.push_reserved.new.items.items ≡ c.self.inside.history.items ++ e ∷ [] = search rules in
+    let grown = c.push_reserved.ensures ∙ ap (λ (h : List Entry). h ++ e ∷ []) c.reserve.ensures.items in
     rw (← c.self.view_is) (ap replay grown ∙ replay-push c.self.inside.history.items e)
+
+pub returns-clause-replies : goal.returns-clause-replies
+returns-clause-replies c =
+    let said = c.in_ok-copies.ensures.replies (replay c.self.inside.history.items) c.self.invariant.faithful in
+    rw (← c.self.view_is) (said, c.in_ok-copies.ensures.copied.0)
+
+pub returns-clause-kept : goal.returns-clause-kept
+returns-clause-kept c =
+    let entry : Reply → Entry = λ r. record { worker = c.args.worker; command = c.args.command; reply = r } in
+    let grown = c.push_reserved.ensures ∙ ap (λ (h : List Entry). h ++ entry c.in_ok-copies.copies.kept ∷ []) c.reserve.ensures.items in
+    rw (← c.self.view_is) (grown ∙ ap (λ r. c.self.inside.history.items ++ entry r ∷ []) c.in_ok-copies.ensures.copied.1)
+
+pub returns-clause-store : goal.returns-clause-store
+returns-clause-store c = rw (← c.self.view_is) c.in_ok-copies.ensures.served
