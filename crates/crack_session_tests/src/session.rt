@@ -1,226 +1,16 @@
 //! Sessions over memory, and over devices that fail, drip or count.
+use crate::desks::{Refusing, Starved};
+use crate::devices::{Clogged, Failing, Log, Sink, Source};
 use crack_plain::PlainTable;
 use crack_row::{
-    Bound, Command, GREATEST_BOUND, GREATEST_KEY, GREATEST_LIMIT, Key, KeyRange, Payload, Policy,
-    Refusal, Reply, Serial, Watched,
+    Command, GREATEST_BOUND, GREATEST_KEY, GREATEST_LIMIT, Key, KeyRange, Payload, Policy, Refusal,
+    Reply, Serial, Watched,
 };
 use crack_session::{Desk, End, Fault, How, LINE_BYTES, OneDesk, serve};
 use std::alloc::Global;
-use std::cell::Cell;
-use std::io;
-use std::io::{BufWriter, Read, Write};
+use std::io::BufWriter;
 use std::process::Abort;
 use std::test::Fail;
-
-/// A writer that fails from some call on.
-#[derive(Drop)]
-struct Failing {
-    calls: u64,
-    fails_at: u64,
-    bytes: Vec<u8>,
-}
-
-impl Write for Failing {
-    fn write(&mut self, buf: &[u8]) -> io::Result<usize> {
-        if self.calls >= self.fails_at {
-            return Err(io::Error::from(io::ErrorKind::BrokenPipe));
-        }
-        self.calls += 1;
-        if self.bytes.extend_from_slice(buf).is_err() {
-            return Err(io::Error::from(io::ErrorKind::OutOfMemory));
-        }
-        Ok(buf.len())
-    }
-
-    fn flush(&mut self) -> io::Result<()> {
-        Ok(())
-    }
-}
-
-/// A writer that fails when it is flushed.
-#[derive(Drop)]
-struct Clogged;
-
-impl Write for Clogged {
-    fn write(&mut self, buf: &[u8]) -> io::Result<usize> {
-        Ok(buf.len())
-    }
-
-    fn flush(&mut self) -> io::Result<()> {
-        Err(io::Error::from(io::ErrorKind::BrokenPipe))
-    }
-}
-
-/// What a reader and a writer were asked, in one log.
-#[derive(Drop)]
-struct Log {
-    reads: Cell<u64>,
-    writes: Cell<u64>,
-    flushes: Cell<u64>,
-    /// How many line feeds were read.
-    asked: Cell<usize>,
-    /// How many line feeds were written.
-    answered: Cell<usize>,
-    /// How many bytes were written after the last flush.
-    left: Cell<usize>,
-    /// Whether a read asked for 4,096 bytes each time, and once each whole line was answered.
-    is_orderly: Cell<bool>,
-}
-
-impl Log {
-    /// Nothing was asked yet.
-    fn new() -> Log {
-        Log {
-            reads: Cell::new(0),
-            writes: Cell::new(0),
-            flushes: Cell::new(0),
-            asked: Cell::new(0),
-            answered: Cell::new(0),
-            left: Cell::new(0),
-            is_orderly: Cell::new(true),
-        }
-    }
-
-    /// Notes a read for so many bytes.
-    fn note_read(&self, bytes: usize) {
-        self.reads.set(self.reads.get().saturating_add(1));
-        if bytes != 4096 || self.asked.get() != self.answered.get() {
-            self.is_orderly.set(false);
-        }
-    }
-
-    /// Notes a write of these bytes.
-    fn note_write(&self, bytes: &[u8]) {
-        self.writes.set(self.writes.get().saturating_add(1));
-        self.left.set(self.left.get().saturating_add(bytes.len()));
-        self.answered
-            .set(self.answered.get().saturating_add(count_feeds(bytes)));
-    }
-}
-
-/// How many line feeds there are.
-fn count_feeds(bytes: &[u8]) -> usize {
-    bytes.iter().filter(|b| **b == b'\n').count()
-}
-
-/// A reader that gives so many bytes at a time, at most; where its bytes end it fails, or its input ends.
-#[derive(Drop)]
-struct Source<'a> {
-    bytes: &'a [u8],
-    most: usize,
-    fails: bool,
-    log: &'a Log,
-}
-
-impl Read for Source<'_> {
-    fn read(&mut self, buf: &mut [u8]) -> io::Result<usize> {
-        self.log.note_read(buf.len());
-        if self.fails && self.bytes.is_empty() {
-            return Err(io::Error::from(io::ErrorKind::BrokenPipe));
-        }
-        let room = buf.len().min(self.most);
-        let count = self.bytes.read(&mut buf[..room])?;
-        let asked = self.log.asked.get().saturating_add(count_feeds(&buf[..count]));
-        self.log.asked.set(asked);
-        Ok(count)
-    }
-}
-
-/// A writer that keeps nothing but the log.
-#[derive(Drop)]
-struct Sink<'a> {
-    log: &'a Log,
-}
-
-impl Write for Sink<'_> {
-    fn write(&mut self, buf: &[u8]) -> io::Result<usize> {
-        self.log.note_write(buf);
-        Ok(buf.len())
-    }
-
-    fn flush(&mut self) -> io::Result<()> {
-        self.log.flushes.set(self.log.flushes.get().saturating_add(1));
-        self.log.left.set(0);
-        Ok(())
-    }
-}
-
-/// A plain table that finds no memory for what it is asked first.
-#[derive(Drop)]
-struct Starved {
-    table: PlainTable,
-    is_fed: bool,
-}
-
-impl Desk for Starved {
-    ghost use Rattle.std.specs.Prelude.{None, []};
-
-    ghost tables = { λ d. None };
-
-    ghost limit = { λ d. 4294967295 };
-
-    ghost splits = { λ d. [] };
-
-    ghost receipts = { λ d. d.table.accepted };
-
-    fn ask(
-        &mut self,
-        alloc: Global,
-        part: u32,
-        command: Command,
-        policy: Policy,
-    ) -> Result<Reply, Refusal> {
-        if !self.is_fed {
-            self.is_fed = true;
-            return Err(Refusal::OutOfMemory);
-        }
-        self.table.ask(alloc, part, command, policy)
-    }
-
-    fn splits(&self) -> &[Bound] {
-        &[]
-    }
-
-    fn receipts(&self) -> u64 {
-        self.table.receipts()
-    }
-}
-
-/// A desk that answers nothing but one refusal.
-#[derive(Drop)]
-struct Refusing {
-    refusal: Refusal,
-}
-
-impl Desk for Refusing {
-    ghost use Rattle.std.specs.Prelude.{None, []};
-
-    ghost tables = { λ d. None };
-
-    ghost limit = { λ d. 0 };
-
-    ghost splits = { λ d. [] };
-
-    ghost receipts = { λ d. 0 };
-
-    fn ask(
-        &mut self,
-        _alloc: Global,
-        _part: u32,
-        _command: Command,
-        _policy: Policy,
-    ) -> Result<Reply, Refusal> {
-        Err(self.refusal)
-    }
-
-    fn splits(&self) -> &[Bound] {
-        &[]
-    }
-
-    fn receipts(&self) -> u64 {
-        0
-    }
-}
 
 /// A session over memory, which is to end: how, and what it wrote.
 fn run<D: Desk + Drop>(alloc: Global, mut desk: D, input: &[u8]) -> Result<(End, Vec<u8>), Fail> {
@@ -341,8 +131,7 @@ fn the_greatest_key_and_bound_are_taken(rt: HostRuntime) -> Result<(), Fail> {
     let key = GREATEST_KEY;
     let bound = GREATEST_BOUND;
     let past = GREATEST_BOUND + 1;
-    let input = format!(
-        in rt.alloc();
+    let input = format!(in rt.alloc();
         "insert {key} 1\ncount {key} {bound}\ninsert {bound} 1\ncount 0 {past}\n"
     )?;
     assert_alike(
@@ -543,13 +332,7 @@ fn assert_orderly(rt: &impl Abort, log: &Log, lines: usize) {
 }
 
 /// A session whose reader gives so many bytes at a time, and whose writer keeps so many before it writes.
-fn log_it(
-    alloc: Global,
-    input: &[u8],
-    most: usize,
-    room: usize,
-    log: &Log,
-) -> Result<(), Fail> {
+fn log_it(alloc: Global, input: &[u8], most: usize, room: usize, log: &Log) -> Result<(), Fail> {
     let mut desk = OneDesk::open(alloc, GREATEST_LIMIT)?;
     let mut reader = Watched::new(Source {
         bytes: input,
