@@ -1,9 +1,7 @@
 -- Line feeds and lines.
 use Rattle.std.proofs.Common.{◌≡◌, ℕ, ◌+◌, ◌<◌, ◌≤◌, true, false, eqb, Some, None, List, [], ◌∷◌, ◌++◌, length, take, drop, get_or, refl, sym, ap, ◌∙◌, arith, ⊎_elim, add-one, drop-cons, suc, zero, append-nil}
 use Rattle.std.proofs.lemmas.Bool.{or_parts, cases_Bool, ne_eqb, eq-eqb, eqb-true, false≢true}
-use Rattle.std.proofs.lemmas.List.{take_more, take-append-drop, take_all, drop-drop}
-use Rattle.std.proofs.lemmas.Slice.{between_is}
-use Rattle.std.specs.List.{slice_range}
+use Rattle.std.proofs.lemmas.List.{take_more, take-append-drop, take_all}
 use Rattle.memchr.specs.Find.{Nowhere, Passes, IsFirstByte, is_byte}
 use Rattle.crack_session.specs.Lines.{lines, first_line, after_line, has_feed}
 

@@ -1,12 +1,10 @@
 -- Numbers among the words.
-use Rattle.std.proofs.Common.{◌≡◌, ℕ, ◌+◌, ◌-◌, ◌*◌, ◌^◌, ◌<◌, ◌≤◌, ◌&&◌, true, false, eqb, ltb, leb, Option, Some, None, Err, List, [], ◌∷◌, ◌++◌, length, take, drop, get_or, refl, sym, ap, ◌∙◌, arith, ⊎_elim, length-take, length-drop, add-one}
-use Rattle.std.proofs.lemmas.Bool.{and_parts, cases_Bool, false≢true, le-leb, leb-true, ltb-true, eqb-true}
+use Rattle.std.proofs.Common.{◌≡◌, ℕ, ◌+◌, ◌-◌, ◌*◌, ◌^◌, ◌<◌, ◌≤◌, true, false, eqb, ltb, leb, Some, List, [], ◌∷◌, ◌++◌, length, take, drop, get_or, refl, sym, ap, ◌∙◌, arith, ⊎_elim, length-take, length-drop, add-one}
+use Rattle.std.proofs.lemmas.Bool.{and_parts, cases_Bool, le-leb, leb-true, ltb-true, eqb-true}
 use Rattle.std.proofs.lemmas.List.{take_more, take-take, take_all}
 use Rattle.std.proofs.Math.Nat.{pow-suc, pow-le-pow_right}
 use Rattle.std.specs.List.{list_all}
-use Rattle.crack_row.specs.declared.TheConstants.{GREATEST_KEY, GREATEST_PAYLOAD}
-use Rattle.crack_row.specs.declared.refusal.Refusal.TheVariants.{BadStatement}
-use Rattle.crack_session.specs.Grammar.{Reading, words, is_word, is_digit, has_space, value_on, number_of, if_at_most, insert_of, insert_from, count_of, count_from, IsFirstWord, IsFirstNumber, AreTwoNumbers, AreNotTwoNumbers}
+use Rattle.crack_session.specs.Grammar.{words, is_word, is_digit, has_space, value_on, IsFirstNumber}
 use Rattle.crack_session.proofs.Words.{is_word_some, first_word}
 
 -- one digit more

@@ -111,11 +111,11 @@ reading_blank raw line word rest is short first none =
     rw (test, blank) refl
 
 -- another line is read by its words
-pub reading_named : (raw line word rest : List ℕ) → line ≡ without_return raw → length line ≤ 200 → IsFirstWord line word rest → is_word word ≡ true → reading_of raw ≡ Some (of_words (word ∷ words rest))
+pub reading_named : (raw line word : List ℕ) (rest : List (List ℕ)) → line ≡ without_return raw → length line ≤ 200 → words line ≡ word ∷ rest → reading_of raw ≡ Some (of_words (word ∷ rest))
 unfolding reading_of
-reading_named raw line word rest is short first some =
+reading_named raw line word rest is short are =
     let test : ltb 200 (length (without_return raw)) ≡ false = le-ltb _ _ (omega (arith, ap length is, short)) in
-    let all : words (without_return raw) ≡ word ∷ words rest = ap words (sym is) ∙ first.some some in
+    let all : words (without_return raw) ≡ word ∷ rest = ap words (sym is) ∙ are in
     ⊎_elim
     (λ (blank : list_all (λ b. eqb b 32) (without_return raw) ≡ true). absurd (let none = sym (blank_no_word (without_return raw) blank) ∙ all in cc))
     (λ (other : list_all (λ b. eqb b 32) (without_return raw) ≡ false). rw (test, other, all) refl)

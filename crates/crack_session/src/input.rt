@@ -42,11 +42,11 @@ impl Model for LineReader {
     ghost Value = { Input };
 
     ghost view = { λ r. record {
-        line = slice_range r.bytes r.line_start r.line_end;
-        joined = r.line_end == r.at;
-        unread = slice_range r.bytes r.at r.end;
-        reads = r.reads;
-        ended = r.ended
+      line = slice_range r.bytes r.line_start r.line_end;
+      joined = r.line_end == r.at;
+      unread = slice_range r.bytes r.at r.end;
+      reads = r.reads;
+      ended = r.ended;
     } };
 
     ghost invariant = { λ r. (r.line_start ≤ r.line_end) × (r.line_end ≤ r.at) × (r.at ≤ r.end)

@@ -1,5 +1,5 @@
 //! The statement language, as far as a session knows it.
-ghost use Rattle.std.specs.Prelude.{◌≡◌, ◌<◌, ◌≤◌, ◌∷◌, ◌≢◌, ◌↔◌, true, false, length, IsTrue, Some, take, IfSome, IfNone, slice_index};
+ghost use Rattle.std.specs.Prelude.{◌≡◌, ◌<◌, ◌≤◌, ◌∷◌, ◌≢◌, ◌↔◌, true, false, length, codes, IsTrue, Some, take, IfSome, IfNone, slice_index};
 ghost use Rattle.std.specs.List.{list_all};
 ghost use Rattle.crack_session.specs.Lines.{without_return};
 ghost use Rattle.crack_session.specs.Grammar.{reading_of, of_words, words, insert_of, insert_from, if_at_most, count_of, count_from, quit_of, number_of, value_on, is_digit, is_quit, has_space, IsFirstWord, IsFirstNumber, AreTwoNumbers, AreNotTwoNumbers};
@@ -34,6 +34,9 @@ pub fn read_line(line: &[u8]) -> Option<Result<Statement, Refusal>>
     if line.len() > LINE_BYTES {
         return Some(Err(Refusal::BadStatement));
     }
+    if let Some(rest) = behind_insert(line) {
+        return Some(parse_insert(rest));
+    }
     let (name, rest) = next_word(line);
     if name.is_empty() {
         return None;
@@ -58,6 +61,14 @@ fn without_return(line: &[u8]) -> &[u8]
     } else {
         line
     }
+}
+
+/// What stands behind the name of an insert and a space. Most lines are inserts,
+/// and begin so: the end of their first word isn't looked for.
+fn behind_insert(line: &[u8]) -> Option<&[u8]>
+    ensures { IfSome result (λ rest. words line.now ≡ codes "insert" ∷ words rest.now) }
+{
+    line.strip_prefix(b"insert ".as_slice())
 }
 
 /// The statement of a name and of what stands behind it.
@@ -132,7 +143,25 @@ fn count_from(low: u128, high: u128) -> Result<Statement, Refusal>
 }
 
 /// The numbers, where there are exactly two words and both are numbers.
+#[inline(always)]
 fn two_numbers(bytes: &[u8]) -> Option<(u128, u128)>
+    ensures some { IfSome result (λ pair. AreTwoNumbers (words bytes.now) pair.0 pair.1) }
+    ensures none { IfNone result (AreNotTwoNumbers (words bytes.now)) }
+{
+    if let Some((first, rest)) = short_number(bytes) {
+        if let Some((second, rest)) = short_number(rest) {
+            if rest.is_empty() {
+                return Some((first as u128, second as u128));
+            }
+        }
+    }
+    any_two_numbers(bytes)
+}
+
+/// The same for numbers of any length, with any spaces.
+#[cold]
+#[inline(never)]
+fn any_two_numbers(bytes: &[u8]) -> Option<(u128, u128)>
     ensures some { IfSome result (λ pair. AreTwoNumbers (words bytes.now) pair.0 pair.1) }
     ensures none { IfNone result (AreNotTwoNumbers (words bytes.now)) }
 {
@@ -155,26 +184,26 @@ fn two_numbers(bytes: &[u8]) -> Option<(u128, u128)>
 }
 
 /// The number that the first word is, if it is one, and what stands behind the word.
-#[inline(always)]
 fn next_number(bytes: &[u8]) -> (Option<u128>, &[u8])
-    ensures { IsFirstNumber bytes.now result.0 result.1.now }
-{
-    let word = without_spaces(bytes);
-    let (value, end) = leading_digits(&word[..word.len().min(SHORT_DIGITS)]);
-    if end > 0 && ends_at(word, end) {
-        return (Some(value as u128), &word[end..]);
-    }
-    other_number(bytes)
-}
-
-/// The same, whatever the first word is.
-#[cold]
-#[inline(never)]
-fn other_number(bytes: &[u8]) -> (Option<u128>, &[u8])
     ensures { IsFirstNumber bytes.now result.0 result.1.now }
 {
     let (word, rest) = next_word(bytes);
     (read_number(word), rest)
+}
+
+/// The number that the first word is, if it is one of at most `SHORT_DIGITS` digits,
+/// and what stands behind the word.
+#[inline(always)]
+fn short_number(bytes: &[u8]) -> Option<(u64, &[u8])>
+    ensures { IfSome result (λ pair. IsFirstNumber bytes.now (Some pair.0) pair.1.now) }
+{
+    let word = without_spaces(bytes);
+    let (value, end) = leading_digits(&word[..word.len().min(SHORT_DIGITS)]);
+    if end > 0 && ends_at(word, end) {
+        Some((value, &word[end..]))
+    } else {
+        None
+    }
 }
 
 /// Whether a word ends there: at a space, or where the bytes end.

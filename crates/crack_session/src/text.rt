@@ -16,7 +16,11 @@ const TEXT_BYTES: usize = 64;
 type Text = ArrayVec<u8, TEXT_BYTES>;
 
 /// Writes the line of a partition's reply.
-pub fn write_reply<W: Write>(part: u32, reply: &Reply, writer: &mut Watched<W>) -> Result<(), Refusal>
+pub fn write_reply<W: Write>(
+    part: u32,
+    reply: &Reply,
+    writer: &mut Watched<W>,
+) -> Result<(), Refusal>
     ensures ok { OnOk result (Appends (W.contents (device writer.old)) (W.contents (device writer.new)) (reply_text part reply.now)) }
     ensures unfailed { OnOk result (has_failed writer.new ≡ has_failed writer.old) }
     ensures err { IfErr result (λ e. (e ≡ Refusal.WriteFault) × (has_failed writer.new ≡ true)) }

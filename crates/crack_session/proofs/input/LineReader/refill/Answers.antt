@@ -1,6 +1,5 @@
-use Rattle.std.proofs.Common.{◌≡◌, ◌≤◌, refl, sym, ap, ◌∙◌, arith, length, take, length-take}
-use Rattle.crack_row.specs.Devices.{device}
-use Rattle.crack_session.specs.Lines.{Input, ahead}
+use Rattle.std.proofs.Common.{refl, ap, arith, take, length-take}
+use Rattle.crack_session.specs.Lines.{Input}
 use Rattle.crack_session.proofs.Reading.{ahead_read}
 use Rattle.crack_session.proofs.Ranges.{line_stays, range_written}
 use Rattle.crack_session.proofs.input.LineReader.refill.Goals as goal
@@ -9,7 +8,7 @@ pub returns-in-Ok-clause-line : goal.returns-in-Ok-clause-line
 returns-in-Ok-clause-line g c = (
   refl,
   line_stays c.move_back-kept.result c.self.inside.bytes c.move_back-kept.new.bytes c.read.new.buf c.self.inside.line_start c.self.inside.line_end c.args.self.now.line
-  c.move_back-kept.ensures.line (ap (λ (i : Input). i.line) c.self.view_is) (omega arith),
+      c.move_back-kept.ensures.line (ap (λ (i : Input). i.line) c.self.view_is) (omega arith),
 )
 
 pub returns-in-Ok-clause-bytes : goal.returns-in-Ok-clause-bytes
@@ -26,5 +25,5 @@ pub returns-in-Err-clause-line : goal.returns-in-Err-clause-line
 returns-in-Err-clause-line g c = (
   refl,
   line_stays c.move_back-kept.result c.self.inside.bytes c.move_back-kept.new.bytes c.read.new.buf c.self.inside.line_start c.self.inside.line_end c.args.self.now.line
-  c.move_back-kept.ensures.line (ap (λ (i : Input). i.line) c.self.view_is) (omega arith),
+      c.move_back-kept.ensures.line (ap (λ (i : Input). i.line) c.self.view_is) (omega arith),
 )

@@ -1,7 +1,6 @@
-use Rattle.std.proofs.Common.{rules, ◌≡◌, ◌≤◌, ◌<◌, Some, length, take, drop, sym, ap, ◌∙◌, arith, length-take}
-use Rattle.std.proofs.lemmas.List.{take_all, take-take}
+use Rattle.std.proofs.Common.{rules, arith}
 use Rattle.crack_session.proofs.Numbers.{short_number}
-use Rattle.crack_session.proofs.statement.next_number.Goals as goal
+use Rattle.crack_session.proofs.statement.short_number.Goals as goal
 
 pub returns-then-ends_at : goal.returns-then-ends_at
 returns-then-ends_at c =
