@@ -2,7 +2,7 @@
 use Rattle.std.proofs.Common.{◌≡◌, ℕ, Option, Some, Result, Ok, Err, List, [], ap}
 use Rattle.std.specs.Prelude.{IfOk, IfErr}
 use Rattle.crack_row.specs.declared.Bound.{Bound}
-use Rattle.crack_row.specs.declared.refusal.Refusal.TheVariants.{ReadFault, WriteFault}
+use Rattle.crack_row.specs.declared.refusal.Refusal.TheVariants.{WriteFault}
 use Rattle.crack_plain.specs.Plain.{Table}
 use Rattle.crack_session.specs.declared.session.End.{End}
 use Rattle.crack_session.specs.declared.session.Fault.{Fault}

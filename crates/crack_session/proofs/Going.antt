@@ -1,6 +1,6 @@
 -- How a session goes on, one statement after another.
-use Rattle.std.proofs.Common.{◌≡◌, ℕ, ◌+◌, ◌<◌, ◌≤◌, Bool, true, false, cond, Option, Some, None, Result, Ok, Err, List, [], ◌∷◌, ◌++◌, length, take, refl, sym, ap, ◌∙◌, subst, inl, inr, arith, append_assoc, append-nil, length-append}
-use Rattle.std.specs.Prelude.{map, option_map}
+use Rattle.std.proofs.Common.{◌≡◌, ℕ, ◌+◌, ◌<◌, Bool, true, false, cond, Option, Some, None, Result, Ok, Err, List, [], ◌∷◌, ◌++◌, length, take, refl, sym, ap, ◌∙◌, subst, inl, inr, arith, append_assoc, append-nil, length-append}
+use Rattle.std.specs.Prelude.{option_map}
 use Rattle.std.proofs.lemmas.List.{take_at, map-append}
 use Rattle.std.specs.List.{concat}
 use Rattle.std.specs.Io.KnownBytes.{Appends, Keeps}
@@ -18,7 +18,7 @@ use Rattle.crack_session.specs.Grammar.{Reading, statements, is_quit, reading_of
 use Rattle.crack_session.specs.Lines.{first_line, after_line, kept_of}
 use Rattle.crack_session.specs.Answers.{IsAnswer, is_short_answer, answer_text}
 use Rattle.crack_session.specs.Sessions.{AreAnswers, first_short, ending}
-use Rattle.crack_session.specs.Served.{AreAnswered, AreTold, IsCounted, IsServed, IsDone, IsCutWithin, IsCutOff}
+use Rattle.crack_session.specs.Served.{AreAnswered, AreTold, IsCounted, IsServed, IsDone, IsCutOff}
 use Rattle.crack_session.specs.Responses.{IsResponse, marked}
 use Rattle.crack_session.proofs.Following.{next_some}
 

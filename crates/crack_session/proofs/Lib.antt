@@ -6,6 +6,7 @@ pub mod Numbers
 pub mod Ranges
 pub mod Reading
 pub mod Replying
+pub mod Responding
 pub mod Sending
 pub mod WholeLines
 pub mod Words

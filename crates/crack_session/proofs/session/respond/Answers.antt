@@ -1,6 +1,4 @@
-use Rattle.std.proofs.Common.{◌+◌, ◌∙◌, ap}
-use Rattle.crack_session.specs.declared.session.Progress.{Progress}
-use Rattle.crack_session.specs.Responses.{marked}
+use Rattle.crack_session.proofs.Responding.{marked_by}
 use Rattle.crack_session.proofs.session.respond.Goals as goal
 
 pub returns-in-Ok-clause-responds : goal.returns-in-Ok-clause-responds
@@ -11,7 +9,7 @@ returns-in-Ok-clause-responds g c = λ tables e.
       next_tables = said.0;
       is = said.1;
       left_is = said.2;
-      short_is = ap (λ (p : Progress). p.first_short) c.mark.ensures ∙ ap (λ b. marked c.args.progress.now.first_short (c.args.progress.now.statements + 1) b) c.is_short.ensures;
+      short_is = marked_by c.args.progress.now c.mark.new.self _ _ c.mark.ensures c.is_short.ensures;
       sends = c.in-Ok.ensures.sends;
     }
 
@@ -23,6 +21,6 @@ returns-in-Err-clause-responds g c = λ tables e.
       next_tables = said.0;
       is = said.1;
       left_is = said.2;
-      short_is = ap (λ (p : Progress). p.first_short) c.mark.ensures ∙ ap (λ b. marked c.args.progress.now.first_short (c.args.progress.now.statements + 1) b) c.is_short.ensures;
+      short_is = marked_by c.args.progress.now c.mark.new.self _ _ c.mark.ensures c.is_short.ensures;
       sends = c.in-Err.ensures.sends;
     }

@@ -6,5 +6,5 @@ use Rattle.crack_session.proofs.one_desk.OneDeskDesk.splits.Goals as goal
 
 pub returns-clause-numbered : goal.returns-clause-numbered
 returns-clause-numbered c = λ known e.
-    let part = c.args.self.now in
-    one_numbered (record { state = state_of part; accepted = length part.history }) known (IsNumbered-replay part.history) e
+    let partition = c.args.self.now in
+    one_numbered (record { state = state_of partition; accepted = length partition.history }) known (IsNumbered-replay partition.history) e
