@@ -63,27 +63,9 @@ fn pieces_join_and_make_up_the_column(rt: HostRuntime) -> Result<(), Fail> {
     Ok(())
 }
 
-#[test]
-fn bounds_at_one_place_move_together(rt: HostRuntime) -> Result<(), Fail> {
-    let mut index = tens(rt.alloc())?;
-    raise_from(&rt, &mut index, Bound(30));
-    assert_eq!(rt; places(&index), [Some(0), Some(1), Some(2)]);
-
-    let mut index = tens(rt.alloc())?;
-    raise_from(&rt, &mut index, Bound(20));
-    assert_eq!(rt; places(&index), [Some(0), Some(2), Some(2)]);
-
-    let mut index = tens(rt.alloc())?;
-    lower_to(&rt, &mut index, Bound(20));
-    assert_eq!(rt; places(&index), [Some(0), Some(0), Some(1)]);
-
-    let mut index = tens(rt.alloc())?;
-    index.lower_at(1);
-    assert_eq!(rt; places(&index), [Some(0), Some(0), Some(0)]);
-    Ok(())
-}
-
-fn raise_from(rt: &impl Abort, index: &mut CrackerIndex, bound: Bound) {
+/// Where the bounds stand once those from this one on that stand where it stands moved up.
+fn raised(rt: &impl Abort, alloc: Global, bound: Bound) -> Result<[Option<usize>; 3], Fail> {
+    let mut index = tens(alloc)?;
     match index.position(bound) {
         Some(place) => {
             assert!(rt; place < 1000);
@@ -91,9 +73,12 @@ fn raise_from(rt: &impl Abort, index: &mut CrackerIndex, bound: Bound) {
         }
         None => panic!(rt; "the bound is there"),
     }
+    Ok(places(&index))
 }
 
-fn lower_to(rt: &impl Abort, index: &mut CrackerIndex, bound: Bound) {
+/// Where the bounds stand once those up to this one that stand where it stands moved down.
+fn lowered(rt: &impl Abort, alloc: Global, bound: Bound) -> Result<[Option<usize>; 3], Fail> {
+    let mut index = tens(alloc)?;
     match index.position(bound) {
         Some(place) => {
             assert!(rt; 0 < place);
@@ -101,4 +86,25 @@ fn lower_to(rt: &impl Abort, index: &mut CrackerIndex, bound: Bound) {
         }
         None => panic!(rt; "the bound is there"),
     }
+    Ok(places(&index))
+}
+
+/// Where the bounds stand once those at place 1 moved down.
+fn lowered_at_one(alloc: Global) -> Result<[Option<usize>; 3], Fail> {
+    let mut index = tens(alloc)?;
+    index.lower_at(1);
+    Ok(places(&index))
+}
+
+#[test]
+fn bounds_at_one_place_move_together(rt: HostRuntime) -> Result<(), Fail> {
+    let alloc = rt.alloc();
+    assert_eq!(rt; raised(&rt, alloc, Bound(30))?, [Some(0), Some(1), Some(2)]);
+    assert_eq!(rt; raised(&rt, alloc, Bound(20))?, [Some(0), Some(2), Some(2)]);
+    assert_eq!(rt;
+        lowered(&rt, alloc, Bound(20))?,
+        [Some(0), Some(0), Some(1)]
+    );
+    assert_eq!(rt; lowered_at_one(alloc)?, [Some(0), Some(0), Some(0)]);
+    Ok(())
 }
