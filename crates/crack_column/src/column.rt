@@ -1,9 +1,7 @@
 //! The cracker column, and how a crack divides a stretch of it.
-ghost use Rattle.std.specs.Prelude.{◌≡◌, ℕ, ◌+◌, ◌-◌, ◌<◌, ◌≤◌, ◌^◌, ◌↔◌, List, [], ◌∷◌, ◌++◌, Some, length, map, vec_len, slice_get, slice_set, slice_index_or, vec_capacity, IsTrue, OnOk, OnErr, IfErr, All, MatchOption, take, drop};
+ghost use Rattle.std.specs.Prelude.{◌≡◌, ◌+◌, ◌-◌, ◌<◌, ◌≤◌, ◌^◌, ◌↔◌, List, [], ◌∷◌, ◌++◌, Some, length, map, vec_len, slice_get, slice_set, vec_capacity, IsTrue, OnOk, OnErr, IfErr, All, MatchOption, take};
 ghost use Rattle.std.specs.List.{between};
 ghost use Rattle.crack_arena.specs.Arena.{Cell, times, StandsAt, IsFirstAt, IsAbsent};
-ghost use Rattle.crack_row.specs.declared.Row.{Row as RowValue};
-ghost use Rattle.crack_arena.specs.Rows.{key_at};
 ghost use Rattle.crack_column.specs.Column.{unknown, Remembers, StillRemembers, Cracks};
 ghost use Rattle.crack_column.specs.Tickets.{AreDrawn, remembered_of, Knows, Turns, Kept, handles_in, keys_in, room_in};
 

@@ -1,9 +1,9 @@
 //! The tags of a cracker column, one at each place: what a crack reads, and what it exchanges.
-ghost use Rattle.std.specs.Prelude.{◌≡◌, ◌+◌, ◌<◌, ◌≤◌, List, All, length, map};
+ghost use Rattle.std.specs.Prelude.{◌≡◌, ◌+◌, ◌<◌, ◌≤◌, All, length, map};
 ghost use Rattle.std.specs.List.Sorted.{IsPermutation};
 ghost use Rattle.crack_arena.specs.Arena.{times};
 ghost use Rattle.crack_column.specs.Column.{IsDividedAt, unknown};
-ghost use Rattle.crack_column.specs.Tickets.{ticket_of, remembered_of, handle_of, Knows, Read};
+ghost use Rattle.crack_column.specs.Tickets.{ticket_of, remembered_of, Knows, Read};
 
 use crack_arena::{Arena, Handle, key_of};
 use crack_row::{Bound, Row};

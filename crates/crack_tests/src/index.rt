@@ -1,7 +1,7 @@
 //! The bounds of a cracked column and their places.
 
 use crack_index::CrackerIndex;
-use crack_row::{Bound, Key, KeyRange};
+use crack_row::{Bound, Key, KeyRange, PieceSize};
 use std::alloc::Global;
 use std::process::Abort;
 use std::test::Fail;
@@ -43,45 +43,29 @@ fn neighbours_and_piece_of_a_bound(rt: HostRuntime) -> Result<(), Fail> {
     Ok(())
 }
 
+fn piece(low: u64, high: u64, size: u64) -> PieceSize {
+    PieceSize {
+        low: Bound(low),
+        high: Bound(high),
+        size,
+    }
+}
+
 #[test]
 fn pieces_join_and_make_up_the_column(rt: HostRuntime) -> Result<(), Fail> {
     let mut index = CrackerIndex::new(rt.alloc());
     index.reserve(2)?;
     index.add(Bound(15), 1);
     index.add(Bound(25), 2);
-    let sizes = [(0, 15, 1), (15, 25, 1), (25, 4294967296, 2)];
+    let sizes = [piece(0, 15, 1), piece(15, 25, 1), piece(25, 4294967296, 2)];
     let pieces = index.pieces(KeyRange::all(), 4)?;
-    assert_eq!(rt; pieces.len(), 3);
-    for (piece, (low, high, size)) in pieces.iter().zip(sizes) {
-        assert_eq!(rt;
-            (piece.low, piece.high, piece.size),
-            (Bound(low), Bound(high), size)
-        );
-    }
+    assert_eq!(rt; pieces.as_slice(), sizes.as_slice());
     Ok(())
 }
 
-#[test]
-fn bounds_at_one_place_move_together(rt: HostRuntime) -> Result<(), Fail> {
-    let mut index = tens(rt.alloc())?;
-    raise_from(&rt, &mut index, Bound(30));
-    assert_eq!(rt; places(&index), [Some(0), Some(1), Some(2)]);
-
-    let mut index = tens(rt.alloc())?;
-    raise_from(&rt, &mut index, Bound(20));
-    assert_eq!(rt; places(&index), [Some(0), Some(2), Some(2)]);
-
-    let mut index = tens(rt.alloc())?;
-    lower_to(&rt, &mut index, Bound(20));
-    assert_eq!(rt; places(&index), [Some(0), Some(0), Some(1)]);
-
-    let mut index = tens(rt.alloc())?;
-    index.lower_at(1);
-    assert_eq!(rt; places(&index), [Some(0), Some(0), Some(0)]);
-    Ok(())
-}
-
-fn raise_from(rt: &impl Abort, index: &mut CrackerIndex, bound: Bound) {
+/// Where the bounds stand once those from this one on that stand where it stands moved up.
+fn raised(rt: &impl Abort, alloc: Global, bound: Bound) -> Result<[Option<usize>; 3], Fail> {
+    let mut index = tens(alloc)?;
     match index.position(bound) {
         Some(place) => {
             assert!(rt; place < 1000);
@@ -89,9 +73,12 @@ fn raise_from(rt: &impl Abort, index: &mut CrackerIndex, bound: Bound) {
         }
         None => panic!(rt; "the bound is there"),
     }
+    Ok(places(&index))
 }
 
-fn lower_to(rt: &impl Abort, index: &mut CrackerIndex, bound: Bound) {
+/// Where the bounds stand once those up to this one that stand where it stands moved down.
+fn lowered(rt: &impl Abort, alloc: Global, bound: Bound) -> Result<[Option<usize>; 3], Fail> {
+    let mut index = tens(alloc)?;
     match index.position(bound) {
         Some(place) => {
             assert!(rt; 0 < place);
@@ -99,4 +86,25 @@ fn lower_to(rt: &impl Abort, index: &mut CrackerIndex, bound: Bound) {
         }
         None => panic!(rt; "the bound is there"),
     }
+    Ok(places(&index))
+}
+
+/// Where the bounds stand once those at place 1 moved down.
+fn lowered_at_one(alloc: Global) -> Result<[Option<usize>; 3], Fail> {
+    let mut index = tens(alloc)?;
+    index.lower_at(1);
+    Ok(places(&index))
+}
+
+#[test]
+fn bounds_at_one_place_move_together(rt: HostRuntime) -> Result<(), Fail> {
+    let alloc = rt.alloc();
+    assert_eq!(rt; raised(&rt, alloc, Bound(30))?, [Some(0), Some(1), Some(2)]);
+    assert_eq!(rt; raised(&rt, alloc, Bound(20))?, [Some(0), Some(2), Some(2)]);
+    assert_eq!(rt;
+        lowered(&rt, alloc, Bound(20))?,
+        [Some(0), Some(0), Some(1)]
+    );
+    assert_eq!(rt; lowered_at_one(alloc)?, [Some(0), Some(0), Some(0)]);
+    Ok(())
 }

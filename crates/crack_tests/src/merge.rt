@@ -74,8 +74,8 @@ fn assert_layout(
     assert_eq!(rt; (layout.column, layout.pending_in), rows);
     let pieces = layout.pieces.as_slice();
     assert_eq!(rt; pieces.len(), sizes.len());
-    for (piece, size) in pieces.iter().zip(sizes) {
-        assert_eq!(rt; piece.size, *size, "from {}", piece.low.0);
+    for i in 0..pieces.len() {
+        assert_eq!(rt; pieces[i].size, sizes[i], "from {}", pieces[i].low.0);
     }
     Ok(())
 }

@@ -50,7 +50,7 @@ fn take<Kind>(rt: &impl Abort, pending: &mut PendingList<Kind>, place: usize) ->
 }
 
 fn key_of(arena: &Arena<Row>, handle: Handle<Row>) -> Option<u32> {
-    arena.get(handle).map(|row| row.key.0)
+    Some(arena.get(handle)?.key.0)
 }
 
 /// Asserts that the rows have these keys, in this order.

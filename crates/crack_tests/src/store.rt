@@ -89,8 +89,8 @@ fn assert_sizes(rt: &impl Abort, store: &Store, sizes: &[u64]) -> Result<(), Fai
     assert_eq!(rt; layout.rows, 3);
     let pieces = layout.pieces.as_slice();
     assert_eq!(rt; pieces.len(), sizes.len());
-    for (piece, size) in pieces.iter().zip(sizes) {
-        assert_eq!(rt; piece.size, *size, "from {}", piece.low.0);
+    for i in 0..pieces.len() {
+        assert_eq!(rt; pieces[i].size, sizes[i], "from {}", pieces[i].low.0);
     }
     Ok(())
 }
