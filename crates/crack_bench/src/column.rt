@@ -27,7 +27,7 @@ pub fn shuffle(filled: &mut Filled, numbers: &mut Numbers) {
     }
 }
 
-/// A column of the handles, in their order. It remembers no key.
+/// A column of the handles, in their order. It remembers no key. There are no more handles than an arena may have cells.
 pub fn column_of(
     alloc: Global,
     handles: &[Handle<Row>],
@@ -35,6 +35,9 @@ pub fn column_of(
 ) -> Result<CrackerColumn, Refusal>
     ensures { IfOk result (λ c. Remembers arena.now.cells c.handles c.keys) }
 {
+    if handles.len() > 4294967295 {
+        return Err(Refusal::OutOfMemory);
+    }
     let mut column = CrackerColumn::new(alloc);
     column.reserve(handles.len())?;
     'handles: for i in 0..handles.len() {
