@@ -15,6 +15,9 @@ pub const FIRST: Bound = Bound(1073741824);
 /// How many later cracks there are, over keys that are remembered.
 const LATER_CRACKS: u64 = 16;
 
+/// How many handles a column has at most.
+const MOST_HANDLES: usize = 4294967296;
+
 /// How far their bounds lie apart.
 const LATER_STEP: u64 = 134217728;
 
@@ -27,7 +30,7 @@ pub fn shuffle(filled: &mut Filled, numbers: &mut Numbers) {
     }
 }
 
-/// A column of the handles, in their order. It remembers no key. There are no more handles than an arena may have cells.
+/// A column of the handles, in their order, as far as one has room for them. It remembers no key.
 pub fn column_of(
     alloc: Global,
     handles: &[Handle<Row>],
@@ -35,12 +38,10 @@ pub fn column_of(
 ) -> Result<CrackerColumn, Refusal>
     ensures { IfOk result (λ c. Remembers arena.now.cells c.handles c.keys) }
 {
-    if handles.len() > 4294967295 {
-        return Err(Refusal::OutOfMemory);
-    }
     let mut column = CrackerColumn::new(alloc);
-    column.reserve(handles.len())?;
-    'handles: for i in 0..handles.len() {
+    let rows = handles.len().min(MOST_HANDLES);
+    column.reserve(rows)?;
+    'handles: for i in 0..rows {
         column.append(handles[i]);
     }
     Ok(column)

@@ -6,7 +6,7 @@ use Rattle.crack_state.specs.State.{State, Carried, IsIntact}
 use Rattle.crack_state.specs.Steps.{hand_key, piece_end, appended, pushed_on}
 use Rattle.crack_state.specs.Merge.{Follows, Tallies}
 
--- a carry, by the first rule that holds; rules for a doomed hand and for an evicted row come before these two
+-- a carry, step by step, each by the first rule that holds; those of a doomed hand and of an evicted row will come before these
 pub data Carries : Carried → State → Type 0 where
   -- the own piece of the hand ends at the column's end: the hand becomes the column's last row, and the carry ends
   ends : (c : Carried) → piece_end c.store (hand_key c) ≡ length c.store.column → Carries c (appended c)

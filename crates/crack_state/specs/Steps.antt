@@ -2,13 +2,12 @@
 use Rattle.std.specs.Prelude.{◌≡◌, ℕ, ◌+◌, ◌-◌, ◌<◌, ◌^◌, nat_lt, min, map, drop, length, count_by, List, [], ◌∷◌, ◌++◌, Option, Some, None, slice_index_or, slice_set}
 use Rattle.std.specs.List.{remove}
 use Rattle.crack_row.specs.Ranges.{IsIn}
-use Rattle.crack_row.specs.declared.Bound.{Bound}
 use Rattle.crack_row.specs.declared.Row.{Row}
 use Rattle.crack_arena.specs.Arena.{Handle, no_handle, handle_for, cells_with}
 use Rattle.crack_index.specs.declared.mark.Mark.{Mark}
-use Rattle.crack_index.specs.Marks.{HasBound, added, next_mark, last_mark, start_of, end_of, raised}
+use Rattle.crack_index.specs.Marks.{next_mark, last_mark, start_of, end_of, raised}
 use Rattle.crack_arena.specs.Rows.{key_at}
-use Rattle.crack_column.specs.Column.{unknown, Cracks}
+use Rattle.crack_column.specs.Column.{unknown}
 use Rattle.crack_state.specs.declared.MergeReport.{MergeReport}
 use Rattle.crack_state.specs.State.{State, Carried, handle_of, greatest}
 
@@ -93,19 +92,6 @@ pub record IsAdmissible (row : Row) (s : State) : Type 0 where
   pub fresh : handle_of s.serials row.serial.0 ≡ None
   pub within : IsIn s.keys row.key.0
   pub cell : length s.cells < 2 ^ 32 - 1 + length s.free
-
--- crack: a bound divides its own piece at a place; the column's handles, and what is remembered of their keys, stand in this order
-abbrev pub cracked_at : Bound → ℕ → List Handle → List ℕ → State → State
-cracked_at bound place handles keys s = record s { column = handles; remembered = keys; marks = added (record { bound = bound; position = place }) s.marks }
-
--- how a bound's own piece is cracked: its rows, divided by the bound, and no other
-pub record CracksAt (s u : State) (bound : Bound) : Type 0 where
-  pub place : ℕ
-  pub missing : HasBound s.marks bound.0 → ⊥
-  pub low : s.keys.low < bound.0
-  pub high : bound.0 < s.keys.high
-  pub cracks : Cracks s.cells bound.0 (piece_start s bound.0) (piece_end s bound.0) s.column s.remembered u.column u.remembered place
-  pub after : u ≡ cracked_at bound place u.column u.remembered s
 
 -- the two differ in the room for handles alone
 pub record SameButRoom (s t : State) : Type 0 where

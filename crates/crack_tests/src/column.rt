@@ -80,6 +80,8 @@ fn fill(rt: &impl Abort, arena: &mut Arena<Row>, column: &mut CrackerColumn) -> 
     let c = put(rt, arena, 2, 30)?;
     let d = put(rt, arena, 3, 20)?;
     assert!(rt; column.is_empty());
+    let len = column.len();
+    assert!(rt; len == 0);
     column.reserve(4)?;
     column.append(a);
     column.append(b);
@@ -128,6 +130,8 @@ fn swap_first(
     ensures remembered { OnOk result ((cells : List (Cell RowValue)) → Remembers cells column.new.handles column.new.keys) }
 {
     assert!(rt; column.pop().is_none());
+    let len = column.len();
+    assert!(rt; len == 0);
     column.reserve(2)?;
     column.append(a);
     column.append(b);
@@ -135,18 +139,6 @@ fn swap_first(
     assert!(rt; column.swap_in(0, c) == a);
     assert!(rt; at(rt, column, 0) == c);
     Ok(())
-}
-
-/// Asserts where each of three handles stands.
-fn assert_places(
-    rt: &impl Abort,
-    column: &CrackerColumn,
-    handles: [Handle<Row>; 3],
-    places: [Option<usize>; 3],
-) {
-    for (handle, place) in handles.into_iter().zip(places) {
-        assert_eq!(rt; column.place_of(handle), place);
-    }
 }
 
 fn swap_and_pop(
@@ -161,7 +153,9 @@ fn swap_and_pop(
     let c = put(rt, arena, 2, 30)?;
     swap_first(rt, column, a, b, c)?;
     assert_eq!(rt; crack(rt, arena, column, (0, 2), 20), 1);
-    assert_places(rt, column, [c, b, a], [Some(1), Some(0), None]);
+    assert_eq!(rt; column.place_of(c), Some(1));
+    assert_eq!(rt; column.place_of(b), Some(0));
+    assert_eq!(rt; column.place_of(a), None);
     assert!(rt; column.pop() == Some(c));
     assert_eq!(rt; column.len(), 1);
     Ok(())

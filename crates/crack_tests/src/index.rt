@@ -1,7 +1,7 @@
 //! The bounds of a cracked column and their places.
 
 use crack_index::CrackerIndex;
-use crack_row::{Bound, Key, KeyRange};
+use crack_row::{Bound, Key, KeyRange, PieceSize};
 use std::alloc::Global;
 use std::process::Abort;
 use std::test::Fail;
@@ -43,21 +43,23 @@ fn neighbours_and_piece_of_a_bound(rt: HostRuntime) -> Result<(), Fail> {
     Ok(())
 }
 
+fn piece(low: u64, high: u64, size: u64) -> PieceSize {
+    PieceSize {
+        low: Bound(low),
+        high: Bound(high),
+        size,
+    }
+}
+
 #[test]
 fn pieces_join_and_make_up_the_column(rt: HostRuntime) -> Result<(), Fail> {
     let mut index = CrackerIndex::new(rt.alloc());
     index.reserve(2)?;
     index.add(Bound(15), 1);
     index.add(Bound(25), 2);
-    let sizes = [(0, 15, 1), (15, 25, 1), (25, 4294967296, 2)];
+    let sizes = [piece(0, 15, 1), piece(15, 25, 1), piece(25, 4294967296, 2)];
     let pieces = index.pieces(KeyRange::all(), 4)?;
-    assert_eq!(rt; pieces.len(), 3);
-    for (piece, (low, high, size)) in pieces.iter().zip(sizes) {
-        assert_eq!(rt;
-            (piece.low, piece.high, piece.size),
-            (Bound(low), Bound(high), size)
-        );
-    }
+    assert_eq!(rt; pieces.as_slice(), sizes.as_slice());
     Ok(())
 }
 

@@ -1,7 +1,6 @@
 use Rattle.std.proofs.Common.{◌≡◌, ◌<◌, [], refl}
-use Rattle.crack_state.specs.Steps.{CracksAt}
 use Rattle.crack_state.proofs.PieceLaws.{piece_end-le}
-use Rattle.crack_state.proofs.CrackLaws.{IsIntact-cracked, RefinesAt-cracked, RefinesBy-refl}
+use Rattle.crack_state.proofs.CrackLaws.{CracksAt, IsIntact-cracked, RefinesAt-cracked, RefinesBy-refl}
 use Rattle.crack_store.specs.Inside.{lists_of}
 use Rattle.crack_store.proofs.inside.crack_at.Goals as goal
 

@@ -1,4 +1,4 @@
-use Rattle.std.proofs.Common.{◌≡◌, false}
+use Rattle.std.proofs.Common.{◌≡◌, false, arith}
 use Rattle.crack_state.specs.Merge.{Stands, RefinesAt, Refines}
 use Rattle.crack_state.proofs.CrackLaws.{Refines-both, IsCracked-refined}
 use Rattle.crack_store.specs.Inside.{lists_of}
@@ -14,7 +14,7 @@ crack_at-requires-2-clause-room c =
     let low_stands : c.is_missing-low.result ≡ false → Stands s c.args.range.low = λ e. rw c.low.ensures.value at (c.is_missing-low.ensures.stands e) in
     let high_stands : c.is_missing-high.result ≡ false → Stands s c.args.range.high = λ e. rw c.high.ensures.value at (c.is_missing-high.ensures.stands e) in
     let kept : Stands s c.args.range.low → c.crack_at.new.inside.index.room ≡ c.reserve.new.self.room = rw (c.in_ok-reserve.ensures.marks, c.low-2.ensures.value) at c.crack_at.ensures.kept in
-    rw c.high-2.ensures.value (room_left s low_cracked c.args.range.low c.args.range.high c.reserve.new.self.room c.crack_at.new.inside.index.room c.is_missing-low.result c.is_missing-high.result first low_stands high_stands c.in_ok-reserve.ensures.ok c.crack_at.ensures.room kept)
+    rw c.high-2.ensures.value (room_left s low_cracked c.args.range.low c.args.range.high c.reserve.new.self.room c.crack_at.new.inside.index.room c.is_missing-low.result c.is_missing-high.result first low_stands high_stands (omega (arith, c.in_ok-reserve.ensures.ok)) c.crack_at.ensures.room kept)
 
 -- cracked at the one end, and then at the other
 refined : (c : goal.After-crack_at-2) → Refines (lists_of c.self.inside.inside) (lists_of c.crack_at-2.new.inside) c.args.range
