@@ -4,6 +4,7 @@
 //! What a run computes goes to standard output: it depends on the words alone. Times go to standard error, in nanoseconds, a line
 //! `NAME NUMBER` each.
 #![tactic(auto)]
+
 ghost use Rattle.crack_column.specs.Column.{Remembers};
 
 mod arena;

@@ -1,5 +1,5 @@
 -- A partition's fact, and what follows from it.
-use Rattle.std.proofs.Common.{◌≡◌, ℕ, ◌+◌, ◌<◌, ◌≤◌, List, [], ◌∷◌, ◌++◌, length, Bool, false, cond, Option, Some, None, IfSome, option_and_then, arith, refl, sym, ap, ◌∙◌}
+use Rattle.std.proofs.Common.{◌≡◌, ℕ, ◌+◌, ◌<◌, ◌≤◌, List, [], ◌∷◌, ◌++◌, length, Bool, cond, Option, Some, None, IfSome, option_and_then, arith, refl, sym, ap, ◌∙◌}
 use Rattle.std.specs.List.{All}
 use Rattle.std.specs.List.Sorted.{IsPermutation}
 use Rattle.std.proofs.lemmas.List.Sorted.{IsPermutation-sym, IsPermutation-trans, IsPermutation-cons, IsPermutation-to_front, All-permutation}
@@ -19,7 +19,7 @@ use Rattle.crack_plain.specs.Totals.{is_placed}
 use Rattle.crack_plain.proofs.Laws.{IsLegal-push, replay-push, next-le-accepted, IsNumbered-replay, is_placed-reply_to}
 use Rattle.crack_plain.proofs.TotalLaws.{deleted-none, inserted-push, deleted-push, inserted-le-accepted}
 use Rattle.crack_state.specs.State.{State, live_rows, freed_of, IsIntact}
-use Rattle.crack_state.specs.Steps.{IsAdmissible, admitted, SameButRoom}
+use Rattle.crack_state.specs.Steps.{IsAdmissible, admitted}
 use Rattle.crack_state.proofs.StepLaws.{IsIntact-room}
 use Rattle.crack_state.proofs.KeyedLaws.{handle_of-fresh}
 use Rattle.crack_state.proofs.AdmitLaws.{IsIntact-admitted, live_rows-admitted, freed-admitted, cells-admitted}

@@ -1,4 +1,4 @@
-use Rattle.std.proofs.Common.{rules, ◌<◌, refl, Result, Ok, Err, OnOk}
+use Rattle.std.proofs.Common.{rules, ◌<◌, ◌≤◌, Result, Ok, Err, OnOk}
 use Rattle.crack_part.proofs.KeepLemmas.{ReadsRange-none, ReadsRange-settled}
 use Rattle.crack_part.proofs.partition.prepare.Goals as goal
 
@@ -8,7 +8,7 @@ on_ok (Err e) p f = tt
 
 pub returns-then-is_empty-clause-prepared : goal.returns-then-is_empty-clause-prepared
 returns-then-is_empty-clause-prepared c =
-    let empty = c.if-is_empty.ensures.0 refl in
+    let empty : c.clip-common.result.high ≤ c.clip-common.result.low = search rules in
     rw c.in-Some.is (ReadsRange-none c.args.policy c.args.store.now _ (rw c.clip-common.ensures.value at empty))
 
 pub returns-else-is_empty-clause-prepared : goal.returns-else-is_empty-clause-prepared
