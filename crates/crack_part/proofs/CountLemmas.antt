@@ -45,8 +45,7 @@ count-none s keys r plain ends intact empty same =
     sym (count-empty (clipped r keys) plain empty) ∙ count-clipped r keys plain within
 
 -- in a settled store the places of the range's ends count the plain rows
-pub count-places : (s t : State) (keys r : Range) (plain : List Row) → s.keys ≡ keys → IsIntact s [] → IsSettled t (clipped r keys) → live_rows t ≡ live_rows s → IsPermutation (live_rows s) plain → edge t (clipped r keys).high - edge t (clipped r keys).low ≡ count_by (in_range r) plain
-count-places s t keys r plain ends intact settled live same =
+pub count-places : (s : State) (keys r : Range) (plain : List Row) → s.keys ≡ keys → IsIntact s [] → IsSettled s (clipped r keys) → IsPermutation (live_rows s) plain → edge s (clipped r keys).high - edge s (clipped r keys).low ≡ count_by (in_range r) plain
+count-places s keys r plain ends intact settled same =
     let within = rw ends at (plain-within s plain intact same) in
-    let now : IsPermutation (live_rows t) plain = rw live same in
-    count-settled t (clipped r keys) plain settled now ∙ count-clipped r keys plain within
+    count-settled s (clipped r keys) plain settled same ∙ count-clipped r keys plain within

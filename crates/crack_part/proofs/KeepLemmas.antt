@@ -1,15 +1,13 @@
 -- What cracks and merges keep of a store, and how it stands where they found no memory.
-use Rattle.std.proofs.Common.{◌≡◌, ◌+◌, Bool, true, false, cond, [], length, refl, sym, ap, subst, ◌∙◌, inl, inr, arith}
+use Rattle.std.proofs.Common.{◌≡◌, ◌+◌, ◌<◌, ◌≤◌, Bool, true, false, cond, [], length, Option, Some, None, IfSome, refl, sym, ap, subst, ◌∙◌, inl, inr, arith}
 use Rattle.std.proofs.lemmas.Bool.{cases_lt}
 use Rattle.std.proofs.lemmas.List.{drop_all}
 use Rattle.crack_row.specs.Ranges.{Range, clipped}
-use Rattle.crack_row.specs.declared.command.Command.{Command}
-use Rattle.crack_row.specs.declared.command.Command.TheVariants.{Insert, Count}
 use Rattle.crack_row.specs.declared.command.Policy.{Policy}
 use Rattle.crack_row.specs.declared.command.Policy.TheVariants.{Complete}
 use Rattle.crack_state.specs.State.{State, IsIntact, live_rows, freed_of}
 use Rattle.crack_state.specs.Steps.{SameButRoom}
-use Rattle.crack_state.specs.Merge.{Refines, Follows, Merges, Tallies, Leaves, is_touched}
+use Rattle.crack_state.specs.Merge.{Refines, Follows, Merges, IsSettled, Tallies, Leaves, is_touched}
 use Rattle.crack_state.proofs.StepLaws.{IsIntact-room}
 use Rattle.crack_state.proofs.CrackLaws.{keys-refined, live_rows-refined, cells-refined, pending_out-refined}
 use Rattle.crack_state.proofs.FollowLaws.{Follows-trans, Follows-room, Tallies-trans, Tallies-room, length_marks-Follows}
@@ -49,18 +47,34 @@ Keeps-refined s u r refines =
 pub Keeps-settled : (policy : Policy) (s t : State) (r : Range) → CracksAndMerges policy s t r → Keeps s t
 Keeps-settled policy s t r done = Keeps-trans s done.cracked t (Keeps-refined s done.cracked r done.refines) (Keeps-follows done.cracked t done.merges.follows)
 
--- a range command leaves the live rows as they were
-pub Keeps-reads : (policy : Policy) (s t : State) (r : Range) → ReadsRange policy s t r → Keeps s t
+-- nothing is read of an empty range
+pub ReadsRange-none : (policy : Policy) (s : State) (r : Range) → r.high ≤ r.low → ReadsRange policy s s r
+ReadsRange-none policy s r none = record { empty = λ e. refl; settled = λ filled. absurd (omega arith) }
+
+pub ReadsRange-settled : (policy : Policy) (s t : State) (r : Range) → r.low < r.high → CracksAndMerges policy s t r → ReadsRange policy s t r
+ReadsRange-settled policy s t r filled done = record { empty = λ e. absurd (omega arith); settled = λ f. done }
+
+-- a read of a range leaves the live rows as they were
+Keeps-reads : (policy : Policy) (s t : State) (r : Range) → ReadsRange policy s t r → Keeps s t
 Keeps-reads policy s t r reads = elim (cases_lt r.low r.high) [
   | inl filled ↦ Keeps-settled policy s t r (reads.settled filled)
   | inr empty ↦ rw (reads.empty empty) (Keeps-refl s)
 ]
 
-pub IsIntact-reads : (policy : Policy) (s t : State) (r : Range) → ReadsRange policy s t r → IsIntact s [] → IsIntact t []
+IsIntact-reads : (policy : Policy) (s t : State) (r : Range) → ReadsRange policy s t r → IsIntact s [] → IsIntact t []
 IsIntact-reads policy s t r reads intact = elim (cases_lt r.low r.high) [
   | inl filled ↦ (reads.settled filled).merges.intact
   | inr empty ↦ rw (reads.empty empty) intact
 ]
+
+-- a store that is prepared has the live rows that it had
+pub Keeps-prepared : (policy : Policy) (keys : Range) (range : Option Range) (s t : State) → Prepares policy keys range s t → Keeps s t
+Keeps-prepared policy keys None s t same = rw same (Keeps-refl s)
+Keeps-prepared policy keys (Some range) s t reads = Keeps-reads policy s t (clipped range keys) reads
+
+pub IsIntact-prepared : (policy : Policy) (keys : Range) (range : Option Range) (s t : State) → Prepares policy keys range s t → IsIntact s [] → IsIntact t []
+IsIntact-prepared policy keys None s t same intact = rw same intact
+IsIntact-prepared policy keys (Some range) s t reads intact = IsIntact-reads policy s t (clipped range keys) reads intact
 
 Keeps-stops : (policy : Policy) (s t : State) (r : Range) → StopsRead policy s t r → Keeps s t
 Keeps-stops policy s t r read = elim read [
@@ -69,16 +83,21 @@ Keeps-stops policy s t r read = elim read [
 ]
 
 -- a command that found no memory leaves the live rows as they were
-pub Keeps-spared : (policy : Policy) (keys : Range) (command : Command) (s t : State) → Spares policy keys command s t → Keeps s t
-Keeps-spared policy keys (Insert key payload) s t spared = Keeps-room s t spared
-Keeps-spared policy keys (Count range) s t spared = Keeps-stops policy s t (clipped range keys) spared
+pub Keeps-spared : (policy : Policy) (keys : Range) (range : Option Range) (s t : State) → Spares policy keys range s t → Keeps s t
+Keeps-spared policy keys None s t spared = Keeps-room s t spared
+Keeps-spared policy keys (Some range) s t spared = Keeps-stops policy s t (clipped range keys) spared
 
-pub IsIntact-spared : (policy : Policy) (keys : Range) (command : Command) (s t : State) → Spares policy keys command s t → IsIntact s [] → IsIntact t []
-IsIntact-spared policy keys (Insert key payload) s t spared intact = IsIntact-room s t [] spared intact
-IsIntact-spared policy keys (Count range) s t spared intact = elim spared [
+pub IsIntact-spared : (policy : Policy) (keys : Range) (range : Option Range) (s t : State) → Spares policy keys range s t → IsIntact s [] → IsIntact t []
+IsIntact-spared policy keys None s t spared intact = IsIntact-room s t [] spared intact
+IsIntact-spared policy keys (Some range) s t spared intact = elim spared [
   | inl same ↦ IsIntact-room s t [] same intact
   | inr done ↦ done.stops.intact
 ]
+
+-- a range that was read is settled
+pub IsSettled-prepared : (policy : Policy) (keys : Range) (range : Option Range) (s t : State) → Prepares policy keys range s t → IfSome range (λ (r : Range). (clipped r keys).low < (clipped r keys).high → IsSettled t (clipped r keys))
+IsSettled-prepared policy keys None s t prepared = tt
+IsSettled-prepared policy keys (Some range) s t prepared = λ filled. (prepared.settled filled).merges.settled
 
 -- a whole merge is one that stopped at its end
 Leaves-rest : (policy : Policy) (s t : State) (r : Range) → Leaves policy s t r → LeavesRest policy s t
@@ -117,11 +136,11 @@ StopsRead-read policy s u t r none reads room = elim (cases_lt r.low r.high) [
   | inl filled ↦
       let done = reads.settled filled in
       let still : done.cracked.pending_out ≡ [] = pending_out-refined _ s done.cracked done.refines ∙ none in
-      inr (record { filled = filled; cracked = done.cracked; refines = done.refines; stops = Stops-merged policy done.cracked u t r still done.merges done.tallies room })
+      inr (record { filled = filled; cracked = done.cracked; refines = done.refines; intact = done.intact; stops = Stops-merged policy done.cracked u t r still done.merges done.tallies room })
   | inr empty ↦ inl (subst (λ (x : State). SameButRoom x t) (reads.empty empty) room)
 ]
 
 -- prepared, and then not performed
-pub Spares-prepared : (policy : Policy) (keys : Range) (command : Command) (s u t : State) → s.pending_out ≡ [] → Prepares policy keys command s u → SameButRoom u t → Spares policy keys command s t
-Spares-prepared policy keys (Insert key payload) s u t none prepared same = subst (λ (x : State). SameButRoom x t) prepared same
-Spares-prepared policy keys (Count range) s u t none prepared same = StopsRead-read policy s u t (clipped range keys) none prepared same
+pub Spares-prepared : (policy : Policy) (keys : Range) (range : Option Range) (s u t : State) → s.pending_out ≡ [] → Prepares policy keys range s u → SameButRoom u t → Spares policy keys range s t
+Spares-prepared policy keys None s u t none prepared same = subst (λ (x : State). SameButRoom x t) prepared same
+Spares-prepared policy keys (Some range) s u t none prepared same = StopsRead-read policy s u t (clipped range keys) none prepared same

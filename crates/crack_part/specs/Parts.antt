@@ -1,13 +1,15 @@
 -- What contracts see of a partition, and what holds of each.
-use Rattle.std.specs.Prelude.{◌≡◌, ◌⊎◌, ℕ, ◌+◌, ◌<◌, ◌≤◌, List, [], length}
+use Rattle.std.specs.Prelude.{◌≡◌, ◌⊎◌, ℕ, ◌+◌, ◌<◌, ◌≤◌, List, [], length, Option, Some, None}
 use Rattle.std.specs.List.Sorted.{IsPermutation}
+use Rattle.crack_row.specs.Commands.{change_of, range_of}
 use Rattle.crack_row.specs.Ranges.{Range, clipped}
 use Rattle.crack_row.specs.declared.TheConstants.{GREATEST_LIMIT}
 use Rattle.crack_row.specs.declared.Key.{Key}
 use Rattle.crack_row.specs.declared.Payload.{Payload}
 use Rattle.crack_row.specs.declared.Row.{Row}
+use Rattle.crack_row.specs.declared.command.Change.{Change}
+use Rattle.crack_row.specs.declared.command.Change.TheVariants.{Place}
 use Rattle.crack_row.specs.declared.command.Command.{Command}
-use Rattle.crack_row.specs.declared.command.Command.TheVariants.{Insert, Count}
 use Rattle.crack_row.specs.declared.command.Policy.{Policy}
 use Rattle.crack_row.specs.declared.command.Entry.{Entry}
 use Rattle.crack_plain.specs.Plain.{PlainState, replay, IsLegal}
@@ -49,14 +51,15 @@ pub record IsSound (part : Part) : Type 0 where
   pub few_cells : length part.store.cells ≤ inserted part.history
   pub few_freed : freed_of part.store.cells + length part.store.pending_out ≤ deleted part.history
 
--- the row that an insert places
-abbrev pub placed : Part → Key → Payload → Row
-placed part key payload = record { serial = record { 0 = part.next }; key = key; payload = payload }
+-- a row as a change places it
+abbrev pub placed : ℕ → Key → Payload → Row
+placed serial key payload = record { serial = record { 0 = serial }; key = key; payload = payload }
 
--- a store is cracked at the ends of a range, and then merged
+-- a store is cracked at the ends of a range, where it is intact, and then merged
 pub record CracksAndMerges (policy : Policy) (s t : State) (r : Range) : Type 0 where
   pub cracked : State
   pub refines : Refines s cracked r
+  pub intact : IsIntact cracked []
   pub merges : Merges policy cracked t r
   pub tallies : Tallies policy cracked t
 
@@ -65,16 +68,12 @@ pub record ReadsRange (policy : Policy) (s t : State) (r : Range) : Type 0 where
   pub empty : r.high ≤ r.low → t ≡ s
   pub settled : r.low < r.high → CracksAndMerges policy s t r
 
--- what an answered command does to the store: an insert admits its row, all else reads the range within the partition's keys
-abbrev pub Serves : Policy → Part → Command → State → Type 0
-Serves policy part (Insert key payload) t = SameButRoom (admitted (placed part key payload) part.store) t
-Serves policy part (Count range) t = ReadsRange policy part.store t (clipped range part.keys)
-
--- a store is cracked at the ends of a range, and its merge found no memory on the way
+-- a store is cracked at the ends of a range, where it is intact, and its merge found no memory on the way
 pub record CracksAndStops (policy : Policy) (s t : State) (r : Range) : Type 0 where
   pub filled : r.low < r.high
   pub cracked : State
   pub refines : Refines s cracked r
+  pub intact : IsIntact cracked []
   pub stops : Stops policy cracked t
 
 -- what a read of a range that found no memory did to a store: nothing, or the store is cracked at the ends of the range, no bound
@@ -82,22 +81,28 @@ pub record CracksAndStops (policy : Policy) (s t : State) (r : Range) : Type 0 w
 abbrev pub StopsRead : Policy → State → State → Range → Type 0
 StopsRead policy s t r = SameButRoom s t ⊎ CracksAndStops policy s t r
 
--- what a command that found no memory did to the store: an insert nothing, all else may have read the range within the keys in part
-abbrev pub Spares : Policy → Range → Command → State → State → Type 0
-Spares policy keys (Insert key payload) s t = SameButRoom s t
-Spares policy keys (Count range) s t = StopsRead policy s t (clipped range keys)
+-- what is done to a store before a command is replied: the range that it reads, if any, is read as far as it is within the keys
+abbrev pub Prepares : Policy → Range → Option Range → State → State → Type 0
+Prepares policy keys None s t = t ≡ s
+Prepares policy keys (Some range) s t = ReadsRange policy s t (clipped range keys)
 
--- what a command does to the store before it is replied: all but an insert read the range within the keys
-abbrev pub Prepares : Policy → Range → Command → State → State → Type 0
-Prepares policy keys (Insert key payload) s t = t ≡ s
-Prepares policy keys (Count range) s t = ReadsRange policy s t (clipped range keys)
+-- what a command that found no memory did to a store: its range, if it reads one, may have been read in part
+abbrev pub Spares : Policy → Range → Option Range → State → State → Type 0
+Spares policy keys None s t = SameButRoom s t
+Spares policy keys (Some range) s t = StopsRead policy s t (clipped range keys)
 
--- when a command may be performed: the row of an insert may be admitted
-abbrev pub MayPerform : ℕ → Command → State → Type 0
-MayPerform next (Insert key payload) s = IsAdmissible (record { serial = record { 0 = next }; key = key; payload = payload }) s
-MayPerform next (Count range) s = Unit {0}
+-- when a change may be made, where the next row gets this serial
+abbrev pub MayPerform : ℕ → Option Change → State → Type 0
+MayPerform next None s = Unit {0}
+MayPerform next (Some (Place key payload)) s = IsAdmissible (placed next key payload) s
 
--- what a command does to the store once it is replied: an insert admits its row
-abbrev pub Performs : ℕ → Command → State → State → Type 0
-Performs next (Insert key payload) s t = SameButRoom (admitted (record { serial = record { 0 = next }; key = key; payload = payload }) s) t
-Performs next (Count range) s t = t ≡ s
+-- what is done to a store once a command is replied: the change that it makes, if any, is made
+abbrev pub Performs : ℕ → Option Change → State → State → Type 0
+Performs next None s t = t ≡ s
+Performs next (Some (Place key payload)) s t = SameButRoom (admitted (placed next key payload) s) t
+
+-- what an answered command does to a store of these keys: the store is prepared, and then the change is made
+pub record Serves (policy : Policy) (keys : Range) (next : ℕ) (command : Command) (s t : State) : Type 0 where
+  pub ready : State
+  pub prepared : Prepares policy keys (range_of command) s ready
+  pub performed : Performs next (change_of command) ready t

@@ -1,19 +1,20 @@
 //! Commands and their history.
-ghost use Rattle.std.specs.Prelude.{◌≡◌, ◌⊎◌, ◌+◌, ◌<◌, ◌≤◌, ◌↔◌, ◌^◌, List, [], ◌∷◌, ◌++◌, length, count_by, IsTrue, IsOk, IfOk, IfErr, OnErr, OnOk, Err, vec_len, vec_capacity};
+ghost use Rattle.std.specs.Prelude.{◌≡◌, ◌⊎◌, ◌+◌, ◌<◌, ◌≤◌, ◌↔◌, ◌^◌, List, [], ◌∷◌, ◌++◌, length, count_by, IsTrue, IsOk, IfOk, IfErr, IfSome, OnErr, OnOk, Err, vec_len, vec_capacity};
 ghost use Rattle.std.specs.List.Sorted.{IsPermutation};
+ghost use Rattle.crack_row.specs.Commands.{change_of, range_of};
 ghost use Rattle.crack_row.specs.Ranges.{clipped, in_range};
 ghost use Rattle.crack_row.specs.Layouts.{IsLayout};
-ghost use Rattle.crack_plain.specs.Plain.{PlainState, reply_to, after, IsWithin, IsLegal};
-ghost use Rattle.crack_state.specs.State.{IsIntact, live_rows};
+ghost use Rattle.crack_plain.specs.Plain.{PlainState, reply_to, after, changed, IsWithin, IsLegal};
+ghost use Rattle.crack_state.specs.State.{State, IsIntact, live_rows};
 ghost use Rattle.crack_state.specs.Steps.{SameButRoom};
-ghost use Rattle.crack_state.specs.Merge.{IsCracked, Merges, Tallies};
+ghost use Rattle.crack_state.specs.Merge.{IsCracked, IsSettled, Merges, Tallies};
 ghost use Rattle.crack_merge.specs.Merges.{Stops};
-ghost use Rattle.crack_store.specs.Parts.{no_cells, IsLayoutOf};
-ghost use Rattle.crack_part.specs.Parts.{state_of, IsLimit, IsSound, IsFaithful, CracksAndMerges, ReadsRange, StopsRead, Serves, Spares, Prepares, MayPerform, Performs};
+ghost use Rattle.crack_store.specs.Inside.{no_cells, IsLayoutOf};
+ghost use Rattle.crack_part.specs.Parts.{state_of, IsLimit, IsSound, IsFaithful, CracksAndMerges, StopsRead, Serves, Spares, Prepares, MayPerform, Performs};
 
 use crack_merge::merge_complete;
 use crack_row::{
-    Command, Entry, GREATEST_LIMIT, KeyRange, Layout, Policy, Refusal, Reply, Row, Serial,
+    Change, Command, Entry, GREATEST_LIMIT, KeyRange, Layout, Policy, Refusal, Reply, Row, Serial,
 };
 use crack_store::{MergeReport, Store};
 use std::alloc::Global;
@@ -24,6 +25,7 @@ use std::mem;
 /// Contracts see besides what stands where in the store of its rows; the plain rows are those after the history.
 #[derive(Drop)]
 pub struct Partition {
+    alloc: Global,
     keys: KeyRange,
     limit: u64,
     next: u64,
@@ -56,6 +58,7 @@ impl Partition {
         let store = Store::new(alloc, keys);
         store.facts();
         Ok(Partition {
+            alloc,
             keys,
             limit,
             next: 0,
@@ -107,13 +110,12 @@ impl Partition {
 
     /// Answers one command of a worker and keeps it in the history. The second reply is a copy, for a receipt.
     /// Refused, in this order: with 4 where the command brings a key that isn't the partition's, with 6 where the history
-    /// is full, with 8 where no memory is found. After 4 and 6 nothing has changed. After 8 an insert has changed nothing, and a
-    /// count has at most cracked the column at the ends of its range and merged in part, or in whole.
+    /// is full, with 8 where no memory is found. After 4 and 6 nothing has changed. After 8 a command that reads no range has
+    /// changed nothing, and one that reads a range has at most cracked the column at its ends and merged in part, or in whole.
     /// An insert is O(1). A count cracks the pieces in which its ends fall, merges by the policy what its range needs, and
     /// is then O(log pieces).
     pub fn apply(
         &mut self,
-        alloc: Global,
         worker: u32,
         command: Command,
         policy: Policy,
@@ -121,109 +123,164 @@ impl Partition {
         ensures replies { IfOk result (λ replies. (replies.0 ≡ reply_to (state_of self.old) command) × (replies.1 ≡ replies.0)) }
         ensures kept { IfOk result (λ replies. self.new.history ≡ self.old.history ++ record { worker = worker; command = command; reply = replies.0 } ∷ []) }
         ensures state { OnOk result (state_of self.new ≡ after (state_of self.old) command) }
-        ensures store { OnOk result (Serves policy self.old command self.new.store) }
+        ensures store { OnOk result (Serves policy self.old.keys self.old.next command self.old.store self.new.store) }
         ensures opened { (self.new.keys ≡ self.old.keys) × (self.new.limit ≡ self.old.limit) }
 
         ensures err { OnErr result (self.new.history ≡ self.old.history) }
-        ensures spared { OnErr result (Spares policy self.old.keys command self.old.store self.new.store) }
+        ensures spared { OnErr result (Spares policy self.old.keys (range_of command) self.old.store self.new.store) }
         ensures same { (IsWithin self.old.keys command → ⊥) ⊎ (self.old.limit ≤ length self.old.history) → self.new ≡ self.old }
         ensures outside { (IsWithin self.old.keys command → ⊥) → result ≡ Err Refusal.KeyOutside }
         ensures full { IsWithin self.old.keys command → self.old.limit ≤ length self.old.history → result ≡ Err (Refusal.HistoryFull self.old.limit) }
         ensures room { IsWithin self.old.keys command → length self.old.history < self.old.limit → IfErr result (λ e. e ≡ Refusal.OutOfMemory) }
     {
-        if !self.allows(&command) {
+        self.may_keep(&command)?;
+        self.history.reserve(1)?;
+        let copies = serve(
+            &mut self.store,
+            &mut self.next,
+            self.alloc,
+            self.keys,
+            &command,
+            policy,
+        )?;
+        let entry = Entry {
+            worker,
+            command,
+            reply: copies.kept,
+        };
+        push_reserved(&mut self.history, entry);
+        Ok((copies.reply, copies.receipt))
+    }
+
+    /// Refuses, in this order, a command that brings a key that isn't the partition's, and any where the history is full.
+    fn may_keep(&self, command: &Command) -> Result<(), Refusal>
+        ensures ok { OnOk result (IsWithin self.now.keys command.now × (length self.now.history < self.now.limit)) }
+        ensures err { OnErr result ((IsWithin self.now.keys command.now → ⊥) ⊎ (self.now.limit ≤ length self.now.history)) }
+        ensures outside { (IsWithin self.now.keys command.now → ⊥) → result ≡ Err Refusal.KeyOutside }
+        ensures full { IsWithin self.now.keys command.now → self.now.limit ≤ length self.now.history → result ≡ Err (Refusal.HistoryFull self.now.limit) }
+    {
+        if !allows(self.keys, command) {
             return Err(Refusal::KeyOutside);
         }
         if self.history.len() as u64 >= self.limit {
             return Err(Refusal::HistoryFull { length: self.limit });
         }
-        self.history.reserve(1)?;
-        let reply = prepare(
-            &mut self.store,
-            alloc,
-            self.keys,
-            self.next,
-            &command,
-            policy,
-        )?;
-        let receipt = reply.copy(alloc)?;
-        let kept = reply.copy(alloc)?;
-        perform(&mut self.store, &mut self.next, &command)?;
-        let entry = Entry {
-            worker,
-            command,
-            reply: kept,
-        };
-        push_reserved(&mut self.history, entry);
-        Ok((reply, receipt))
-    }
-
-    /// Whether the key that a command brings, if any, is the partition's.
-    fn allows(&self, command: &Command) -> bool
-        ensures { IsTrue result ↔ IsWithin self.now.keys command.now }
-    {
-        match command {
-            Command::Insert { key, payload: _ } => self.keys.contains(*key),
-            Command::Count(_) => true,
-        }
+        Ok(())
     }
 }
 
-/// What is replied to a command. A range is cracked and merged for it; rows are changed by `perform` alone.
+/// A reply with its copies.
+#[derive(Drop)]
+struct Copies {
+    /// For the worker who asked.
+    reply: Reply,
+    /// For the worker's receipt.
+    receipt: Reply,
+    /// For the history.
+    kept: Reply,
+}
+
+/// Whether the key that a command brings, if any, is one of these.
+fn allows(keys: KeyRange, command: &Command) -> bool
+    ensures { IsTrue result ↔ IsWithin keys command.now }
+{
+    match command.key() {
+        Some(key) => keys.contains(key),
+        None => true,
+    }
+}
+
+/// Answers a command: reads its range, replies, and makes its change.
+fn serve(
+    store: &mut Store,
+    next: &mut u64,
+    alloc: Global,
+    keys: KeyRange,
+    command: &Command,
+    policy: Policy,
+) -> Result<Copies, Refusal>
+    requires ends { store.old.keys ≡ keys }
+    requires intact { IsIntact store.old [] }
+    requires none_doomed { store.old.pending_out ≡ [] }
+    requires admissible { (ready : State) → Prepares policy keys (range_of command.now) store.old ready → MayPerform next.old (change_of command.now) ready }
+    requires small { next.old + 1 < 2 ^ 64 }
+    ensures replies { IfOk result (λ copies. (plain : PlainState) → IsFaithful store.old next.old plain → copies.reply ≡ reply_to plain command.now) }
+    ensures copied { IfOk result (λ copies. (copies.receipt ≡ copies.reply) × (copies.kept ≡ copies.reply)) }
+    ensures served { OnOk result (Serves policy keys next.old command.now store.old store.new) }
+    ensures next { OnOk result ((plain : PlainState) → next.old ≡ plain.next → next.new ≡ (after plain command.now).next) }
+    ensures spared { OnErr result (Spares policy keys (range_of command.now) store.old store.new × (next.new ≡ next.old)) }
+    ensures err { IfErr result (λ e. e ≡ Refusal.OutOfMemory) }
+{
+    prepare(store, alloc, keys, command.range(), policy)?;
+    let copies = copied(reply_of(store, *next, keys, command), alloc)?;
+    perform(store, next, command.change())?;
+    Ok(copies)
+}
+
+/// Reads a range, if there is one, as far as it is within the keys: where none of them is in it, nothing is cracked or merged.
 fn prepare(
     store: &mut Store,
     alloc: Global,
     keys: KeyRange,
-    next: u64,
-    command: &Command,
+    range: Option<KeyRange>,
     policy: Policy,
-) -> Result<Reply, Refusal>
+) -> Result<(), Refusal>
     requires ends { store.old.keys ≡ keys }
     requires none_doomed { store.old.pending_out ≡ [] }
-    ensures reply { IfOk result (λ reply. (plain : PlainState) → IsFaithful store.old next plain → reply ≡ reply_to plain command.now) }
-    ensures prepared { OnOk result (Prepares policy keys command.now store.old store.new) }
-    ensures spared { OnErr result (Spares policy keys command.now store.old store.new) }
-    ensures intact { IsIntact store.new [] }
+    ensures prepared { OnOk result (Prepares policy keys range store.old store.new) }
+    ensures spared { OnErr result (Spares policy keys range store.old store.new) }
     ensures err { IfErr result (λ e. e ≡ Refusal.OutOfMemory) }
 {
-    match command {
-        Command::Insert { key: _, payload: _ } => {
-            store.facts();
-            Ok(Reply::Placed(Serial(next)))
+    match range {
+        Some(range) => {
+            let common = range.clip(keys);
+            if common.is_empty() {
+                return Ok(());
+            }
+            settle(store, alloc, keys, common, policy)
         }
-        Command::Count(range) => match count(store, alloc, keys, *range, policy) {
-            Ok(count) => Ok(Reply::Counted(count)),
-            Err(refusal) => Err(refusal),
-        },
+        None => Ok(()),
+    }
+}
+
+/// What is replied to a command where the store is settled for its range.
+fn reply_of(store: &Store, next: u64, keys: KeyRange, command: &Command) -> Reply
+    requires ends { store.now.keys ≡ keys }
+    requires settled { IfSome (range_of command.now) (λ range. (clipped range keys).low < (clipped range keys).high → IsSettled store.now (clipped range keys)) }
+    ensures { (plain : PlainState) → IsFaithful store.now next plain → result ≡ reply_to plain command.now }
+{
+    match command {
+        Command::Insert { key: _, payload: _ } => Reply::Placed(Serial(next)),
+        Command::Count(range) => Reply::Counted(count(store, keys, *range)),
     }
 }
 
 /// How many rows have their key in the range: the difference of two places of the column, which is settled for it.
-/// Where none of the keys is in the range, nothing is cracked or merged.
-fn count(
-    store: &mut Store,
-    alloc: Global,
-    keys: KeyRange,
-    range: KeyRange,
-    policy: Policy,
-) -> Result<u64, Refusal>
-    requires ends { store.old.keys ≡ keys }
-    requires none_doomed { store.old.pending_out ≡ [] }
-    ensures count { IfOk result (λ n. (plain : List Row) → IsPermutation (live_rows store.old) plain → n ≡ count_by (in_range range) plain) }
-    ensures reads { OnOk result (ReadsRange policy store.old store.new (clipped range keys)) }
-    ensures stopped { OnErr result (StopsRead policy store.old store.new (clipped range keys)) }
-    ensures intact { IsIntact store.new [] }
-    ensures err { IfErr result (λ e. e ≡ Refusal.OutOfMemory) }
+fn count(store: &Store, keys: KeyRange, range: KeyRange) -> u64
+    requires ends { store.now.keys ≡ keys }
+    requires settled { (clipped range keys).low < (clipped range keys).high → IsSettled store.now (clipped range keys) }
+    ensures { (plain : List Row) → IsPermutation (live_rows store.now) plain → result ≡ count_by (in_range range) plain }
 {
     store.facts();
     let within = range.clip(keys);
     if within.is_empty() {
-        return Ok(0);
+        return 0;
     }
-    match settle(store, alloc, keys, within, policy) {
-        Ok(()) => Ok(store.count_between(within)),
-        Err(refusal) => Err(refusal),
-    }
+    store.count_between(within)
+}
+
+/// A reply with its copies.
+fn copied(reply: Reply, alloc: Global) -> Result<Copies, Refusal>
+    ensures ok { IfOk result (λ copies. (copies.reply ≡ reply) × (copies.receipt ≡ reply) × (copies.kept ≡ reply)) }
+    ensures err { IfErr result (λ e. e ≡ Refusal.OutOfMemory) }
+{
+    let receipt = reply.copy(alloc)?;
+    let kept = reply.copy(alloc)?;
+    Ok(Copies {
+        reply,
+        receipt,
+        kept,
+    })
 }
 
 /// Cracks the store at the ends of a range, and merges by the policy what the range needs.
@@ -240,13 +297,12 @@ fn settle(
     requires none_doomed { store.old.pending_out ≡ [] }
     ensures settled { OnOk result (CracksAndMerges policy store.old store.new range) }
     ensures stopped { OnErr result (StopsRead policy store.old store.new range) }
-    ensures intact { IsIntact store.new [] }
     ensures err { IfErr result (λ e. e ≡ Refusal.OutOfMemory) }
 {
     if let Err(refusal) = store.crack(range) {
-        store.facts();
         return Err(refusal);
     }
+    store.facts();
     let cracked = mem::replace(store, Store::new(alloc, keys));
     match merge(cracked, range, policy) {
         Ok((merged, _)) => {
@@ -281,20 +337,20 @@ fn merge(
     }
 }
 
-/// Changes the rows as a command says, once it is replied.
-fn perform(store: &mut Store, next: &mut u64, command: &Command) -> Result<(), Refusal>
-    requires admissible { MayPerform next.old command.now store.old }
+/// Makes a change, if there is one, where the next row gets this serial.
+fn perform(store: &mut Store, next: &mut u64, change: Option<Change>) -> Result<(), Refusal>
+    requires admissible { MayPerform next.old change store.old }
     requires small { next.old + 1 < 2 ^ 64 }
-    ensures performed { OnOk result (Performs next.old command.now store.old store.new) }
-    ensures next { OnOk result ((plain : PlainState) → next.old ≡ plain.next → next.new ≡ (after plain command.now).next) }
+    ensures performed { OnOk result (Performs next.old change store.old store.new) }
+    ensures next { OnOk result ((plain : PlainState) → next.old ≡ plain.next → next.new ≡ (changed plain change).next) }
     ensures same { OnErr result (SameButRoom store.old store.new × (next.new ≡ next.old)) }
     ensures err { IfErr result (λ e. e ≡ Refusal.OutOfMemory) }
 {
-    if let Command::Insert { key, payload } = command {
+    if let Some(Change::Place { key, payload }) = change {
         let row = Row {
             serial: Serial(*next),
-            key: *key,
-            payload: *payload,
+            key,
+            payload,
         };
         store.admit(row)?;
         *next += 1;

@@ -1,5 +1,5 @@
 -- What follows from the definitions of the plain table.
-use Rattle.std.specs.Prelude.{◌≡◌, ℕ, ◌+◌, ◌<◌, ◌≤◌, List, [], ◌∷◌, ◌++◌, length, if◌then◌else◌, Option, Some, None, pos, ◌-ℤ◌}
+use Rattle.std.specs.Prelude.{◌≡◌, ℕ, ◌+◌, ◌<◌, ◌≤◌, List, [], ◌∷◌, ◌++◌, length, if◌then◌else◌, Option, Some, None, Bool, pos, ◌-ℤ◌}
 use Rattle.std.proofs.Common.{arith, length-append, ap, refl, sym, ◌∙◌}
 use Rattle.std.proofs.Math.IntN.{+ℤ-neg_ℤ_cancel}
 use Rattle.std.proofs.lemmas.List.Elements.{All-nil, All-push}
@@ -12,9 +12,9 @@ use Rattle.crack_row.specs.declared.command.Change.TheVariants.{Place}
 use Rattle.crack_row.specs.declared.command.Command.{Command}
 use Rattle.crack_row.specs.declared.command.Command.TheVariants.{Insert, Count}
 use Rattle.crack_row.specs.declared.command.Entry.{Entry}
-use Rattle.crack_plain.specs.Plain.{PlainState, no_rows, IsNumbered, reply_to, after, replay_from, replay, AreReplies, changed, IsWithin, BringWithin, IsLegal}
+use Rattle.crack_plain.specs.Plain.{PlainState, no_rows, IsNumbered, reply_to, after, replay_from, replay, AreReplies, changed, places_row, IsWithin, BringWithin, IsLegal}
 use Rattle.crack_plain.specs.Totals.{is_placed, is_gone, accepted, inserted, deleted, held}
-use Rattle.crack_plain.proofs.TotalLaws.{inserted-cons, deleted-cons, inserted-le-accepted}
+use Rattle.crack_plain.proofs.TotalLaws.{is_gone-none, inserted-cons, deleted-cons, inserted-le-accepted}
 
 -- one list of entries after another
 pub replay_from-append : (s : PlainState) (xs ys : List Entry) → replay_from s (xs ++ ys) ≡ replay_from (replay_from s xs) ys
@@ -67,10 +67,18 @@ IsNumbered-replay_from s (e ∷ es) numbered = IsNumbered-replay_from (after s e
 pub IsNumbered-replay : (es : List Entry) → IsNumbered (replay es)
 IsNumbered-replay es = IsNumbered-replay_from no_rows es IsNumbered-no_rows
 
+-- a reply says that a row was placed where the command places one
+pub is_placed-reply_to : (s : PlainState) (command : Command) → is_placed (reply_to s command) ≡ places_row (change_of command)
+is_placed-reply_to s (Insert key payload) = refl
+is_placed-reply_to s (Count range) = refl
+
 -- the next serial is raised by 1 where a row was placed
+next-changed : (s : PlainState) (change : Option Change) → (changed s change).next ≡ s.next + (if places_row change then 1 else 0)
+next-changed s None = omega arith
+next-changed s (Some (Place key payload)) = refl
+
 pub next-after : (s : PlainState) (command : Command) → (after s command).next ≡ s.next + (if is_placed (reply_to s command) then 1 else 0)
-next-after s (Insert key payload) = refl
-next-after s (Count range) = omega arith
+next-after s command = next-changed s (change_of command) ∙ ap (λ (b : Bool). s.next + (if b then 1 else 0)) (sym (is_placed-reply_to s command))
 
 pub next-replay_from : (s : PlainState) (es : List Entry) → AreReplies s es → (replay_from s es).next ≡ s.next + inserted es
 next-replay_from s [] replies = omega arith
@@ -85,9 +93,16 @@ pub next-replay : (es : List Entry) → AreReplies no_rows es → (replay es).ne
 next-replay es replies = omega (arith, next-replay_from no_rows es replies)
 
 -- a row more where one was placed, a row fewer where one went
+length_rows-changed : (s : PlainState) (change : Option Change) → length (changed s change).rows ≡ length s.rows + (if places_row change then 1 else 0)
+length_rows-changed s None = omega arith
+length_rows-changed s (Some (Place key payload)) = length-append s.rows (record { serial = record { 0 = s.next }; key = key; payload = payload } ∷ [])
+
 pub length_rows-after : (s : PlainState) (command : Command) → length (after s command).rows + (if is_gone (reply_to s command) then 1 else 0) ≡ length s.rows + (if is_placed (reply_to s command) then 1 else 0)
-length_rows-after s (Insert key payload) = omega (arith, length-append s.rows (record { serial = record { 0 = s.next }; key = key; payload = payload } ∷ []))
-length_rows-after s (Count range) = refl
+length_rows-after s command =
+    let one : Bool → ℕ = λ b. if b then 1 else 0 in
+    let placed = ap one (is_placed-reply_to s command) in
+    let gone = ap one (is_gone-none (reply_to s command)) in
+    omega (arith, length_rows-changed s (change_of command), placed, gone)
 
 pub length_rows-replay_from : (s : PlainState) (es : List Entry) → AreReplies s es → length (replay_from s es).rows + deleted es ≡ length s.rows + inserted es
 length_rows-replay_from s [] replies = omega arith

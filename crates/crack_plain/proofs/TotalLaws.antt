@@ -1,7 +1,9 @@
 -- What follows of the totals of histories.
-use Rattle.std.specs.Prelude.{◌≡◌, ◌+◌, ◌≤◌, List, [], ◌∷◌, ◌++◌, if◌then◌else◌}
-use Rattle.std.proofs.Common.{arith}
+use Rattle.std.specs.Prelude.{◌≡◌, ℕ, ◌+◌, ◌≤◌, Bool, false, List, [], ◌∷◌, ◌++◌, if◌then◌else◌}
+use Rattle.std.proofs.Common.{arith, refl, ap}
 use Rattle.std.proofs.lemmas.List.Sums.{sum_by-append, count_by-le-length}
+use Rattle.crack_row.specs.declared.command.Reply.{Reply}
+use Rattle.crack_row.specs.declared.command.Reply.TheVariants.{Placed, Counted}
 use Rattle.crack_row.specs.declared.command.Entry.{Entry}
 use Rattle.crack_plain.specs.Totals.{is_placed, is_gone, accepted, inserted, deleted}
 
@@ -29,3 +31,15 @@ deleted-push es e = omega (arith, deleted-append es (e ∷ []))
 -- no more rows were placed than commands were answered
 pub inserted-le-accepted : (es : List Entry) → inserted es ≤ accepted es
 inserted-le-accepted es = count_by-le-length _ es
+
+-- no reply takes a row out
+pub is_gone-none : (r : Reply) → is_gone r ≡ false
+is_gone-none (Placed serial) = refl
+is_gone-none (Counted count) = refl
+
+pub deleted-none : (es : List Entry) → deleted es ≡ 0
+deleted-none [] = refl
+deleted-none (e ∷ es) =
+    let one : Bool → ℕ = λ b. if b then 1 else 0 in
+    let now = ap one (is_gone-none e.reply) in
+    omega (arith, deleted-none es, deleted-cons e es, now)

@@ -42,6 +42,13 @@ after_line-in (b ∷ bs) ys h = ⊎_elim
     (λ (e : eqb b 10 ≡ false). let more : has_feed bs ≡ true = rw e at h in rw (e, after_line-in bs ys more) refl)
     (cases_Bool (eqb b 10))
 
+pub has_feed-in : (xs ys : List ℕ) → has_feed xs ≡ true → has_feed (xs ++ ys) ≡ true
+has_feed-in [] ys h = absurd (false≢true h)
+has_feed-in (b ∷ bs) ys h = ⊎_elim
+    (λ (e : eqb b 10 ≡ true). rw e refl)
+    (λ (e : eqb b 10 ≡ false). let more : has_feed bs ≡ true = rw e at h in rw (e, has_feed-in bs ys more) refl)
+    (cases_Bool (eqb b 10))
+
 -- what begins has a first line
 pub lines-first : (b : ℕ) (bs : List ℕ) → lines (b ∷ bs) ≡ first_line (b ∷ bs) ∷ lines (after_line (b ∷ bs))
 lines-first b [] = ⊎_elim

@@ -8,4 +8,5 @@ pub mod Reading
 pub mod Replying
 pub mod Responding
 pub mod Sending
+pub mod WholeLines
 pub mod Words

@@ -1,10 +1,10 @@
 -- How far a line has come while it is read.
-use Rattle.std.proofs.Common.{◌≡◌, ℕ, ◌+◌, ◌-◌, ◌^◌, ◌<◌, ◌≤◌, min, Bool, true, false, eqb, Option, Some, None, Result, Ok, Err, IfErr, List, [], ◌∷◌, ◌++◌, length, refl, sym, ap, ◌∙◌, arith, ⊎_elim, append_assoc, length-append, length-take, append-nil}
+use Rattle.std.proofs.Common.{◌≡◌, ℕ, ◌+◌, ◌-◌, ◌^◌, ◌<◌, ◌≤◌, min, Bool, true, false, eqb, Option, Some, None, Result, Ok, Err, IfErr, OnErr, List, [], ◌∷◌, ◌++◌, length, refl, sym, ap, ◌∙◌, arith, ⊎_elim, append_assoc, length-append, length-take, append-nil}
 use Rattle.std.proofs.lemmas.Bool.{cases_Bool, false≢true}
 use Rattle.std.specs.Io.KnownBytes.{prepend_known, Keeps, Consumes}
 use Rattle.crack_session.specs.declared.TheConstants.{MOST_READS}
 use Rattle.crack_session.specs.Lines.{first_line, after_line, has_feed, kept_of, Input, IsNextLine, IsBegun, IsPaid}
-use Rattle.crack_session.proofs.Feeds.{first_line-append, after_line-append, has_feed-append, first_line-in, after_line-in, all_first_line, none_after, take-take-append}
+use Rattle.crack_session.proofs.Feeds.{first_line-append, after_line-append, has_feed-append, first_line-in, after_line-in, has_feed-in, all_first_line, none_after, take-take-append}
 
 -- what is ahead is what is unread, and what the reader has
 pub ahead_known : (xs : List ℕ) (known : Option (List ℕ)) (u : List ℕ) → prepend_known xs known ≡ Some u → (v : List ℕ) × (known ≡ Some v) × (u ≡ xs ++ v)
@@ -70,6 +70,11 @@ SoFar-found {u} {line} xs known line' xs' s found grown left =
       ap kept_of grown ∙ kept-append line s.front (first_line xs) s.kept ∙ ap kept_of (sym first),
       rw (known_is.1, left, after) refl,
     )
+
+pub SoFar-feed : {u line : List ℕ} (xs : List ℕ) (known : Option (List ℕ)) → SoFar u (prepend_known xs known) line → has_feed xs ≡ true → has_feed u ≡ true
+SoFar-feed {u} {line} xs known s found =
+    let parts = ahead_parts xs known s.rest s.new_is in
+    ap has_feed (s.split ∙ ap (λ z. s.front ++ z) parts.2) ∙ has_feed-append s.front (xs ++ parts.0) s.none ∙ has_feed-in xs parts.0 found
 
 -- the input has ended with nothing taken
 SoFar-none : {u line : List ℕ} (known : Option (List ℕ)) → SoFar u known line → ((v : List ℕ) → known ≡ Some v → v ≡ []) → length line ≡ 0 → u ≡ []
@@ -154,3 +159,7 @@ Keeps-then (Some x) (Some y) (Some z) h k = k ∙ h
 pub if_err_anyway : {T E : Type 0} (r : Result T E) (P : Type 0) → P → IfErr r (λ _. P)
 if_err_anyway (Ok x) P h = tt
 if_err_anyway (Err e) P h = h
+
+pub on_err_anyway : {T E P : Type 0} (r : Result T E) → P → OnErr r P
+on_err_anyway (Ok x) h = tt
+on_err_anyway (Err e) h = h

@@ -1,32 +1,35 @@
--- A session as a relation between bytes, plain rows and texts.
-use Rattle.std.specs.Prelude.{◌≡◌, ℕ, List, [], ◌∷◌, if◌then◌else◌}
+-- A session as a relation between statements, rows and answers.
+use Rattle.std.specs.Prelude.{◌≡◌, ℕ, ◌+◌, List, [], ◌∷◌, Option, None, Some, option_map, if◌then◌else◌}
 use Rattle.crack_row.specs.declared.Bound.{Bound}
-use Rattle.crack_plain.specs.Plain.{PlainState}
+use Rattle.crack_plain.specs.Plain.{Table}
 use Rattle.crack_session.specs.declared.answer.Answer.{Answer}
 use Rattle.crack_session.specs.declared.session.How.{How}
 use Rattle.crack_session.specs.declared.session.How.TheVariants.{Quit, InputEnded}
-use Rattle.crack_session.specs.Grammar.{Reading, statements, is_quit}
-use Rattle.crack_session.specs.Answers.{IsAnswer, answer_text, tables_then}
+use Rattle.crack_session.specs.Lines.{has_feed}
+use Rattle.crack_session.specs.Grammar.{Reading, is_quit}
+use Rattle.crack_session.specs.Answers.{IsAnswer, is_short_answer}
 
--- a text for a statement: that of an answer to it
-abbrev pub IsText : List Bound → List PlainState → Reading → List ℕ → Type 0
-IsText splits tables reading text = (answer : Answer) × IsAnswer splits tables reading answer
-    × (text ≡ answer_text answer)
+-- answers to these statements, one after the other, and the partitions afterwards
+abbrev pub AreAnswers : ℕ → List Bound → List Table → List Reading → List Answer → List Table → Type 0
+AreAnswers limit splits tables [] [] new = new ≡ tables
+AreAnswers limit splits tables [] (answer ∷ answers) new = ⊥
+AreAnswers limit splits tables (reading ∷ readings) [] new = ⊥
+AreAnswers limit splits tables (reading ∷ readings) (answer ∷ answers) new = (between : List Table)
+    × IsAnswer limit splits tables reading answer between
+    × AreAnswers limit splits between readings answers new
 
--- texts for these statements, one after the other, and the rows that they leave
-abbrev pub AreTexts : List Bound → List PlainState → List Reading → List (List ℕ) → List PlainState → Type 0
-AreTexts splits tables [] [] new = new ≡ tables
-AreTexts splits tables [] (text ∷ texts) new = ⊥
-AreTexts splits tables (reading ∷ readings) [] new = ⊥
-AreTexts splits tables (reading ∷ readings) (text ∷ texts) new = IsText splits tables reading text
-    × AreTexts splits (tables_then splits tables reading) readings texts new
-
--- the texts of a session's bytes, over these rows, and the rows that it leaves
-abbrev pub session : List Bound → List ℕ → List PlainState → List (List ℕ) → List PlainState → Type 0
-session splits bytes tables texts new = AreTexts splits tables (statements bytes) texts new
+-- the number, from 1, of the first answer that is a refusal for want of room
+abbrev pub first_short : List Answer → Option ℕ
+first_short [] = None
+first_short (answer ∷ answers) = if is_short_answer answer then Some 1 else option_map (λ k. k + 1) (first_short answers)
 
 -- how statements end: by a quit where the last of them is one
 abbrev pub ending : List Reading → How
 ending [] = InputEnded
 ending (r ∷ []) = if is_quit r then Quit else InputEnded
 ending (r ∷ q ∷ rs) = ending (q ∷ rs)
+
+-- the lines that end in a line feed: the bytes up to and with the last one
+abbrev pub whole_lines : List ℕ → List ℕ
+whole_lines [] = []
+whole_lines (b ∷ bs) = if has_feed (b ∷ bs) then b ∷ whole_lines bs else []

@@ -1,14 +1,17 @@
 //! Answers to statements.
-ghost use Rattle.std.specs.Prelude.{◌≡◌, false, List, Ok, Some};
-ghost use Rattle.crack_plain.specs.Plain.{PlainState};
-ghost use Rattle.crack_session.specs.Desks.{reply_at, tables_after, is_short};
-ghost use Rattle.crack_session.specs.Answers.{IsAnswer, answered, tables_then, is_short_answer, answer_text};
+ghost use Rattle.std.specs.Prelude.{◌≡◌, ℕ, ◌<◌, List, Some, true, length, take, IfErr, OnErr, OnOk};
+ghost use Rattle.std.specs.Io.KnownBytes.{Appends};
+ghost use Rattle.crack_row.specs.Devices.{device, has_failed};
+ghost use Rattle.crack_plain.specs.Plain.{Table};
+ghost use Rattle.crack_session.specs.Answers.{IsAnswer, IsAsked, command_of, is_short_answer, answer_text};
+ghost use Rattle.crack_session.specs.Responses.{Sends};
 
 use crate::desk::Desk;
 use crate::statement::Statement;
-use crate::text::{Text, bye_line, refusal_line, reply_line};
-use crack_row::{Command, Policy, Refusal, Reply};
+use crate::text::{write_refusal, write_reply, write_text};
+use crack_row::{Command, Policy, Refusal, Reply, Watched};
 use std::alloc::Global;
+use std::io::Write;
 
 /// What a statement is answered.
 #[derive(Drop, Debug)]
@@ -32,55 +35,51 @@ impl Answer {
         )
     }
 
-    /// Its text.
+    /// Writes its text.
     #[tactic(auto, unfolding(crate::specs::Answers::answer_text))]
-    pub fn line(&self) -> Text
-        ensures { result ≡ answer_text self.now }
+    pub fn write<W: Write>(&self, writer: &mut Watched<W>) -> Result<(), Refusal>
+        ensures sends { Sends (answer_text self.now) result (W.contents (device writer.old)) (W.contents (device writer.new)) }
+        ensures unfailed { OnOk result (has_failed writer.new ≡ has_failed writer.old) }
+        ensures err { IfErr result (λ e. (e ≡ Refusal.WriteFault) × (has_failed writer.new ≡ true)) }
     {
         match self {
-            Answer::Replied { part, reply } => reply_line(*part, reply),
-            Answer::Refused(refusal) => refusal_line(refusal),
-            Answer::Bye => bye_line(),
+            Answer::Replied { part, reply } => write_reply(*part, reply, writer),
+            Answer::Refused(refusal) => write_refusal(refusal, writer),
+            Answer::Bye => write_text(b"bye", writer),
         }
     }
 }
 
-/// Answers what a line says.
-pub fn decide<D: Desk>(
+/// Answers what a line says; a statement's command goes to partition 0.
+pub fn answer_reading<D: Desk>(
     alloc: Global,
     desk: &mut D,
     policy: Policy,
     reading: Result<Statement, Refusal>,
 ) -> Answer
-    ensures plain { (tables : List PlainState) → D.tables desk.old ≡ Some tables →
-        is_short_answer result ≡ false → IsAnswer (D.splits desk.old) tables reading result
-        × (D.tables desk.new ≡ Some (tables_then (D.splits desk.old) tables reading)) }
+    ensures is { (tables : List Table) → D.tables desk.old ≡ Some tables → (new : List Table)
+        × IsAnswer (D.limit desk.old) (D.splits desk.old) tables reading result new × (D.tables desk.new ≡ Some new) }
     ensures splits { D.splits desk.new ≡ D.splits desk.old }
+    ensures limit { D.limit desk.new ≡ D.limit desk.old }
 {
-    match reading {
-        Err(refusal) => Answer::Refused(refusal),
-        Ok(statement) => decide_statement(alloc, desk, policy, statement),
+    let statement = match reading {
+        Ok(statement) => statement,
+        Err(refusal) => return Answer::Refused(refusal),
+    };
+    match command_of(statement) {
+        Some(command) => ask_part(alloc, desk, policy, 0, command),
+        None => Answer::Bye,
     }
 }
 
-/// Answers a statement; each goes to partition 0.
-fn decide_statement<D: Desk>(
-    alloc: Global,
-    desk: &mut D,
-    policy: Policy,
-    statement: Statement,
-) -> Answer
-    ensures plain { (tables : List PlainState) → D.tables desk.old ≡ Some tables →
-        is_short_answer result ≡ false → IsAnswer (D.splits desk.old) tables (Ok statement) result
-        × (D.tables desk.new ≡ Some (tables_then (D.splits desk.old) tables (Ok statement))) }
-    ensures splits { D.splits desk.new ≡ D.splits desk.old }
+/// The command that a statement asks, if any.
+fn command_of(statement: Statement) -> Option<Command>
+    ensures { result ≡ command_of statement }
 {
     match statement {
-        Statement::Quit => Answer::Bye,
-        Statement::Insert { key, payload } => {
-            ask_part(alloc, desk, policy, 0, Command::Insert { key, payload })
-        }
-        Statement::Count(range) => ask_part(alloc, desk, policy, 0, Command::Count(range)),
+        Statement::Insert { key, payload } => Some(Command::Insert { key, payload }),
+        Statement::Count(range) => Some(Command::Count(range)),
+        Statement::Quit => None,
     }
 }
 
@@ -92,11 +91,10 @@ fn ask_part<D: Desk>(
     part: u32,
     command: Command,
 ) -> Answer
-    ensures plain { (tables : List PlainState) → D.tables desk.old ≡ Some tables →
-        is_short_answer result ≡ false →
-        (result ≡ answered part (reply_at (D.splits desk.old) tables part command))
-        × (D.tables desk.new ≡ Some (tables_after (D.splits desk.old) tables part command)) }
+    ensures is { (tables : List Table) → D.tables desk.old ≡ Some tables → (new : List Table)
+        × IsAsked (D.limit desk.old) (D.splits desk.old) tables part command result new × (D.tables desk.new ≡ Some new) }
     ensures splits { D.splits desk.new ≡ D.splits desk.old }
+    ensures limit { D.limit desk.new ≡ D.limit desk.old }
 {
     match desk.ask(alloc, part, command, policy) {
         Ok(reply) => Answer::Replied { part, reply },

@@ -1,7 +1,7 @@
 //! Who answers commands.
-ghost use Rattle.std.specs.Prelude.{◌≡◌, ℕ, ◌+◌, List, length, is_ok, Ok, Err, Some, IfOk, IfErr, OnErr, if◌then◌else◌, ◌↔◌};
-ghost use Rattle.crack_plain.specs.Plain.{PlainState};
-ghost use Rattle.crack_session.specs.Desks.{reply_at, tables_after, IsForWant, IsSmall};
+ghost use Rattle.std.specs.Prelude.{◌≡◌, ℕ, ◌+◌, List, length, All, is_ok, Some, IfOk, if◌then◌else◌};
+ghost use Rattle.crack_plain.specs.Plain.{Table, IsNumbered};
+ghost use Rattle.crack_session.specs.Desks.{expected_at, IsOutcome, tables_after, IsSmall};
 
 use crack_row::{Bound, Command, Policy, Refusal, Reply};
 use std::alloc::Global;
@@ -10,10 +10,13 @@ use std::alloc::Global;
 pub trait Desk {
     ghost use Rattle.std.specs.Prelude.{ℕ, Option, List};
     ghost use Rattle.crack_row.specs.declared.Bound.{Bound};
-    ghost use Rattle.crack_plain.specs.Plain.{PlainState};
+    ghost use Rattle.crack_plain.specs.Plain.{Table};
 
-    /// The plain rows of each partition, where they are known.
-    ghost tables: { Self → Option (List PlainState) };
+    /// The plain rows of each partition and how many entries its history has, where they are known.
+    ghost tables: { Self → Option (List Table) };
+
+    /// How many entries the history of a partition may have.
+    ghost limit: { Self → ℕ };
 
     /// Where one partition ends and the next begins, in rising order.
     ghost splits: { Self → List Bound };
@@ -21,11 +24,9 @@ pub trait Desk {
     /// How many commands were accepted through this desk.
     ghost receipts: { Self → ℕ };
 
-    /// Whether the history of a partition is full, with so many entries.
-    ghost full: { Self → ℕ → ℕ → Type 0 };
-
-    /// Asks one partition. Refused, with the rows as they were, with 5 where there is no such partition,
-    /// with 4 where an insert brings a key that isn't the partition's, and with 6 or 8 for want of room.
+    /// Asks one partition. Refused, with the rows and histories as they were, with 5 where there is no such partition,
+    /// with 4 where the command brings a key that isn't the partition's, with 6 where its history is full,
+    /// and with 8 where no memory is found.
     fn ask(
         &mut self,
         alloc: Global,
@@ -33,31 +34,25 @@ pub trait Desk {
         command: Command,
         policy: Policy,
     ) -> Result<Reply, Refusal>
-        // The reply is that of the plain rows, which change as it says.
-        ensures reply { (parts : List PlainState) → tables self.old ≡ Some parts →
-            IfOk result (λ reply. (reply_at (splits self.old) parts part command ≡ Ok reply)
-            × (tables self.new ≡ Some (tables_after (splits self.old) parts part command))) }
-        // Where they refuse it, it is refused so, and else only for want of room.
-        ensures refused { (parts : List PlainState) → tables self.old ≡ Some parts → (e : Refusal) →
-            reply_at (splits self.old) parts part command ≡ Err e → result ≡ Err e }
-        ensures causes { (parts : List PlainState) → tables self.old ≡ Some parts → (r : Reply) →
-            reply_at (splits self.old) parts part command ≡ Ok r →
-            IfErr result (IsForWant (full self.old part)) }
-        ensures full { (parts : List PlainState) → tables self.old ≡ Some parts → (r : Reply) →
-            reply_at (splits self.old) parts part command ≡ Ok r → (entries : ℕ) →
-            full self.old part entries → result ≡ Err (Refusal.HistoryFull entries) }
-        ensures err { OnErr result (tables self.new ≡ tables self.old) }
-        ensures still { OnErr result ((at entries : ℕ) → full self.new at entries ↔ full self.old at entries) }
+        // It is the reply of the plain rows, or the refusal that they call for; in place of a reply it may be 8.
+        ensures outcome { (known : List Table) → tables self.old ≡ Some known →
+            IsOutcome (expected_at (limit self.old) (splits self.old) known part command) result }
+        // The plain rows change as the reply says, and a refusal leaves them.
+        ensures after { (known : List Table) → tables self.old ≡ Some known →
+            tables self.new ≡ Some (tables_after known part command result) }
 
         ensures small { IfOk result IsSmall }
         ensures splits { splits self.new ≡ splits self.old }
+        ensures limit { limit self.new ≡ limit self.old }
         ensures receipts { receipts self.new ≡ (if is_ok result then receipts self.old + 1 else receipts self.old) };
 
     /// Where one partition ends and the next begins. Takes no memory.
     fn splits(&self) -> &[Bound]
         ensures value { result.now ≡ splits self.now }
-        ensures partitions { (parts : List PlainState) → tables self.now ≡ Some parts →
-            length parts ≡ length (splits self.now) + 1 };
+        ensures partitions { (known : List Table) → tables self.now ≡ Some known →
+            length known ≡ length (splits self.now) + 1 }
+        ensures numbered { (known : List Table) → tables self.now ≡ Some known →
+            All (λ (table : Table). IsNumbered table.state) known };
 
     /// How many commands were accepted through this desk.
     fn receipts(&self) -> u64

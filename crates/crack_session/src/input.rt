@@ -1,5 +1,5 @@
 //! The lines of a reader, in the place where they were read to.
-ghost use Rattle.std.specs.Prelude.{◌≡◌, ℕ, ◌+◌, ◌-◌, ◌^◌, ◌<◌, ◌≤◌, ◌++◌, ◌⊎◌, min, List, [], length, take, drop, slice_range, true, false, Some, MatchBool, IfOk, IfErr, OnOk};
+ghost use Rattle.std.specs.Prelude.{◌≡◌, ℕ, ◌+◌, ◌-◌, ◌^◌, ◌<◌, ◌≤◌, ◌++◌, ◌⊎◌, min, List, [], length, take, drop, slice_range, true, false, Some, MatchBool, IfOk, IfErr, OnErr, OnOk};
 ghost use Rattle.std.specs.Io.KnownBytes.{Keeps};
 ghost use Rattle.crack_row.specs.Devices.{device, has_failed, reads_of};
 ghost use Rattle.crack_session.specs.Lines.{first_line, after_line, has_feed, kept_of, ahead, left_of, IsNextLine, IsBegun, IsPaid, KnowsEnd};
@@ -160,6 +160,10 @@ pub fn next_line<R: Read, W: Write>(
         ahead input.old (R.remaining (device reader.old)) ≡ Some u →
         IsNextLine u found input.new.line (ahead input.new (R.remaining (device reader.new)))) }
     ensures falls { IfOk result (λ found. found ≡ true → left_of input.new < left_of input.old) }
+    // A line without a line feed is the last one, and nothing is read behind it.
+    ensures last { IfOk result (λ found. found ≡ true → (u : List ℕ) →
+        ahead input.old (R.remaining (device reader.old)) ≡ Some u → has_feed u ≡ false → input.new.ended ≡ true) }
+    ensures goes_on { OnErr result (input.old.ended ≡ false) }
     ensures end { KnowsEnd input.new (R.remaining (device reader.new)) }
     ensures paid { OnOk result (IsPaid input.old input.new (R.remaining (device reader.old)) (R.remaining (device reader.new))) }
     ensures counted { (reads_of reader.new ≡ min (reads_of reader.old + (input.old.reads - input.new.reads)) (2 ^ 64 - 1))

@@ -43,16 +43,16 @@ impl OneDesk {
 }
 
 impl Desk for OneDesk {
-    ghost use Rattle.std.specs.Prelude.{◌≡◌, ◌≤◌, Some, [], ◌∷◌, length};
+    ghost use Rattle.std.specs.Prelude.{Some, [], ◌∷◌, length};
     ghost use Rattle.crack_part.specs.Parts.{state_of};
 
-    ghost tables = { λ d. Some (state_of d ∷ []) };
+    ghost tables = { λ d. Some (record { state = state_of d; accepted = length d.history } ∷ []) };
+
+    ghost limit = { λ d. d.limit };
 
     ghost splits = { λ d. [] };
 
     ghost receipts = { λ d. length d.history };
-
-    ghost full = { λ d part entries. (d.limit ≤ length d.history) × (entries ≡ d.limit) };
 
     fn ask(
         &mut self,
@@ -66,7 +66,7 @@ impl Desk for OneDesk {
         }
         // A count is at most the number of entries, and that at most the limit.
         self.partition.facts();
-        match self.partition.apply(alloc, 0, command, policy) {
+        match self.partition.apply(0, command, policy) {
             Ok((reply, _receipt)) => Ok(reply),
             Err(refusal) => Err(refusal),
         }

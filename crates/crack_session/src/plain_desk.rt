@@ -7,20 +7,19 @@ use crack_row::{Bound, Command, Policy, Refusal, Reply};
 use std::alloc::Global;
 
 impl Desk for PlainTable {
-    ghost use Rattle.std.specs.Prelude.{◌≡◌, ◌≤◌, Some, [], ◌∷◌};
-    ghost use Rattle.crack_plain.specs.declared.TheConstants.{MOST_ACCEPTED};
+    ghost use Rattle.std.specs.Prelude.{Some, [], ◌∷◌};
 
-    ghost tables = { λ t. Some (t.state ∷ []) };
+    ghost tables = { λ t. Some (t ∷ []) };
+
+    ghost limit = { λ t. 4294967295 };
 
     ghost splits = { λ t. [] };
 
     ghost receipts = { λ t. t.accepted };
 
-    ghost full = { λ t part entries. (MOST_ACCEPTED ≤ t.accepted) × (entries ≡ MOST_ACCEPTED) };
-
     fn ask(
         &mut self,
-        alloc: Global,
+        _alloc: Global,
         part: u32,
         command: Command,
         _policy: Policy,
@@ -31,10 +30,12 @@ impl Desk for PlainTable {
         // A count is at most the number of rows, and that at most the number of accepted commands.
         let _rows = self.rows();
         let _accepted = self.accepted();
-        self.apply(alloc, &command)
+        self.apply(&command)
     }
 
     fn splits(&self) -> &[Bound] {
+        // Its rows are numbered.
+        let _rows = self.rows();
         &[]
     }
 

@@ -1,17 +1,15 @@
 //! A session: the statements of a reader, answered to a writer.
-ghost use Rattle.std.specs.Prelude.{◌≡◌, ℕ, ◌+◌, ◌<◌, ◌≤◌, ◌⊎◌, ◌^◌, true, List, length, is_ok, IfOk, IfErr, OnErr, OnOk, None, Some, if◌then◌else◌};
+ghost use Rattle.std.specs.Prelude.{◌≡◌, ℕ, ◌+◌, ◌<◌, ◌≤◌, ◌⊎◌, ◌^◌, ◌-◌, true, List, length, min, is_ok, IfOk, IfErr, OnErr, OnOk, None, Some, if◌then◌else◌};
 ghost use Rattle.std.specs.Io.KnownBytes.{Keeps};
-ghost use Rattle.crack_row.specs.Devices.{device, has_failed};
-ghost use Rattle.crack_plain.specs.Plain.{PlainState};
-ghost use Rattle.crack_session.specs.Grammar.{statements};
-ghost use Rattle.crack_session.specs.Sessions.{ending};
-ghost use Rattle.crack_session.specs.Served.{IsServed, IsCutOff, Responds, marked};
+ghost use Rattle.crack_row.specs.Devices.{device, has_failed, reads_of};
+ghost use Rattle.crack_plain.specs.Plain.{Table};
+ghost use Rattle.crack_session.specs.Served.{IsCounted, IsServed, IsDone, IsCutOff};
+ghost use Rattle.crack_session.specs.Responses.{IsResponse, marked};
 
-use crate::MOST_READS;
-use crate::answer::decide;
+use crate::answer::answer_reading;
 use crate::desk::Desk;
 use crate::input::{LineReader, next_line};
-use crate::output::{flush, send};
+use crate::output::flush;
 use crate::statement::{Statement, read_line, says_quit};
 use crack_row::{Policy, Refusal, Watched};
 use std::alloc::Global;
@@ -99,15 +97,17 @@ fn respond<D: Desk, W: Write>(
 ) -> Result<(), Refusal>
     requires { progress.old.statements + 1 < 2 ^ 64 }
     ensures count { progress.new.statements ≡ (if is_ok result then progress.old.statements + 1 else progress.old.statements) }
-    ensures responds { Responds (D.splits desk.old) reading progress.old progress.new result (D.tables desk.old) (D.tables desk.new) (W.contents (device writer.old)) (W.contents (device writer.new)) }
+    ensures responds { (tables : List Table) → D.tables desk.old ≡ Some tables →
+        IsResponse (D.limit desk.old) (D.splits desk.old) tables reading progress.old progress.new result
+        (D.tables desk.new) (W.contents (device writer.old)) (W.contents (device writer.new)) }
     ensures splits { D.splits desk.new ≡ D.splits desk.old }
+    ensures limit { D.limit desk.new ≡ D.limit desk.old }
     ensures unfailed { OnOk result (has_failed writer.new ≡ has_failed writer.old) }
     ensures err { IfErr result (λ e. (e ≡ Refusal.WriteFault) × (has_failed writer.new ≡ true)) }
 {
-    let answer = decide(alloc, desk, policy, reading);
+    let answer = answer_reading(alloc, desk, policy, reading);
     progress.mark(answer.is_short());
-    let line = answer.line();
-    match send(writer, line.as_slice()) {
+    match answer.write(writer) {
         Ok(()) => {
             progress.statements += 1;
             Ok(())
@@ -143,41 +143,46 @@ pub fn serve<D: Desk, R: Read, W: Write>(
     writer: &mut Watched<W>,
 ) -> Result<End, Fault>
     // However the session went, its statements are counted and its end is told.
-    ensures counted { IfOk result (λ end. (bytes : List ℕ) →
-        R.remaining (device reader.old) ≡ Some bytes →
-        (end.statements ≡ length (statements bytes)) × (end.how ≡ ending (statements bytes))) }
-    // What is written, and the plain rows afterwards.
-    ensures served { IfOk result (λ end. (bytes out : List ℕ) (tables : List PlainState) →
+    ensures counted { IfOk result (λ end. (bytes : List ℕ) → R.remaining (device reader.old) ≡ Some bytes →
+        IsCounted bytes end) }
+    // What is answered and written, and the desk afterwards.
+    ensures served { IfOk result (λ end. (bytes out : List ℕ) (tables : List Table) →
         R.remaining (device reader.old) ≡ Some bytes → W.contents (device writer.old) ≡ Some out →
         D.tables desk.old ≡ Some tables →
-        IsServed (D.splits desk.old) bytes out tables end (W.contents (device writer.new)) (D.tables desk.new)) }
-    // What is written where the session was cut off.
-    ensures cut_off { IfErr result (λ fault. (bytes out : List ℕ) (tables : List PlainState) →
+        IsServed (D.limit desk.old) (D.splits desk.old) tables bytes out end (D.tables desk.new) (W.contents (device writer.new))) }
+    // How many statements are done where the session was cut off.
+    ensures done { IfErr result (λ fault. (bytes : List ℕ) → R.remaining (device reader.old) ≡ Some bytes →
+        IsDone bytes fault (R.remaining (device reader.new))) }
+    // And what is answered and written then.
+    ensures cut_off { IfErr result (λ fault. (bytes out : List ℕ) (tables : List Table) →
         R.remaining (device reader.old) ≡ Some bytes → W.contents (device writer.old) ≡ Some out →
         D.tables desk.old ≡ Some tables →
-        IsCutOff (D.splits desk.old) bytes out tables fault (W.contents (device writer.new)) (D.tables desk.new)) }
-    // It isn't cut off only where no device failed.
+        IsCutOff (D.limit desk.old) (D.splits desk.old) tables bytes out fault (D.tables desk.new) (W.contents (device writer.new))) }
+    // Where it isn't cut off, no device has failed.
     ensures unfailed { OnOk result ((has_failed reader.new ≡ has_failed reader.old)
         × (has_failed writer.new ≡ has_failed writer.old)) }
     // It is cut off only where a device failed, or behind the last read that it may make, each of which brought a byte.
     ensures causes { IfErr result (λ fault. ((fault.refusal ≡ Refusal.WriteFault)
         × (has_failed writer.new ≡ true))
         ⊎ ((fault.refusal ≡ Refusal.ReadFault)
-        × ((bytes : List ℕ) → R.remaining (device reader.old) ≡ Some bytes →
-        (has_failed reader.new ≡ true) ⊎ (MOST_READS ≤ length bytes)))) }
+        × ((has_failed reader.new ≡ true)
+        ⊎ ((reads_of reader.new ≡ min (reads_of reader.old + 1000000000) (2 ^ 64 - 1))
+        × ((bytes : List ℕ) → R.remaining (device reader.old) ≡ Some bytes → 1000000000 ≤ length bytes))))) }
 {
+    // Its count of reads is a number of 64 bits.
+    let _reads = reader.reads();
     let mut input = LineReader::new();
     let mut progress = Progress {
         statements: 0,
         first_short: None,
     };
     'lines: loop {
-        let line = match next_line(&mut input, reader, writer) {
+        match next_line(&mut input, reader, writer) {
             Err(refusal) => return Err(progress.fault(refusal)),
-            Ok(None) => return finish(writer, progress, How::InputEnded),
-            Ok(Some(line)) => line,
-        };
-        if let Some(reading) = read_line(line.as_slice()) {
+            Ok(false) => return finish(writer, progress, How::InputEnded),
+            Ok(true) => {}
+        }
+        if let Some(reading) = read_line(input.line()) {
             if let Err(refusal) = respond(alloc, desk, policy, reading, &mut progress, writer) {
                 return Err(progress.fault(refusal));
             }

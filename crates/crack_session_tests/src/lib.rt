@@ -2,6 +2,10 @@
 #![tactic(auto)]
 
 #[cfg(test)]
+mod desks;
+#[cfg(test)]
+mod devices;
+#[cfg(test)]
 mod part;
 #[cfg(test)]
 mod plain;

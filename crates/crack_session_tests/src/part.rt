@@ -1,7 +1,9 @@
 //! A partition: each call once, with ample memory, and each refusal but that for want of memory.
 use crack_part::Partition;
-use crack_row::{Command, Entry, Key, KeyRange, Payload, Policy, Refusal, Reply, Serial};
-use std::alloc::Global;
+use crack_row::{
+    Command, Entry, GREATEST_BOUND, GREATEST_LIMIT, Key, KeyRange, Payload, Policy, Refusal, Reply,
+    Serial,
+};
 use std::process::Abort;
 
 /// An insert of a key, with ten times the key as its payload.
@@ -13,12 +15,8 @@ fn insert(key: u16) -> Command {
 }
 
 /// What worker 3 is answered.
-fn ask(
-    partition: &mut Partition,
-    alloc: Global,
-    command: Command,
-) -> Result<(Reply, Reply), Refusal> {
-    partition.apply(alloc, 3, command, Policy::Complete)
+fn ask(partition: &mut Partition, command: Command) -> Result<(Reply, Reply), Refusal> {
+    partition.apply(3, command, Policy::Complete)
 }
 
 /// Whether the entry is worker 3's insert of key 7, which was given serial 0.
@@ -36,36 +34,32 @@ fn is_first_insert(entry: &Entry) -> bool {
 
 /// Asserts that the partition has all keys, the greatest limit and no history.
 fn assert_opened(rt: &impl Abort, partition: &Partition) {
-    assert_eq!(rt; partition.limit(), 1000000);
+    assert_eq!(rt; partition.limit(), GREATEST_LIMIT);
     assert_eq!(rt; partition.keys().low().0, 0);
-    assert_eq!(rt; partition.keys().high().0, 4294967296);
+    assert_eq!(rt; partition.keys().high().0, GREATEST_BOUND);
     assert!(rt; partition.history().is_empty());
 }
 
 /// Inserts key 7 as the first row, which the reply and its receipt tell.
-fn insert_first(rt: &impl Abort, partition: &mut Partition, alloc: Global) -> Result<(), Refusal> {
-    let (reply, receipt) = ask(partition, alloc, insert(7))?;
+fn insert_first(rt: &impl Abort, partition: &mut Partition) -> Result<(), Refusal> {
+    let (reply, receipt) = ask(partition, insert(7))?;
     assert!(rt; matches!(reply, Reply::Placed(Serial(0))));
     assert!(rt; matches!(receipt, Reply::Placed(Serial(0))));
     Ok(())
 }
 
 /// Counts the only row, which the reply and its receipt tell.
-fn count_first(rt: &impl Abort, partition: &mut Partition, alloc: Global) -> Result<(), Refusal> {
-    let (reply, receipt) = ask(partition, alloc, Command::Count(KeyRange::all()))?;
+fn count_first(rt: &impl Abort, partition: &mut Partition) -> Result<(), Refusal> {
+    let (reply, receipt) = ask(partition, Command::Count(KeyRange::all()))?;
     assert!(rt; matches!(reply, Reply::Counted(1)));
     assert!(rt; matches!(receipt, Reply::Counted(1)));
     Ok(())
 }
 
-fn answer_and_keep(
-    rt: &impl Abort,
-    partition: &mut Partition,
-    alloc: Global,
-) -> Result<(), Refusal> {
+fn answer_and_keep(rt: &impl Abort, partition: &mut Partition) -> Result<(), Refusal> {
     assert_opened(rt, partition);
-    insert_first(rt, partition, alloc)?;
-    count_first(rt, partition, alloc)?;
+    insert_first(rt, partition)?;
+    count_first(rt, partition)?;
     assert_eq!(rt; partition.history().len(), 2);
     assert!(rt; is_first_insert(&partition.history()[0]));
     Ok(())
@@ -73,17 +67,16 @@ fn answer_and_keep(
 
 #[test]
 fn partition_answers_and_keeps(rt: HostRuntime) -> Result<(), Refusal> {
-    let alloc = rt.alloc();
-    let mut partition = Partition::open(alloc, KeyRange::all(), 1000000)?;
-    let told = answer_and_keep(&rt, &mut partition, alloc);
+    let mut partition = Partition::open(rt.alloc(), KeyRange::all(), GREATEST_LIMIT)?;
+    let told = answer_and_keep(&rt, &mut partition);
     drop(partition);
     told
 }
 
 /// Counts a range of no key.
-fn count_no_key(rt: &impl Abort, partition: &mut Partition, alloc: Global) -> Result<(), Refusal> {
+fn count_no_key(rt: &impl Abort, partition: &mut Partition) -> Result<(), Refusal> {
     let empty = KeyRange::new(5, 5)?;
-    let (reply, _receipt) = ask(partition, alloc, Command::Count(empty))?;
+    let (reply, _receipt) = ask(partition, Command::Count(empty))?;
     assert!(rt; matches!(reply, Reply::Counted(0)));
     assert_eq!(rt; partition.history().len(), 1);
     Ok(())
@@ -92,18 +85,17 @@ fn count_no_key(rt: &impl Abort, partition: &mut Partition, alloc: Global) -> Re
 /// A read is kept too, also one that can find nothing.
 #[test]
 fn partition_keeps_a_count_of_no_key(rt: HostRuntime) -> Result<(), Refusal> {
-    let alloc = rt.alloc();
-    let mut partition = Partition::open(alloc, KeyRange::all(), 1)?;
-    let told = count_no_key(&rt, &mut partition, alloc);
+    let mut partition = Partition::open(rt.alloc(), KeyRange::all(), 1)?;
+    let told = count_no_key(&rt, &mut partition);
     drop(partition);
     told
 }
 
 /// Fills a history of two entries.
-fn fill_two(rt: &impl Abort, partition: &mut Partition, alloc: Global) -> Result<(), Refusal> {
-    ask(partition, alloc, insert(1))?;
-    ask(partition, alloc, insert(2))?;
-    let refused = ask(partition, alloc, Command::Count(KeyRange::all()));
+fn fill_two(rt: &impl Abort, partition: &mut Partition) -> Result<(), Refusal> {
+    ask(partition, insert(1))?;
+    ask(partition, insert(2))?;
+    let refused = ask(partition, Command::Count(KeyRange::all()));
     assert!(rt; matches!(refused, Err(Refusal::HistoryFull { length: 2 })));
     assert_eq!(rt; partition.history().len(), 2);
     Ok(())
@@ -111,50 +103,44 @@ fn fill_two(rt: &impl Abort, partition: &mut Partition, alloc: Global) -> Result
 
 #[test]
 fn partition_refuses_at_its_limit(rt: HostRuntime) -> Result<(), Refusal> {
-    let alloc = rt.alloc();
-    let mut partition = Partition::open(alloc, KeyRange::all(), 2)?;
-    let told = fill_two(&rt, &mut partition, alloc);
+    let mut partition = Partition::open(rt.alloc(), KeyRange::all(), 2)?;
+    let told = fill_two(&rt, &mut partition);
     drop(partition);
     told
 }
 
 /// Inserts keys outside of 100 up to 200, and one inside.
-fn insert_outside(
-    rt: &impl Abort,
-    partition: &mut Partition,
-    alloc: Global,
-) -> Result<(), Refusal> {
+fn insert_outside(rt: &impl Abort, partition: &mut Partition) -> Result<(), Refusal> {
     for key in [50, 200] {
-        let refused = ask(partition, alloc, insert(key));
+        let refused = ask(partition, insert(key));
         assert!(rt; matches!(refused, Err(Refusal::KeyOutside)), "key {key}");
     }
     assert!(rt; partition.history().is_empty());
-    let (reply, _receipt) = ask(partition, alloc, insert(199))?;
+    let (reply, _receipt) = ask(partition, insert(199))?;
     assert!(rt; matches!(reply, Reply::Placed(Serial(0))));
     Ok(())
 }
 
 #[test]
 fn partition_refuses_keys_outside(rt: HostRuntime) -> Result<(), Refusal> {
-    let alloc = rt.alloc();
-    let mut partition = Partition::open(alloc, KeyRange::new(100, 200)?, 10)?;
-    let told = insert_outside(&rt, &mut partition, alloc);
+    let mut partition = Partition::open(rt.alloc(), KeyRange::new(100, 200)?, 10)?;
+    let told = insert_outside(&rt, &mut partition);
     drop(partition);
     told
 }
 
 #[test]
 fn partition_refuses_bad_limits(rt: HostRuntime) {
-    for limit in [0, 1000001] {
+    for limit in [0, GREATEST_LIMIT + 1] {
         let refused = Partition::open(rt.alloc(), KeyRange::all(), limit).err();
         assert!(rt; matches!(refused, Some(Refusal::BadLimit)), "limit {limit}");
     }
 }
 
 /// Inserts a row for each of the keys.
-fn insert_all(partition: &mut Partition, alloc: Global, keys: &[u16]) -> Result<(), Refusal> {
+fn insert_all(partition: &mut Partition, keys: &[u16]) -> Result<(), Refusal> {
     for key in keys {
-        ask(partition, alloc, insert(*key))?;
+        ask(partition, insert(*key))?;
     }
     Ok(())
 }
@@ -163,11 +149,10 @@ fn insert_all(partition: &mut Partition, alloc: Global, keys: &[u16]) -> Result<
 fn assert_count(
     rt: &impl Abort,
     partition: &mut Partition,
-    alloc: Global,
     range: KeyRange,
     rows: u64,
 ) -> Result<(), Refusal> {
-    let (reply, _receipt) = ask(partition, alloc, Command::Count(range))?;
+    let (reply, _receipt) = ask(partition, Command::Count(range))?;
     assert!(rt; matches!(reply, Reply::Counted(count) if count == rows));
     Ok(())
 }
@@ -216,15 +201,11 @@ fn assert_pieces(
 }
 
 /// Inserts the keys 10, 20, 30 and 40, which wait until the first count, and cracks at 15 and 25.
-fn fill_and_crack(
-    rt: &impl Abort,
-    partition: &mut Partition,
-    alloc: Global,
-) -> Result<(), Refusal> {
-    insert_all(partition, alloc, &[10, 20, 30, 40])?;
+fn fill_and_crack(rt: &impl Abort, partition: &mut Partition) -> Result<(), Refusal> {
+    insert_all(partition, &[10, 20, 30, 40])?;
     assert_rows(rt, partition, 0, 4)?;
-    assert_count(rt, partition, alloc, KeyRange::all(), 4)?;
-    assert_count(rt, partition, alloc, KeyRange::new(15, 25)?, 1)
+    assert_count(rt, partition, KeyRange::all(), 4)?;
+    assert_count(rt, partition, KeyRange::new(15, 25)?, 1)
 }
 
 /// Asserts that six rows stand in the column, in three pieces.
@@ -235,24 +216,19 @@ fn assert_merged(rt: &impl Abort, partition: &Partition) -> Result<(), Refusal> 
 }
 
 /// Inserts two rows into what was cracked, and counts one of them.
-fn crack_and_merge(
-    rt: &impl Abort,
-    partition: &mut Partition,
-    alloc: Global,
-) -> Result<(), Refusal> {
-    fill_and_crack(rt, partition, alloc)?;
-    insert_all(partition, alloc, &[17, 90])?;
+fn crack_and_merge(rt: &impl Abort, partition: &mut Partition) -> Result<(), Refusal> {
+    fill_and_crack(rt, partition)?;
+    insert_all(partition, &[17, 90])?;
     assert_rows(rt, partition, 4, 2)?;
-    assert_count(rt, partition, alloc, KeyRange::new(15, 25)?, 2)?;
+    assert_count(rt, partition, KeyRange::new(15, 25)?, 2)?;
     assert_merged(rt, partition)
 }
 
 /// Rows wait until a count needs one of them; then all are merged, and no row is lost from sight on the way.
 #[test]
 fn partition_cracks_and_merges(rt: HostRuntime) -> Result<(), Refusal> {
-    let alloc = rt.alloc();
-    let mut partition = Partition::open(alloc, KeyRange::all(), 1000)?;
-    let told = crack_and_merge(&rt, &mut partition, alloc);
+    let mut partition = Partition::open(rt.alloc(), KeyRange::all(), 1000)?;
+    let told = crack_and_merge(&rt, &mut partition);
     drop(partition);
     told
 }

@@ -1,110 +1,16 @@
 //! Sessions over memory, and over devices that fail, drip or count.
+use crate::desks::{Refusing, Starved};
+use crate::devices::{Clogged, Failing, Log, Sink, Source};
 use crack_plain::PlainTable;
 use crack_row::{
-    Command, GREATEST_LIMIT, Key, KeyRange, Payload, Policy, Refusal, Reply, Serial, Watched,
+    Command, GREATEST_BOUND, GREATEST_KEY, GREATEST_LIMIT, Key, KeyRange, Payload, Policy, Refusal,
+    Reply, Serial, Watched,
 };
-use crack_session::{Desk, End, Fault, How, OneDesk, serve};
+use crack_session::{Desk, End, Fault, How, LINE_BYTES, OneDesk, serve};
 use std::alloc::Global;
-use std::io;
-use std::io::{BufWriter, Read, Write};
+use std::io::BufWriter;
 use std::process::Abort;
 use std::test::Fail;
-
-/// A writer that fails from some call on.
-#[derive(Drop)]
-struct Failing {
-    calls: u64,
-    fails_at: u64,
-    bytes: Vec<u8>,
-}
-
-impl Write for Failing {
-    fn write(&mut self, buf: &[u8]) -> io::Result<usize> {
-        if self.calls >= self.fails_at {
-            return Err(io::Error::from(io::ErrorKind::BrokenPipe));
-        }
-        self.calls += 1;
-        if self.bytes.extend_from_slice(buf).is_err() {
-            return Err(io::Error::from(io::ErrorKind::OutOfMemory));
-        }
-        Ok(buf.len())
-    }
-
-    fn flush(&mut self) -> io::Result<()> {
-        Ok(())
-    }
-}
-
-/// A writer that fails when it is flushed.
-#[derive(Drop)]
-struct Clogged;
-
-impl Write for Clogged {
-    fn write(&mut self, buf: &[u8]) -> io::Result<usize> {
-        Ok(buf.len())
-    }
-
-    fn flush(&mut self) -> io::Result<()> {
-        Err(io::Error::from(io::ErrorKind::BrokenPipe))
-    }
-}
-
-/// A reader of one byte at a time; where its bytes end it fails, or its input ends.
-#[derive(Drop)]
-struct Dripping<'a> {
-    bytes: &'a [u8],
-    fails: bool,
-}
-
-impl Read for Dripping<'_> {
-    fn read(&mut self, buf: &mut [u8]) -> io::Result<usize> {
-        match self.bytes.split_first() {
-            Some((first, rest)) if !buf.is_empty() => {
-                buf[0] = *first;
-                self.bytes = rest;
-                Ok(1)
-            }
-            _ if self.fails => Err(io::Error::from(io::ErrorKind::BrokenPipe)),
-            _ => Ok(0),
-        }
-    }
-}
-
-/// A reader that counts its reads.
-#[derive(Drop)]
-struct CountedReader<'a> {
-    bytes: &'a [u8],
-    reads: u64,
-}
-
-impl Read for CountedReader<'_> {
-    fn read(&mut self, buf: &mut [u8]) -> io::Result<usize> {
-        self.reads = self.reads.saturating_add(1);
-        self.bytes.read(buf)
-    }
-}
-
-/// A writer that counts its writes and flushes, and the bytes that came after the last flush.
-#[derive(Drop)]
-struct CountedWriter {
-    writes: u64,
-    flushes: u64,
-    left: usize,
-}
-
-impl Write for CountedWriter {
-    fn write(&mut self, buf: &[u8]) -> io::Result<usize> {
-        self.writes = self.writes.saturating_add(1);
-        self.left = self.left.saturating_add(buf.len());
-        Ok(buf.len())
-    }
-
-    fn flush(&mut self) -> io::Result<()> {
-        self.flushes = self.flushes.saturating_add(1);
-        self.left = 0;
-        Ok(())
-    }
-}
 
 /// A session over memory, which is to end: how, and what it wrote.
 fn run<D: Desk + Drop>(alloc: Global, mut desk: D, input: &[u8]) -> Result<(End, Vec<u8>), Fail> {
@@ -148,9 +54,12 @@ fn assert_dripped<D: Desk + Drop>(
     replies: &[u8],
     end: End,
 ) -> Result<(), Fail> {
-    let mut reader = Watched::new(Dripping {
+    let log = Log::new();
+    let mut reader = Watched::new(Source {
         bytes: input,
+        most: 1,
         fails: false,
+        log: &log,
     });
     let mut writer = Watched::new(Vec::new(alloc));
     let result = serve(alloc, &mut desk, Policy::Complete, &mut reader, &mut writer);
@@ -196,7 +105,7 @@ fn quit_ends_a_session(rt: HostRuntime) -> Result<(), Fail> {
     assert_alike(
         &rt,
         rt.alloc(),
-        b"insert 7 70\ncount 0 4294967296\nquit\ncount 0 1\n",
+        b"insert 7 70\ncount 0 9\nquit\ncount 0 1\n",
         b"row 0.0\ncount 1\nbye\n",
         ends(How::Quit, 3),
     )
@@ -204,7 +113,7 @@ fn quit_ends_a_session(rt: HostRuntime) -> Result<(), Fail> {
 
 #[test]
 fn a_line_that_is_too_long_is_no_statement(rt: HostRuntime) -> Result<(), Fail> {
-    let many = [b'x'; 201];
+    let many = [b'x'; LINE_BYTES + 1];
     let mut input = Vec::from_slice(rt.alloc(), b"insert 1 1\r\n")?;
     input.extend_from_slice(many.as_slice())?;
     input.extend_from_slice(b"\n\ncount 0 5")?;
@@ -219,10 +128,16 @@ fn a_line_that_is_too_long_is_no_statement(rt: HostRuntime) -> Result<(), Fail> 
 
 #[test]
 fn the_greatest_key_and_bound_are_taken(rt: HostRuntime) -> Result<(), Fail> {
+    let key = GREATEST_KEY;
+    let bound = GREATEST_BOUND;
+    let past = GREATEST_BOUND + 1;
+    let input = format!(in rt.alloc();
+        "insert {key} 1\ncount {key} {bound}\ninsert {bound} 1\ncount 0 {past}\n"
+    )?;
     assert_alike(
         &rt,
         rt.alloc(),
-        b"insert 4294967295 1\ncount 4294967295 4294967296\ninsert 4294967296 1\ncount 0 4294967297\n",
+        input.as_bytes(),
         b"row 0.0\ncount 1\nrefused 1\nrefused 2\n",
         ends(How::InputEnded, 4),
     )
@@ -244,6 +159,44 @@ fn a_full_history_is_told(rt: HostRuntime) -> Result<(), Fail> {
     )
 }
 
+/// What follows a want of room is answered as ever.
+#[test]
+fn a_want_of_room_stops_nothing(rt: HostRuntime) -> Result<(), Fail> {
+    assert_script(
+        &rt,
+        rt.alloc(),
+        1,
+        b"insert 1 1\ninsert 2 2\nfoo\ninsert 3 3\nquit\n",
+        b"row 0.0\nrefused 6 1\nrefused 1\nrefused 6 1\nbye\n",
+        End {
+            how: How::Quit,
+            statements: 5,
+            first_short: Some(2),
+        },
+    )
+}
+
+/// A desk that finds no memory once answers as ever behind that, with the row that was refused not there.
+#[test]
+fn a_want_of_memory_stops_nothing(rt: HostRuntime) -> Result<(), Fail> {
+    let desk = Starved {
+        table: PlainTable::new(rt.alloc()),
+        is_fed: false,
+    };
+    assert_run(
+        &rt,
+        rt.alloc(),
+        desk,
+        b"insert 1 1\ncount 0 9\ninsert 2 2\nquit\n",
+        b"refused 8\ncount 0\nrow 0.0\nbye\n",
+        End {
+            how: How::Quit,
+            statements: 4,
+            first_short: Some(1),
+        },
+    )
+}
+
 #[test]
 fn spaces_and_zeros_are_passed_over(rt: HostRuntime) -> Result<(), Fail> {
     assert_alike(
@@ -255,40 +208,42 @@ fn spaces_and_zeros_are_passed_over(rt: HostRuntime) -> Result<(), Fail> {
     )
 }
 
-/// A session whose writer fails in the third reply.
+/// A session whose writer fails in the third reply, and what is written before.
 fn fail_the_third_reply<D: Desk + Drop>(
     rt: &impl Abort,
     alloc: Global,
     mut desk: D,
+    replies: &[u8],
+    first_short: Option<u64>,
 ) -> Result<(), Fail> {
-    let mut reader = Watched::new(b"insert 1 1\ninsert 2 2\ninsert 3 3\n".as_slice());
+    let mut reader = Watched::new(b"insert 1 1\ninsert 2 2\nfoo\nquit\n".as_slice());
     let mut writer = Watched::new(Failing {
         calls: 0,
         fails_at: 2,
         bytes: Vec::new(alloc),
     });
     let result = serve(alloc, &mut desk, Policy::Complete, &mut reader, &mut writer);
-    let fault = result.err().ok_or("no fault")?;
-    assert_eq!(rt;
-        fault,
-        Fault {
-            refusal: Refusal::WriteFault,
-            done: 2,
-            first_short: None
-        }
-    );
+    let fault = Fault {
+        refusal: Refusal::WriteFault,
+        done: 2,
+        first_short,
+    };
+    assert_eq!(rt; result.err(), Some(fault));
     assert!(rt; writer.failed());
-    assert_eq!(rt;
-        writer.into_inner().bytes.as_slice(),
-        b"row 0.0\nrow 0.1\n".as_slice()
-    );
+    assert_eq!(rt; writer.into_inner().bytes.as_slice(), replies);
     Ok(())
 }
 
 #[test]
 fn writer_fails_in_the_third_reply(rt: HostRuntime) -> Result<(), Fail> {
     let desk = OneDesk::open(rt.alloc(), GREATEST_LIMIT)?;
-    fail_the_third_reply(&rt, rt.alloc(), desk)
+    fail_the_third_reply(&rt, rt.alloc(), desk, b"row 0.0\nrow 0.1\n", None)
+}
+
+#[test]
+fn writer_fails_behind_a_want_of_room(rt: HostRuntime) -> Result<(), Fail> {
+    let desk = OneDesk::open(rt.alloc(), 1)?;
+    fail_the_third_reply(&rt, rt.alloc(), desk, b"row 0.0\nrefused 6 1\n", Some(2))
 }
 
 /// A session whose writer takes bytes and can't hand them on.
@@ -321,9 +276,12 @@ fn fail_the_reader<D: Desk + Drop>(
     alloc: Global,
     mut desk: D,
 ) -> Result<(), Fail> {
-    let mut reader = Watched::new(Dripping {
+    let log = Log::new();
+    let mut reader = Watched::new(Source {
         bytes: b"insert 1 1\ncount 0 9",
+        most: 16,
         fails: true,
+        log: &log,
     });
     let mut writer = Watched::new(Vec::new(alloc));
     let result = serve(alloc, &mut desk, Policy::Complete, &mut reader, &mut writer);
@@ -359,36 +317,32 @@ fn insert_often(alloc: Global) -> Result<Vec<u8>, Fail> {
 
 /// Asserts that there are several writes, no more of them than reads and one, a flush before each read and at the end,
 /// and nothing behind the last flush.
-fn assert_few_writes(rt: &impl Abort, counted: &CountedWriter, reads: u64) {
-    assert!(rt; counted.writes <= reads.saturating_add(1));
-    assert!(rt; counted.writes > 1);
-    assert_eq!(rt; counted.flushes, reads.saturating_add(1));
-    assert_eq!(rt; counted.left, 0);
+fn assert_few_writes(rt: &impl Abort, log: &Log) {
+    let most = log.reads.get().saturating_add(1);
+    assert!(rt; log.writes.get() <= most);
+    assert!(rt; log.writes.get() > 1);
+    assert_eq!(rt; log.flushes.get(), most);
+    assert_eq!(rt; log.left.get(), 0);
 }
 
-/// A session of many replies, over devices that count; the writer keeps so many bytes before it writes.
-fn count_the_writes<D: Desk + Drop>(
-    rt: &impl Abort,
-    alloc: Global,
-    mut desk: D,
-    input: &[u8],
-    room: usize,
-    statements: u64,
-) -> Result<(), Fail> {
-    let mut reader = Watched::new(CountedReader {
+/// Asserts that each read asked for 4,096 bytes, and once each whole line was answered; each line of so many is in the end.
+fn assert_orderly(rt: &impl Abort, log: &Log, lines: usize) {
+    assert!(rt; log.is_orderly.get());
+    assert_eq!(rt; log.answered.get(), lines);
+}
+
+/// A session whose reader gives so many bytes at a time, and whose writer keeps so many before it writes.
+fn log_it(alloc: Global, input: &[u8], most: usize, room: usize, log: &Log) -> Result<(), Fail> {
+    let mut desk = OneDesk::open(alloc, GREATEST_LIMIT)?;
+    let mut reader = Watched::new(Source {
         bytes: input,
-        reads: 0,
+        most,
+        fails: false,
+        log,
     });
-    let device = CountedWriter {
-        writes: 0,
-        flushes: 0,
-        left: 0,
-    };
-    let mut writer = Watched::new(BufWriter::with_capacity(alloc, room, device)?);
+    let mut writer = Watched::new(BufWriter::with_capacity(alloc, room, Sink { log })?);
     let result = serve(alloc, &mut desk, Policy::Complete, &mut reader, &mut writer);
-    assert_eq!(rt; result.ok().ok_or("a fault")?.statements, statements);
-    let buffered = writer.into_inner();
-    assert_few_writes(rt, buffered.get_ref(), reader.into_inner().reads);
+    result.ok().ok_or("a fault")?;
     Ok(())
 }
 
@@ -396,8 +350,11 @@ fn count_the_writes<D: Desk + Drop>(
 #[test]
 fn writes_are_as_few_as_reads(rt: HostRuntime) -> Result<(), Fail> {
     let input = insert_often(rt.alloc())?;
-    let desk = OneDesk::open(rt.alloc(), GREATEST_LIMIT)?;
-    count_the_writes(&rt, rt.alloc(), desk, input.as_slice(), 8192, 1001)
+    let log = Log::new();
+    log_it(rt.alloc(), input.as_slice(), 4096, 8192, &log)?;
+    assert_few_writes(&rt, &log);
+    assert_orderly(&rt, &log, 1001);
+    Ok(())
 }
 
 /// So it is where each two bytes get ten, if the writer keeps the replies to a whole read.
@@ -407,8 +364,47 @@ fn short_lines_get_few_writes(rt: HostRuntime) -> Result<(), Fail> {
     for _ in 0..8192 {
         input.extend_from_slice(b"x\n")?;
     }
-    let desk = OneDesk::open(rt.alloc(), GREATEST_LIMIT)?;
-    count_the_writes(&rt, rt.alloc(), desk, input.as_slice(), 24576, 8192)
+    let log = Log::new();
+    log_it(rt.alloc(), input.as_slice(), 4096, 24576, &log)?;
+    assert_few_writes(&rt, &log);
+    assert_orderly(&rt, &log, 8192);
+    Ok(())
+}
+
+/// Each whole line is answered before the next read, wherever the reads cut the lines.
+#[test]
+fn lines_are_answered_before_the_next_read(rt: HostRuntime) -> Result<(), Fail> {
+    let input = insert_often(rt.alloc())?;
+    let log = Log::new();
+    log_it(rt.alloc(), input.as_slice(), 29, 8, &log)?;
+    assert_orderly(&rt, &log, 1001);
+    Ok(())
+}
+
+/// A refusal's text as it is printed, which is that of its reply.
+fn assert_printed(rt: &impl Abort, alloc: Global, refusal: Refusal) -> Result<(), Fail> {
+    let (_end, text) = run(alloc, Refusing { refusal }, b"count 0 1\n")?;
+    let printed = format!(in alloc; "{refusal}\n")?;
+    assert_eq!(rt; text.as_slice(), printed.as_bytes());
+    Ok(())
+}
+
+#[test]
+fn refusals_are_printed_as_they_are_replied(rt: HostRuntime) -> Result<(), Fail> {
+    for refusal in [
+        Refusal::BadStatement,
+        Refusal::BadRange,
+        Refusal::KeyOutside,
+        Refusal::NoSuchPartition,
+        Refusal::HistoryFull { length: 1000000 },
+        Refusal::OutOfMemory,
+        Refusal::BadLimit,
+        Refusal::ReadFault,
+        Refusal::WriteFault,
+    ] {
+        assert_printed(&rt, rt.alloc(), refusal)?;
+    }
+    Ok(())
 }
 
 /// A desk by itself: what it is asked, how many it accepted, and that there is one partition.

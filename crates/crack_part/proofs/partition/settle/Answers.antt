@@ -1,4 +1,26 @@
+use Rattle.std.proofs.Common.{inl, inr}
 use Rattle.crack_part.proofs.partition.settle.Goals as goal
 
 pub merge-requires-clause-cracked : goal.merge-requires-clause-cracked
 merge-requires-clause-cracked c = rw c.replace-cracked.ensures.value c.in_default.ensures.cracked
+
+pub returns-in-Err-clause-stopped : goal.returns-in-Err-clause-stopped
+returns-in-Err-clause-stopped c = inl c.in-Err.ensures.same
+
+pub returns-in-Ok-clause-settled : goal.returns-in-Ok-clause-settled
+returns-in-Ok-clause-settled c = record {
+  cracked = c.crack.new.self;
+  refines = c.in_default.ensures.ok;
+  intact = c.facts.ensures;
+  merges = rw (c.replace-cracked.ensures.value, c.in-Ok.merged-is) at c.in-Ok.ensures.merged;
+  tallies = rw (c.replace-cracked.ensures.value, c.in-Ok.merged-is) at c.in-Ok.ensures.tallied;
+}
+
+pub returns-in-Err-merge-clause-stopped : goal.returns-in-Err-merge-clause-stopped
+returns-in-Err-merge-clause-stopped c = inr (record {
+  filled = c.requires.filled;
+  cracked = c.crack.new.self;
+  refines = c.in_default.ensures.ok;
+  intact = c.facts.ensures;
+  stops = rw (c.replace-cracked.ensures.value, c.in-Err-merge.left-is) at c.in-Err-merge.ensures.stopped;
+})

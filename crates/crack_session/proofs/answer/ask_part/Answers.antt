@@ -1,8 +1,10 @@
-use Rattle.std.proofs.Common.{◌∙◌, ap, Some}
-use Rattle.crack_session.proofs.Replying.{answered-refused}
+use Rattle.std.proofs.Common.{Ok, refl}
+use Rattle.crack_session.specs.Desks.{tables_after}
 use Rattle.crack_session.proofs.answer.ask_part.Goals as goal
 
-pub returns-in-Err-clause-plain : goal.returns-in-Err-clause-plain
-returns-in-Err-clause-plain g c = λ tables e long.
-    let same = answered-refused (g.D.Desk.full c.args.desk.now c.args.part) (g.D.Desk.splits c.args.desk.now) tables c.args.part c.args.command c.in-Err.refusal (c.in-Err.ensures.causes tables e) (c.in-Err.ensures.refused tables e) long in
-    (same.0, c.in-Err.ensures.err ∙ e ∙ ap Some same.1)
+pub returns-in-Ok-clause-is : goal.returns-in-Ok-clause-is
+returns-in-Ok-clause-is g c = λ tables e. (
+    tables_after tables c.args.part c.args.command (Ok c.in-Ok.reply),
+    record { outcome = Ok c.in-Ok.reply; comes_out = c.in-Ok.ensures.outcome tables e; answer_is = refl; new_is = refl },
+    c.in-Ok.ensures.after tables e,
+  )

@@ -1,7 +1,8 @@
 use Rattle.std.proofs.Common.{rules, ◌≡◌, ℕ, List, [], Some, length, arith, sym, ap, ◌∙◌, true, not}
+use Rattle.std.proofs.lemmas.Bool.{false≢true}
 use Rattle.crack_row.specs.Devices.{device, reads_of}
 use Rattle.crack_session.specs.Lines.{Input}
-use Rattle.crack_session.proofs.Reading.{SoFar-more, SoFar-found, SoFar-ended, SoFar-begun, SoFar-read, after_line-shorter, IsPaid-taken, IsPaid-then, Keeps-same, Keeps-then, counted-then, if_err_anyway}
+use Rattle.crack_session.proofs.Reading.{SoFar-more, SoFar-found, SoFar-ended, SoFar-begun, SoFar-read, after_line-shorter, IsPaid-taken, IsPaid-then, Keeps-same, Keeps-then, counted-then, if_err_anyway, on_err_anyway, SoFar-feed}
 use Rattle.crack_session.proofs.input.next_line.Goals as goal
 
 pub returns-then-take_line-clause-line : goal.returns-then-take_line-clause-line
@@ -14,6 +15,19 @@ returns-then-take_line-clause-falls g c = λ _.
     let shorter = after_line-shorter c.reading.input.unread (sym c.if-take_line.ensures.found) in
     let rest = ap length c.if-take_line.ensures.rest in
     omega (arith, shorter, rest, c.if-take_line.ensures.reads.0, c.reading.invariant.falls)
+
+pub returns-then-take_line-clause-last : goal.returns-then-take_line-clause-last
+returns-then-take_line-clause-last g c = λ _ u e none.
+    absurd (false≢true (sym none ∙ SoFar-feed c.reading.input.unread (g.R.Read.remaining (device c.reading.reader)) (c.reading.invariant.so_far u e) (sym c.if-take_line.ensures.found)))
+
+pub returns-then-input-clause-last : goal.returns-then-input-clause-last
+returns-then-input-clause-last g c = λ _ u e none. sym (ap (λ (i : Input). i.ended) c.input.view_is) ∙ c.if-input.true
+
+pub returns-in_err-flush-clause-goes_on : goal.returns-in_err-flush-clause-goes_on
+returns-in_err-flush-clause-goes_on g c = on_err_anyway c.from_residual.result (c.reading.invariant.paid (sym c.take_line.ensures.reads.1 ∙ sym (ap (λ (i : Input). i.ended) c.input.view_is) ∙ c.if-input.false)).0
+
+pub returns-in_err-refill-clause-goes_on : goal.returns-in_err-refill-clause-goes_on
+returns-in_err-refill-clause-goes_on g c = on_err_anyway c.from_residual-in_err-refill.result (c.reading.invariant.paid (sym c.take_line.ensures.reads.1 ∙ sym (ap (λ (i : Input). i.ended) c.input.view_is) ∙ c.if-input.false)).0
 
 pub returns-then-input-clause-line : goal.returns-then-input-clause-line
 returns-then-input-clause-line g c = λ u e.

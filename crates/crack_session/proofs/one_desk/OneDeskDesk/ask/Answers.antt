@@ -9,7 +9,7 @@ use Rattle.crack_session.proofs.one_desk.OneDeskDesk.ask.Goals as goal
 pub returns-clause-small : goal.returns-clause-small
 returns-clause-small c = elim c.match-apply.branch [
   | in-Ok w ↦
-      let few : length (state_of c.self.inside.partition).rows ≤ 4294967295 = omega (arith, length_rows-le-accepted c.self.inside.partition.history c.facts.ensures.legal.replies, c.facts.ensures.legal.short, c.facts.ensures.limited.1) in
+      let few : length (state_of c.self.inside.partition).rows ≤ 4294967295 = omega (arith, length_rows-le-accepted c.self.inside.partition.history c.facts.ensures.legal.replies, c.facts.ensures.legal.limited, c.facts.ensures.limited.1) in
       rw w.result-is (subst IsSmall (sym w.in-Ok.ensures.replies.0) (IsSmall-reply_to (state_of c.self.inside.partition) c.args.command few))
   | in-Err w ↦ rw w.result-is tt
 ]

@@ -1,0 +1,25 @@
+use Rattle.std.proofs.Common.{Result, Ok, Err, OnErr, refl}
+use Rattle.crack_part.proofs.KeepLemmas.{Spares-prepared}
+use Rattle.crack_part.proofs.partition.serve.Goals as goal
+
+on_err : {T E P : Type 0} (r : Result T E) → P → OnErr r P
+on_err (Ok x) p = tt
+on_err (Err e) p = p
+
+pub returns-in_err-copies-clause-spared : goal.returns-in_err-copies-clause-spared
+returns-in_err-copies-clause-spared c =
+    let prepared = rw c.range.ensures at c.in_ok-prepare.ensures.prepared in
+    on_err c.from_residual-in_err-copies.result (Spares-prepared c.args.policy c.args.keys _ c.args.store.now c.prepare.new.store c.prepare.new.store c.requires.none_doomed prepared (record { same = refl }), refl)
+
+pub returns-in_err-perform-clause-spared : goal.returns-in_err-perform-clause-spared
+returns-in_err-perform-clause-spared c =
+    let prepared = rw c.range.ensures at c.in_ok-prepare.ensures.prepared in
+    let same = c.in_err-perform.ensures.same in
+    on_err c.from_residual-in_err-perform.result (Spares-prepared c.args.policy c.args.keys _ c.args.store.now c.prepare.new.store c.perform.new.store c.requires.none_doomed prepared same.0, same.1)
+
+pub returns-clause-served : goal.returns-clause-served
+returns-clause-served c = record {
+  ready = c.prepare.new.store;
+  prepared = rw c.range.ensures at c.in_ok-prepare.ensures.prepared;
+  performed = rw c.change.ensures at c.in_ok-perform.ensures.performed;
+}
