@@ -73,8 +73,8 @@ SoFar-found {u} {line} xs known line' xs' s found grown left =
 
 pub SoFar-feed : {u line : List ℕ} (xs : List ℕ) (known : Option (List ℕ)) → SoFar u (prepend_known xs known) line → has_feed xs ≡ true → has_feed u ≡ true
 SoFar-feed {u} {line} xs known s found =
-    let parts = ahead_parts xs known s.rest s.new_is in
-    ap has_feed (s.split ∙ ap (λ z. s.front ++ z) parts.2) ∙ has_feed-append s.front (xs ++ parts.0) s.none ∙ has_feed-in xs parts.0 found
+    let known_is = ahead_known xs known s.rest s.new_is in
+    ap has_feed (s.split ∙ ap (λ z. s.front ++ z) known_is.2) ∙ has_feed-append s.front (xs ++ known_is.0) s.none ∙ has_feed-in xs known_is.0 found
 
 -- the input has ended with nothing taken
 SoFar-none : {u line : List ℕ} (known : Option (List ℕ)) → SoFar u known line → ((v : List ℕ) → known ≡ Some v → v ≡ []) → length line ≡ 0 → u ≡ []
