@@ -149,7 +149,7 @@ fn a_full_history_is_told(rt: HostRuntime) -> Result<(), Fail> {
         &rt,
         rt.alloc(),
         2,
-        b"insert 1 1\ninsert 2 2\ncount 0 4294967296\n",
+        b"insert 1 1\ninsert 2 2\ncount 0 9\n",
         b"row 0.0\nrow 0.1\nrefused 6 2\n",
         End {
             how: How::InputEnded,
@@ -396,7 +396,9 @@ fn refusals_are_printed_as_they_are_replied(rt: HostRuntime) -> Result<(), Fail>
         Refusal::BadRange,
         Refusal::KeyOutside,
         Refusal::NoSuchPartition,
-        Refusal::HistoryFull { length: 1000000 },
+        Refusal::HistoryFull {
+            length: GREATEST_LIMIT,
+        },
         Refusal::OutOfMemory,
         Refusal::BadLimit,
         Refusal::ReadFault,

@@ -68,7 +68,7 @@ at_quit g c = λ bytes e.
     let next = some inv.0 inv.1 in
     let said = ap reading_of (sym c.line.ensures) ∙ sym c.in-Some.ensures in
     let more = Going-answered _ inv.0 c.next_line.new.input.line c.in-Some.reading c.lines.progress c.respond.new.progress _ _ inv.2 c.next_line.ensures.bytes next.0 next.1 said
-        (Responds-desk c.in_default-respond.ensures.responds c.lines.invariant.limit c.lines.invariant.splits) c.in_default-respond.ensures.count in
+    (Responds-desk c.in_default-respond.ensures.responds c.lines.invariant.limit c.lines.invariant.splits) c.in_default-respond.ensures.count in
     let quit : is_quit c.in-Some.reading ≡ true = sym c.says_quit.ensures ∙ c.if-says_quit.true in
     Going-kept _ _ (Going-quit (statements (after_line inv.0)) (is_quit c.in-Some.reading) more quit) c.finish-then-says_quit.ensures.bytes
 
@@ -110,7 +110,7 @@ lines-preserved-else-says_quit g c =
           let next = some inv.0 inv.1 in
           let said = ap reading_of (sym c.line.ensures) ∙ sym c.in-Some.ensures in
           let more = Going-answered _ inv.0 c.next_line.new.input.line c.in-Some.reading c.lines.progress c.respond.new.progress _ _ inv.2 c.next_line.ensures.bytes next.0 next.1 said
-              (Responds-desk c.in_default-respond.ensures.responds c.lines.invariant.limit c.lines.invariant.splits) c.in_default-respond.ensures.count in
+          (Responds-desk c.in_default-respond.ensures.responds c.lines.invariant.limit c.lines.invariant.splits) c.in_default-respond.ensures.count in
           let goes : is_quit c.in-Some.reading ≡ false = sym c.says_quit.ensures ∙ c.if-says_quit.false in (
             after_line inv.0,
             next.2,
