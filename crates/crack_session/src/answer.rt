@@ -10,7 +10,6 @@ use crate::desk::Desk;
 use crate::statement::Statement;
 use crate::text::{write_refusal, write_reply, write_text};
 use crack_row::{Command, Policy, Refusal, Reply, Watched};
-use std::alloc::Global;
 use std::io::Write;
 
 /// What a statement is answered.
@@ -52,7 +51,6 @@ impl Answer {
 
 /// Answers what a line says; a statement's command goes to partition 0.
 pub fn answer_reading<D: Desk>(
-    alloc: Global,
     desk: &mut D,
     policy: Policy,
     reading: Result<Statement, Refusal>,
@@ -67,7 +65,7 @@ pub fn answer_reading<D: Desk>(
         Err(refusal) => return Answer::Refused(refusal),
     };
     match command_of(statement) {
-        Some(command) => ask_part(alloc, desk, policy, 0, command),
+        Some(command) => ask_part(desk, policy, 0, command),
         None => Answer::Bye,
     }
 }
@@ -84,19 +82,13 @@ fn command_of(statement: Statement) -> Option<Command>
 }
 
 /// Asks one partition.
-fn ask_part<D: Desk>(
-    alloc: Global,
-    desk: &mut D,
-    policy: Policy,
-    part: u32,
-    command: Command,
-) -> Answer
+fn ask_part<D: Desk>(desk: &mut D, policy: Policy, part: u32, command: Command) -> Answer
     ensures is { (tables : List Table) → D.tables desk.old ≡ Some tables → (new : List Table)
         × IsAsked (D.limit desk.old) (D.splits desk.old) tables part command result new × (D.tables desk.new ≡ Some new) }
     ensures splits { D.splits desk.new ≡ D.splits desk.old }
     ensures limit { D.limit desk.new ≡ D.limit desk.old }
 {
-    match desk.ask(alloc, part, command, policy) {
+    match desk.ask(part, command, policy) {
         Ok(reply) => Answer::Replied { part, reply },
         Err(refusal) => Answer::Refused(refusal),
     }

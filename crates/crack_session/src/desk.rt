@@ -4,7 +4,6 @@ ghost use Rattle.crack_plain.specs.Plain.{Table, IsNumbered};
 ghost use Rattle.crack_session.specs.Desks.{expected_at, IsOutcome, tables_after, IsSmall};
 
 use crack_row::{Bound, Command, Policy, Refusal, Reply};
-use std::alloc::Global;
 
 /// A table that is asked one command after another. Its keys are cut into partitions, numbered from 0.
 pub trait Desk {
@@ -27,13 +26,7 @@ pub trait Desk {
     /// Asks one partition. Refused, with the rows and histories as they were, with 5 where there is no such partition,
     /// with 4 where the command brings a key that isn't the partition's, with 6 where its history is full,
     /// and with 8 where no memory is found.
-    fn ask(
-        &mut self,
-        alloc: Global,
-        part: u32,
-        command: Command,
-        policy: Policy,
-    ) -> Result<Reply, Refusal>
+    fn ask(&mut self, part: u32, command: Command, policy: Policy) -> Result<Reply, Refusal>
         // It is the reply of the plain rows, or the refusal that they call for; in place of a reply it may be 8.
         ensures outcome { (known : List Table) → tables self.old ≡ Some known →
             IsOutcome (expected_at (limit self.old) (splits self.old) known part command) result }

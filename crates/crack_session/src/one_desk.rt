@@ -54,13 +54,7 @@ impl Desk for OneDesk {
 
     ghost receipts = { λ d. length d.history };
 
-    fn ask(
-        &mut self,
-        alloc: Global,
-        part: u32,
-        command: Command,
-        policy: Policy,
-    ) -> Result<Reply, Refusal> {
+    fn ask(&mut self, part: u32, command: Command, policy: Policy) -> Result<Reply, Refusal> {
         if part != 0 {
             return Err(Refusal::NoSuchPartition);
         }

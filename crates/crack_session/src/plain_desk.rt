@@ -4,7 +4,6 @@ ghost use Rattle.std.specs.Prelude.{◌≡◌, ◌≤◌};
 use crate::desk::Desk;
 use crack_plain::PlainTable;
 use crack_row::{Bound, Command, Policy, Refusal, Reply};
-use std::alloc::Global;
 
 impl Desk for PlainTable {
     ghost use Rattle.std.specs.Prelude.{Some, [], ◌∷◌};
@@ -17,13 +16,7 @@ impl Desk for PlainTable {
 
     ghost receipts = { λ t. t.accepted };
 
-    fn ask(
-        &mut self,
-        _alloc: Global,
-        part: u32,
-        command: Command,
-        _policy: Policy,
-    ) -> Result<Reply, Refusal> {
+    fn ask(&mut self, part: u32, command: Command, _policy: Policy) -> Result<Reply, Refusal> {
         if part != 0 {
             return Err(Refusal::NoSuchPartition);
         }

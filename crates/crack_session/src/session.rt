@@ -12,7 +12,6 @@ use crate::input::{LineReader, next_line};
 use crate::output::flush;
 use crate::statement::{Statement, read_line, says_quit};
 use crack_row::{Policy, Refusal, Watched};
-use std::alloc::Global;
 use std::io::{Read, Write};
 
 /// How a session ended.
@@ -88,7 +87,6 @@ impl Progress {
 
 /// Answers what a line says, and writes the text.
 fn respond<D: Desk, W: Write>(
-    alloc: Global,
     desk: &mut D,
     policy: Policy,
     reading: Result<Statement, Refusal>,
@@ -105,7 +103,7 @@ fn respond<D: Desk, W: Write>(
     ensures unfailed { OnOk result (has_failed writer.new ≡ has_failed writer.old) }
     ensures err { IfErr result (λ e. (e ≡ Refusal.WriteFault) × (has_failed writer.new ≡ true)) }
 {
-    let answer = answer_reading(alloc, desk, policy, reading);
+    let answer = answer_reading(desk, policy, reading);
     progress.mark(answer.is_short());
     match answer.write(writer) {
         Ok(()) => {
@@ -136,7 +134,6 @@ fn finish<W: Write>(writer: &mut Watched<W>, progress: Progress, how: How) -> Re
 /// to one read there is at most one write more than reads.
 /// Takes no memory but what the desk takes, none for a line, so it is never cut off by 8.
 pub fn serve<D: Desk, R: Read, W: Write>(
-    alloc: Global,
     desk: &mut D,
     policy: Policy,
     reader: &mut Watched<R>,
@@ -183,7 +180,7 @@ pub fn serve<D: Desk, R: Read, W: Write>(
             Ok(true) => {}
         }
         if let Some(reading) = read_line(input.line()) {
-            if let Err(refusal) = respond(alloc, desk, policy, reading, &mut progress, writer) {
+            if let Err(refusal) = respond(desk, policy, reading, &mut progress, writer) {
                 return Err(progress.fault(refusal));
             }
             if says_quit(&reading) {

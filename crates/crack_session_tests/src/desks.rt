@@ -22,18 +22,12 @@ impl Desk for Starved {
 
     ghost receipts = { λ d. d.table.accepted };
 
-    fn ask(
-        &mut self,
-        alloc: Global,
-        part: u32,
-        command: Command,
-        policy: Policy,
-    ) -> Result<Reply, Refusal> {
+    fn ask(&mut self, part: u32, command: Command, policy: Policy) -> Result<Reply, Refusal> {
         if !self.is_fed {
             self.is_fed = true;
             return Err(Refusal::OutOfMemory);
         }
-        self.table.ask(alloc, part, command, policy)
+        self.table.ask(part, command, policy)
     }
 
     fn splits(&self) -> &[Bound] {
@@ -62,13 +56,7 @@ impl Desk for Refusing {
 
     ghost receipts = { λ d. 0 };
 
-    fn ask(
-        &mut self,
-        _alloc: Global,
-        _part: u32,
-        _command: Command,
-        _policy: Policy,
-    ) -> Result<Reply, Refusal> {
+    fn ask(&mut self, _part: u32, _command: Command, _policy: Policy) -> Result<Reply, Refusal> {
         Err(self.refusal)
     }
 

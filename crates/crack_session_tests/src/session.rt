@@ -16,7 +16,7 @@ use std::test::Fail;
 fn run<D: Desk + Drop>(alloc: Global, mut desk: D, input: &[u8]) -> Result<(End, Vec<u8>), Fail> {
     let mut reader = Watched::new(input);
     let mut writer = Watched::new(Vec::new(alloc));
-    let result = serve(alloc, &mut desk, Policy::Complete, &mut reader, &mut writer);
+    let result = serve(&mut desk, Policy::Complete, &mut reader, &mut writer);
     let end = result.ok().ok_or("a fault")?;
     Ok((end, writer.into_inner()))
 }
@@ -62,7 +62,7 @@ fn assert_dripped<D: Desk + Drop>(
         log: &log,
     });
     let mut writer = Watched::new(Vec::new(alloc));
-    let result = serve(alloc, &mut desk, Policy::Complete, &mut reader, &mut writer);
+    let result = serve(&mut desk, Policy::Complete, &mut reader, &mut writer);
     assert_eq!(rt; result.ok(), Some(end));
     assert_eq!(rt; writer.into_inner().as_slice(), replies);
     Ok(())
@@ -222,7 +222,7 @@ fn fail_the_third_reply<D: Desk + Drop>(
         fails_at: 2,
         bytes: Vec::new(alloc),
     });
-    let result = serve(alloc, &mut desk, Policy::Complete, &mut reader, &mut writer);
+    let result = serve(&mut desk, Policy::Complete, &mut reader, &mut writer);
     let fault = Fault {
         refusal: Refusal::WriteFault,
         done: 2,
@@ -250,7 +250,7 @@ fn writer_fails_behind_a_want_of_room(rt: HostRuntime) -> Result<(), Fail> {
 fn fail_the_flush<D: Desk + Drop>(rt: &impl Abort, alloc: Global, mut desk: D) -> Result<(), Fail> {
     let mut reader = Watched::new(b"".as_slice());
     let mut writer = Watched::new(Clogged);
-    let result = serve(alloc, &mut desk, Policy::Complete, &mut reader, &mut writer);
+    let result = serve(&mut desk, Policy::Complete, &mut reader, &mut writer);
     let fault = result.err().ok_or("no fault")?;
     assert_eq!(rt;
         fault,
@@ -284,7 +284,7 @@ fn fail_the_reader<D: Desk + Drop>(
         log: &log,
     });
     let mut writer = Watched::new(Vec::new(alloc));
-    let result = serve(alloc, &mut desk, Policy::Complete, &mut reader, &mut writer);
+    let result = serve(&mut desk, Policy::Complete, &mut reader, &mut writer);
     let fault = result.err().ok_or("no fault")?;
     assert_eq!(rt;
         fault,
@@ -341,7 +341,7 @@ fn log_it(alloc: Global, input: &[u8], most: usize, room: usize, log: &Log) -> R
         log,
     });
     let mut writer = Watched::new(BufWriter::with_capacity(alloc, room, Sink { log })?);
-    let result = serve(alloc, &mut desk, Policy::Complete, &mut reader, &mut writer);
+    let result = serve(&mut desk, Policy::Complete, &mut reader, &mut writer);
     result.ok().ok_or("a fault")?;
     Ok(())
 }
@@ -415,12 +415,12 @@ fn ask_it<D: Desk + Drop>(rt: &impl Abort, alloc: Global, mut desk: D) -> Result
         key: Key(7),
         payload: Payload(70),
     };
-    let placed = desk.ask(alloc, 0, insert, Policy::Complete)?;
+    let placed = desk.ask(0, insert, Policy::Complete)?;
     assert!(rt; matches!(placed, Reply::Placed(Serial(0))));
     let count = Command::Count(KeyRange::new(7, 8)?);
-    let counted = desk.ask(alloc, 0, count, Policy::Complete)?;
+    let counted = desk.ask(0, count, Policy::Complete)?;
     assert!(rt; matches!(counted, Reply::Counted(1)));
-    let elsewhere = desk.ask(alloc, 1, insert, Policy::Complete);
+    let elsewhere = desk.ask(1, insert, Policy::Complete);
     assert!(rt; matches!(elsewhere, Err(Refusal::NoSuchPartition)));
     assert_eq!(rt; desk.receipts(), 2);
     assert!(rt; desk.splits().is_empty());

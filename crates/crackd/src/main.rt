@@ -38,13 +38,7 @@ fn script(rt: &HostRuntime, opening: Opening) -> Result<(), Refusal> {
     };
     let mut reader = Watched::new(rt.stdin());
     let mut writer = Watched::new(buffered);
-    match serve(
-        rt.alloc(),
-        &mut desk,
-        Policy::Complete,
-        &mut reader,
-        &mut writer,
-    ) {
+    match serve(&mut desk, Policy::Complete, &mut reader, &mut writer) {
         Ok(_) => Ok(()),
         Err(fault) => Err(fault.refusal),
     }
