@@ -1,4 +1,4 @@
-.PHONY: run test try
+.PHONY: run test try trust
 
 # proves what changed, builds, and answers the statements of standard input
 run:
@@ -11,3 +11,7 @@ try:
 # the gate, and then the acceptance cases
 test:
 	@python3 acceptance/test.py
+
+# how many lines a reader has to read to know what is proved
+trust:
+	@python3 tools/trust.py

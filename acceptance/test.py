@@ -2,7 +2,8 @@
 """Runs the gate, and then the acceptance cases on the program that the gate built.
 
 The gate, `rt ci`, proves every crate from nothing, tries the must-fail edits, runs the tests, and runs each program. What it writes is
-passed on as it comes. The last line is the sum of both, 'N passed, M failed'; the status is 0 only where nothing failed.
+passed on as it comes. Before the last line stands the processor time of each crate, for its proof, its tests and its edits, as far as that
+was seen. The last line is the sum of both, 'N passed, M failed'; the status is 0 only where nothing failed.
 """
 
 import pathlib
@@ -10,6 +11,7 @@ import re
 import subprocess
 import sys
 
+import processor
 import run
 
 TOP = pathlib.Path(__file__).resolve().parent.parent
@@ -22,6 +24,8 @@ def gate():
     started = subprocess.Popen(
         ["rt", "ci"], cwd=TOP, stdin=subprocess.DEVNULL, stdout=subprocess.PIPE, stderr=subprocess.STDOUT, errors="replace"
     )
+    sampler = processor.Sampler(started.pid)
+    sampler.start()
     last = None
     for line in started.stdout:
         said = SUM.fullmatch(line.rstrip("\n"))
@@ -30,19 +34,22 @@ def gate():
             last, line = said, f"gate: {line}"
         sys.stdout.write(line)
         sys.stdout.flush()
+    # (its processes are gone once its output ends)
+    sampler.stop()
     status = started.wait()
     passed, failed = (int(it) for it in last.groups()) if last else (0, 1)
-    return passed, failed if failed or status == 0 else 1
+    return passed, failed if failed or status == 0 else 1, sampler.lines()
 
 
 def main():
-    passed, failed = gate()
+    passed, failed, times = gate()
     if PROGRAM.exists():
         more_passed, more_failed = run.run_all(PROGRAM)
     else:
         print("acceptance: the gate left no program, so no case was run")
         more_passed, more_failed = 0, 1
     passed, failed = passed + more_passed, failed + more_failed
+    print("\n".join(times))
     print(f"{passed} passed, {failed} failed", flush=True)
     return 1 if failed else 0
 

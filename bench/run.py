@@ -1,14 +1,18 @@
 #!/usr/bin/env python3
 """Measures the proved programs beside plain Rust, and compares the ratios with their bounds: run.py [--once] [WHAT ..]
 
-WHAT is session, arena, column or partition; all of them without a word. Wants a quiet machine, rustc, and the programs, which are
+WHAT is session, instructions, arena, column or partition; all of them without a word. Wants a quiet machine, rustc, and the programs, which are
 built (and first proved, where they aren't) by `rt run`. Each number is the median of five runs; with --once of one. The programs and
-their peers run in turn, so that all meet the same machine. Prints a table, and ends with status 1 where a ratio is above its bound,
+their peers run in turn, so that all meet the same machine. Instructions are counted by valgrind where it is installed, and then once,
+since they are the same each time. Prints a table, and ends with status 1 where a ratio is above its bound,
 or where a program and its peer don't compute the same.
 """
 
 import pathlib
+import random
+import re
 import resource
+import shutil
 import statistics
 import subprocess
 import sys
@@ -44,6 +48,13 @@ class Table:
             self.is_well, mark = False, "  ABOVE"
         shown = "-" if bound is None else f"{bound:.1f}"
         print(f"{what:52} {measured * 1000:9.2f} ms {beside * 1000:9.2f} ms {ratio:7.2f} {shown:>6}{mark}", flush=True)
+
+    def count(self, what, each, bound):
+        """A line of instructions, where they are bounded by a number."""
+        mark = ""
+        if each > bound:
+            self.is_well, mark = False, "  ABOVE"
+        print(f"{what:52} {each:12.0f} {'':12} {'':7} {bound:6}{mark}", flush=True)
 
 
 def build(names):
@@ -120,6 +131,30 @@ def measure_session(table, runs):
     table.line(f"script of {2 * LINES} inserts, beside plain Rust", ours, theirs)
 
 
+def random_inserts(lines):
+    """A file of as many inserts of random keys and payloads, always the same."""
+    path, numbers = OUT / f"random-inserts-{lines}", random.Random(7)
+    path.write_text("".join(f"insert {numbers.randrange(2**32)} {numbers.randrange(2**32)}\n" for _ in range(lines)))
+    return path
+
+
+def instructions(words, source):
+    """How many instructions a program takes to answer the file."""
+    counting = ["valgrind", "--tool=callgrind", f"--callgrind-out-file={OUT / 'callgrind'}", *words]
+    with open(source, "rb") as given:
+        ran = subprocess.run(counting, stdin=given, stdout=subprocess.DEVNULL, stderr=subprocess.PIPE, text=True, check=True)
+    return int(re.search(r"Collected : (\d+)", ran.stderr)[1])
+
+
+def measure_instructions(table, _runs):
+    if not shutil.which("valgrind"):
+        print("valgrind isn't installed: instructions aren't counted")
+        return
+    for lines, bound in ((LINES // 2, 900), (PART_ROWS, 1000)):
+        each = instructions([CRACKD, "script"], random_inserts(lines)) / lines
+        table.count(f"instructions of each of {lines} random inserts", each, bound)
+
+
 def middle_of(times, *names):
     """The median of a time, or of the sum of several."""
     return statistics.median(sum(it[name] for name in names) for it in times)
@@ -172,6 +207,7 @@ def measure_growth(table, runs):
 
 MEASURES = {
     "session": [measure_session],
+    "instructions": [measure_instructions],
     "arena": [measure_arena],
     "column": [measure_column],
     "partition": [measure_partition, measure_growth],
@@ -184,7 +220,7 @@ def main(words):
         sys.exit(__doc__)
     runs = 1 if "--once" in words else 5
     wanted = chosen or list(MEASURES)
-    build(sorted({"crackd" if word == "session" else "crack_bench" for word in wanted}))
+    build(sorted({"crackd" if word in ("session", "instructions") else "crack_bench" for word in wanted}))
     table = Table()
     for word in wanted:
         for measure in MEASURES[word]:

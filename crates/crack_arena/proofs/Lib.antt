@@ -1,3 +1,3 @@
-pub mod ArenaLemmas
-pub mod Laws
+mod ArenaLemmas
+mod Laws
 pub mod Times

@@ -43,11 +43,6 @@ times_apart k m ks none = (
   omega (arith, times-cons k m ks),
 )
 
--- taking a number out of its place
-pub times-remove : (n : ℕ) (xs : List ℕ) (i d : ℕ) → i < length xs → times n (remove xs i) + cond (get_or xs i d == n) 1 0 ≡ times n xs
-unfolding times
-times-remove n xs i d h = sum_by-remove (λ x. cond (x == n) 1 0) xs i d h
-
 -- no number stands in a list more often than the list is long
 pub times-le-length : (n : ℕ) (xs : List ℕ) → times n xs ≤ length xs
 unfolding times

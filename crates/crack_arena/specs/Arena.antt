@@ -67,6 +67,24 @@ times n xs = sum_by (λ x. cond (x == n) 1 0) xs
 abbrev pub slots : List Handle → List ℕ
 slots handles = map (λ (h : Handle). h.slot) handles
 
+-- what is read where there is no handle
+abbrev pub no_handle : Handle
+no_handle = record { slot = 0; generation = 0 }
+
+-- the handle stands at the place
+pub record StandsAt (handles : List Handle) (place : ℕ) (handle : Handle) : Type 0 where
+  pub within : place < length handles
+  pub is : handle ≡ slice_index_or handles place handle
+
+-- the handle stands at the place, and at none before it
+pub record IsFirstAt (handles : List Handle) (handle : Handle) (place : ℕ) : Type 0 where
+  pub here : StandsAt handles place handle
+  pub before : (k : ℕ) → k < place → ¬ StandsAt handles k handle
+
+-- the handle stands nowhere
+abbrev pub IsAbsent : List Handle → Handle → Type 0
+IsAbsent handles handle = (place : ℕ) → ¬ StandsAt handles place handle
+
 -- how often cells were freed
 abbrev pub freed : {T : Type 0} → Arena T → ℕ
 freed a = sum_by (λ c. c.generation) a.cells

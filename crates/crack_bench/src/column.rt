@@ -2,6 +2,7 @@
 ghost use Rattle.std.specs.Prelude.{◌≡◌, length, IfOk};
 ghost use Rattle.crack_column.specs.Column.{Remembers};
 
+use crate::arena::Filled;
 use crate::numbers::{Numbers, mixed};
 use crack_arena::{Arena, Handle};
 use crack_column::CrackerColumn;
@@ -18,7 +19,8 @@ const LATER_CRACKS: u64 = 16;
 const LATER_STEP: u64 = 134217728;
 
 /// Puts the handles into random order.
-pub fn shuffle(handles: &mut [Handle<Row>], numbers: &mut Numbers) {
+pub fn shuffle(filled: &mut Filled, numbers: &mut Numbers) {
+    let handles = filled.handles.as_mut_slice();
     'places: for i in 1..handles.len() {
         let other = numbers.below(i as u64 + 1) as usize;
         handles.swap(i, other);

@@ -54,7 +54,7 @@ fn measure_arena(
 fn run_column(rt: &HostRuntime, rows: u32) -> anyhow::Result<()> {
     let mut numbers = Numbers::new(7);
     let mut filled = arena::fill(rt.alloc(), rows, &mut numbers)?;
-    column::shuffle(filled.handles.as_mut_slice(), &mut numbers);
+    column::shuffle(&mut filled, &mut numbers);
     let told = crack_column(rt, &filled);
     drop(filled);
     told

@@ -1,18 +1,16 @@
 -- Laws of a crack: what stands where after it, and how it divides.
-use Rattle.std.proofs.Common.{◌≡◌, ℕ, ◌+◌, ◌-◌, ◌<◌, ◌≤◌, ◌⊎◌, List, ◌++◌, length, map, get_or, take, drop, cond, refl, sym, ap, ◌∙◌, inl, inr, arith, length-append}
-use Rattle.std.specs.Prelude.{nat_lt}
-use Rattle.std.specs.List.{All, between, count_by}
+use Rattle.std.proofs.Common.{◌≡◌, ℕ, ◌+◌, ◌-◌, ◌<◌, ◌≤◌, ◌⊎◌, List, ◌++◌, length, map, get_or, take, drop, refl, sym, ap, ◌∙◌, inl, inr, arith, length-append}
+use Rattle.std.specs.List.{All, between}
 use Rattle.std.specs.List.Sorted.{IsPermutation}
 use Rattle.std.proofs.lemmas.List.{length-map, get_or-map, get_or_append_left, get_or-append_right, get_or-take, get_or-drop, length-take-le, length-drop, ext_get_or, take_all}
 use Rattle.std.proofs.lemmas.List.Edits.{length-between, get_or-between}
-use Rattle.std.proofs.lemmas.List.Sorted.{IsPermutation-append_right, IsPermutation-append_left, All-permutation, length_permutation, sum_by-IsPermutation}
+use Rattle.std.proofs.lemmas.List.Sorted.{IsPermutation-append_right, IsPermutation-append_left, All-permutation, length_permutation}
 use Rattle.std.proofs.lemmas.Slice.{between_from_start}
 use Rattle.std.proofs.lemmas.Bool.{cases_lt}
-use Rattle.crack_arena.specs.Arena.{Cell, Handle}
+use Rattle.crack_arena.specs.Arena.{Cell, Handle, no_handle}
 use Rattle.crack_row.specs.declared.Row.{Row}
 use Rattle.crack_arena.specs.Rows.{key_at}
 use Rattle.crack_column.specs.Column.{Remembers, IsDividedAt, Cracks}
-use Rattle.crack_column.proofs.Divisions.{IsDividedAt-count}
 
 -- what stands where in a list whose middle was replaced
 pub record Replaced {X : Type 0} (from to : ℕ) (old piece new : List X) : Type 0 where
@@ -40,13 +38,12 @@ between_parts xs a m b first last within =
     let whole_len = length-between xs a b within in
     let left_len = length-between xs a m (omega arith) in
     let right_len = length-between xs m b within in
-    let none : Handle = record { slot = 0; generation = 0 } in
-    ext_get_or none (between a b xs) (between a m xs ++ between m b xs) (omega (arith, length-append (between a m xs) (between m b xs))) (λ k h.
-    rw (get_or-between xs a b k none (omega arith)) (elim (cases_lt k (m - a)) [
-      | inl l ↦ rw (get_or_append_left (between a m xs) (between m b xs) none k (omega arith), get_or-between xs a m k none (omega arith)) refl
+    ext_get_or no_handle (between a b xs) (between a m xs ++ between m b xs) (omega (arith, length-append (between a m xs) (between m b xs))) (λ k h.
+    rw (get_or-between xs a b k no_handle (omega arith)) (elim (cases_lt k (m - a)) [
+      | inl l ↦ rw (get_or_append_left (between a m xs) (between m b xs) no_handle k (omega arith), get_or-between xs a m k no_handle (omega arith)) refl
       | inr g ↦
           let shift : m + (k - (m - a)) ≡ a + k = omega arith in
-          rw (get_or-append_right (between a m xs) (between m b xs) (m - a) k none left_len g, get_or-between xs m b (k - (m - a)) none (omega arith), shift) refl
+          rw (get_or-append_right (between a m xs) (between m b xs) (m - a) k no_handle left_len g, get_or-between xs m b (k - (m - a)) no_handle (omega arith), shift) refl
     ]))
 
 whole : (xs : List Handle) → between 0 (length xs) xs ≡ xs
@@ -74,24 +71,22 @@ module _ (cells : List (Cell Row)) (bound from to : ℕ) (handles : List Handle)
   -- and so does each stretch that lies apart
   pub Cracks-apart : Cracks cells bound from to handles keys handles' keys' place → (a b : ℕ) → b ≤ length handles → (b ≤ from) ⊎ (to ≤ a) → between a b handles' ≡ between a b handles
   Cracks-apart c a b within apart =
-      let none : Handle = record { slot = 0; generation = 0 } in
       let long = length-Cracks c in
       let new_len = length-between handles' a b (omega (arith, long)) in
       let old_len = length-between handles a b within in
-      ext_get_or none (between a b handles') (between a b handles) (new_len ∙ sym old_len) (λ k h.
+      ext_get_or no_handle (between a b handles') (between a b handles) (new_len ∙ sym old_len) (λ k h.
       let inside : a + k < b = omega (arith, new_len) in
-      rw (get_or-between handles' a b k none inside, get_or-between handles a b k none inside) (Cracks-outside c (a + k) none (elim apart [ inl l ↦ inl (omega arith) | inr g ↦ inr (omega arith) ])))
+      rw (get_or-between handles' a b k no_handle inside, get_or-between handles a b k no_handle inside) (Cracks-outside c (a + k) no_handle (elim apart [ inl l ↦ inl (omega arith) | inr g ↦ inr (omega arith) ])))
 
   -- the stretch now
   piece_now : (c : Cracks cells bound from to handles keys handles' keys' place) → between from to handles' ≡ c.piece
   piece_now c =
-      let none : Handle = record { slot = 0; generation = 0 } in
       let long = length-Cracks c in
       let new_len = length-between handles' from to (omega (arith, long, c.within)) in
-      ext_get_or none (between from to handles') c.piece (new_len ∙ sym (length_piece c)) (λ k h.
+      ext_get_or no_handle (between from to handles') c.piece (new_len ∙ sym (length_piece c)) (λ k h.
       let inside : from + k < to = omega (arith, new_len) in
       let back : from + k - from ≡ k = omega arith in
-      rw (get_or-between handles' from to k none inside, (placed c).inside (from + k) none (omega arith) inside, back) refl)
+      rw (get_or-between handles' from to k no_handle inside, (placed c).inside (from + k) no_handle (omega arith) inside, back) refl)
 
   -- in the stretch stand the same handles
   pub Cracks-own : Cracks cells bound from to handles keys handles' keys' place → IsPermutation (between from to handles) (between from to handles')
@@ -112,75 +107,34 @@ module _ (cells : List (Cell Row)) (bound from to : ℕ) (handles : List Handle)
       let new : between 0 (length handles) handles' ≡ handles' = ap (λ n. between 0 n handles') (sym (length-Cracks c)) ∙ whole handles' in
       rw (whole handles, new) at around
 
-  -- the stretch is divided
-  pub Cracks-stretch : Cracks cells bound from to handles keys handles' keys' place → IsDividedAt bound (map (key_at cells) (between from to handles')) (place - from)
-  Cracks-stretch c = rw (piece_now c) c.divided
-
-  -- the place that a crack answers: so many keys of the stretch are below the bound
-  pub Cracks-place : Cracks cells bound from to handles keys handles' keys' place → place ≡ from + count_by (λ h. nat_lt (key_at cells h) bound) (between from to handles)
-  Cracks-place c =
-      let counted = IsDividedAt-count bound (key_at cells) c.piece (place - from) c.divided in
-      let same = sum_by-IsPermutation (λ h. cond (nat_lt (key_at cells h) bound) 1 0) (between from to handles) c.piece c.kept in
-      omega (arith, c.low, counted, same)
-
-  -- a bound above each key of the stretch
-  pub Cracks-all_below : Cracks cells bound from to handles keys handles' keys' place → All (λ h. key_at cells h < bound) (between from to handles) → place ≡ to
-  Cracks-all_below c all =
-      let none : Handle = record { slot = 0; generation = 0 } in
-      let long = length_piece c in
-      let now : All (λ h. key_at cells h < bound) c.piece = All-permutation (λ h. key_at cells h < bound) (between from to handles) c.piece c.kept all in
-      elim (cases_lt place to) [
-        | inl l ↦
-            let inside : place - from < length c.piece = omega (arith, c.low) in
-            let above : bound ≤ key_at cells (get_or c.piece (place - from) none) = rw (get_or-map (key_at cells) c.piece (place - from) none 0 inside) at (c.divided.above (place - from) (omega arith) (omega (arith, length-map c.piece (key_at cells)))) in
-            absurd (omega (arith, above, now (place - from) none inside))
-        | inr g ↦ omega (arith, c.high)
-      ]
-
-  -- a bound above no key of the stretch
-  pub Cracks-none_below : Cracks cells bound from to handles keys handles' keys' place → All (λ h. bound ≤ key_at cells h) (between from to handles) → place ≡ from
-  Cracks-none_below c all =
-      let none : Handle = record { slot = 0; generation = 0 } in
-      let long = length_piece c in
-      let now : All (λ h. bound ≤ key_at cells h) c.piece = All-permutation (λ h. bound ≤ key_at cells h) (between from to handles) c.piece c.kept all in
-      elim (cases_lt from place) [
-        | inl l ↦
-            let inside : 0 < length c.piece = omega (arith, c.high) in
-            let below : key_at cells (get_or c.piece 0 none) < bound = rw (get_or-map (key_at cells) c.piece 0 none 0 inside) at (c.divided.below 0 (omega arith)) in
-            absurd (omega (arith, below, now 0 none inside))
-        | inr g ↦ omega (arith, c.low)
-      ]
-
   -- the whole column is divided at the place, where the stretch lies between two lesser and greater bounds
   pub Cracks-divides : Cracks cells bound from to handles keys handles' keys' place → (low high : ℕ) → low ≤ bound → bound ≤ high → IsDividedAt low (map (key_at cells) handles) from → IsDividedAt high (map (key_at cells) handles) to → IsDividedAt bound (map (key_at cells) handles') place
   Cracks-divides c low high below above d e =
-      let none : Handle = record { slot = 0; generation = 0 } in
       let at = placed c in
       let f = key_at cells in
       let long = length_piece c in
       let old_len = length-map handles f in
       let new_len = length-map handles' f in
       let piece_len = length-map c.piece f in
-      let read_old : (k : ℕ) → k < length handles → get_or (map f handles) k 0 ≡ f (get_or handles k none) = λ k h. get_or-map f handles k none 0 h in
-      let read_piece : (k : ℕ) → k < length c.piece → get_or (map f c.piece) k 0 ≡ f (get_or c.piece k none) = λ k h. get_or-map f c.piece k none 0 h in
+      let read_old : (k : ℕ) → k < length handles → get_or (map f handles) k 0 ≡ f (get_or handles k no_handle) = λ k h. get_or-map f handles k no_handle 0 h in
+      let read_piece : (k : ℕ) → k < length c.piece → get_or (map f c.piece) k 0 ≡ f (get_or c.piece k no_handle) = λ k h. get_or-map f c.piece k no_handle 0 h in
       record {
         within = omega (arith, c.high, c.within, at.len);
         below = λ k h.
-            rw (get_or-map f handles' k none 0 (omega (arith, c.high, c.within, at.len))) (elim (cases_lt k from) [
-              | inl l ↦ rw (at.before k none l, ← read_old k (omega (arith, c.within, c.low, c.high))) (omega (arith, d.below k l))
-              | inr g ↦ rw (at.inside k none g (omega (arith, c.high)), ← read_piece (k - from) (omega (arith, c.high))) (c.divided.below (k - from) (omega arith))
+            rw (get_or-map f handles' k no_handle 0 (omega (arith, c.high, c.within, at.len))) (elim (cases_lt k from) [
+              | inl l ↦ rw (at.before k no_handle l, ← read_old k (omega (arith, c.within, c.low, c.high))) (omega (arith, d.below k l))
+              | inr g ↦ rw (at.inside k no_handle g (omega (arith, c.high)), ← read_piece (k - from) (omega (arith, c.high))) (c.divided.below (k - from) (omega arith))
             ]);
         above = λ k h g.
-            rw (get_or-map f handles' k none 0 (omega arith)) (elim (cases_lt k to) [
-              | inl l ↦ rw (at.inside k none (omega (arith, c.low)) l, ← read_piece (k - from) (omega (arith, c.low))) (c.divided.above (k - from) (omega (arith, c.low)) (omega (arith, c.low)))
-              | inr m ↦ rw (at.behind k none m, ← read_old k (omega (arith, at.len))) (omega (arith, e.above k m (omega (arith, at.len))))
+            rw (get_or-map f handles' k no_handle 0 (omega arith)) (elim (cases_lt k to) [
+              | inl l ↦ rw (at.inside k no_handle (omega (arith, c.low)) l, ← read_piece (k - from) (omega (arith, c.low))) (c.divided.above (k - from) (omega (arith, c.low)) (omega (arith, c.low)))
+              | inr m ↦ rw (at.behind k no_handle m, ← read_old k (omega (arith, at.len))) (omega (arith, e.above k m (omega (arith, at.len))))
             ]);
       }
 
   -- each other bound that divides the column at an end of the stretch or outside it still does
   pub Cracks-keeps : Cracks cells bound from to handles keys handles' keys' place → (other at : ℕ) → (at ≤ from) ⊎ (to ≤ at) → IsDividedAt other (map (key_at cells) handles) at → IsDividedAt other (map (key_at cells) handles') at
   Cracks-keeps c other at outside d =
-      let none : Handle = record { slot = 0; generation = 0 } in
       let now = placed c in
       let f = key_at cells in
       let long = length_piece c in
@@ -194,19 +148,19 @@ module _ (cells : List (Cell Row)) (bound from to : ℕ) (handles : List Handle)
       record {
         within = omega (arith, d.within, now.len);
         below = λ k h.
-            rw (get_or-map f handles' k none 0 (omega (arith, d.within, now.len))) (elim (cases_lt k from) [
-              | inl l ↦ rw (now.before k none l) (low k none h)
+            rw (get_or-map f handles' k no_handle 0 (omega (arith, d.within, now.len))) (elim (cases_lt k from) [
+              | inl l ↦ rw (now.before k no_handle l) (low k no_handle h)
               | inr g ↦ elim (cases_lt k to) [
-                | inl l ↦ rw (now.inside k none g l) (elim outside [ inl o ↦ absurd (omega arith) | inr o ↦ piece_low o (k - from) none (omega arith) ])
-                | inr m ↦ rw (now.behind k none m) (low k none h)
+                | inl l ↦ rw (now.inside k no_handle g l) (elim outside [ inl o ↦ absurd (omega arith) | inr o ↦ piece_low o (k - from) no_handle (omega arith) ])
+                | inr m ↦ rw (now.behind k no_handle m) (low k no_handle h)
               ]
             ]);
         above = λ k h j.
-            rw (get_or-map f handles' k none 0 (omega arith)) (elim (cases_lt k from) [
-              | inl l ↦ rw (now.before k none l) (high k none h (omega (arith, now.len)))
+            rw (get_or-map f handles' k no_handle 0 (omega arith)) (elim (cases_lt k from) [
+              | inl l ↦ rw (now.before k no_handle l) (high k no_handle h (omega (arith, now.len)))
               | inr g ↦ elim (cases_lt k to) [
-                | inl l ↦ rw (now.inside k none g l) (elim outside [ inl o ↦ piece_high o (k - from) none (omega arith) | inr o ↦ absurd (omega arith) ])
-                | inr m ↦ rw (now.behind k none m) (high k none h (omega (arith, now.len)))
+                | inl l ↦ rw (now.inside k no_handle g l) (elim outside [ inl o ↦ piece_high o (k - from) no_handle (omega arith) | inr o ↦ absurd (omega arith) ])
+                | inr m ↦ rw (now.behind k no_handle m) (high k no_handle h (omega (arith, now.len)))
               ]
             ]);
       }

@@ -1,11 +1,8 @@
 -- Laws of lists of keys that a bound divides.
-use Rattle.std.proofs.Common.{◌≡◌, ◌≢◌, ℕ, zero, suc, ◌+◌, ◌-◌, ◌<◌, ◌≤◌, List, [], ◌∷◌, ◌++◌, length, map, get_or, set, take, cond, refl, sym, ap, inl, inr, arith, length-append, length-set}
-use Rattle.std.specs.Prelude.{◌&&◌, nat_lt, nat_le}
-use Rattle.std.specs.List.{All, between, count_by, filter}
-use Rattle.std.proofs.lemmas.List.{get_or_default, get_or_append_left, get_or_push, get_or-set_same, get_or-set_other, get_or-take, length-take-le}
-use Rattle.std.proofs.lemmas.List.Edits.{length-between, get_or-between}
-use Rattle.std.proofs.lemmas.List.Sums.{sum_by-cons}
-use Rattle.std.proofs.lemmas.Bool.{cases_eq, cases_lt, lt-ltb, le-ltb, lt-leb, le-leb}
+use Rattle.std.proofs.Common.{◌≢◌, ℕ, ◌+◌, ◌-◌, ◌<◌, ◌≤◌, List, [], ◌∷◌, ◌++◌, length, set, take, sym, inl, inr, arith, length-append, length-set}
+use Rattle.std.specs.List.{All}
+use Rattle.std.proofs.lemmas.List.{get_or_append_left, get_or_push, get_or-set_same, get_or-set_other, get_or-take, length-take-le}
+use Rattle.std.proofs.lemmas.Bool.{cases_eq, cases_lt}
 use Rattle.crack_column.specs.Column.{IsDividedAt}
 
 -- each key is at or above 0
@@ -23,54 +20,6 @@ IsDividedAt-order low high keys p q order d e =
       | inl l ↦ absurd (omega (arith, d.below q l, e.above q (omega arith) (omega (arith, d.within))))
       | inr g ↦ g
     ]
-
--- between two places stand the keys from one bound up to the other
-pub IsDividedAt-between : (low high : ℕ) (keys : List ℕ) (p q : ℕ) → IsDividedAt low keys p → IsDividedAt high keys q → All (λ k. (low ≤ k) × (k < high)) (between p q keys)
-IsDividedAt-between low high keys p q d e = λ k x h.
-    let long = length-between keys p q e.within in
-    let inside : p + k < q = omega (arith, long) in
-    let is : get_or keys (p + k) x ≡ get_or keys (p + k) 0 = get_or_default keys (p + k) x 0 (omega (arith, e.within)) in
-    rw (get_or-between keys p q k x inside, is) (d.above (p + k) (omega arith) (omega (arith, e.within)), e.below (p + k) inside)
-
--- behind the first key
-rest_zero : {X : Type 0} (bound : ℕ) (f : X → ℕ) (x : X) (xs : List X) → IsDividedAt bound (map f (x ∷ xs)) 0 → IsDividedAt bound (map f xs) 0
-rest_zero bound f x xs d = record { within = omega arith; below = λ k h. absurd (omega arith); above = λ k h g. d.above (suc k) (omega arith) (omega arith) }
-
-rest_suc : {X : Type 0} (bound : ℕ) (f : X → ℕ) (x : X) (xs : List X) (place : ℕ) → IsDividedAt bound (map f (x ∷ xs)) (suc place) → IsDividedAt bound (map f xs) place
-rest_suc bound f x xs place d = record { within = omega (arith, d.within); below = λ k h. d.below (suc k) (omega arith); above = λ k h g. d.above (suc k) (omega arith) (omega arith) }
-
--- the place is the number of keys below the bound
-pub IsDividedAt-count : {X : Type 0} (bound : ℕ) (f : X → ℕ) (xs : List X) (place : ℕ) → IsDividedAt bound (map f xs) place → place ≡ count_by (λ x. nat_lt (f x) bound) xs
-IsDividedAt-count bound f [] place d = omega (arith, d.within)
-IsDividedAt-count bound f (x ∷ xs) zero d =
-    rw (sum_by-cons (λ y. cond (nat_lt (f y) bound) 1 0) x xs, le-ltb (f x) bound (d.above 0 (omega arith) (omega arith))) (omega (arith, IsDividedAt-count bound f xs 0 (rest_zero bound f x xs d)))
-IsDividedAt-count bound f (x ∷ xs) (suc p) d =
-    rw (sum_by-cons (λ y. cond (nat_lt (f y) bound) 1 0) x xs, lt-ltb (f x) bound (d.below 0 (omega arith))) (omega (arith, IsDividedAt-count bound f xs p (rest_suc bound f x xs p d)))
-
--- the stretch between two places is what a filter by the two bounds leaves
-pub filter-IsDividedAt : {X : Type 0} (low high : ℕ) (f : X → ℕ) (xs : List X) (p q : ℕ) → low ≤ high → IsDividedAt low (map f xs) p → IsDividedAt high (map f xs) q → filter (λ x. nat_le low (f x) && nat_lt (f x) high) xs ≡ between p q xs
-filter-IsDividedAt low high f [] p q order d e =
-    let first : p ≡ 0 = omega (arith, d.within) in
-    let last : q ≡ 0 = omega (arith, e.within) in
-    rw (first, last) refl
-filter-IsDividedAt low high f (x ∷ xs) zero zero order d e =
-    let first : high ≤ f x = e.above 0 (omega arith) (omega arith) in
-    let low_rest = rest_zero low f x xs d in
-    let high_rest = rest_zero high f x xs e in
-    rw (le-leb low (f x) (omega arith), le-ltb (f x) high first) (filter-IsDividedAt low high f xs 0 0 order low_rest high_rest)
-filter-IsDividedAt low high f (x ∷ xs) zero (suc q) order d e =
-    let first : f x < high = e.below 0 (omega arith) in
-    let least : low ≤ f x = d.above 0 (omega arith) (omega arith) in
-    let kept = filter-IsDividedAt low high f xs 0 q order (rest_zero low f x xs d) (rest_suc high f x xs q e) in
-    let long : suc q - 0 ≡ suc (q - 0) = omega arith in
-    rw (le-leb low (f x) least, lt-ltb (f x) high first, long) (ap (λ ys. x ∷ ys) kept)
-filter-IsDividedAt low high f (x ∷ xs) (suc p) zero order d e =
-    absurd (omega (arith, IsDividedAt-order low high (map f (x ∷ xs)) (suc p) 0 order d e))
-filter-IsDividedAt low high f (x ∷ xs) (suc p) (suc q) order d e =
-    let first : f x < low = d.below 0 (omega arith) in
-    let kept = filter-IsDividedAt low high f xs p q order (rest_suc low f x xs p d) (rest_suc high f x xs q e) in
-    let long : suc q - suc p ≡ q - p = omega arith in
-    rw (lt-leb low (f x) first, long) kept
 
 -- one more key at the end
 pub IsDividedAt-append_above : (bound : ℕ) (keys : List ℕ) (place key : ℕ) → bound ≤ key → IsDividedAt bound keys place → IsDividedAt bound (keys ++ key ∷ []) place
@@ -127,6 +76,8 @@ IsDividedAt-set_above bound keys place i key inside above d =
 pub IsDividedAt-raised : (bound : ℕ) (keys : List ℕ) (place key : ℕ) → place < length keys → key < bound → IsDividedAt bound keys place → IsDividedAt bound (set keys place key) (place + 1)
 IsDividedAt-raised bound keys place key inside below d =
     IsDividedAt-set bound keys place (place + 1) place key (λ k ne h. omega arith) (λ k _ h. omega arith) (λ _. below) (λ h. absurd (omega arith)) (omega arith) d
+
+-- For pulls and for the column without its last place, whose calls are still to come
 
 -- the division moves down over a key at or above the bound that is put before it
 pub IsDividedAt-lowered : (bound : ℕ) (keys : List ℕ) (place key : ℕ) → 0 < place → bound ≤ key → IsDividedAt bound keys place → IsDividedAt bound (set keys (place - 1) key) (place - 1)

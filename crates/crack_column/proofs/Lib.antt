@@ -1,5 +1,5 @@
 pub mod Cracking
 pub mod Divisions
-pub mod Passes
+mod Passes
 pub mod Remembering
-pub mod TicketLaws
+mod TicketLaws

@@ -1,15 +1,10 @@
 -- Laws of the keys that a column remembers.
-use Rattle.std.proofs.Common.{◌≡◌, ℕ, ◌+◌, ◌≤◌, List, [], ◌∷◌, ◌++◌, length, get_or, set, take, refl, sym, ◌∙◌, inl, inr, arith, length-append, length-set}
-use Rattle.std.specs.List.{All}
+use Rattle.std.proofs.Common.{ℕ, ◌≤◌, List, [], ◌∷◌, ◌++◌, length, set, take, sym, ◌∙◌, inl, inr, arith, length-append, length-set}
 use Rattle.std.proofs.lemmas.List.{get_or_append_left, get_or_push, get_or-set_same, get_or-set_other, get_or-take, length-take-le}
 use Rattle.std.proofs.lemmas.Bool.{cases_eq}
-use Rattle.crack_arena.specs.Arena.{Cell, Handle, read}
+use Rattle.crack_arena.specs.Arena.{Cell, Handle}
 use Rattle.crack_row.specs.declared.Row.{Row}
 use Rattle.crack_column.specs.Column.{unknown, Remembers}
-
--- a column without handles remembers nothing
-pub Remembers-empty : (cells : List (Cell Row)) → Remembers cells [] []
-Remembers-empty cells = record { beside = refl; right = λ k d h. absurd (omega arith) }
 
 -- after an append
 pub Remembers-append : (cells : List (Cell Row)) (handles : List Handle) (keys : List ℕ) (h : Handle) → Remembers cells handles keys → Remembers cells (handles ++ h ∷ []) (keys ++ unknown ∷ [])
@@ -42,24 +37,4 @@ Remembers-take cells handles keys n within r =
     record {
       beside = omega (arith, long, length-take-le n keys (omega (arith, r.beside)));
       right = λ k d inside. rw (get_or-take n handles k d (omega (arith, long)), get_or-take n keys k 0 (omega (arith, long))) (r.right k d (omega (arith, long)));
-    }
-
--- after the last handle was taken out
-pub Remembers-pop : (cells : List (Cell Row)) (handles rest : List Handle) (keys : List ℕ) (h : Handle) → handles ≡ rest ++ h ∷ [] → Remembers cells handles keys → Remembers cells rest (take (length rest) keys)
-Remembers-pop cells handles rest keys h is r =
-    let long : length handles ≡ length rest + 1 = rw is (length-append rest (h ∷ [])) in
-    let taken = length-take-le (length rest) keys (omega (arith, long, r.beside)) in
-    record {
-      beside = taken;
-      right = λ k d inside.
-          let same : get_or handles k d ≡ get_or rest k d = rw is (get_or_append_left rest (h ∷ []) d k inside) in
-          rw (← same, get_or-take (length rest) keys k 0 inside) (r.right k d (omega (arith, long)));
-    }
-
--- over other cells, where each handle of the column reads what it read
-pub Remembers-cells : (cells cells' : List (Cell Row)) (handles : List Handle) (keys : List ℕ) → All (λ h. read cells' h ≡ read cells h) handles → Remembers cells handles keys → Remembers cells' handles keys
-Remembers-cells cells cells' handles keys same r =
-    record {
-      beside = r.beside;
-      right = λ k d within. rw (same k d within) (r.right k d within);
     }

@@ -1,5 +1,5 @@
 -- What a column holds, and what a crack does to it.
-use Rattle.std.specs.Prelude.{◌≡◌, ◌≢◌, ℕ, ◌-◌, ◌<◌, ◌≤◌, ◌^◌, ◌⊎◌, List, ◌++◌, length, map, take, drop, slice_get, slice_index, slice_index_or, Some}
+use Rattle.std.specs.Prelude.{◌≡◌, ℕ, ◌-◌, ◌<◌, ◌≤◌, ◌^◌, ◌⊎◌, List, ◌++◌, length, map, take, drop, slice_index, slice_index_or}
 use Rattle.std.specs.List.{between}
 use Rattle.std.specs.List.Sorted.{IsPermutation}
 use Rattle.crack_arena.specs.Arena.{Cell, Handle}
@@ -41,12 +41,3 @@ pub record Cracks (cells : List (Cell Row)) (bound from to : ℕ) (handles : Lis
   pub low : from ≤ place
   pub high : place ≤ to
   pub divided : IsDividedAt bound (map (key_at cells) piece) (place - from)
-
--- the handle stands at the place, and at none before it
-pub record IsFirstAt (handles : List Handle) (h : Handle) (place : ℕ) : Type 0 where
-  pub here : slice_get handles place ≡ Some h
-  pub none_before : (k : ℕ) → k < place → slice_get handles k ≢ Some h
-
--- the handle stands nowhere
-abbrev pub IsAbsent : List Handle → Handle → Type 0
-IsAbsent handles h = (k : ℕ) → slice_get handles k ≢ Some h

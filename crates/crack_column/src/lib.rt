@@ -2,6 +2,6 @@
 #![tactic(auto)]
 
 pub mod column;
-mod place;
+mod tag;
 
 pub use column::CrackerColumn;

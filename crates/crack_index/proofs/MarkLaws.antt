@@ -373,9 +373,14 @@ Rising-lowered_at place marks rising = Rising-map (lowered_at place) (InOrder-lo
 
 -- The sizes of the pieces
 
-pub AreJoined-pieces : (low : Bound) (from : ℕ) (marks : List Mark) (high : Bound) (to : ℕ) → AreJoined low.0 high.0 (pieces_from low from marks high to)
-AreJoined-pieces low from [] high to = (refl, refl)
-AreJoined-pieces low from (m ∷ ms) high to = (refl, AreJoined-pieces m.bound m.position ms high to)
+-- bounds that rise and lie between the ends make pieces that are joined
+pub AreJoined-pieces : (low : Bound) (from : ℕ) (marks : List Mark) (high : Bound) (to : ℕ) → low.0 ≤ high.0 → Rising marks → All (λ m. (low.0 ≤ m.bound.0) × (m.bound.0 ≤ high.0)) marks → AreJoined low.0 high.0 (pieces_from low from marks high to)
+AreJoined-pieces low from [] high to order rising between = (refl, order, refl)
+AreJoined-pieces low from (m ∷ ms) high to order rising between =
+    let first = All-head (λ n. (low.0 ≤ n.bound.0) × (n.bound.0 ≤ high.0)) m ms between in
+    let rest = All-tail (λ n. (low.0 ≤ n.bound.0) × (n.bound.0 ≤ high.0)) m ms between in
+    let above = Rising-head m ms rising in
+    (refl, first.0, AreJoined-pieces m.bound m.position ms high to first.1 (Rising-tail m ms rising) (λ k d h. (omega (arith, (above k d h).bounds), (rest k d h).1)))
 
 -- the sizes add up to what lies between the ends
 pub sum_of_sizes : (low : Bound) (from : ℕ) (marks : List Mark) (high : Bound) (to : ℕ) → Rising marks → All (λ m. from ≤ m.position) marks → All (λ m. m.position ≤ to) marks → from ≤ to → sum_by (λ (p : PieceSize). p.size) (pieces_from low from marks high to) + from ≡ to

@@ -129,18 +129,13 @@ impl CrackerIndex {
 
     /// The sizes of the pieces, in rising order, in a column of `len` rows whose keys lie in this range;
     /// refused with 8 where it finds no memory. O(bounds).
-    pub fn pieces(
-        &self,
-        alloc: Global,
-        keys: KeyRange,
-        len: usize,
-    ) -> Result<Vec<PieceSize>, Refusal>
+    pub fn pieces(&self, keys: KeyRange, len: usize) -> Result<Vec<PieceSize>, Refusal>
         ensures ok { IfOk result (λ v. v.items ≡ pieces_from (record { 0 = keys.low }) 0 self.now.marks (record { 0 = keys.high }) len) }
-        ensures joined { IfOk result (λ v. AreJoined keys.low keys.high v.items) }
+        ensures joined { All (λ m. (keys.low ≤ m.bound.0) × (m.bound.0 ≤ keys.high)) self.now.marks → IfOk result (λ v. AreJoined keys.low keys.high v.items) }
         ensures sizes { All (λ m. m.position ≤ len) self.now.marks → IfOk result (λ v. sum_by (λ (p : PieceSize). p.size) v.items ≡ len) }
         ensures err { IfErr result (λ e. e ≡ Refusal.OutOfMemory) }
     {
-        sorted::piece_sizes(alloc, &self.marks, keys, len)
+        sorted::piece_sizes(*self.marks.allocator(), &self.marks, keys, len)
     }
 
     /// Each bound at or above this one that stands where it stands moves up by one.

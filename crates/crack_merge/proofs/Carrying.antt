@@ -6,12 +6,12 @@ use Rattle.crack_row.specs.declared.command.Policy.TheVariants.{Complete}
 use Rattle.crack_arena.specs.Arena.{times, slots}
 use Rattle.crack_arena.proofs.Times.{times-nil}
 use Rattle.crack_state.specs.State.{State, Carried, IsIntact}
-use Rattle.crack_state.specs.Steps.{lifted, SameButRoom, Pushes}
+use Rattle.crack_state.specs.Steps.{lifted, SameButRoom}
 use Rattle.crack_state.specs.Merge.{Follows, Tallies}
 use Rattle.crack_state.proofs.StepLaws.{IsIntact-room}
-use Rattle.crack_state.proofs.FollowLaws.{Follows-trans, Follows-room, Follows-lifted, length_marks-Follows, Tallies-trans, Tallies-room}
+use Rattle.crack_state.proofs.FollowLaws.{Pushes, Follows-trans, Follows-room, Follows-lifted, length_marks-Follows, Tallies-trans, Tallies-room}
 use Rattle.crack_merge.specs.Merges.{Carries, PutsIn}
-use Rattle.crack_merge.proofs.CarryLaws.{Follows-Carries, Tallies-Carries}
+use Rattle.crack_merge.proofs.CarryLaws.{EndsAt-lifted, Follows-EndsAt, Tallies-EndsAt}
 
 -- room is made, and the first pending insertion is lifted and carried
 pub PutsIn-next : (s t v u : State) (k : ℕ) → PutsIn s t k → SameButRoom t v → 0 < length t.pending_in → IsIntact t [] → Carries (lifted 0 v) u → PutsIn s u (k + 1)
@@ -20,12 +20,13 @@ PutsIn-next s t v u k was room some intact carries =
     let pending_out : v.pending_out ≡ t.pending_out = ap (λ (x : State). x.pending_out) room.same in
     let made : Follows s v = Follows-trans s t v was.follows (Follows-room t v room) in
     let made_tallies : Tallies Complete s v = Tallies-trans Complete s t v (length_marks-Follows s t was.follows) was.tallies (Tallies-room Complete t v room) in
-    let carried : Tallies Complete v u = Tallies-Carries Complete v u 0 (rw pending_in some) (IsIntact-room t v [] room intact) carries in
+    let at = EndsAt-lifted v u 0 (rw pending_in some) (IsIntact-room t v [] room intact) carries in
+    let carried : Tallies Complete v u = Tallies-EndsAt Complete v u 0 (rw pending_in some) (IsIntact-room t v [] room intact) at in
     record {
-      follows = Follows-trans s v u made (Follows-trans v (lifted 0 v).store u (Follows-lifted 0 v) (Follows-Carries (lifted 0 v) u carries));
+      follows = Follows-trans s v u made (Follows-trans v (lifted 0 v).store u (Follows-lifted 0 v) (Follows-EndsAt (lifted 0 v) u at));
       tallies = Tallies-trans Complete s v u (length_marks-Follows s v made) made_tallies carried;
-      pending_in = rw carries.ends (carries.pushes.pending_in ∙ ap (λ hs. remove hs 0) (pending_in ∙ was.pending_in) ∙ drop-drop 1 k s.pending_in);
-      pending_out = rw carries.ends (carries.pushes.pending_out ∙ pending_out ∙ was.pending_out);
+      pending_in = rw at.is (at.pushes.pending_in ∙ ap (λ hs. remove hs 0) (pending_in ∙ was.pending_in) ∙ drop-drop 1 k s.pending_in);
+      pending_out = rw at.is (at.pushes.pending_out ∙ pending_out ∙ was.pending_out);
     }
 
 -- as long as not all are taken, one is left

@@ -1,17 +1,17 @@
 -- What a carry and a merge have done to a store, where they end.
-use Rattle.std.specs.Prelude.{◌≡◌, ◌≤◌, ◌-◌, ℕ, drop, length, []}
+use Rattle.std.specs.Prelude.{◌≡◌, ◌<◌, ◌≤◌, ℕ, drop, length, []}
 use Rattle.crack_row.specs.declared.command.Policy.{Policy}
 use Rattle.crack_row.specs.declared.command.Policy.TheVariants.{Complete}
-use Rattle.crack_state.specs.declared.MergeReport.{MergeReport}
 use Rattle.crack_state.specs.State.{State, Carried, IsIntact}
-use Rattle.crack_state.specs.Steps.{appended, Pushes}
+use Rattle.crack_state.specs.Steps.{hand_key, piece_end, appended, pushed_on}
 use Rattle.crack_state.specs.Merge.{Follows, Tallies}
 
--- a carry: the hand is pushed on from piece to piece, and what is in hand at the last becomes the column's last row
-pub record Carries (c : Carried) (t : State) : Type 0 where
-  pub last : Carried
-  pub pushes : Pushes c last
-  pub ends : t ≡ appended last
+-- a carry, step by step, each by the first rule that holds; those of a doomed hand and of an evicted row will come before these
+pub data Carries : Carried → State → Type 0 where
+  -- the own piece of the hand ends at the column's end: the hand becomes the column's last row, and the carry ends
+  ends : (c : Carried) → piece_end c.store (hand_key c) ≡ length c.store.column → Carries c (appended c)
+  -- it ends before that: the hand takes the place of the row there, and the carry goes on with that row in hand
+  goes_on : (c : Carried) (t : State) → piece_end c.store (hand_key c) < length c.store.column → Carries (pushed_on c) t → Carries c t
 
 -- the first k pending insertions, and no more, were carried into the column in the order of their arrival
 pub record PutsIn (s t : State) (k : ℕ) : Type 0 where
@@ -33,13 +33,3 @@ pub record Stops (policy : Policy) (s t : State) : Type 0 where
   pub tallies : Tallies policy s t
   pub taken : LeavesRest policy s t
   pub pending_out : t.pending_out ≡ s.pending_out
-
--- what was counted from one report to a later one
-abbrev pub counted_between : MergeReport → MergeReport → MergeReport
-counted_between before after = record {
-  put_in = after.put_in - before.put_in;
-  taken_out = after.taken_out - before.taken_out;
-  evicted = after.evicted - before.evicted;
-  moved = after.moved - before.moved;
-  pulled = after.pulled - before.pulled;
-}

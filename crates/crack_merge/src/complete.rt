@@ -1,7 +1,7 @@
 //! The complete merge.
 ghost use Rattle.std.specs.Prelude.{◌≡◌, ◌<◌, ◌≤◌, [], length, IfOk, IfErr};
 ghost use Rattle.crack_row.specs.declared.command.Policy.TheVariants.{Complete};
-ghost use Rattle.crack_state.specs.Merge.{IsCracked, Merges, Tallies, is_touched, report_from};
+ghost use Rattle.crack_state.specs.Merge.{IsCracked, Merges, Tallies, counted_between, is_touched};
 ghost use Rattle.crack_merge.specs.Merges.{PutsIn, Stops};
 
 use crate::carries::carry;
@@ -24,7 +24,7 @@ pub fn merge_complete(
     requires none_doomed { store.pending_out ≡ [] }
     ensures merges { IfOk result (λ r. Merges Complete store r.0 range) }
     ensures tallies { IfOk result (λ r. Tallies Complete store r.0) }
-    ensures report { IfOk result (λ r. r.1 ≡ report_from store r.0) }
+    ensures report { IfOk result (λ r. r.1 ≡ counted_between store.tally r.0.tally) }
     ensures none_doomed { IfOk result (λ r. r.0.pending_out ≡ []) }
     ensures stops { IfErr result (λ e. Stops Complete store e.0) }
     ensures still_cracked { IfErr result (λ e. IsCracked e.0 range) }

@@ -1,6 +1,6 @@
 //! What a merge counted.
 ghost use Rattle.std.specs.Prelude.{◌≡◌};
-ghost use Rattle.crack_merge.specs.Merges.{counted_between};
+ghost use Rattle.crack_state.specs.Merge.{counted_between};
 
 use crack_store::MergeReport;
 

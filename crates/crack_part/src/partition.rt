@@ -9,7 +9,7 @@ ghost use Rattle.crack_state.specs.State.{State, IsIntact, live_rows};
 ghost use Rattle.crack_state.specs.Steps.{SameButRoom};
 ghost use Rattle.crack_state.specs.Merge.{IsCracked, IsSettled, Merges, Tallies};
 ghost use Rattle.crack_merge.specs.Merges.{Stops};
-ghost use Rattle.crack_store.specs.Parts.{no_cells, IsLayoutOf};
+ghost use Rattle.crack_store.specs.Inside.{no_cells, IsLayoutOf};
 ghost use Rattle.crack_part.specs.Parts.{state_of, IsLimit, IsSound, IsFaithful, CracksAndMerges, StopsRead, Serves, Spares, Prepares, MayPerform, Performs};
 
 use crack_merge::merge_complete;

@@ -1,17 +1,20 @@
 -- Laws of the searches for a key, for the crates above.
-use Rattle.std.proofs.Common.{◌≡◌, ℕ, ◌+◌, ◌<◌, ◌≤◌, true, false, List, [], ◌∷◌, ◌++◌, length, get_or, All, refl, sym, ap, ◌∙◌, inl, inr, arith}
+use Rattle.std.proofs.Common.{◌≡◌, ℕ, ◌+◌, ◌<◌, ◌≤◌, true, false, List, length, get_or, All, refl, sym, ap, ◌∙◌, inl, inr, arith}
 use Rattle.std.specs.Prelude.{slice_index}
 use Rattle.std.specs.List.{remove, list_any}
 use Rattle.std.proofs.lemmas.Bool.{cases_lt, lt-ltb, le-ltb, le-leb, lt-leb}
-use Rattle.std.proofs.lemmas.List.{get_or-map, get_or_append_left, length-map}
+use Rattle.std.proofs.lemmas.List.{get_or-map, get_or_default, length-map}
 use Rattle.std.proofs.lemmas.List.Edits.{get_or-remove_below}
 use Rattle.std.proofs.lemmas.List.Folds.{list_any_at, list_any_none}
 use Rattle.crack_row.specs.Ranges.{Range, IsIn, is_in}
 use Rattle.crack_row.specs.declared.Row.{Row}
-use Rattle.crack_arena.specs.Arena.{Cell, Handle}
+use Rattle.crack_arena.specs.Arena.{Cell, Handle, StandsAt, no_handle}
 use Rattle.crack_arena.specs.Rows.{key_at, keys_at}
-use Rattle.crack_pending.specs.Pending.{StandsAt, NoneIn, IsFirstIn}
-use Rattle.crack_pending.proofs.Laws.{StandsAt-get_or}
+use Rattle.crack_pending.specs.Pending.{NoneIn, IsFirstIn}
+
+-- what stands at a place, whatever is read where there is none
+StandsAt-get_or : (handles : List Handle) (i : ℕ) (d : Handle) → i < length handles → StandsAt handles i (get_or handles i d)
+StandsAt-get_or handles i d within = record { within = within; is = get_or_default handles i d (get_or handles i d) within }
 
 module _ (cells : List (Cell Row)) where
   -- the key that stands at a handle's place is its row's
@@ -29,33 +32,6 @@ NoneIn-more range keys from to none other = λ k from_on up_to.
       | inl l ↦ none k from_on l
       | inr l ↦ (let e : k ≡ to = omega arith in rw e other)
     ]
-
--- two stretches that were passed over
-pub NoneIn-join : (range : Range) (keys : List ℕ) (from between to : ℕ) → NoneIn range keys from between → NoneIn range keys between to → NoneIn range keys from to
-NoneIn-join range keys from between to first second = λ k from_on up_to.
-    elim (cases_lt k between) [
-      | inl l ↦ first k from_on l
-      | inr l ↦ second k l up_to
-    ]
-
--- where none was found before a place that is taken, there is none afterwards
-pub NoneIn-remove : (range : Range) (keys : List ℕ) (from place : ℕ) → place < length keys → NoneIn range keys from place → NoneIn range (remove keys place) from place
-NoneIn-remove range keys from place within none = λ k from_on before.
-    rw (get_or-remove_below keys place 0 k before within) (none k from_on before)
-
--- what comes behind the others changes nothing before it
-pub NoneIn-push : (range : Range) (keys : List ℕ) (key from to : ℕ) → to ≤ length keys → NoneIn range keys from to → NoneIn range (keys ++ key ∷ []) from to
-NoneIn-push range keys key from to within none = λ k from_on up_to.
-    rw (get_or_append_left keys (key ∷ []) 0 k (omega arith)) (none k from_on up_to)
-
--- a search that goes on from where none was found before finds the first of all
-pub IsFirstIn-join : (range : Range) (keys : List ℕ) (from between place : ℕ) → from ≤ between → NoneIn range keys from between → IsFirstIn range keys between place → IsFirstIn range keys from place
-IsFirstIn-join range keys from between place order none first = record {
-  after = omega (arith, first.after);
-  within = first.within;
-  holds = first.holds;
-  before = NoneIn-join range keys from between place none first.before;
-}
 
 -- the test of a range says whether the key lies in it
 pub is_in-true : (range : Range) (key : ℕ) → IsIn range key → is_in range key ≡ true
@@ -84,7 +60,30 @@ module _ (range : Range) (cells : List (Cell Row)) (handles : List Handle) where
   -- a search that finds a place: a row of the list has its key in the range
   pub list_any-found : (from place : ℕ) → IsFirstIn range (keys_at cells handles) from place → list_any (λ h. is_in range (key_at cells h)) handles ≡ true
   list_any-found from place first =
-      let d : Handle = record { slot = 0; generation = 0 } in
       let within : place < length handles = omega (arith, first.within, length-keys_at cells handles) in
-      let key = keys_at-StandsAt cells handles place (get_or handles place d) (StandsAt-get_or handles place d within) in
-      list_any_at (λ h. is_in range (key_at cells h)) handles place d within (is_in-true range (key_at cells (get_or handles place d)) (rw key at first.holds))
+      let key = keys_at-StandsAt cells handles place (get_or handles place no_handle) (StandsAt-get_or handles place no_handle within) in
+      list_any_at (λ h. is_in range (key_at cells h)) handles place no_handle within (is_in-true range (key_at cells (get_or handles place no_handle)) (rw key at first.holds))
+
+-- For merges that take rows at rising places and search on from there, whose calls are still to come
+
+-- two stretches that were passed over
+pub NoneIn-join : (range : Range) (keys : List ℕ) (from between to : ℕ) → NoneIn range keys from between → NoneIn range keys between to → NoneIn range keys from to
+NoneIn-join range keys from between to first second = λ k from_on up_to.
+    elim (cases_lt k between) [
+      | inl l ↦ first k from_on l
+      | inr l ↦ second k l up_to
+    ]
+
+-- where none was found before a place that is taken, there is none afterwards
+pub NoneIn-remove : (range : Range) (keys : List ℕ) (from place : ℕ) → place < length keys → NoneIn range keys from place → NoneIn range (remove keys place) from place
+NoneIn-remove range keys from place within none = λ k from_on before.
+    rw (get_or-remove_below keys place 0 k before within) (none k from_on before)
+
+-- a search that goes on from where none was found before finds the first of all
+pub IsFirstIn-join : (range : Range) (keys : List ℕ) (from between place : ℕ) → from ≤ between → NoneIn range keys from between → IsFirstIn range keys between place → IsFirstIn range keys from place
+IsFirstIn-join range keys from between place order none first = record {
+  after = omega (arith, first.after);
+  within = first.within;
+  holds = first.holds;
+  before = NoneIn-join range keys from between place none first.before;
+}

@@ -2,11 +2,6 @@
 use Rattle.std.specs.Prelude.{◌≡◌, ℕ, List}
 use Rattle.crack_arena.specs.Arena.{Handle}
 
--- the handles in their order, and how many more need no memory
-pub record Sequence : Type 0 where
-  pub handles : List Handle
-  pub room : ℕ
-
 -- what a move of the gap keeps: the handles, how many they are, and the capacity of each half
 pub record GapMoves (old new : List Handle) (total total' front front' back back' : ℕ) : Type 0 where
   pub same : new ≡ old

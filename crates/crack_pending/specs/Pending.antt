@@ -1,5 +1,5 @@
 -- What contracts see of the pending rows.
-use Rattle.std.specs.Prelude.{◌≡◌, ℕ, ◌<◌, ◌≤◌, List, length, Option, Some, None, slice_index, slice_index_or}
+use Rattle.std.specs.Prelude.{ℕ, ◌<◌, ◌≤◌, List, length, Option, Some, None, slice_index}
 use Rattle.crack_row.specs.Ranges.{Range, IsIn}
 use Rattle.crack_arena.specs.Arena.{Handle}
 
@@ -7,16 +7,6 @@ use Rattle.crack_arena.specs.Arena.{Handle}
 pub record Pending : Type 0 where
   pub handles : List Handle
   pub room : ℕ
-
--- the handle stands at the place
-pub record StandsAt (handles : List Handle) (place : ℕ) (handle : Handle) : Type 0 where
-  pub within : place < length handles
-  pub is : handle ≡ slice_index_or handles place handle
-
--- the handle stands at the place, and at none before it
-pub record IsFirstAt (handles : List Handle) (handle : Handle) (place : ℕ) : Type 0 where
-  pub here : StandsAt handles place handle
-  pub before : (k : ℕ) → k < place → ¬ StandsAt handles k handle
 
 -- none of the keys from one place up to another lies in the range
 abbrev pub NoneIn : Range → List ℕ → ℕ → ℕ → Type 0

@@ -2,7 +2,7 @@
 ghost use Rattle.std.specs.Prelude.{◌≡◌, ◌+◌, ◌-◌, ◌<◌, ◌≤◌, ◌∷◌, [], ◌++◌, length, vec_len, vec_capacity, OnOk, OnErr, IfErr};
 ghost use Rattle.std.specs.List.{remove};
 ghost use Rattle.std.specs.VecDeque.{deque_len, deque_capacity};
-ghost use Rattle.crack_pending.specs.Pending.{StandsAt};
+ghost use Rattle.crack_arena.specs.Arena.{StandsAt};
 
 use crack_arena::Handle;
 use crack_row::{Refusal, Row};
@@ -21,9 +21,9 @@ pub(crate) struct GapList {
 impl Model for GapList {
     ghost use Rattle.std.specs.Prelude.{◌+◌, ◌-◌, ◌≤◌, ◌++◌, length, vec_len, vec_capacity, min};
     ghost use Rattle.std.specs.VecDeque.{deque_len, deque_capacity};
-    ghost use Rattle.crack_pending.specs.Gap.{Sequence};
+    ghost use Rattle.crack_pending.specs.Pending.{Pending};
 
-    ghost Value = { Sequence };
+    ghost Value = { Pending };
 
     ghost view = { λ l. record {
       handles = l.front.items ++ l.back.items;

@@ -1,8 +1,9 @@
 //! The lists of pending rows.
-ghost use Rattle.std.specs.Prelude.{◌≡◌, ℕ, ◌+◌, ◌<◌, ◌≤◌, ◌↔◌, ◌∷◌, [], ◌++◌, length, IsTrue, IfSome, IfNone, IfErr, OnOk, OnErr};
+ghost use Rattle.std.specs.Prelude.{◌≡◌, ℕ, ◌+◌, ◌<◌, ◌≤◌, ◌↔◌, ◌∷◌, [], ◌++◌, length, IsTrue, MatchOption, IfErr, OnOk, OnErr};
 ghost use Rattle.std.specs.List.{remove};
 ghost use Rattle.crack_arena.specs.Rows.{keys_at};
-ghost use Rattle.crack_pending.specs.Pending.{StandsAt, IsFirstAt, Finds};
+ghost use Rattle.crack_arena.specs.Arena.{StandsAt, IsFirstAt, IsAbsent};
+ghost use Rattle.crack_pending.specs.Pending.{Finds};
 
 use crate::gap::GapList;
 use crack_arena::{Arena, Handle, key_of};
@@ -112,8 +113,7 @@ impl<Kind> PendingList<Kind> {
 
     /// The first place where the handle stands; none where it stands nowhere. O(len).
     pub fn place_of(&self, handle: Handle<Row>) -> Option<usize>
-        ensures found { IfSome result (λ place. IsFirstAt self.now.handles handle place) }
-        ensures none { IfNone result ((place : ℕ) → ¬ StandsAt self.now.handles place handle) }
+        ensures { MatchOption result (IsAbsent self.now.handles handle) (IsFirstAt self.now.handles handle) }
     {
         'places: for place in 0..self.list.len() {
             if self.list.at(place) == handle {

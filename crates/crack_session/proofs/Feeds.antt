@@ -9,23 +9,23 @@ use Rattle.crack_session.specs.Lines.{lines, first_line, after_line, has_feed}
 pub first_line-append : (xs ys : List ℕ) → has_feed xs ≡ false → first_line (xs ++ ys) ≡ xs ++ first_line ys
 first_line-append [] ys h = refl
 first_line-append (b ∷ bs) ys h =
-    let parts = or_parts (eqb b 10) (has_feed bs) h in
-    let other : eqb b 10 ≡ false = parts.0 in
-    rw (other, first_line-append bs ys parts.1) refl
+    let each = or_parts (eqb b 10) (has_feed bs) h in
+    let other : eqb b 10 ≡ false = each.0 in
+    rw (other, first_line-append bs ys each.1) refl
 
 pub after_line-append : (xs ys : List ℕ) → has_feed xs ≡ false → after_line (xs ++ ys) ≡ after_line ys
 after_line-append [] ys h = refl
 after_line-append (b ∷ bs) ys h =
-    let parts = or_parts (eqb b 10) (has_feed bs) h in
-    let other : eqb b 10 ≡ false = parts.0 in
-    rw (other, after_line-append bs ys parts.1) refl
+    let each = or_parts (eqb b 10) (has_feed bs) h in
+    let other : eqb b 10 ≡ false = each.0 in
+    rw (other, after_line-append bs ys each.1) refl
 
 pub has_feed-append : (xs ys : List ℕ) → has_feed xs ≡ false → has_feed (xs ++ ys) ≡ has_feed ys
 has_feed-append [] ys h = refl
 has_feed-append (b ∷ bs) ys h =
-    let parts = or_parts (eqb b 10) (has_feed bs) h in
-    let other : eqb b 10 ≡ false = parts.0 in
-    rw (other, has_feed-append bs ys parts.1) refl
+    let each = or_parts (eqb b 10) (has_feed bs) h in
+    let other : eqb b 10 ≡ false = each.0 in
+    rw (other, has_feed-append bs ys each.1) refl
 
 -- a front with a line feed has the first line
 pub first_line-in : (xs ys : List ℕ) → has_feed xs ≡ true → first_line (xs ++ ys) ≡ first_line xs
@@ -102,16 +102,16 @@ no_feed_found xs none = ap has_feed (sym (take_all (length xs) xs (omega arith))
 pub all_first_line : (xs : List ℕ) → has_feed xs ≡ false → first_line xs ≡ xs
 all_first_line [] h = refl
 all_first_line (b ∷ bs) h =
-    let parts = or_parts (eqb b 10) (has_feed bs) h in
-    let other : eqb b 10 ≡ false = parts.0 in
-    rw (other, all_first_line bs parts.1) refl
+    let each = or_parts (eqb b 10) (has_feed bs) h in
+    let other : eqb b 10 ≡ false = each.0 in
+    rw (other, all_first_line bs each.1) refl
 
 pub none_after : (xs : List ℕ) → has_feed xs ≡ false → after_line xs ≡ []
 none_after [] h = refl
 none_after (b ∷ bs) h =
-    let parts = or_parts (eqb b 10) (has_feed bs) h in
-    let other : eqb b 10 ≡ false = parts.0 in
-    rw (other, none_after bs parts.1) refl
+    let each = or_parts (eqb b 10) (has_feed bs) h in
+    let other : eqb b 10 ≡ false = each.0 in
+    rw (other, none_after bs each.1) refl
 
 -- keeping and then adding is adding and then keeping
 pub take-take-append : (n : ℕ) (xs ys : List ℕ) → take n (take n xs ++ ys) ≡ take n (xs ++ ys)

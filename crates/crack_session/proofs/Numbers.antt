@@ -1,6 +1,6 @@
 -- Numbers among the words.
-use Rattle.std.proofs.Common.{◌≡◌, ℕ, ◌+◌, ◌-◌, ◌*◌, ◌^◌, ◌<◌, ◌≤◌, true, false, eqb, ltb, leb, Some, List, [], ◌∷◌, ◌++◌, length, take, drop, get_or, refl, sym, ap, ◌∙◌, arith, ⊎_elim, length-take, length-drop, add-one}
-use Rattle.std.proofs.lemmas.Bool.{and_parts, cases_Bool, le-leb, leb-true, ltb-true, eqb-true}
+use Rattle.std.proofs.Common.{◌≡◌, ℕ, ◌+◌, ◌-◌, ◌*◌, ◌^◌, ◌%◌, ◌<◌, ◌≤◌, true, false, eqb, ltb, leb, Some, List, [], ◌∷◌, ◌++◌, length, take, drop, get_or, refl, sym, ap, ◌∙◌, arith, ⊎_elim, length-take, length-drop, add-one}
+use Rattle.std.proofs.lemmas.Bool.{and_parts, cases_Bool, le-leb, leb-true, lt-ltb, ltb-true, eqb-true}
 use Rattle.std.proofs.lemmas.List.{take_more, take-take, take_all}
 use Rattle.std.proofs.Math.Nat.{pow-suc, pow-le-pow_right}
 use Rattle.std.specs.List.{list_all}
@@ -27,6 +27,15 @@ digits_more xs i below so_far digit =
 
 pub digit_bounds : (b : ℕ) → is_digit b ≡ true → (48 ≤ b) × (b < 58)
 digit_bounds b d = let each = and_parts (leb 48 b) (ltb b 58) d in (leb-true 48 b each.0, ltb-true b 58 each.1)
+
+-- a byte less 48, wrapped round, is below 10 only for a digit, and then it is its value
+pub digit_from : (b d : ℕ) → b < 256 → d ≡ (b + (2 ^ 64 - 48)) % 2 ^ 64 → d < 10 → (is_digit b ≡ true) × (d ≡ b - 48)
+digit_from b d byte is small =
+    let low : 48 ≤ b = omega (arith, is, small, byte) in
+    let high : b < 58 = omega (arith, is, small, byte) in
+    let l : leb 48 b ≡ true = le-leb 48 b low in
+    let h : ltb b 58 ≡ true = lt-ltb b 58 high in
+    (rw (l, h) refl, omega (arith, is, small, byte))
 
 -- one digit more stays below the next power of 10, and up to 19 digits fit 64 bits
 pub value_below : (v i b : ℕ) → v < 10 ^ i → i < 19 → is_digit b ≡ true → (v * 10 + (b - 48) < 10 ^ (i + 1)) × (v * 10 + (b - 48) < 2 ^ 64)

@@ -7,9 +7,9 @@ use Rattle.crack_session.specs.Lines.{first_line, after_line, has_feed, kept_of,
 use Rattle.crack_session.proofs.Feeds.{first_line-append, after_line-append, has_feed-append, first_line-in, after_line-in, has_feed-in, all_first_line, none_after, take-take-append}
 
 -- what is ahead is what is unread, and what the reader has
-pub ahead_parts : (xs : List ℕ) (known : Option (List ℕ)) (u : List ℕ) → prepend_known xs known ≡ Some u → (v : List ℕ) × (known ≡ Some v) × (u ≡ xs ++ v)
-ahead_parts xs None u e = absurd (let h : ◌≡◌ {A = Option (List ℕ)} None (Some u) = e in cc)
-ahead_parts xs (Some v) u e = (v, refl, (let h : ◌≡◌ {A = Option (List ℕ)} (Some (xs ++ v)) (Some u) = e in cc))
+pub ahead_known : (xs : List ℕ) (known : Option (List ℕ)) (u : List ℕ) → prepend_known xs known ≡ Some u → (v : List ℕ) × (known ≡ Some v) × (u ≡ xs ++ v)
+ahead_known xs None u e = absurd (let h : ◌≡◌ {A = Option (List ℕ)} None (Some u) = e in cc)
+ahead_known xs (Some v) u e = (v, refl, (let h : ◌≡◌ {A = Option (List ℕ)} (Some (xs ++ v)) (Some u) = e in cc))
 
 -- what a read brings was ahead
 pub ahead_read : (old new : Option (List ℕ)) (xs u : List ℕ) → Consumes old new xs → old ≡ Some u → prepend_known xs new ≡ Some u
@@ -45,36 +45,36 @@ SoFar-none_taken u new line e empty = record { front = []; rest = u; split = ref
 -- more that has no line feed
 pub SoFar-more : {u line : List ℕ} (xs : List ℕ) (known : Option (List ℕ)) (line' : List ℕ) → SoFar u (prepend_known xs known) line → has_feed xs ≡ false → line' ≡ line ++ xs → SoFar u known line'
 SoFar-more {u} {line} xs known line' s none grown =
-    let parts = ahead_parts xs known s.rest s.new_is in
+    let known_is = ahead_known xs known s.rest s.new_is in
     record {
       front = s.front ++ xs;
-      rest = parts.0;
-      split = s.split ∙ ap (λ z. s.front ++ z) parts.2 ∙ sym (append_assoc s.front xs parts.0);
+      rest = known_is.0;
+      split = s.split ∙ ap (λ z. s.front ++ z) known_is.2 ∙ sym (append_assoc s.front xs known_is.0);
       none = has_feed-append s.front xs s.none ∙ none;
       kept = ap kept_of grown ∙ kept-append line s.front xs s.kept;
-      new_is = parts.1;
+      new_is = known_is.1;
     }
 
 -- a line feed came
 pub SoFar-found : {u line : List ℕ} (xs : List ℕ) (known : Option (List ℕ)) (line' xs' : List ℕ) → SoFar u (prepend_known xs known) line → has_feed xs ≡ true → line' ≡ line ++ first_line xs → xs' ≡ after_line xs → IsNextLine u true line' (prepend_known xs' known)
 SoFar-found {u} {line} xs known line' xs' s found grown left =
-    let parts = ahead_parts xs known s.rest s.new_is in
-    let whole : u ≡ s.front ++ (xs ++ parts.0) = s.split ∙ ap (λ z. s.front ++ z) parts.2 in
-    let first : first_line u ≡ s.front ++ first_line xs = ap first_line whole ∙ first_line-append s.front (xs ++ parts.0) s.none ∙ ap (λ z. s.front ++ z) (first_line-in xs parts.0 found) in
-    let after : after_line u ≡ after_line xs ++ parts.0 = ap after_line whole ∙ after_line-append s.front (xs ++ parts.0) s.none ∙ after_line-in xs parts.0 found in
+    let known_is = ahead_known xs known s.rest s.new_is in
+    let whole : u ≡ s.front ++ (xs ++ known_is.0) = s.split ∙ ap (λ z. s.front ++ z) known_is.2 in
+    let first : first_line u ≡ s.front ++ first_line xs = ap first_line whole ∙ first_line-append s.front (xs ++ known_is.0) s.none ∙ ap (λ z. s.front ++ z) (first_line-in xs known_is.0 found) in
+    let after : after_line u ≡ after_line xs ++ known_is.0 = ap after_line whole ∙ after_line-append s.front (xs ++ known_is.0) s.none ∙ after_line-in xs known_is.0 found in
     let some : 0 < length xs = has_feed_some xs found in
     let l1 = ap length whole in
-    let l2 = length-append s.front (xs ++ parts.0) in
-    let l3 = length-append xs parts.0 in (
+    let l2 = length-append s.front (xs ++ known_is.0) in
+    let l3 = length-append xs known_is.0 in (
       omega (arith, l1, l2, l3, some),
       ap kept_of grown ∙ kept-append line s.front (first_line xs) s.kept ∙ ap kept_of (sym first),
-      rw (parts.1, left, after) refl,
+      rw (known_is.1, left, after) refl,
     )
 
 pub SoFar-feed : {u line : List ℕ} (xs : List ℕ) (known : Option (List ℕ)) → SoFar u (prepend_known xs known) line → has_feed xs ≡ true → has_feed u ≡ true
 SoFar-feed {u} {line} xs known s found =
-    let parts = ahead_parts xs known s.rest s.new_is in
-    ap has_feed (s.split ∙ ap (λ z. s.front ++ z) parts.2) ∙ has_feed-append s.front (xs ++ parts.0) s.none ∙ has_feed-in xs parts.0 found
+    let known_is = ahead_known xs known s.rest s.new_is in
+    ap has_feed (s.split ∙ ap (λ z. s.front ++ z) known_is.2) ∙ has_feed-append s.front (xs ++ known_is.0) s.none ∙ has_feed-in xs known_is.0 found
 
 -- the input has ended with nothing taken
 SoFar-none : {u line : List ℕ} (known : Option (List ℕ)) → SoFar u known line → ((v : List ℕ) → known ≡ Some v → v ≡ []) → length line ≡ 0 → u ≡ []

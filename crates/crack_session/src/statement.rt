@@ -224,10 +224,11 @@ fn leading_digits(bytes: &[u8]) -> (u64, usize)
 {
     let mut value: u64 = 0;
     for (i, b) in bytes.iter().enumerate() {
-        if !is_digit(*b) {
+        let digit = (*b as u64).wrapping_sub(b'0' as u64);
+        if digit >= 10 {
             return (value, i);
         }
-        value = value * 10 + (*b as u64 - b'0' as u64);
+        value = value * 10 + digit;
     }
     (value, bytes.len())
 }

@@ -82,13 +82,18 @@ fn push_carried(text: &mut Text, refusal: &Refusal)
 }
 
 /// Adds a number in decimal: 20 digits at most.
+#[tactic(auto, using(std::proofs::lemmas::Fmt::decimal_digit))]
 fn push_number(text: &mut Text, number: u64)
     requires { length text.old.items + 20 ≤ TEXT_BYTES }
     ensures digits { text.new.items ≡ text.old.items ++ decimal number }
     ensures short { length text.new.items ≤ length text.old.items + 20 }
 {
-    let mut digits = itoa::Buffer::new();
-    push(text, digits.format(number).as_bytes());
+    if number < 10 {
+        push(text, &[b'0' + number as u8]);
+    } else {
+        let mut digits = itoa::Buffer::new();
+        push(text, digits.format(number).as_bytes());
+    }
 }
 
 /// Adds bytes, for which there is room.

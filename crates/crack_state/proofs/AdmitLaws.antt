@@ -1,22 +1,22 @@
 -- A new row at the back of the pending insertions keeps a store intact, and is the one more that commands see.
-use Rattle.std.proofs.Common.{◌≡◌, ◌≢◌, ℕ, ◌+◌, ◌-◌, ◌<◌, ◌≤◌, ◌^◌, Bool, true, false, eqb, ltb, List, [], ◌∷◌, ◌++◌, length, get_or, set, drop, cond, Some, None, refl, sym, ap, ◌∙◌, inl, inr, arith, length-set, zero-add}
+use Rattle.std.proofs.Common.{◌≡◌, ◌≢◌, ℕ, ◌+◌, ◌-◌, ◌<◌, ◌≤◌, ◌^◌, Bool, true, false, eqb, ltb, List, [], ◌∷◌, ◌++◌, length, get_or, drop, add-one, cond, Some, None, refl, sym, ap, ◌∙◌, inl, inr, arith, length-set, zero-add}
 use Rattle.std.specs.Prelude.{◌==◌, IfSome}
-use Rattle.std.specs.List.{All}
+use Rattle.std.specs.List.{All, filter_map, range_with_len}
 use Rattle.std.specs.List.Sorted.{IsPermutation}
-use Rattle.std.proofs.lemmas.List.Sorted.{IsPermutation-sym, IsPermutation-to_front}
+use Rattle.std.proofs.lemmas.List.Sorted.{IsPermutation-sym}
 use Rattle.std.proofs.lemmas.List.Sums.{sum_by-set, sum_by_push}
-use Rattle.std.proofs.lemmas.List.{get_or-set_other, get_or-set_same, get_or_past, get_or_push, get_or_append_left, length_push}
-use Rattle.std.proofs.lemmas.List.Elements.{All-nil, All-cons, All-push, All-set, All-head, All-tail}
+use Rattle.std.proofs.lemmas.List.{append-nil, get_or-set_other, get_or-set_same, get_or_past, get_or_push, get_or_append_left, length_push}
+use Rattle.std.proofs.lemmas.List.Elements.{filter_map-append, All-nil, All-cons, All-push, All-set, All-head, All-tail}
 use Rattle.std.proofs.lemmas.Bool.{cases_eq, cases_lt, ne_eqb, eq-eqb, eqb-true, lt-ltb, le-ltb}
 use Rattle.crack_row.specs.Ranges.{IsIn}
 use Rattle.crack_row.specs.declared.Row.{Row}
 use Rattle.crack_arena.specs.Arena.{Cell, Handle, times, read, cell_at, empty_cell, handle_for, cells_with, slots}
-use Rattle.crack_arena.proofs.Times.{times-nil, times-cons, times_one, times_other, times_head, times_apart, times-append}
-use Rattle.crack_state.specs.State.{State, places, Reads, IsOwned, IsIntact, IsKeyed, IsLiveAt, AreEmpty, AreWithin, handle_of, freed_of, live_from, live_rows}
+use Rattle.crack_arena.proofs.Times.{times-nil, times-cons, times_one, times_other, times_head, times_apart, times-append, times-map-append}
+use Rattle.crack_state.specs.State.{State, places, Reads, IsOwned, IsIntact, IsKeyed, IsLiveAt, AreEmpty, HaveKeysIn, handle_of, freed_of, live_at, live_rows}
 use Rattle.crack_state.specs.Steps.{next_handle, admitted, IsAdmissible}
-use Rattle.crack_state.proofs.OwnedLaws.{times-places, times-pushed}
+use Rattle.crack_state.proofs.OwnedLaws.{times-places}
 use Rattle.crack_state.proofs.CellLaws.{AgreeOff, read-off, Reads-off, keys-off, Remembers-off, read-value}
-use Rattle.crack_state.proofs.LiveLaws.{live_from-less, live_from-push}
+use Rattle.crack_state.proofs.LiveLaws.{filter_map-less, range_with_len-more, times-range}
 
 -- one cell got a value, and no other changed
 pub record Filled (cells after : List (Cell Row)) (h : Handle) (r : Row) : Type 0 where
@@ -188,9 +188,9 @@ AreEmpty-admitted row s (n ∷ ns) is owned empty =
     at_most true = omega arith
     at_most false = omega arith
 
-AreWithin-admitted : (row : Row) (s : State) (free : List ℕ) → IsIn s.keys row.key.0 → AreWithin s.keys s.cells → AreWithin s.keys (cells_with row s.cells free)
-AreWithin-admitted row s [] new within = All-push (λ (c : Cell Row). IfSome c.value (λ r. IsIn s.keys r.key.0)) s.cells (record { generation = 0; value = Some row }) within new
-AreWithin-admitted row s (n ∷ ns) new within = All-set (λ (c : Cell Row). IfSome c.value (λ r. IsIn s.keys r.key.0)) s.cells n (record { generation = (cell_at s.cells n).generation; value = Some row }) new within
+HaveKeysIn-admitted : (row : Row) (s : State) (free : List ℕ) → IsIn s.keys row.key.0 → HaveKeysIn s.keys s.cells → HaveKeysIn s.keys (cells_with row s.cells free)
+HaveKeysIn-admitted row s [] new within = All-push (λ (c : Cell Row). IfSome c.value (λ r. IsIn s.keys r.key.0)) s.cells (record { generation = 0; value = Some row }) within new
+HaveKeysIn-admitted row s (n ∷ ns) new within = All-set (λ (c : Cell Row). IfSome c.value (λ r. IsIn s.keys r.key.0)) s.cells n (record { generation = (cell_at s.cells n).generation; value = Some row }) new within
 
 -- no cell is freed
 freed_of-admitted : (row : Row) (s : State) (free : List ℕ) → s.free ≡ free → IsOwned s.cells s.free s.column s.pending_in s.pending_out [] → freed_of (cells_with row s.cells free) ≡ freed_of s.cells
@@ -213,7 +213,7 @@ IsIntact-admitted row s may intact =
     let off : IsUnused s h.slot = unused s s.free refl owned in
     record {
       owned = record {
-        once = λ n. omega (arith, once_filled s row s.free refl owned n, times-places n s.column (s.pending_in ++ h ∷ []) (drop 1 s.free) [], times-pushed n s.pending_in h, times-nil n);
+        once = λ n. omega (arith, once_filled s row s.free refl owned n, times-places n s.column (s.pending_in ++ h ∷ []) (drop 1 s.free) [], times-map-append n (λ (x : Handle). x.slot) s.pending_in (h ∷ []), times-nil n);
         column_reads = Reads-off h.slot s.cells cells s.column fill.others off.column owned.column_reads;
         pending_reads = All-push (Reads cells) s.pending_in h (Reads-off h.slot s.cells cells s.pending_in fill.others off.pending owned.pending_reads) (rw (read-new s.cells cells h row fill) refl);
         hand_reads = All-nil (Reads cells);
@@ -225,7 +225,7 @@ IsIntact-admitted row s may intact =
       inside = intact.inside;
       keyed = IsKeyed-admitted row s h cells fill off (vacant s s.free refl intact.empty) may.fresh intact.keyed;
       empty = AreEmpty-admitted row s s.free refl owned intact.empty;
-      within = AreWithin-admitted row s s.free may.within intact.within;
+      within = HaveKeysIn-admitted row s s.free may.within intact.within;
       remembers = Remembers-off h.slot s.cells cells s.column s.remembered fill.others off.column intact.remembers;
       few_cells = length_cells-admitted row s s.free refl may.cell intact.few_cells;
       few_freed = omega (arith, intact.few_freed, freed_of-admitted row s s.free refl owned);
@@ -236,21 +236,29 @@ IsIntact-admitted row s may intact =
 pub live_rows-admitted : (row : Row) (s : State) → IsIntact s [] → IsPermutation (row ∷ live_rows s) (live_rows (admitted row s))
 live_rows-admitted row s intact = by_free s.free refl
   where
-    by_free : (free : List ℕ) → s.free ≡ free → IsPermutation (row ∷ live_rows s) (live_from (slots s.pending_out) 0 (cells_with row s.cells free))
+    doomed : List ℕ
+    doomed = slots s.pending_out
+
+    -- among the numbers of which that of the new row's cell is one, once
+    among : (free ns : List ℕ) → s.free ≡ free → times (handle_for s.cells free).slot ns ≡ 1 → IsPermutation (filter_map (live_at (cells_with row s.cells free) doomed) ns) (row ∷ filter_map (live_at s.cells doomed) ns)
+    among free ns is once =
+        let slot = (handle_for s.cells free).slot in
+        let off : IsUnused s slot = unused s free is intact.owned in
+        let fill = filled s row free is intact.owned in
+        filter_map-less (live_at (cells_with row s.cells free) doomed) (live_at s.cells doomed) slot row ns (rw (off.doomed, fill.cell) refl) (rw (off.doomed) (vacant s free is intact.empty)) (λ k ne. rw (fill.others k ne) refl) once
+
+    by_free : (free : List ℕ) → s.free ≡ free → IsPermutation (row ∷ live_rows s) (filter_map (live_at (cells_with row s.cells free) doomed) (range_with_len 0 (length (cells_with row s.cells free))))
     by_free [] is =
-        let off : IsUnused s (length s.cells) = unused s [] is intact.owned in
-        let c : Cell Row = record { generation = 0; value = Some row } in
-        let longer : live_from (slots s.pending_out) 0 (s.cells ++ c ∷ []) ≡ live_rows s ++ row ∷ [] = live_from-push (slots s.pending_out) 0 s.cells c row (rw (zero-add, off.doomed) refl) in
-        rw longer (IsPermutation-sym (live_rows s ++ row ∷ []) (row ∷ live_rows s) (IsPermutation-to_front (live_rows s) row))
-    by_free (n ∷ ns) is =
-        let off : IsUnused s n = unused s (n ∷ ns) is intact.owned in
-        let c : Cell Row = record { generation = (cell_at s.cells n).generation; value = Some row } in
-        let within = free_within s n (rw is (omega (arith, times_head n ns))) intact.owned in
-        let none = vacant s (n ∷ ns) is intact.empty in
-        IsPermutation-sym (live_from (slots s.pending_out) 0 (set s.cells n c)) (row ∷ live_rows s) (live_from-less (slots s.pending_out) (slots s.pending_out) 0 n row (set s.cells n c) s.cells (length-set s.cells n c) (omega (arith, length-set s.cells n c))
-        (rw (zero-add, off.doomed, get_or-set_same s.cells n c empty_cell within) refl)
-        (rw (zero-add, off.doomed) none)
-        (λ k h ne. rw (zero-add, get_or-set_other s.cells n k c empty_cell ne) refl))
+        let n = length s.cells in
+        let more : range_with_len 0 (n + 1) ≡ range_with_len 0 n ++ n ∷ [] = rw add-one (rw (zero-add n) at (range_with_len-more 0 n)) in
+        let off : IsUnused s n = unused s [] is intact.owned in
+        let none : live_at s.cells doomed n ≡ None = rw (off.doomed) (vacant s [] is intact.empty) in
+        let before : filter_map (live_at s.cells doomed) (range_with_len 0 n ++ n ∷ []) ≡ live_rows s = filter_map-append (live_at s.cells doomed) (range_with_len 0 n) (n ∷ []) ∙ rw (none, append-nil) refl in
+        let seen = among [] (range_with_len 0 n ++ n ∷ []) is (rw (← more) (times-range n (n + 1) ∙ rw (lt-ltb n (n + 1) (omega arith)) refl)) in
+        rw (length_push s.cells (record { generation = 0; value = Some row }), more) (IsPermutation-sym _ (row ∷ live_rows s) (rw before at seen))
+    by_free (m ∷ ms) is =
+        let within = free_within s m (rw is (omega (arith, times_head m ms))) intact.owned in
+        rw (length-set s.cells m (record { generation = (cell_at s.cells m).generation; value = Some row })) (IsPermutation-sym _ (row ∷ live_rows s) (among (m ∷ ms) (range_with_len 0 (length s.cells)) is (times-range m (length s.cells) ∙ rw (lt-ltb m (length s.cells) within) refl)))
 
 -- no cell is freed, and at most one is new
 pub freed-admitted : (row : Row) (s : State) → IsIntact s [] → freed_of (admitted row s).cells ≡ freed_of s.cells

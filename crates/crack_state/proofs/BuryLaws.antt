@@ -1,34 +1,55 @@
--- Bury: the doomed hand's cell is freed. It keeps a store intact, and commands see the same rows.
-use Rattle.std.proofs.Common.{◌≡◌, ◌≢◌, ℕ, ◌+◌, ◌*◌, ◌<◌, ◌≤◌, eqb, List, [], ◌∷◌, length, get_or, set, None, refl, sym, ap, ◌∙◌, inl, inr, arith, length-set, zero-add}
+-- Bury: the doomed hand's cell is freed. It keeps a store intact, and commands see the same rows. Its call is still to come.
+use Rattle.std.proofs.Common.{◌≡◌, ◌≢◌, ℕ, ◌+◌, ◌*◌, ◌<◌, ◌≤◌, true, eqb, List, [], ◌∷◌, length, get_or, set, Option, None, refl, sym, ap, ◌∙◌, inl, inr, arith, length-set}
 use Rattle.std.specs.Prelude.{◌==◌, IfSome}
-use Rattle.std.specs.List.{remove}
+use Rattle.std.specs.List.{remove, filter_map, range_with_len}
+use Rattle.std.proofs.Math.Nat.{min-le_right}
+use Rattle.std.proofs.lemmas.List.Sums.{passes_at_first, sum_by-set}
 use Rattle.std.proofs.lemmas.List.{get_or-set_same, get_or-set_other, get_or_default}
-use Rattle.std.proofs.lemmas.List.Sums.{sum_by-set}
 use Rattle.std.proofs.lemmas.List.Elements.{All-nil, All-cons, All-set}
-use Rattle.std.proofs.lemmas.Bool.{cases_eq}
+use Rattle.std.proofs.lemmas.Bool.{cases_eq, ne_eqb, eq-eqb, eqb-true}
 use Rattle.crack_row.specs.Ranges.{IsIn}
 use Rattle.crack_row.specs.declared.Row.{Row}
 use Rattle.crack_row.specs.declared.command.Policy.{Policy}
 use Rattle.crack_row.specs.declared.command.Policy.TheVariants.{Complete}
 use Rattle.crack_arena.specs.Arena.{Cell, Handle, times, read, cell_at, empty_cell, slots}
 use Rattle.crack_arena.proofs.Times.{times-nil, times-cons, times_one, times_other, times_head, times-append}
-use Rattle.crack_state.specs.State.{State, Carried, Reads, IsIntact, IsKeyed, IsLiveAt, AreEmpty, freed_of, live_rows, greatest}
-use Rattle.crack_state.specs.Steps.{hand_key, place_in, IsDoomed, lifted, buried, Pushes}
+use Rattle.crack_state.specs.declared.MergeReport.{MergeReport}
+use Rattle.crack_state.specs.State.{State, Carried, Reads, IsCounted, IsIntact, IsKeyed, IsLiveAt, AreEmpty, freed_of, live_at, live_rows, greatest}
+use Rattle.crack_state.specs.Steps.{hand_key, more, lifted}
+use Rattle.crack_state.specs.StepsToCome.{place_in, IsDoomed, buried}
 use Rattle.crack_state.specs.Merge.{Follows, Tallies, MayEvict}
-use Rattle.crack_state.proofs.OwnedLaws.{times-removed, times-places, All-removed, place_in-within, place_in-found, HandApart, hand_apart}
+use Rattle.crack_state.proofs.OwnedLaws.{times-taken, times-places, All-removed, HandApart, hand_apart}
 use Rattle.crack_state.proofs.CellLaws.{AgreeOff-set, read-off, Reads-off, keys-off, Remembers-off, generation_of_read}
-use Rattle.crack_state.proofs.LiveLaws.{live_from-agree, live_value-none}
-use Rattle.crack_state.proofs.StepLaws.{IsCounted-taken_out}
-use Rattle.crack_state.proofs.FollowLaws.{raised_counter, length-remove, bounds_above-few}
+use Rattle.crack_state.proofs.LiveLaws.{none_either}
+use Rattle.crack_state.proofs.FollowLaws.{Pushes, raised_counter, length-remove, bounds_above-few}
+
+-- a slot that is in the list has a place there
+place_in-within : (hs : List Handle) (slot : ℕ) → 0 < times slot (slots hs) → place_in hs slot < length hs
+place_in-within [] slot some = absurd (omega (arith, times-nil slot))
+place_in-within (h ∷ hs) slot some = elim (cases_eq h.slot slot) [
+  | inl e ↦ rw (eq-eqb h.slot slot e) (omega arith)
+  | inr ne ↦
+      let rest = place_in-within hs slot (omega (arith, times-cons slot h.slot (slots hs), times_one slot h.slot, times_other slot h.slot ne)) in
+      rw (ne_eqb h.slot slot ne) (omega (arith, rest))
+]
+
+-- what stands there is of that slot
+place_in-found : (hs : List Handle) (slot : ℕ) (h : Handle) → place_in hs slot < length hs → h ≡ get_or hs (place_in hs slot) h → h.slot ≡ slot
+place_in-found hs slot h within found =
+    let passes : (get_or hs (place_in hs slot) h).slot == slot ≡ true = passes_at_first (λ (x : Handle). x.slot == slot) hs h within in
+    eqb-true h.slot slot (rw (← found) at passes)
+
+IsCounted-taken_out : (tally : MergeReport) → IsCounted tally → IsCounted (record tally { taken_out = more tally.taken_out })
+IsCounted-taken_out tally counted = record { put_in = counted.put_in; taken_out = min-le_right (tally.taken_out + 1) greatest; evicted = counted.evicted; moved = counted.moved; pulled = counted.pulled }
 
 -- what is known of a doomed hand
-pub record DoomedHand (s : State) (hand : Handle) : Type 0 where
-  pub apart : HandApart s.cells s.free s.column s.pending_in hand.slot
-  pub once : times hand.slot (slots s.pending_out) ≡ 1
-  pub place : place_in s.pending_out hand.slot < length s.pending_out
-  pub taken : (n : ℕ) → times n (slots s.pending_out) ≡ times n (slots (remove s.pending_out (place_in s.pending_out hand.slot))) + times n (hand.slot ∷ [])
+record DoomedHand (s : State) (hand : Handle) : Type 0 where
+  apart : HandApart s.cells s.free s.column s.pending_in hand.slot
+  once : times hand.slot (slots s.pending_out) ≡ 1
+  place : place_in s.pending_out hand.slot < length s.pending_out
+  taken : (n : ℕ) → times n (slots (remove s.pending_out (place_in s.pending_out hand.slot))) + times n (hand.slot ∷ []) ≡ times n (slots s.pending_out)
 
-pub doomed_hand : (c : Carried) → IsDoomed c → IsIntact c.store (c.hand ∷ []) → DoomedHand c.store c.hand
+doomed_hand : (c : Carried) → IsDoomed c → IsIntact c.store (c.hand ∷ []) → DoomedHand c.store c.hand
 doomed_hand c doomed intact =
     let s = c.store in
     let hand = c.hand in
@@ -42,14 +63,14 @@ doomed_hand c doomed intact =
       apart = apart;
       once = omega (arith, doomed, owned.doomed_once hand.slot, times-append hand.slot (slots s.column) (slots (hand ∷ [])), times_head hand.slot [], times-nil hand.slot, apart.off_column);
       place = place;
-      taken = λ n. let split = times-removed n s.pending_out (place_in s.pending_out hand.slot) met place found in rw same at split;
+      taken = λ n. let split = times-taken n s.pending_out (place_in s.pending_out hand.slot) met place found in rw same at split;
     }
 
 -- a cell without a value is read by no handle
-pub read-set_none : (cells : List (Cell Row)) (n g : ℕ) (h : Handle) → n < length cells → h.slot ≡ n → read (set cells n (record { generation = g; value = None })) h ≡ None
-read-set_none cells n g h within same = rw (same, get_or-set_same cells n (record { generation = g; value = None }) empty_cell within) (live_value-none (eqb g h.generation))
+read-set_none : (cells : List (Cell Row)) (n g : ℕ) (h : Handle) → n < length cells → h.slot ≡ n → read (set cells n (record { generation = g; value = None })) h ≡ None
+read-set_none cells n g h within same = rw (same, get_or-set_same cells n (record { generation = g; value = None }) empty_cell within) (none_either (eqb g h.generation))
 
-IsKeyed-buried : (cells : List (Cell Row)) (doomed left : List ℕ) (serials : List (ℕ × Handle)) (slot g : ℕ) → slot < length cells → ((n : ℕ) → times n doomed ≡ times n left + times n (slot ∷ [])) → IsKeyed cells doomed serials → IsKeyed (set cells slot (record { generation = g; value = None })) left serials
+IsKeyed-buried : (cells : List (Cell Row)) (doomed left : List ℕ) (serials : List (ℕ × Handle)) (slot g : ℕ) → slot < length cells → ((n : ℕ) → times n left + times n (slot ∷ []) ≡ times n doomed) → IsKeyed cells doomed serials → IsKeyed (set cells slot (record { generation = g; value = None })) left serials
 IsKeyed-buried cells doomed left serials slot g within taken keyed =
     let c : Cell Row = record { generation = g; value = None } in
     record {
@@ -135,13 +156,14 @@ live_rows-buried c doomed intact =
     let known = doomed_hand c doomed intact in
     let cell : Cell Row = record { generation = c.hand.generation + 1; value = None } in
     let left = slots (buried c).pending_out in
-    sym (live_from-agree (slots s.pending_out) left 0 s.cells (set s.cells slot cell) (sym (length-set s.cells slot cell)) (λ k h.
-    elim (cases_eq k slot) [
-      | inl e ↦ rw (zero-add, e, known.once, get_or-set_same s.cells slot cell empty_cell known.apart.within) (sym (live_value-none (times slot left == 0)))
+    let cells = set s.cells slot cell in
+    let same : (n : ℕ) → live_at cells left n ≡ live_at s.cells (slots s.pending_out) n = λ n. elim (cases_eq n slot) [
+      | inl e ↦ rw (e, known.once, get_or-set_same s.cells slot cell empty_cell known.apart.within) (none_either (times slot left == 0))
       | inr ne ↦
-          let same : times k (slots s.pending_out) ≡ times k left = omega (arith, known.taken k, times_other k slot (λ e. ne (sym e))) in
-          rw (zero-add, same, get_or-set_other s.cells slot k cell empty_cell ne) refl
-    ]))
+          let doomed_too : times n (slots s.pending_out) ≡ times n left = omega (arith, known.taken n, times_other n slot (λ e. ne (sym e))) in
+          rw (doomed_too, get_or-set_other s.cells slot n cell empty_cell ne) refl
+    ] in
+    rw (length-set s.cells slot cell) (ap (λ (f : ℕ → Option Row). filter_map f (range_with_len 0 (length s.cells))) (λ i n. same n i))
 
 pub Follows-buried : (c : Carried) → IsDoomed c → IsIntact c.store (c.hand ∷ []) → Follows c.store (buried c)
 Follows-buried c doomed intact = record {

@@ -15,18 +15,31 @@ use Rattle.crack_index.specs.declared.mark.Mark.{Mark}
 use Rattle.crack_index.specs.Marks.{Rising, Fits, added, next_mark, last_mark, start_of, end_of, HasBound}
 use Rattle.crack_index.proofs.MarkLaws.{next_mark-is, last_mark-is, All-added, Contains-kept, HasBound-added, Rising-added, HasBound-mark, HasBound-contains}
 use Rattle.crack_arena.specs.Rows.{key_of_row, key_at}
-use Rattle.crack_column.specs.Column.{IsDividedAt}
+use Rattle.crack_column.specs.Column.{IsDividedAt, Cracks}
 use Rattle.crack_column.proofs.Divisions.{IsDividedAt-zero, IsDividedAt-end}
 use Rattle.crack_column.proofs.Cracking.{length-Cracks, Cracks-apart, Cracks-around, Cracks-whole, Cracks-divides, Cracks-keeps, Cracks-remembers}
-use Rattle.crack_state.specs.State.{State, Reads, Divides, IsObeyed, AreWithin, IsOwned, IsIntact, column_keys, live_rows}
-use Rattle.crack_state.specs.Steps.{piece_start, piece_end, CracksAt}
+use Rattle.crack_state.specs.State.{State, Reads, Divides, IsObeyed, HaveKeysIn, IsOwned, IsIntact, column_keys, live_rows}
+use Rattle.crack_state.specs.Steps.{piece_start, piece_end}
 use Rattle.crack_state.specs.Merge.{IsInner, IsCracked, cuts, RefinesBy, RefinesAt, Refines}
 use Rattle.crack_state.proofs.OwnedLaws.{times-places}
 use Rattle.crack_state.proofs.CellLaws.{read_is_value, cell_within}
 use Rattle.crack_state.proofs.PieceLaws.{Divides-listed, piece_end-le, piece_end-before, piece_start-behind}
 
+-- crack: a bound divides its own piece at a place; the column's handles, and what is remembered of their keys, stand in this order
+abbrev pub cracked_at : Bound → ℕ → List Handle → List ℕ → State → State
+cracked_at bound place handles keys s = record s { column = handles; remembered = keys; marks = added (record { bound = bound; position = place }) s.marks }
+
+-- how a bound's own piece is cracked: its rows, divided by the bound, and no other
+pub record CracksAt (s u : State) (bound : Bound) : Type 0 where
+  pub place : ℕ
+  pub missing : HasBound s.marks bound.0 → ⊥
+  pub low : s.keys.low < bound.0
+  pub high : bound.0 < s.keys.high
+  pub cracks : Cracks s.cells bound.0 (piece_start s bound.0) (piece_end s bound.0) s.column s.remembered u.column u.remembered place
+  pub after : u ≡ cracked_at bound place u.column u.remembered s
+
 -- the key of what a handle reads is the partition's
-pub key_within : (keys : Range) (cells : List (Cell Row)) (h : Handle) → AreWithin keys cells → Reads cells h → IsIn keys (key_at cells h)
+pub key_within : (keys : Range) (cells : List (Cell Row)) (h : Handle) → HaveKeysIn keys cells → Reads cells h → IsIn keys (key_at cells h)
 key_within keys cells h within reads = by_value (read cells h) refl reads
   where
     by_value : (o : Option Row) → read cells h ≡ o → Reads cells h → IsIn keys (key_of_row o)
@@ -262,6 +275,10 @@ pending_out-refined IsNew s u refined = ap (λ (x : State). x.pending_out) refin
 
 -- what was refined by a range is cracked by it
 pub IsCracked-refined : (s u : State) (r : Range) → Refines s u r → IsCracked u r
-IsCracked-refined s u r refined = λ b is.
+IsCracked-refined s u r refined =
     let keys = keys-refined (IsInner s.keys r) s u refined in
-    refined.added b (is.0, omega (arith, ap (λ (x : Range). x.low) keys, is.1), omega (arith, ap (λ (x : Range). x.high) keys, is.2))
+    let low = ap (λ (x : Range). x.low) keys in
+    let high = ap (λ (x : Range). x.high) keys in (
+      λ above below. refined.added r.low (inl refl, omega arith, omega arith),
+      λ above below. refined.added r.high (inr refl, omega arith, omega arith),
+    )

@@ -9,12 +9,11 @@ use Rattle.crack_row.specs.declared.command.Policy.{Policy}
 use Rattle.crack_row.specs.declared.command.Policy.TheVariants.{Complete}
 use Rattle.crack_arena.specs.Arena.{Handle}
 use Rattle.crack_index.specs.declared.mark.Mark.{Mark}
-use Rattle.crack_index.specs.Marks.{next_mark, last_mark}
-use Rattle.crack_index.proofs.MarkLaws.{bounds_of-lowered_at}
+use Rattle.crack_index.specs.Marks.{next_mark, bounds_of}
 use Rattle.crack_state.specs.State.{State, Carried, IsIntact, greatest}
-use Rattle.crack_state.specs.Steps.{hand_key, piece_end, more, lifted, lifted_last, pushed_on, appended, returned, pulled_back, exchanged, SameButRoom, Pushes, bounds_above}
+use Rattle.crack_state.specs.Steps.{hand_key, piece_end, more, lifted, pushed_on, appended, SameButRoom, bounds_above}
 use Rattle.crack_state.specs.Merge.{Follows, Counts, IsExact, Tallies, MayEvict}
-use Rattle.crack_state.proofs.PieceLaws.{bounds_of-raise_next, bounds_of-lower_last, length-bounds}
+use Rattle.crack_state.proofs.PieceLaws.{bounds_of-raise_next, length-bounds}
 use Rattle.crack_state.proofs.StepLaws.{bounds_above-pushed_on}
 
 pub Follows-refl : (s : State) → Follows s s
@@ -35,23 +34,11 @@ Follows-room s t room = rw room.same (record { keys = refl; live = refl; bounds 
 pub Follows-lifted : (i : ℕ) (s : State) → Follows s (lifted i s).store
 Follows-lifted i s = record { keys = refl; live = refl; bounds = refl; cells = refl; freed = refl }
 
-pub Follows-lifted_last : (s : State) → Follows s (lifted_last s).store
-Follows-lifted_last s = record { keys = refl; live = refl; bounds = bounds_of-lowered_at (length s.column) s.marks; cells = refl; freed = refl }
-
 pub Follows-pushed_on : (c : Carried) → Follows c.store (pushed_on c).store
 Follows-pushed_on c = record { keys = refl; live = refl; bounds = bounds_of-raise_next (next_mark (hand_key c) c.store.marks) c.store.marks; cells = refl; freed = refl }
 
 pub Follows-appended : (c : Carried) → Follows c.store (appended c)
 Follows-appended c = record { keys = refl; live = refl; bounds = bounds_of-raise_next (next_mark (hand_key c) c.store.marks) c.store.marks; cells = refl; freed = refl }
-
-pub Follows-returned : (c : Carried) → Follows c.store (returned c)
-Follows-returned c = record { keys = refl; live = refl; bounds = refl; cells = refl; freed = refl }
-
-pub Follows-pulled_back : (c : Carried) → Follows c.store (pulled_back c).store
-Follows-pulled_back c = record { keys = refl; live = refl; bounds = bounds_of-lower_last (last_mark (hand_key c) c.store.marks) c.store.marks; cells = refl; freed = refl }
-
-pub Follows-exchanged : (place : ℕ) (c : Carried) → Follows c.store (exchanged place c).store
-Follows-exchanged place c = record { keys = refl; live = refl; bounds = refl; cells = refl; freed = refl }
 
 -- a store that follows another has as many marks
 pub length_marks-Follows : (s t : State) → Follows s t → length t.marks ≡ length s.marks
@@ -129,9 +116,44 @@ Tallies-room policy s t room = rw room.same (by_policy policy)
       evicts = refl;
     }
 
+-- what the pushes of a carry keep, from a hand that was lifted on: each brings the hand nearer to the column's end
+pub record Pushes (b c : Carried) : Type 0 where
+  pub keys : c.store.keys ≡ b.store.keys
+  pub cells : c.store.cells ≡ b.store.cells
+  pub bounds : bounds_of c.store.marks ≡ bounds_of b.store.marks
+  pub pending_in : c.store.pending_in ≡ b.store.pending_in
+  pub pending_out : c.store.pending_out ≡ b.store.pending_out
+  pub long : length c.store.column ≡ length b.store.column
+  pub room : c.store.column_room ≡ b.store.column_room
+  pub in_room : c.store.in_room ≡ b.store.in_room
+  pub put_in : c.store.tally.put_in ≡ b.store.tally.put_in
+  pub taken_out : c.store.tally.taken_out ≡ b.store.tally.taken_out
+  pub evicted : c.store.tally.evicted ≡ b.store.tally.evicted
+  pub pulled : c.store.tally.pulled ≡ b.store.tally.pulled
+  pub moved_rises : b.store.tally.moved ≤ c.store.tally.moved
+  pub moved : c.store.tally.moved + bounds_above (hand_key c) c.store.marks ≤ b.store.tally.moved + bounds_above (hand_key b) b.store.marks
+
 -- fewer bounds are above a key than there are pieces
 pub bounds_above-few : (key : ℕ) (marks : List Mark) → bounds_above key marks ≤ length marks
 bounds_above-few key marks = count_by-le-length (λ (m : Mark). nat_lt key m.bound.0) marks
+
+pub Pushes-refl : (c : Carried) → Pushes c c
+Pushes-refl c = record {
+  keys = refl;
+  cells = refl;
+  bounds = refl;
+  pending_in = refl;
+  pending_out = refl;
+  long = refl;
+  room = refl;
+  in_room = refl;
+  put_in = refl;
+  taken_out = refl;
+  evicted = refl;
+  pulled = refl;
+  moved_rises = omega arith;
+  moved = omega arith;
+}
 
 pub Pushes-pushed_on : (b c : Carried) → piece_end c.store (hand_key c) < length c.store.column → IsIntact c.store (c.hand ∷ []) → Pushes b c → Pushes b (pushed_on c)
 Pushes-pushed_on b c ends intact pushes =

@@ -1,24 +1,22 @@
 -- How many cells, rows and places an intact store has, and that its layout is one.
-use Rattle.std.proofs.Common.{◌≡◌, ◌≢◌, ℕ, zero, suc, ◌+◌, ◌-◌, ◌≤◌, Bool, true, false, ltb, List, [], ◌∷◌, ◌++◌, length, cond, Option, Some, None, IsSome, refl, sym, ap, ◌∙◌, inl, inr, arith, length-append, zero-add}
+use Rattle.std.proofs.Common.{◌≡◌, ◌≢◌, ℕ, suc, ◌+◌, ◌-◌, ◌≤◌, Bool, true, false, ltb, List, [], ◌∷◌, ◌++◌, length, cond, Option, Some, None, IsSome, refl, sym, ap, ◌∙◌, inl, inr, arith, length-append}
 use Rattle.std.specs.Prelude.{◌==◌}
-use Rattle.std.specs.List.{All, cons_option, filter_map}
+use Rattle.std.specs.List.{All, cons_option, filter_map, range_with_len, sum_by}
+use Rattle.std.proofs.lemmas.List.FromFn.{length-range_with_len}
 use Rattle.std.specs.List.Sorted.{IsPermutation}
 use Rattle.std.proofs.lemmas.List.{length-map}
 use Rattle.std.proofs.lemmas.List.Elements.{filter_map-append, All-head, All-tail}
 use Rattle.std.proofs.lemmas.List.Sorted.{length_permutation}
 use Rattle.std.proofs.lemmas.Bool.{cases_eq, eq-eqb, ne_eqb, true≢false}
-use Rattle.crack_row.specs.declared.Bound.{Bound}
 use Rattle.crack_row.specs.declared.Row.{Row}
 use Rattle.crack_row.specs.declared.layout.Layout.{Layout}
+use Rattle.crack_row.specs.declared.layout.PieceSize.{PieceSize}
 use Rattle.crack_row.specs.Layouts.{IsLayout, AreJoined}
 use Rattle.crack_arena.specs.Arena.{Handle, times, read, slots}
 use Rattle.crack_arena.proofs.Times.{times-nil, times-cons, times_one, times_other, times-append}
-use Rattle.crack_index.specs.Marks.{pieces_from}
-use Rattle.crack_index.proofs.MarkLaws.{AreJoined-pieces, sum_of_sizes}
-use Rattle.crack_arena.specs.Rows.{key_at}
-use Rattle.crack_state.specs.State.{State, places, Reads, IsOwned, IsIntact, live_rows, held}
+use Rattle.crack_state.specs.State.{State, places, Reads, IsOwned, IsIntact, live_rows, live_among}
 use Rattle.crack_state.proofs.OwnedLaws.{times-places}
-use Rattle.crack_state.proofs.LiveLaws.{live_rows-held, numbers, times-numbers, IsPermutation-filter_map_times}
+use Rattle.crack_state.proofs.LiveLaws.{live_rows-among, times-range, IsPermutation-filter_map_times}
 
 all_some : (ns : List ℕ) → filter_map (λ n. Some n) ns ≡ ns
 all_some [] = refl
@@ -30,16 +28,12 @@ length-times xs ys same =
     let moved : IsPermutation (filter_map (λ (n : ℕ). Some n) xs) (filter_map (λ (n : ℕ). Some n) ys) = IsPermutation-filter_map_times (λ n. Some n) xs ys same in
     sym (length_permutation xs ys (rw (all_some xs, all_some ys) at moved))
 
-length-numbers : (n m : ℕ) → length (numbers n m) ≡ m
-length-numbers n zero = refl
-length-numbers n (suc m) = ap suc (length-numbers (n + 1) m)
-
 -- each cell has one place: column, pending insertions, free list and hand have as many as there are cells
 pub cells-intact : (s : State) (hand : List Handle) → IsIntact s hand → length s.column + length s.pending_in + length s.free + length hand ≡ length s.cells
 cells-intact s hand intact =
     let slot : Handle → ℕ = λ h. h.slot in
-    let same = length-times (numbers 0 (length s.cells)) (places s hand) (λ n. times-numbers n 0 (length s.cells) (omega arith) ∙ sym (rw zero-add (intact.owned.once n))) in
-    omega (arith, same, length-numbers 0 (length s.cells), length-append (slots s.column ++ slots s.pending_in ++ s.free) (slots hand), length-append (slots s.column ++ slots s.pending_in) s.free, length-append (slots s.column) (slots s.pending_in), length-map s.column slot, length-map s.pending_in slot, length-map hand slot)
+    let same = length-times (range_with_len 0 (length s.cells)) (places s hand) (λ n. times-range n (length s.cells) ∙ sym (intact.owned.once n)) in
+    omega (arith, same, length-range_with_len 0 (length s.cells), length-append (slots s.column ++ slots s.pending_in ++ s.free) (slots hand), length-append (slots s.column ++ slots s.pending_in) s.free, length-append (slots s.column) (slots s.pending_in), length-map s.column slot, length-map s.pending_in slot, length-map hand slot)
 
 -- a number that is among the doomed
 abbrev if_doomed : List ℕ → ℕ → Option ℕ
@@ -68,16 +62,16 @@ times-some_doomed doomed n (x ∷ xs) some =
     ]
 
 -- of the handles' rows, each is live or doomed
-length-held : (s : State) (hs : List Handle) → All (Reads s.cells) hs → length (held s hs) + length (filter_map (if_doomed (slots s.pending_out)) (slots hs)) ≡ length hs
-length-held s [] reads = refl
-length-held s (h ∷ hs) reads =
-    let rest = length-held s hs (All-tail (Reads s.cells) h hs reads) in
+length-live_among : (s : State) (hs : List Handle) → All (Reads s.cells) hs → length (live_among s hs) + length (filter_map (if_doomed (slots s.pending_out)) (slots hs)) ≡ length hs
+length-live_among s [] reads = refl
+length-live_among s (h ∷ hs) reads =
+    let rest = length-live_among s hs (All-tail (Reads s.cells) h hs reads) in
     elim (cases_eq (times h.slot (slots s.pending_out)) 0) [
       | inl e ↦ rw (eq-eqb (times h.slot (slots s.pending_out)) 0 e) (by_value (read s.cells h) (All-head (Reads s.cells) h hs reads) rest)
       | inr ne ↦ rw (ne_eqb (times h.slot (slots s.pending_out)) 0 ne) (omega (arith, rest))
     ]
   where
-    by_value : (o : Option Row) → IsSome o → length (held s hs) + length (filter_map (if_doomed (slots s.pending_out)) (slots hs)) ≡ length hs → length (cons_option o (held s hs)) + length (filter_map (if_doomed (slots s.pending_out)) (slots hs)) ≡ suc (length hs)
+    by_value : (o : Option Row) → IsSome o → length (live_among s hs) + length (filter_map (if_doomed (slots s.pending_out)) (slots hs)) ≡ length hs → length (cons_option o (live_among s hs)) + length (filter_map (if_doomed (slots s.pending_out)) (slots hs)) ≡ suc (length hs)
     by_value None some rest = absurd (true≢false (sym some))
     by_value (Some r) some rest = omega (arith, rest)
 
@@ -112,39 +106,35 @@ pending_out-few s owned =
           let most = once-most s [] n owned in
           omega (arith, times-some_doomed doomed n (slots s.column) ne, times-places n s.column s.pending_in s.free [], most, owned.doomed_once n, times-append n (slots s.column) [], times-nil n, ne)
     ]) in
-    omega (arith, same, length-held s s.column owned.column_reads, length-map s.pending_out (λ (h : Handle). h.slot))
+    omega (arith, same, length-live_among s s.column owned.column_reads, length-map s.pending_out (λ (h : Handle). h.slot))
 
 -- each row that column, pending insertions and hand hold is live or doomed
 pub rows-intact : (s : State) (hand : List Handle) → IsIntact s hand → length (live_rows s) + length s.pending_out ≡ length s.column + length s.pending_in + length hand
 rows-intact s hand intact =
     let owned = intact.owned in
     let doomed = if_doomed (slots s.pending_out) in
-    let live : length (held s s.column ++ held s s.pending_in ++ held s hand) ≡ length (live_rows s) = length_permutation (live_rows s) (held s s.column ++ held s s.pending_in ++ held s hand) (live_rows-held s hand intact) in
-    let parts : filter_map doomed (slots s.column ++ slots s.pending_in ++ slots hand) ≡ filter_map doomed (slots s.column) ++ filter_map doomed (slots s.pending_in) ++ filter_map doomed (slots hand) =
+    let live : length (live_among s s.column ++ live_among s s.pending_in ++ live_among s hand) ≡ length (live_rows s) = length_permutation (live_rows s) (live_among s s.column ++ live_among s s.pending_in ++ live_among s hand) (live_rows-among s hand intact) in
+    let split : filter_map doomed (slots s.column ++ slots s.pending_in ++ slots hand) ≡ filter_map doomed (slots s.column) ++ filter_map doomed (slots s.pending_in) ++ filter_map doomed (slots hand) =
     rw (filter_map-append doomed (slots s.column ++ slots s.pending_in) (slots hand), filter_map-append doomed (slots s.column) (slots s.pending_in)) refl in
     omega (
       arith,
       live,
-      length-append (held s s.column ++ held s s.pending_in) (held s hand),
-      length-append (held s s.column) (held s s.pending_in),
+      length-append (live_among s s.column ++ live_among s s.pending_in) (live_among s hand),
+      length-append (live_among s s.column) (live_among s s.pending_in),
       length-doomed s hand owned,
-      ap length parts,
+      ap length split,
       length-append (filter_map doomed (slots s.column) ++ filter_map doomed (slots s.pending_in)) (filter_map doomed (slots hand)),
       length-append (filter_map doomed (slots s.column)) (filter_map doomed (slots s.pending_in)),
-      length-held s s.column owned.column_reads,
-      length-held s s.pending_in owned.pending_reads,
-      length-held s hand owned.hand_reads,
+      length-live_among s s.column owned.column_reads,
+      length-live_among s s.pending_in owned.pending_reads,
+      length-live_among s hand owned.hand_reads,
     )
 
--- the layout that an intact store tells meets the layout equations
-pub IsLayout-intact : (s : State) (low high : Bound) (layout : Layout) → low.0 ≡ s.keys.low → high.0 ≡ s.keys.high → layout.column ≡ length s.column → layout.pending_in ≡ length s.pending_in → layout.pending_out ≡ length s.pending_out → layout.cells ≡ length s.cells → layout.free ≡ length s.free → layout.rows ≡ layout.column - layout.pending_out + layout.pending_in → layout.pieces ≡ pieces_from low 0 s.marks high (length s.column) → IsIntact s [] → IsLayout s.keys layout
-IsLayout-intact s low high layout is_low is_high column pending_in pending_out cells free rows pieces intact =
-    let few : length s.pending_out ≤ length s.column = pending_out-few s intact.owned in
-    let total = sum_of_sizes low 0 s.marks high (length s.column) intact.rising (λ k d h. omega arith) (λ k d h. omega (arith, (intact.obeyed k d h).within, length-map s.column (key_at s.cells))) (omega arith) in
-    let joined : AreJoined low.0 high.0 layout.pieces = rw pieces (AreJoined-pieces low 0 s.marks high (length s.column)) in
-    record {
-      sizes = rw (pieces, column) (omega (arith, total));
-      cells = omega (arith, column, pending_in, free, cells, cells-intact s [] intact);
-      rows = omega (arith, rows, column, pending_out, few);
-      joined = rw (is_low, is_high) at joined;
-    }
+-- the layout that an intact store tells meets the layout equations, where its pieces do
+pub IsLayout-intact : (s : State) (layout : Layout) → layout.column ≡ length s.column → layout.pending_in ≡ length s.pending_in → layout.pending_out ≡ length s.pending_out → layout.cells ≡ length s.cells → layout.free ≡ length s.free → layout.rows ≡ layout.column - layout.pending_out + layout.pending_in → sum_by (λ (p : PieceSize). p.size) layout.pieces ≡ length s.column → AreJoined s.keys.low s.keys.high layout.pieces → IsIntact s [] → IsLayout s.keys layout
+IsLayout-intact s layout column pending_in pending_out cells free rows sizes joined intact = record {
+  sizes = omega arith;
+  cells = omega (arith, cells-intact s [] intact);
+  rows = omega (arith, pending_out-few s intact.owned);
+  joined = joined;
+}

@@ -10,5 +10,6 @@ pub mod MergeLaws
 pub mod ObeyedLaws
 pub mod OwnedLaws
 pub mod PieceLaws
+pub mod PullLaws
 pub mod SettledLaws
 pub mod StepLaws

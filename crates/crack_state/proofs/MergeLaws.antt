@@ -1,5 +1,5 @@
 -- When a merge has given what its policy promises.
-use Rattle.std.proofs.Common.{◌≡◌, ℕ, ◌<◌, ◌≤◌, Bool, true, false, List, [], ◌∷◌, refl, ap, inl, inr, arith}
+use Rattle.std.proofs.Common.{◌≡◌, ℕ, ◌≤◌, Bool, true, false, List, [], ◌∷◌, refl, ap, inl, inr, arith}
 use Rattle.std.specs.Prelude.{◌||◌}
 use Rattle.std.specs.List.{All, list_any}
 use Rattle.std.proofs.lemmas.Bool.{cases_lt, lt-ltb, le-leb, true≢false}
@@ -10,16 +10,18 @@ use Rattle.crack_row.specs.declared.command.Policy.TheVariants.{Complete}
 use Rattle.crack_arena.specs.Arena.{Cell, Handle}
 use Rattle.crack_arena.specs.Rows.{key_at}
 use Rattle.crack_state.specs.State.{State, IsIntact}
-use Rattle.crack_state.specs.Merge.{IsOutside, ReadsOutside, IsCracked, Follows, Merges, is_touched}
+use Rattle.crack_state.specs.Merge.{IsOutside, ReadsOutside, Stands, IsCracked, Follows, Merges, is_touched}
 use Rattle.crack_state.proofs.FollowLaws.{Follows-refl}
 use Rattle.crack_state.proofs.SettledLaws.{IsSettled-of}
 
+-- what follows a store has its bounds
+Stands-follows : (s t : State) (bound : ℕ) → Follows s t → Stands s bound → Stands t bound
+Stands-follows s t bound follows stands = λ low high.
+    rw follows.bounds (stands (omega (arith, ap (λ (x : Range). x.low) follows.keys)) (omega (arith, ap (λ (x : Range). x.high) follows.keys)))
+
 -- what follows a store that was cracked by a range is cracked by it
 pub IsCracked-follows : (s t : State) (r : Range) → Follows s t → IsCracked s r → IsCracked t r
-IsCracked-follows s t r follows cracked = λ b is.
-    let low : s.keys.low < b = omega (arith, ap (λ (x : Range). x.low) follows.keys, is.1) in
-    let high : b < s.keys.high = omega (arith, ap (λ (x : Range). x.high) follows.keys, is.2) in
-    rw follows.bounds (cracked b (is.0, low, high))
+IsCracked-follows s t r follows cracked = (Stands-follows s t r.low follows cracked.0, Stands-follows s t r.high follows cracked.1)
 
 neither : (a b : Bool) → (a || b) ≡ false → (a ≡ false) × (b ≡ false)
 neither true b e = absurd (true≢false e)
@@ -38,14 +40,14 @@ outside_of_not_in r key none = elim (cases_lt key r.low) [
 outside_all : (cells : List (Cell Row)) (r : Range) (hs : List Handle) → list_any (λ h. is_in r (key_at cells h)) hs ≡ false → All (ReadsOutside cells r) hs
 outside_all cells r [] none = All-nil (ReadsOutside cells r)
 outside_all cells r (h ∷ hs) none =
-    let parts = neither (is_in r (key_at cells h)) (list_any (λ g. is_in r (key_at cells g)) hs) none in
-    All-cons (ReadsOutside cells r) h hs (outside_of_not_in r (key_at cells h) parts.0) (outside_all cells r hs parts.1)
+    let both = neither (is_in r (key_at cells h)) (list_any (λ g. is_in r (key_at cells g)) hs) none in
+    All-cons (ReadsOutside cells r) h hs (outside_of_not_in r (key_at cells h) both.0) (outside_all cells r hs both.1)
 
 -- where no pending row has its key in the range, each has it outside
 pub outside-untouched : (s : State) (r : Range) → is_touched s r ≡ false → All (ReadsOutside s.cells r) s.pending_in × All (ReadsOutside s.cells r) s.pending_out
 outside-untouched s r untouched =
-    let parts = neither (list_any (λ h. is_in r (key_at s.cells h)) s.pending_in) (list_any (λ h. is_in r (key_at s.cells h)) s.pending_out) untouched in
-    (outside_all s.cells r s.pending_in parts.0, outside_all s.cells r s.pending_out parts.1)
+    let both = neither (list_any (λ h. is_in r (key_at s.cells h)) s.pending_in) (list_any (λ h. is_in r (key_at s.cells h)) s.pending_out) untouched in
+    (outside_all s.cells r s.pending_in both.0, outside_all s.cells r s.pending_out both.1)
 
 -- complete: no pending row is in the range, and nothing was done
 pub Merges-untouched : (s : State) (r : Range) → r.low ≤ r.high → s.keys.low ≤ r.low → r.high ≤ s.keys.high → IsCracked s r → is_touched s r ≡ false → IsIntact s [] → Merges Complete s s r

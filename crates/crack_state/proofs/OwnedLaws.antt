@@ -1,16 +1,13 @@
 -- Where cells stand: counted by number, as handles go from place to place.
-use Rattle.std.proofs.Common.{◌≡◌, ◌≢◌, ℕ, suc, ◌+◌, ◌-◌, ◌<◌, List, [], ◌∷◌, ◌++◌, length, get_or, set, take, drop, add-one, true, refl, sym, ap, ◌∙◌, inl, inr, arith}
+use Rattle.std.proofs.Common.{◌≡◌, ◌≢◌, ℕ, suc, ◌+◌, ◌<◌, List, [], ◌∷◌, ◌++◌, length, get_or, set, take, drop, refl, sym, ap, ◌∙◌, inl, inr, arith}
 use Rattle.std.specs.List.{All, remove}
-use Rattle.std.specs.Prelude.{◌==◌}
-use Rattle.std.proofs.lemmas.List.Sums.{passes_at_first}
-use Rattle.std.proofs.lemmas.List.{map-set, map-append, length-map, get_or-map, take-append-drop, drop_more, take_all, take_more}
-use Rattle.std.proofs.lemmas.Bool.{cases_eq, cases_lt, ne_eqb, eq-eqb, eqb-true, lt-ltb, le-ltb}
+use Rattle.std.proofs.lemmas.List.{map-set, length-map, get_or-map}
+use Rattle.std.proofs.lemmas.Bool.{cases_lt, lt-ltb, le-ltb}
 use Rattle.std.proofs.lemmas.List.Elements.{All-set, All-push, All-cons, All-nil, All-get_or, All-head, All-append, All-take, All-drop}
 use Rattle.crack_row.specs.declared.Row.{Row}
 use Rattle.crack_arena.specs.Arena.{Cell, Handle, times, slots}
-use Rattle.crack_arena.proofs.Times.{times-nil, times-cons, times_one, times_other, times_head, times_apart, times-append, times-set}
+use Rattle.crack_arena.proofs.Times.{times-nil, times_head, times_apart, times-append, times-set, times-map-append, times-map-remove}
 use Rattle.crack_state.specs.State.{places_in, Reads, IsOwned}
-use Rattle.crack_state.specs.Steps.{place_in}
 
 -- a handle put at a place of a list, and the one that stood there
 pub times-exchange : (n : ℕ) (hs : List Handle) (place : ℕ) (hand met : Handle) → place < length hs → met ≡ get_or hs place met → times n (slots (set hs place hand)) + times n (slots (met ∷ [])) ≡ times n (slots hs) + times n (slots (hand ∷ []))
@@ -19,18 +16,9 @@ times-exchange n hs place hand met inside found =
     let counted = times-set n (slots hs) place hand.slot met.slot (omega (arith, length-map hs (λ (h : Handle). h.slot))) in
     rw (map-set (λ (h : Handle). h.slot) hs place hand) (rw read at counted)
 
--- a handle removed from a list
-pub times-removed : (n : ℕ) (list : List Handle) (i : ℕ) (hand : Handle) → i < length list → hand ≡ get_or list i hand → times n (slots list) ≡ times n (slots (remove list i)) + times n (slots (hand ∷ []))
-times-removed n list i hand inside found =
-    let slot : Handle → ℕ = λ h. h.slot in
-    let whole : list ≡ take i list ++ (hand ∷ drop (i + 1) list) = sym (take-append-drop i list) ∙ ap (λ x. take i list ++ x) (drop_more list i hand inside ∙ ap (λ h. h ∷ drop (i + 1) list) (sym found)) in
-    let before : times n (slots list) ≡ times n (slots (take i list)) + times n (hand.slot ∷ slots (drop (i + 1) list)) = ap (λ x. times n (slots x)) whole ∙ ap (times n) (map-append slot (take i list) (hand ∷ drop (i + 1) list)) ∙ times-append n (slots (take i list)) (slots (hand ∷ drop (i + 1) list)) in
-    let after : times n (slots (remove list i)) ≡ times n (slots (take i list)) + times n (slots (drop (i + 1) list)) = rw (add-one) (ap (times n) (map-append slot (take i list) (drop (suc i) list)) ∙ times-append n (slots (take i list)) (slots (drop (suc i) list))) in
-    omega (arith, before, after, times-cons n hand.slot (slots (drop (i + 1) list)), times_one n hand.slot)
-
--- a handle behind a list
-pub times-pushed : (n : ℕ) (hs : List Handle) (h : Handle) → times n (slots (hs ++ h ∷ [])) ≡ times n (slots hs) + times n (slots (h ∷ []))
-times-pushed n hs h = rw (map-append (λ (x : Handle). x.slot) hs (h ∷ [])) (times-append n (slots hs) (slots (h ∷ [])))
+-- a handle taken from a list
+pub times-taken : (n : ℕ) (hs : List Handle) (i : ℕ) (hand : Handle) → i < length hs → hand ≡ get_or hs i hand → times n (slots (remove hs i)) + times n (slots (hand ∷ [])) ≡ times n (slots hs)
+times-taken n hs i hand inside found = rw (← found) at (times-map-remove n (λ (h : Handle). h.slot) hs i hand inside)
 
 pub All-removed : {X : Type 0} (P : X → Type 0) (xs : List X) (i : ℕ) → All P xs → All P (remove xs i)
 All-removed P xs i all = All-append P (take i xs) (drop (suc i) xs) (All-take P i xs all) (All-drop P (suc i) xs all)
@@ -55,75 +43,27 @@ IsOwned-exchange cells free column pending_in pending_out hand met place inside 
 -- the hand goes behind the last row
 pub IsOwned-appended : (cells : List (Cell Row)) (free : List ℕ) (column pending_in pending_out : List Handle) (hand : Handle) → IsOwned cells free column pending_in pending_out (hand ∷ []) → IsOwned cells free (column ++ hand ∷ []) pending_in pending_out []
 IsOwned-appended cells free column pending_in pending_out hand owned =
+    let slot : Handle → ℕ = λ h. h.slot in
     record {
-      once = λ n. omega (arith, owned.once n, times-places n column pending_in free (hand ∷ []), times-places n (column ++ hand ∷ []) pending_in free [], times-pushed n column hand, times-nil n);
+      once = λ n. omega (arith, owned.once n, times-places n column pending_in free (hand ∷ []), times-places n (column ++ hand ∷ []) pending_in free [], times-map-append n slot column (hand ∷ []), times-nil n);
       column_reads = All-push (Reads cells) column hand owned.column_reads (All-head (Reads cells) hand [] owned.hand_reads);
       pending_reads = owned.pending_reads;
       hand_reads = All-nil (Reads cells);
       doomed_reads = owned.doomed_reads;
-      doomed_once = λ n. omega (arith, owned.doomed_once n, times-append n (slots column) (slots (hand ∷ [])), times-append n (slots (column ++ hand ∷ [])) [], times-pushed n column hand, times-nil n);
-    }
-
--- the hand goes behind the last pending insertion
-pub IsOwned-returned : (cells : List (Cell Row)) (free : List ℕ) (column pending_in pending_out : List Handle) (hand : Handle) → times hand.slot (slots pending_out) ≡ 0 → IsOwned cells free column pending_in pending_out (hand ∷ []) → IsOwned cells free column (pending_in ++ hand ∷ []) pending_out []
-IsOwned-returned cells free column pending_in pending_out hand kept owned =
-    record {
-      once = λ n. omega (arith, owned.once n, times-places n column pending_in free (hand ∷ []), times-places n column (pending_in ++ hand ∷ []) free [], times-pushed n pending_in hand, times-nil n);
-      column_reads = owned.column_reads;
-      pending_reads = All-push (Reads cells) pending_in hand owned.pending_reads (All-head (Reads cells) hand [] owned.hand_reads);
-      hand_reads = All-nil (Reads cells);
-      doomed_reads = owned.doomed_reads;
-      doomed_once = λ n. elim (cases_eq hand.slot n) [
-        | inl e ↦ rw (← e) (omega (arith, kept))
-        | inr ne ↦ omega (arith, owned.doomed_once n, times-append n (slots column) (slots (hand ∷ [])), times-append n (slots column) [], times-nil n, times_other n hand.slot ne)
-      ];
+      doomed_once = λ n. omega (arith, owned.doomed_once n, times-append n (slots column) (slots (hand ∷ [])), times-append n (slots (column ++ hand ∷ [])) [], times-map-append n slot column (hand ∷ []), times-nil n);
     }
 
 -- a pending insertion is taken into the hand
 pub IsOwned-lifted : (cells : List (Cell Row)) (free : List ℕ) (column pending_in pending_out : List Handle) (i : ℕ) (hand : Handle) → i < length pending_in → hand ≡ get_or pending_in i hand → IsOwned cells free column pending_in pending_out [] → IsOwned cells free column (remove pending_in i) pending_out (hand ∷ [])
 IsOwned-lifted cells free column pending_in pending_out i hand inside found owned =
     record {
-      once = λ n. omega (arith, owned.once n, times-places n column pending_in free [], times-places n column (remove pending_in i) free (hand ∷ []), times-removed n pending_in i hand inside found, times-nil n);
+      once = λ n. omega (arith, owned.once n, times-places n column pending_in free [], times-places n column (remove pending_in i) free (hand ∷ []), times-taken n pending_in i hand inside found, times-nil n);
       column_reads = owned.column_reads;
       pending_reads = All-removed (Reads cells) pending_in i owned.pending_reads;
       hand_reads = All-cons (Reads cells) hand [] (rw found (All-get_or (Reads cells) pending_in i hand inside owned.pending_reads)) (All-nil (Reads cells));
       doomed_reads = owned.doomed_reads;
       doomed_once = λ n. omega (arith, owned.doomed_once n, times-append n (slots column) (slots (hand ∷ [])), times-append n (slots column) [], times-nil n);
     }
-
--- the column's last handle is taken into the hand
-pub IsOwned-lifted_last : (cells : List (Cell Row)) (free : List ℕ) (column pending_in pending_out : List Handle) (hand : Handle) → 0 < length column → hand ≡ get_or column (length column - 1) hand → IsOwned cells free column pending_in pending_out [] → IsOwned cells free (take (length column - 1) column) pending_in pending_out (hand ∷ [])
-IsOwned-lifted_last cells free column pending_in pending_out hand some found owned =
-    let slot : Handle → ℕ = λ x. x.slot in
-    let shorter = take (length column - 1) column in
-    let next : length column - 1 + 1 ≡ length column = omega arith in
-    let split : column ≡ shorter ++ hand ∷ [] =
-    sym (take_all (length column) column (omega arith)) ∙ sym (ap (λ n. take n column) next) ∙ take_more column (length column - 1) hand (omega arith) ∙ ap (λ x. shorter ++ x ∷ []) (sym found) in
-    let counts : (n : ℕ) → times n (slots column) ≡ times n (slots shorter) + times n (slots (hand ∷ [])) = λ n. ap (λ hs. times n (slots hs)) split ∙ times-pushed n shorter hand in
-    record {
-      once = λ n. omega (arith, owned.once n, times-places n column pending_in free [], times-places n shorter pending_in free (hand ∷ []), counts n, times-nil n);
-      column_reads = All-take (Reads cells) (length column - 1) column owned.column_reads;
-      pending_reads = owned.pending_reads;
-      hand_reads = All-cons (Reads cells) hand [] (rw found (All-get_or (Reads cells) column (length column - 1) hand (omega arith) owned.column_reads)) (All-nil (Reads cells));
-      doomed_reads = owned.doomed_reads;
-      doomed_once = λ n. omega (arith, owned.doomed_once n, times-append n (slots column) [], times-append n (slots shorter) (slots (hand ∷ [])), counts n, times-nil n);
-    }
-
--- a slot that is in the list has a place there
-pub place_in-within : (hs : List Handle) (slot : ℕ) → 0 < times slot (slots hs) → place_in hs slot < length hs
-place_in-within [] slot some = absurd (omega (arith, times-nil slot))
-place_in-within (h ∷ hs) slot some = elim (cases_eq h.slot slot) [
-  | inl e ↦ rw (eq-eqb h.slot slot e) (omega arith)
-  | inr ne ↦
-      let rest = place_in-within hs slot (omega (arith, times-cons slot h.slot (slots hs), times_one slot h.slot, times_other slot h.slot ne)) in
-      rw (ne_eqb h.slot slot ne) (omega (arith, rest))
-]
-
--- what stands there is of that slot
-pub place_in-found : (hs : List Handle) (slot : ℕ) (h : Handle) → place_in hs slot < length hs → h ≡ get_or hs (place_in hs slot) h → h.slot ≡ slot
-place_in-found hs slot h within found =
-    let passes : (get_or hs (place_in hs slot) h).slot == slot ≡ true = passes_at_first (λ (x : Handle). x.slot == slot) hs h within in
-    eqb-true h.slot slot (rw (← found) at passes)
 
 -- a slot that isn't in the list is none of its handles'
 pub apart_from_times : (hs : List Handle) (slot : ℕ) → times slot (slots hs) ≡ 0 → All (λ (h : Handle). h.slot ≢ slot) hs

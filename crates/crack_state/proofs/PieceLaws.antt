@@ -8,11 +8,11 @@ use Rattle.std.proofs.lemmas.List.Sums.{sum_by-cons}
 use Rattle.std.proofs.lemmas.List.Elements.{All-map}
 use Rattle.crack_row.specs.Ranges.{Range}
 use Rattle.crack_index.specs.declared.mark.Mark.{Mark}
-use Rattle.crack_index.specs.Marks.{Rising, raised, lowered, lowered_at, next_mark, last_mark, start_of, end_of, bounds_of}
-use Rattle.crack_index.proofs.MarkLaws.{next_mark-is, next_mark-none, last_mark-is, last_mark-none, bounds_of-raised, bounds_of-lowered, Rising-raised, Rising-lowered}
+use Rattle.crack_index.specs.Marks.{Rising, raised, next_mark, last_mark, start_of, end_of, bounds_of}
+use Rattle.crack_index.proofs.MarkLaws.{next_mark-is, next_mark-none, last_mark-is, last_mark-none, bounds_of-raised, Rising-raised}
 use Rattle.crack_arena.specs.Rows.{key_at}
 use Rattle.crack_state.specs.State.{State, Divides, IsObeyed, AreInside, column_keys}
-use Rattle.crack_state.specs.Steps.{piece_start, piece_end, raise_next, lower_last, bounds_above}
+use Rattle.crack_state.specs.Steps.{piece_start, piece_end, raise_next, bounds_above}
 use Rattle.crack_state.proofs.ObeyedLaws.{Divides-order}
 
 -- a mark that is listed divides the keys
@@ -23,10 +23,6 @@ pub bounds_of-raise_next : (o : Option Mark) (ms : List Mark) → bounds_of (rai
 bounds_of-raise_next None ms = refl
 bounds_of-raise_next (Some m) ms = bounds_of-raised m.bound.0 m.position ms
 
-pub bounds_of-lower_last : (o : Option Mark) (ms : List Mark) → bounds_of (lower_last o ms) ≡ bounds_of ms
-bounds_of-lower_last None ms = refl
-bounds_of-lower_last (Some m) ms = bounds_of-lowered m.bound.0 m.position ms
-
 -- marks with the same bounds are as many
 pub length-bounds : (ms ns : List Mark) → bounds_of ms ≡ bounds_of ns → length ms ≡ length ns
 length-bounds ms ns same = sym (length-map ms (λ (m : Mark). m.bound.0)) ∙ ap length same ∙ length-map ns (λ (m : Mark). m.bound.0)
@@ -35,20 +31,9 @@ pub Rising-raise_next : (o : Option Mark) (ms : List Mark) → Rising ms → Ris
 Rising-raise_next None ms rising = rising
 Rising-raise_next (Some m) ms rising = Rising-raised m.bound.0 m.position ms rising
 
-pub Rising-lower_last : (o : Option Mark) (ms : List Mark) → Rising ms → Rising (lower_last o ms)
-Rising-lower_last None ms rising = rising
-Rising-lower_last (Some m) ms rising = Rising-lowered m.bound.0 m.position ms rising
-
 pub AreInside-raise_next : (keys : Range) (o : Option Mark) (ms : List Mark) → AreInside keys ms → AreInside keys (raise_next o ms)
 AreInside-raise_next keys None ms inside = inside
 AreInside-raise_next keys (Some m) ms inside = All-map (λ (x : Mark). (keys.low < x.bound.0) × (x.bound.0 < keys.high)) (raised m.bound.0 m.position) ms (λ k d h. inside k d h)
-
-pub AreInside-lower_last : (keys : Range) (o : Option Mark) (ms : List Mark) → AreInside keys ms → AreInside keys (lower_last o ms)
-AreInside-lower_last keys None ms inside = inside
-AreInside-lower_last keys (Some m) ms inside = All-map (λ (x : Mark). (keys.low < x.bound.0) × (x.bound.0 < keys.high)) (lowered m.bound.0 m.position) ms (λ k d h. inside k d h)
-
-pub AreInside-lowered_at : (keys : Range) (place : ℕ) (ms : List Mark) → AreInside keys ms → AreInside keys (map (lowered_at place) ms)
-AreInside-lowered_at keys place ms inside = All-map (λ (x : Mark). (keys.low < x.bound.0) × (x.bound.0 < keys.high)) (lowered_at place) ms (λ k d h. inside k d h)
 
 -- where a piece ends is a place of the column, or its end
 pub piece_end-le : (s : State) (key : ℕ) → Rising s.marks → IsObeyed s.marks (column_keys s) → piece_end s key ≤ length s.column

@@ -1,33 +1,32 @@
 -- When a range is settled, and what its stretch of the column then answers.
-use Rattle.std.proofs.Common.{◌≡◌, ℕ, suc, ◌+◌, ◌-◌, ◌<◌, ◌≤◌, Bool, true, false, leb, ltb, List, [], ◌∷◌, ◌++◌, length, get_or, take, drop, cond, Option, Some, None, IsSome, refl, sym, ap, ◌∙◌, inl, inr, arith, zero-add}
+use Rattle.std.proofs.Common.{◌≡◌, ℕ, suc, ◌+◌, ◌-◌, ◌<◌, ◌≤◌, Bool, true, false, leb, ltb, List, [], ◌∷◌, ◌++◌, length, get_or, take, drop, cond, Option, Some, None, IsSome, refl, sym, ap, ◌∙◌, inl, inr, arith}
 use Rattle.std.specs.Prelude.{◌==◌}
-use Rattle.std.specs.List.{All, cons_option, filter_map, filter, between, count_by}
+use Rattle.std.specs.List.{All, cons_option, filter_map, filter, between, count_by, range_with_len}
 use Rattle.std.specs.List.Sorted.{IsPermutation}
-use Rattle.std.proofs.lemmas.List.{append-nil, map-append, length-map, get_or-map, get_or-take, get_or-drop, length-take-le, length-drop, get_or_default}
+use Rattle.std.proofs.lemmas.List.{append-nil, map-append, length-map, get_or-map, get_or-take, get_or-drop, length-take-le, length-drop}
 use Rattle.std.proofs.lemmas.List.Elements.{filter_map-append, All-head, All-tail}
 use Rattle.std.proofs.lemmas.List.Edits.{split_between, get_or-between, length-between}
 use Rattle.std.proofs.lemmas.List.Sorted.{length_permutation, sum_by-IsPermutation}
 use Rattle.std.proofs.lemmas.List.Sums.{length-filter}
-use Rattle.std.proofs.lemmas.Bool.{cases_lt, lt-ltb, le-ltb, le-leb, lt-leb, true≢false, and_left, and_right}
+use Rattle.std.proofs.lemmas.Bool.{cases_eq, cases_lt, lt-ltb, le-ltb, le-leb, lt-leb, true≢false, and_left, and_right}
 use Rattle.crack_row.specs.Ranges.{Range, in_range}
 use Rattle.crack_row.specs.declared.Row.{Row}
 use Rattle.crack_arena.specs.Arena.{Cell, Handle, times, read, cell_at, slots}
-use Rattle.crack_index.specs.Marks.{HasBound, place_of}
+use Rattle.crack_arena.proofs.Times.{times-nil, times-cons, times_one, times_other}
+use Rattle.crack_index.specs.Marks.{place_of}
 use Rattle.crack_index.proofs.MarkLaws.{HasBound-contains, place_of-mark}
 use Rattle.crack_arena.specs.Rows.{key_of_row, key_at}
 use Rattle.crack_column.specs.Column.{IsDividedAt}
 use Rattle.crack_column.proofs.Divisions.{IsDividedAt-end, IsDividedAt-order}
-use Rattle.crack_state.specs.State.{State, places, Reads, IsOwned, IsIntact, column_keys, live_rows}
-use Rattle.crack_state.specs.Steps.{place_in}
-use Rattle.crack_state.specs.Merge.{IsOutside, ReadsOutside, IsCracked, edge, stretch, IsSettled}
-use Rattle.crack_state.proofs.OwnedLaws.{place_in-within, place_in-found}
+use Rattle.crack_state.specs.State.{State, places, Reads, IsOwned, IsIntact, column_keys, live_at, live_rows}
+use Rattle.crack_state.specs.Merge.{IsOutside, ReadsOutside, Stands, IsCracked, edge, stretch, IsSettled}
 use Rattle.crack_state.proofs.CellLaws.{read_is_value}
-use Rattle.crack_state.proofs.LiveLaws.{live_at, live_value-none, numbers, times-numbers, live_from-numbers, IsPermutation-filter_map_times}
+use Rattle.crack_state.proofs.LiveLaws.{none_either, IsPermutation-places}
 use Rattle.crack_state.proofs.CrackLaws.{column_keys-within}
 use Rattle.crack_state.proofs.PieceLaws.{Divides-listed}
 
 -- a bound that stands, or is an end of the partition, divides the column at its edge
-pub edge-divides : (s : State) (hand : List Handle) (bound : ℕ) → IsIntact s hand → s.keys.low ≤ bound → bound ≤ s.keys.high → (s.keys.low < bound → bound < s.keys.high → HasBound s.marks bound) → IsDividedAt bound (column_keys s) (edge s bound)
+pub edge-divides : (s : State) (hand : List Handle) (bound : ℕ) → IsIntact s hand → s.keys.low ≤ bound → bound ≤ s.keys.high → Stands s bound → IsDividedAt bound (column_keys s) (edge s bound)
 edge-divides s hand bound intact above below stands =
     let all = column_keys-within s hand intact in
     elim (cases_lt s.keys.low bound) [
@@ -60,10 +59,10 @@ filter-filter_map test g (n ∷ ns) = rw (← filter-filter_map test g ns) (by_v
     by_value None rs = refl
     by_value (Some r) rs = by_test (test r) r (filter test rs)
 
-filter-live_rows : (test : Row → Bool) (s : State) (hand : List Handle) → IsOwned s.cells s.free s.column s.pending_in s.pending_out hand → IsPermutation (filter test (live_rows s)) (filter_map (λ n. kept_by test (live_at s n)) (places s hand))
+filter-live_rows : (test : Row → Bool) (s : State) (hand : List Handle) → IsOwned s.cells s.free s.column s.pending_in s.pending_out hand → IsPermutation (filter test (live_rows s)) (filter_map (λ n. kept_by test (live_at s.cells (slots s.pending_out) n)) (places s hand))
 filter-live_rows test s hand owned =
-    let whole : live_rows s ≡ filter_map (live_at s) (numbers 0 (length s.cells)) = live_from-numbers (slots s.pending_out) (live_at s) 0 s.cells (λ k h. rw zero-add refl) in
-    rw (whole, filter-filter_map test (live_at s) (numbers 0 (length s.cells))) (IsPermutation-filter_map_times (λ n. kept_by test (live_at s n)) (numbers 0 (length s.cells)) (places s hand) (λ n. times-numbers n 0 (length s.cells) (omega arith) ∙ rw zero-add (sym (owned.once n))))
+    let live = live_at s.cells (slots s.pending_out) in
+    rw (filter-filter_map test live (range_with_len 0 (length s.cells))) (IsPermutation-places (λ n. kept_by test (live n)) s hand owned)
 
 none_kept : (g : ℕ → Option Row) (hs : List Handle) → All (λ (h : Handle). g h.slot ≡ None) hs → filter_map g (slots hs) ≡ []
 none_kept g [] none = refl
@@ -84,7 +83,7 @@ outside_false r row out = elim out [
   | inr l ↦ and_right (leb r.low row.key.0) (ltb row.key.0 r.high) (le-ltb row.key.0 r.high l)
 ]
 
-kept_outside : (r : Range) (s : State) (h : Handle) → Reads s.cells h → ReadsOutside s.cells r h → kept_by (in_range r) (live_at s h.slot) ≡ None
+kept_outside : (r : Range) (s : State) (h : Handle) → Reads s.cells h → ReadsOutside s.cells r h → kept_by (in_range r) (live_at s.cells (slots s.pending_out) h.slot) ≡ None
 kept_outside r s h reads out =
     let value = read_is_value s.cells h reads in
     by_value (read s.cells h) (times h.slot (slots s.pending_out) == 0) (sym value) out
@@ -94,7 +93,7 @@ kept_outside r s h reads out =
     by_value (Some row) true is out = rw (is, outside_false r row out) refl
     by_value o false is out = refl
 
-kept_inside : (r : Range) (s : State) (h : Handle) → Reads s.cells h → r.low ≤ key_at s.cells h → key_at s.cells h < r.high → times h.slot (slots s.pending_out) ≡ 0 → kept_by (in_range r) (live_at s h.slot) ≡ read s.cells h
+kept_inside : (r : Range) (s : State) (h : Handle) → Reads s.cells h → r.low ≤ key_at s.cells h → key_at s.cells h < r.high → times h.slot (slots s.pending_out) ≡ 0 → kept_by (in_range r) (live_at s.cells (slots s.pending_out) h.slot) ≡ read s.cells h
 kept_inside r s h reads above below kept =
     let value = read_is_value s.cells h reads in
     rw (kept) (by_value (read s.cells h) (sym value) above below)
@@ -103,28 +102,27 @@ kept_inside r s h reads above below kept =
     by_value None is above below = rw is refl
     by_value (Some row) is above below = rw (is, le-leb r.low row.key.0 above, lt-ltb row.key.0 r.high below) refl
 
--- a row of the range isn't doomed, where no doomed row is in the range
-not_doomed : (r : Range) (s : State) (h : Handle) → Reads s.cells h → r.low ≤ key_at s.cells h → key_at s.cells h < r.high → All (Reads s.cells) s.pending_out → All (ReadsOutside s.cells r) s.pending_out → times h.slot (slots s.pending_out) ≡ 0
-not_doomed r s h reads above below all out = elim (cases_lt 0 (times h.slot (slots s.pending_out))) [
-  | inl some ↦
-      let place = place_in-within s.pending_out h.slot some in
-      let met = get_or s.pending_out (place_in s.pending_out h.slot) h in
-      let same : met.slot ≡ h.slot = place_in-found s.pending_out h.slot met place (get_or_default s.pending_out (place_in s.pending_out h.slot) h met place) in
-      let value = read_is_value s.cells met (all (place_in s.pending_out h.slot) h place) in
-      let mine = read_is_value s.cells h reads in
-      let keys : key_at s.cells met ≡ key_at s.cells h = ap key_of_row (value ∙ ap (λ (n : ℕ). (cell_at s.cells n).value) same ∙ sym mine) in
-      elim (out (place_in s.pending_out h.slot) h place) [ inl l ↦ absurd (omega arith) | inr l ↦ absurd (omega arith) ]
-  | inr none ↦ omega arith
+-- a row of the range isn't one of these, where they are outside it
+not_among : (cells : List (Cell Row)) (r : Range) (h : Handle) → Reads cells h → r.low ≤ key_at cells h → key_at cells h < r.high → (hs : List Handle) → All (Reads cells) hs → All (ReadsOutside cells r) hs → times h.slot (slots hs) ≡ 0
+not_among cells r h reads above below [] all out = times-nil h.slot
+not_among cells r h reads above below (g ∷ gs) all out = elim (cases_eq g.slot h.slot) [
+  | inl e ↦
+      let theirs = read_is_value cells g (All-head (Reads cells) g gs all) in
+      let keys : key_at cells g ≡ key_at cells h = ap key_of_row (theirs ∙ ap (λ (n : ℕ). (cell_at cells n).value) e ∙ sym (read_is_value cells h reads)) in
+      elim (All-head (ReadsOutside cells r) g gs out) [ inl l ↦ absurd (omega arith) | inr l ↦ absurd (omega arith) ]
+  | inr ne ↦
+      let rest = not_among cells r h reads above below gs (All-tail (Reads cells) g gs all) (All-tail (ReadsOutside cells r) g gs out) in
+      omega (arith, times-cons h.slot g.slot (slots gs), times_one h.slot g.slot, times_other h.slot g.slot ne, rest)
 ]
 
 -- what divides the keys divides the handles
-record Parts (s : State) (bound place : ℕ) : Type 0 where
+record DividesRows (s : State) (bound place : ℕ) : Type 0 where
   within : place ≤ length s.column
   below : (k : ℕ) (d : Handle) → k < place → key_at s.cells (get_or s.column k d) < bound
   above : (k : ℕ) (d : Handle) → place ≤ k → k < length s.column → bound ≤ key_at s.cells (get_or s.column k d)
 
-parts : (s : State) (bound place : ℕ) → IsDividedAt bound (column_keys s) place → Parts s bound place
-parts s bound place divides =
+divides_rows : (s : State) (bound place : ℕ) → IsDividedAt bound (column_keys s) place → DividesRows s bound place
+divides_rows s bound place divides =
     let len = length-map s.column (key_at s.cells) in
     record {
       within = omega (arith, divides.within);
@@ -133,10 +131,10 @@ parts s bound place divides =
     }
 
 -- the column between two places holds just the live rows of the range
-holds_between : (s : State) (r : Range) (from to : ℕ) → from ≤ to → Parts s r.low from → Parts s r.high to → All (ReadsOutside s.cells r) s.pending_in → All (ReadsOutside s.cells r) s.pending_out → IsIntact s [] → IsPermutation (filter (in_range r) (live_rows s)) (filter_map (read s.cells) (between from to s.column))
+holds_between : (s : State) (r : Range) (from to : ℕ) → from ≤ to → DividesRows s r.low from → DividesRows s r.high to → All (ReadsOutside s.cells r) s.pending_in → All (ReadsOutside s.cells r) s.pending_out → IsIntact s [] → IsPermutation (filter (in_range r) (live_rows s)) (filter_map (read s.cells) (between from to s.column))
 holds_between s r from to order low high pending doomed intact =
     let owned = intact.owned in
-    let g : ℕ → Option Row = λ n. kept_by (in_range r) (live_at s n) in
+    let g : ℕ → Option Row = λ n. kept_by (in_range r) (live_at s.cells (slots s.pending_out) n) in
     let front = take from s.column in
     let mid = between from to s.column in
     let back = drop to s.column in
@@ -152,13 +150,13 @@ holds_between s r from to order low high pending doomed intact =
     let reads = owned.column_reads (from + k) d (omega (arith, high.within)) in
     let above = low.above (from + k) d (omega arith) (omega (arith, high.within)) in
     let under = high.below (from + k) d below in
-    rw at (kept_inside r s (get_or s.column (from + k) d) reads above under (not_doomed r s (get_or s.column (from + k) d) reads above under owned.doomed_reads doomed))) in
+    rw at (kept_inside r s (get_or s.column (from + k) d) reads above under (not_among s.cells r (get_or s.column (from + k) d) reads above under s.pending_out owned.doomed_reads doomed))) in
     let back_none : filter_map g (slots back) ≡ [] = none_kept g back (λ k d h.
     let len : length back ≡ length s.column - to = length-drop to s.column in
     let at : get_or back k d ≡ get_or s.column (to + k) d = get_or-drop to s.column k d in
     rw at (kept_outside r s (get_or s.column (to + k) d) (owned.column_reads (to + k) d (omega arith)) (inr (high.above (to + k) d (omega arith) (omega arith))))) in
     let pending_none : filter_map g (slots s.pending_in) ≡ [] = none_kept g s.pending_in (λ k d h. kept_outside r s (get_or s.pending_in k d) (owned.pending_reads k d h) (pending k d h)) in
-    let free_none : filter_map g s.free ≡ [] = none_kept_free g s.free (λ k d h. rw (intact.empty k d h, live_value-none (times (get_or s.free k d) (slots s.pending_out) == 0)) refl) in
+    let free_none : filter_map g s.free ≡ [] = none_kept_free g s.free (λ k d h. rw (intact.empty k d h, none_either (times (get_or s.free k d) (slots s.pending_out) == 0)) refl) in
     let slot : Handle → ℕ = λ h. h.slot in
     let column : filter_map g (slots s.column) ≡ filter_map (read s.cells) mid =
     ap (λ hs. filter_map g (slots hs)) whole ∙ rw (map-append slot front (mid ++ back), map-append slot mid back, filter_map-append g (slots front) (slots mid ++ slots back), filter_map-append g (slots mid) (slots back), front_none, mid_all, back_none, append-nil) refl in
@@ -169,22 +167,22 @@ holds_between s r from to order low high pending doomed intact =
 -- a range that was cracked is settled, once no pending row of either column has its key in it
 pub IsSettled-of : (s : State) (r : Range) → r.low ≤ r.high → s.keys.low ≤ r.low → r.high ≤ s.keys.high → IsCracked s r → All (ReadsOutside s.cells r) s.pending_in → All (ReadsOutside s.cells r) s.pending_out → IsIntact s [] → IsSettled s r
 IsSettled-of s r order low high cracked pending doomed intact =
-    let low_divides = edge-divides s [] r.low intact low (omega arith) (λ a b. cracked r.low (inl refl, a, b)) in
-    let high_divides = edge-divides s [] r.high intact (omega arith) high (λ a b. cracked r.high (inr refl, a, b)) in
-    let low_parts = parts s r.low (edge s r.low) low_divides in
-    let high_parts = parts s r.high (edge s r.high) high_divides in
+    let low_divides = edge-divides s [] r.low intact low (omega arith) cracked.0 in
+    let high_divides = edge-divides s [] r.high intact (omega arith) high cracked.1 in
+    let low_rows = divides_rows s r.low (edge s r.low) low_divides in
+    let high_rows = divides_rows s r.high (edge s r.high) high_divides in
     let rising : edge s r.low ≤ edge s r.high = IsDividedAt-order r.low r.high (column_keys s) (edge s r.low) (edge s r.high) order low_divides high_divides in
     record {
       cracked = cracked;
       pending = pending;
       doomed = doomed;
       order = rising;
-      within = high_parts.within;
+      within = high_rows.within;
       reads = λ k d h.
-          let len : length (stretch s r) ≡ edge s r.high - edge s r.low = length-between s.column (edge s r.low) (edge s r.high) high_parts.within in
+          let len : length (stretch s r) ≡ edge s r.high - edge s r.low = length-between s.column (edge s r.low) (edge s r.high) high_rows.within in
           let below : edge s r.low + k < edge s r.high = omega arith in
-          rw (get_or-between s.column (edge s r.low) (edge s r.high) k d below) (intact.owned.column_reads (edge s r.low + k) d (omega (arith, high_parts.within)));
-      holds = holds_between s r (edge s r.low) (edge s r.high) rising low_parts high_parts pending doomed intact;
+          rw (get_or-between s.column (edge s r.low) (edge s r.high) k d below) (intact.owned.column_reads (edge s r.low + k) d (omega (arith, high_rows.within)));
+      holds = holds_between s r (edge s r.low) (edge s r.high) rising low_rows high_rows pending doomed intact;
     }
 
 -- as many rows as handles that read

@@ -34,9 +34,13 @@ edge s bound = if nat_le bound s.keys.low then 0 else if nat_le s.keys.high boun
 abbrev pub stretch : State → Range → List Handle
 stretch s r = between (edge s r.low) (edge s r.high) s.column
 
--- the inner ends of the range stand in the index
+-- the bound is an end of the partition or lies outside, or stands in the index
+abbrev pub Stands : State → ℕ → Type 0
+Stands s bound = s.keys.low < bound → bound < s.keys.high → HasBound s.marks bound
+
+-- both ends of the range stand
 abbrev pub IsCracked : State → Range → Type 0
-IsCracked s r = (bound : ℕ) → IsInner s.keys r bound → HasBound s.marks bound
+IsCracked s r = Stands s r.low × Stands s r.high
 
 -- where pieces begin and end: the column's front, the place of each bound, and the column's end
 abbrev pub cuts : State → List ℕ
@@ -60,8 +64,8 @@ RefinesAt s u bound = RefinesBy (λ b. (b ≡ bound) × (s.keys.low < b) × (b <
 abbrev pub Refines : State → State → Range → Type 0
 Refines s u r = RefinesBy (IsInner s.keys r) s u
 
--- settled: no row of either pending column has its key in the range, the range's inner ends stand in the index, and the
--- column between the two places holds just the live rows of the range
+-- settled: no row of either pending column has its key in the range, both ends of the range stand, and the column
+-- between the two places holds just the live rows of the range
 pub record IsSettled (t : State) (r : Range) : Type 0 where
   pub cracked : IsCracked t r
   pub pending : All (ReadsOutside t.cells r) t.pending_in
@@ -95,14 +99,14 @@ pub record Merges (policy : Policy) (s t : State) (r : Range) : Type 0 where
   pub settled : IsSettled t r
   pub leaves : Leaves policy s t r
 
--- the report from one store to another: what was counted between
-abbrev pub report_from : State → State → MergeReport
-report_from s t = record {
-  put_in = t.tally.put_in - s.tally.put_in;
-  taken_out = t.tally.taken_out - s.tally.taken_out;
-  evicted = t.tally.evicted - s.tally.evicted;
-  moved = t.tally.moved - s.tally.moved;
-  pulled = t.tally.pulled - s.tally.pulled;
+-- what was counted from one report to a later one
+abbrev pub counted_between : MergeReport → MergeReport → MergeReport
+counted_between before after = record {
+  put_in = after.put_in - before.put_in;
+  taken_out = after.taken_out - before.taken_out;
+  evicted = after.evicted - before.evicted;
+  moved = after.moved - before.moved;
+  pulled = after.pulled - before.pulled;
 }
 
 -- no counter has reached its greatest number

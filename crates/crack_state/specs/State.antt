@@ -1,6 +1,6 @@
 -- A store as lists: what stands where, and what has to hold of it.
-use Rattle.std.specs.Prelude.{◌≡◌, ℕ, ◌+◌, ◌<◌, ◌≤◌, ◌^◌, ◌-◌, ◌==◌, nat_lt, nat_eq, if◌then◌else◌, sum_by, List, [], ◌∷◌, ◌++◌, length, map, Option, Some, None, IsSome, IfSome}
-use Rattle.std.specs.List.{All, cons_option, filter_map}
+use Rattle.std.specs.Prelude.{◌≡◌, ℕ, ◌+◌, ◌<◌, ◌≤◌, ◌^◌, ◌-◌, ◌==◌, nat_lt, nat_eq, if◌then◌else◌, sum_by, List, ◌++◌, length, map, Option, Some, None, IsSome, IfSome}
+use Rattle.std.specs.List.{All, filter_map, range_with_len}
 use Rattle.std.specs.Map.{lookup}
 use Rattle.crack_row.specs.Ranges.{Range, IsIn}
 use Rattle.crack_row.specs.declared.Row.{Row}
@@ -71,24 +71,20 @@ abbrev pub AreInside : Range → List Mark → Type 0
 AreInside keys marks = All (λ (m : Mark). (keys.low < m.bound.0) × (m.bound.0 < keys.high)) marks
 
 -- what the cell of this number has for commands to see: its row, unless that is doomed
-abbrev pub live_value : List ℕ → ℕ → Cell Row → Option Row
-live_value doomed n c = if times n doomed == 0 then c.value else None
-
-abbrev pub live_from : List ℕ → ℕ → List (Cell Row) → List Row
-live_from doomed n [] = []
-live_from doomed n (c ∷ cs) = cons_option (live_value doomed n c) (live_from doomed (n + 1) cs)
+abbrev pub live_at : List (Cell Row) → List ℕ → ℕ → Option Row
+live_at cells doomed n = if times n doomed == 0 then (cell_at cells n).value else None
 
 -- the rows that commands see, in the order of their cells' numbers
 abbrev pub live_rows : State → List Row
-live_rows s = live_from (slots s.pending_out) 0 s.cells
+live_rows s = filter_map (live_at s.cells (slots s.pending_out)) (range_with_len 0 (length s.cells))
 
 -- what a handle has for commands to see: the row that it reads, unless that is doomed
 abbrev pub live_read : State → Handle → Option Row
 live_read s h = if times h.slot (slots s.pending_out) == 0 then read s.cells h else None
 
--- the live rows of the handles, in their order
-abbrev pub held : State → List Handle → List Row
-held s hs = filter_map (live_read s) hs
+-- the live rows among those of the handles, in their order
+abbrev pub live_among : State → List Handle → List Row
+live_among s hs = filter_map (live_read s) hs
 
 -- the handle that the map has for a serial
 abbrev pub handle_of : List (ℕ × Handle) → ℕ → Option Handle
@@ -111,8 +107,8 @@ abbrev pub AreEmpty : List (Cell Row) → List ℕ → Type 0
 AreEmpty cells free = All (λ n. (cell_at cells n).value ≡ None) free
 
 -- the key of every row is one of these
-abbrev pub AreWithin : Range → List (Cell Row) → Type 0
-AreWithin keys cells = All (λ (c : Cell Row). IfSome c.value (λ r. IsIn keys r.key.0)) cells
+abbrev pub HaveKeysIn : Range → List (Cell Row) → Type 0
+HaveKeysIn keys cells = All (λ (c : Cell Row). IfSome c.value (λ r. IsIn keys r.key.0)) cells
 
 -- how often cells were freed
 abbrev pub freed_of : List (Cell Row) → ℕ
@@ -138,7 +134,7 @@ pub record IsIntact (s : State) (hand : List Handle) : Type 0 where
   pub inside : AreInside s.keys s.marks
   pub keyed : IsKeyed s.cells (slots s.pending_out) s.serials
   pub empty : AreEmpty s.cells s.free
-  pub within : AreWithin s.keys s.cells
+  pub within : HaveKeysIn s.keys s.cells
   pub remembers : Remembers s.cells s.column s.remembered
   pub few_cells : length s.cells < 2 ^ 32
   pub few_freed : freed_of s.cells + length s.pending_out ≤ greatest

@@ -1,14 +1,13 @@
 -- What each step does to a store: the row that moves, the bounds that move with it, and the counter that rises.
-use Rattle.std.specs.Prelude.{◌≡◌, ℕ, ◌+◌, ◌-◌, ◌<◌, ◌≤◌, ◌^◌, ◌==◌, nat_lt, min, map, take, drop, length, count_by, List, [], ◌∷◌, ◌++◌, Option, Some, None, slice_index_or, slice_set}
-use Rattle.std.specs.List.{remove, position_or_len}
+use Rattle.std.specs.Prelude.{◌≡◌, ℕ, ◌+◌, ◌-◌, ◌<◌, ◌^◌, nat_lt, min, map, drop, length, count_by, List, [], ◌∷◌, ◌++◌, Option, Some, None, slice_index_or, slice_set}
+use Rattle.std.specs.List.{remove}
 use Rattle.crack_row.specs.Ranges.{IsIn}
-use Rattle.crack_row.specs.declared.Bound.{Bound}
 use Rattle.crack_row.specs.declared.Row.{Row}
-use Rattle.crack_arena.specs.Arena.{Handle, times, handle_for, cells_with, slots}
+use Rattle.crack_arena.specs.Arena.{Handle, no_handle, handle_for, cells_with}
 use Rattle.crack_index.specs.declared.mark.Mark.{Mark}
-use Rattle.crack_index.specs.Marks.{HasBound, added, next_mark, last_mark, start_of, end_of, raised, lowered, lowered_at, bounds_of}
+use Rattle.crack_index.specs.Marks.{next_mark, last_mark, start_of, end_of, raised}
 use Rattle.crack_arena.specs.Rows.{key_at}
-use Rattle.crack_column.specs.Column.{unknown, Cracks}
+use Rattle.crack_column.specs.Column.{unknown}
 use Rattle.crack_state.specs.declared.MergeReport.{MergeReport}
 use Rattle.crack_state.specs.State.{State, Carried, handle_of, greatest}
 
@@ -29,26 +28,9 @@ abbrev pub raise_next : Option Mark → List Mark → List Mark
 raise_next None marks = marks
 raise_next (Some m) marks = map (raised m.bound.0 m.position) marks
 
--- the bounds at or below a key that stand where its own piece begins move down by one, and no other
-abbrev pub lower_last : Option Mark → List Mark → List Mark
-lower_last None marks = marks
-lower_last (Some m) marks = map (lowered m.bound.0 m.position) marks
-
 -- one more, up to the greatest number of a counter
 abbrev pub more : ℕ → ℕ
 more n = min (n + 1) greatest
-
--- no cell: what a list has to answer where nothing stands
-abbrev pub no_handle : Handle
-no_handle = record { slot = 0; generation = 0 }
-
--- the place of the first handle of this slot, or the list's length
-abbrev pub place_in : List Handle → ℕ → ℕ
-place_in hs slot = position_or_len (λ (h : Handle). h.slot == slot) hs
-
--- the hand is a pending deletion
-abbrev pub IsDoomed : Carried → Type 0
-IsDoomed c = 0 < times c.hand.slot (slots c.store.pending_out)
 
 -- a handle is put at a place of the column, where its key isn't remembered, and the one that stood there is in hand
 abbrev pub put_at : ℕ → List Mark → MergeReport → Carried → Carried
@@ -75,19 +57,6 @@ lifted i s =
       hand = slice_index_or s.pending_in i no_handle;
     }
 
--- lift_last: the column's last handle is taken into the hand, and the bounds behind it move down
-abbrev pub lifted_last : State → Carried
-lifted_last s =
-    record {
-      store = record s {
-        column = take (length s.column - 1) s.column;
-        remembered = take (length s.column - 1) s.remembered;
-        marks = map (lowered_at (length s.column)) s.marks;
-        column_room = s.column_room + 1;
-      };
-      hand = slice_index_or s.column (length s.column - 1) no_handle;
-    }
-
 -- push_on: the hand is put where its own piece ends, and the row that stood there is in hand
 abbrev pub pushed_on : Carried → Carried
 pushed_on c =
@@ -101,34 +70,6 @@ appended c =
       remembered = c.store.remembered ++ unknown ∷ [];
       marks = raise_next (next_mark (hand_key c) c.store.marks) c.store.marks;
       column_room = c.store.column_room - 1;
-    }
-
--- put_back: the hand goes behind the last pending insertion
-abbrev pub returned : Carried → State
-returned c =
-    record c.store {
-      pending_in = c.store.pending_in ++ c.hand ∷ [];
-      tally = record c.store.tally { evicted = more c.store.tally.evicted };
-      in_room = c.store.in_room - 1;
-    }
-
--- pull_back: the hand is put at the last place before its own piece, and the row that stood there is in hand
-abbrev pub pulled_back : Carried → Carried
-pulled_back c =
-    put_at (piece_start c.store (hand_key c) - 1) (lower_last (last_mark (hand_key c) c.store.marks) c.store.marks) (record c.store.tally { pulled = more c.store.tally.pulled }) c
-
--- exchange: the hand is put at a place, and the row that stood there is in hand
-abbrev pub exchanged : ℕ → Carried → Carried
-exchanged place c = put_at place c.store.marks (record c.store.tally { pulled = more c.store.tally.pulled }) c
-
--- bury: the hand, which is doomed, is struck from the pending deletions, and its cell is freed
-abbrev pub buried : Carried → State
-buried c =
-    record c.store {
-      cells = slice_set c.store.cells c.hand.slot (record { generation = c.hand.generation + 1; value = None });
-      free = c.hand.slot ∷ c.store.free;
-      pending_out = remove c.store.pending_out (place_in c.store.pending_out c.hand.slot);
-      tally = record c.store.tally { taken_out = more c.store.tally.taken_out };
     }
 
 -- the handle of the cell that the next row gets
@@ -152,19 +93,6 @@ pub record IsAdmissible (row : Row) (s : State) : Type 0 where
   pub within : IsIn s.keys row.key.0
   pub cell : length s.cells < 2 ^ 32 - 1 + length s.free
 
--- crack: a bound divides its own piece at a place; the column's handles, and what is remembered of their keys, stand in this order
-abbrev pub cracked_at : Bound → ℕ → List Handle → List ℕ → State → State
-cracked_at bound place handles keys s = record s { column = handles; remembered = keys; marks = added (record { bound = bound; position = place }) s.marks }
-
--- how a bound's own piece is cracked: its rows, divided by the bound, and no other
-pub record CracksAt (s u : State) (bound : Bound) : Type 0 where
-  pub place : ℕ
-  pub missing : HasBound s.marks bound.0 → ⊥
-  pub low : s.keys.low < bound.0
-  pub high : bound.0 < s.keys.high
-  pub cracks : Cracks s.cells bound.0 (piece_start s bound.0) (piece_end s bound.0) s.column s.remembered u.column u.remembered place
-  pub after : u ≡ cracked_at bound place u.column u.remembered s
-
 -- the two differ in the room for handles alone
 pub record SameButRoom (s t : State) : Type 0 where
   pub same : t ≡ record s { column_room = t.column_room; in_room = t.in_room }
@@ -172,20 +100,3 @@ pub record SameButRoom (s t : State) : Type 0 where
 -- how many bounds are above a key
 abbrev pub bounds_above : ℕ → List Mark → ℕ
 bounds_above key marks = count_by (λ (m : Mark). nat_lt key m.bound.0) marks
-
--- what the pushes of a carry keep, from a hand that was lifted on: each brings the hand nearer to the column's end
-pub record Pushes (b c : Carried) : Type 0 where
-  pub keys : c.store.keys ≡ b.store.keys
-  pub cells : c.store.cells ≡ b.store.cells
-  pub bounds : bounds_of c.store.marks ≡ bounds_of b.store.marks
-  pub pending_in : c.store.pending_in ≡ b.store.pending_in
-  pub pending_out : c.store.pending_out ≡ b.store.pending_out
-  pub long : length c.store.column ≡ length b.store.column
-  pub room : c.store.column_room ≡ b.store.column_room
-  pub in_room : c.store.in_room ≡ b.store.in_room
-  pub put_in : c.store.tally.put_in ≡ b.store.tally.put_in
-  pub taken_out : c.store.tally.taken_out ≡ b.store.tally.taken_out
-  pub evicted : c.store.tally.evicted ≡ b.store.tally.evicted
-  pub pulled : c.store.tally.pulled ≡ b.store.tally.pulled
-  pub moved_rises : b.store.tally.moved ≤ c.store.tally.moved
-  pub moved : c.store.tally.moved + bounds_above (hand_key c) c.store.marks ≤ b.store.tally.moved + bounds_above (hand_key b) b.store.marks

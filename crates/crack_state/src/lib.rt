@@ -1,9 +1,9 @@
 //! What a partition's store is, and what must hold of it: its cells and where each stands, the steps by which rows move
 //! between the pending columns, a hand and the cracked column, and what a refinement and a merge may change.
-//! The definitions stand in `specs/`, over one record of plain lists, and with them the laws that the crates above cite.
+//! The definitions stand in `specs/`, over one record of plain lists, and the laws that the crates above cite in `proofs/`.
 //!
-//! The calls of some steps are still to come, with deletions and with merges that take a part of the pending rows:
-//! `lifted_last`, `returned`, `pulled_back`, `exchanged` and `buried`. Their definitions and laws stand here already.
+//! The calls of some steps are still to come, with deletions and with merges that take a part of the pending rows: their
+//! definitions stand in `specs/StepsToCome.antt`, their laws in `proofs/PullLaws.antt` and `proofs/BuryLaws.antt`.
 #![tactic(auto)]
 
 /// What merges have counted; each number stays at its greatest value once it is there.

@@ -1,7 +1,9 @@
 -- The cell of a row that is admitted.
-use Rattle.std.proofs.Common.{◌≡◌, ℕ, ◌+◌, ◌<◌, ◌≤◌, List, [], ◌∷◌, length, Some, refl, ◌∙◌, inl, inr, arith, length-set}
-use Rattle.std.proofs.lemmas.Bool.{cases_lt, le-ltb}
+use Rattle.std.proofs.Common.{◌≡◌, ℕ, ◌+◌, ◌<◌, List, [], ◌∷◌, length, Some, false, max, refl, sym, ◌∙◌, inl, inr, arith, length-set}
+use Rattle.std.specs.Prelude.{nat_eq}
+use Rattle.std.proofs.lemmas.Bool.{cases_lt, le-ltb, ne_eqb}
 use Rattle.std.proofs.lemmas.List.{length_push}
+use mir.Val.{bool_byte}
 use Rattle.crack_row.specs.declared.Row.{Row}
 use Rattle.crack_arena.specs.Arena.{Cell, Handle, times, cell_at, handle_for, cells_with}
 use Rattle.crack_arena.proofs.Times.{times_head}
@@ -9,22 +11,32 @@ use Rattle.crack_state.specs.State.{State, places, IsIntact}
 use Rattle.crack_state.specs.Steps.{next_handle}
 use Rattle.crack_state.proofs.OwnedLaws.{times-places}
 
--- its number is that of a cell, or the next
-next_within : (s : State) (free : List ℕ) → s.free ≡ free → IsIntact s [] → (handle_for s.cells free).slot < length s.cells + 1
-next_within s [] is intact = omega arith
-next_within s (n ∷ ns) is intact = elim (cases_lt n (length s.cells)) [
-  | inl l ↦ omega arith
+-- there is one cell more where none was free
+length_cells_with : (row : Row) (cells : List (Cell Row)) (free : List ℕ) → length cells + bool_byte (nat_eq (length free) 0) ≡ length (cells_with row cells free)
+length_cells_with row cells [] = sym (length_push cells (record { generation = 0; value = Some row }))
+length_cells_with row cells (n ∷ ns) =
+    let some : nat_eq (length (n ∷ ns)) 0 ≡ false = ne_eqb (length (n ∷ ns)) 0 (λ e. omega arith) in
+    rw some (omega (arith, length-set cells n (record { generation = (cell_at cells n).generation; value = Some row })))
+
+-- the number of the row's cell is that of one of the cells then
+next_within : (row : Row) (s : State) (free : List ℕ) → s.free ≡ free → IsIntact s [] → (handle_for s.cells free).slot < length (cells_with row s.cells free)
+next_within row s [] is intact = omega (arith, length_push s.cells (record { generation = 0; value = Some row }))
+next_within row s (n ∷ ns) is intact = elim (cases_lt n (length s.cells)) [
+  | inl l ↦ omega (arith, length-set s.cells n (record { generation = (cell_at s.cells n).generation; value = Some row }))
   | inr l ↦
       let listed : 0 < times n s.free = rw is (omega (arith, times_head n ns)) in
       let none : times n (places s []) ≡ 0 = intact.owned.once n ∙ rw (le-ltb n (length s.cells) l) refl in
       absurd (omega (arith, times-places n s.column s.pending_in s.free []))
 ]
 
--- it has a flag where one more cell has one
-pub next_known : (s : State) (known : ℕ) (h : Handle) → h ≡ next_handle s → length s.cells + 1 ≤ known → IsIntact s [] → h.slot < known
-next_known s known h is more intact = rw is (omega (arith, more, next_within s s.free refl intact))
+-- where as many flags were made as there will be cells, the row's cell has one
+pub record AreReady (row : Row) (s : State) (h : Handle) (flags : ℕ) : Type 0 where
+  pub covered : flags ≡ length (cells_with row s.cells s.free)
+  pub known : h.slot < flags
 
--- there is one cell more at most
-pub length_cells_with : (row : Row) (cells : List (Cell Row)) (free : List ℕ) → length (cells_with row cells free) ≤ length cells + 1
-length_cells_with row cells [] = omega (arith, length_push cells (record { generation = 0; value = Some row }))
-length_cells_with row cells (n ∷ ns) = omega (arith, length-set cells n (record { generation = (cell_at cells n).generation; value = Some row }))
+pub are_ready : (row : Row) (s : State) (h : Handle) (cells free old flags : ℕ) → h ≡ next_handle s → cells ≡ length s.cells → free ≡ length s.free → old ≡ length s.cells → flags ≡ max old (cells + bool_byte (nat_eq free 0)) → IsIntact s [] → AreReady row s h flags
+are_ready row s h cells free old flags is cells_is free_is old_is made intact =
+    let more = rw (← free_is) at (length_cells_with row s.cells s.free) in
+    let within : h.slot < length (cells_with row s.cells s.free) = rw is (next_within row s s.free refl intact) in
+    let covered : flags ≡ length (cells_with row s.cells s.free) = omega arith in
+    record { covered = covered; known = omega arith }

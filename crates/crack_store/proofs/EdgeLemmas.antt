@@ -9,10 +9,9 @@ use Rattle.crack_index.specs.Marks.{place_of}
 use Rattle.crack_index.proofs.MarkLaws.{HasBound-contains, place_of-mark, Rising-positions}
 use Rattle.crack_arena.specs.Rows.{key_at}
 use Rattle.crack_state.specs.State.{State, IsIntact, column_keys}
-use Rattle.crack_state.specs.Merge.{edge}
+use Rattle.crack_state.specs.Merge.{Stands, edge}
 use Rattle.crack_state.proofs.PieceLaws.{Divides-listed}
 use Rattle.crack_state.proofs.LayoutLaws.{cells-intact}
-use Rattle.crack_store.specs.Parts.{Stands}
 
 -- every bound stands at a place of the column, or at its end
 pub positions_within : (s : State) (hand : List Handle) → IsIntact s hand → All (λ (m : Mark). m.position ≤ length s.column) s.marks

@@ -3,11 +3,10 @@ use Rattle.std.proofs.Common.{◌≡◌, ℕ, ◌<◌, Bool, true, false, List, 
 use Rattle.std.specs.List.{remove}
 use Rattle.std.proofs.lemmas.Bool.{cases_eq, lt-ltb}
 use Rattle.std.proofs.lemmas.List.{get_or-set_same, get_or-set_other}
-use Rattle.crack_arena.specs.Arena.{Handle, times, slots}
-use Rattle.crack_arena.proofs.Times.{times-nil, times_head, times_other}
+use Rattle.crack_arena.specs.Arena.{Handle, no_handle, times, slots}
+use Rattle.crack_arena.proofs.Times.{times-nil, times_head, times_other, times-map-append}
 use Rattle.crack_state.specs.State.{State, IsIntact}
-use Rattle.crack_state.specs.Steps.{no_handle}
-use Rattle.crack_state.proofs.OwnedLaws.{times-pushed, times-removed, HandApart, hand_apart}
+use Rattle.crack_state.proofs.OwnedLaws.{times-taken, HandApart, hand_apart}
 use Rattle.crack_state.proofs.StepLaws.{IsIntact-lifted}
 use Rattle.crack_store.specs.Flags.{AreMarked}
 
@@ -19,9 +18,9 @@ AreMarked-none = λ n. rw (times-nil n) refl
 pub AreMarked-push : (flags : List Bool) (handles : List Handle) (h : Handle) → h.slot < length flags → AreMarked flags handles → AreMarked (set flags h.slot true) (handles ++ h ∷ [])
 AreMarked-push flags handles h within marked = λ n.
     elim (cases_eq n h.slot) [
-      | inl e ↦ rw (e, get_or-set_same flags h.slot true false within) (sym (lt-ltb 0 (times h.slot (slots (handles ++ h ∷ []))) (omega (arith, times-pushed h.slot handles h, times_head h.slot []))))
+      | inl e ↦ rw (e, get_or-set_same flags h.slot true false within) (sym (lt-ltb 0 (times h.slot (slots (handles ++ h ∷ []))) (omega (arith, times-map-append h.slot (λ (x : Handle). x.slot) handles (h ∷ []), times_head h.slot []))))
       | inr ne ↦
-          let same : times n (slots (handles ++ h ∷ [])) ≡ times n (slots handles) = omega (arith, times-pushed n handles h, times_other n h.slot (λ e. ne (sym e))) in
+          let same : times n (slots (handles ++ h ∷ [])) ≡ times n (slots handles) = omega (arith, times-map-append n (λ (x : Handle). x.slot) handles (h ∷ []), times_other n h.slot (λ e. ne (sym e))) in
           rw (same, get_or-set_other flags h.slot n true false ne) (marked n)
     ]
 
@@ -31,7 +30,7 @@ AreMarked-take flags handles i h known within found gone marked = λ n.
     elim (cases_eq n h.slot) [
       | inl e ↦ rw (e, gone, get_or-set_same flags h.slot false false known) refl
       | inr ne ↦
-          let same : times n (slots (remove handles i)) ≡ times n (slots handles) = omega (arith, times-removed n handles i h within found, times_other n h.slot (λ e. ne (sym e))) in
+          let same : times n (slots (remove handles i)) ≡ times n (slots handles) = omega (arith, times-taken n handles i h within found, times_other n h.slot (λ e. ne (sym e))) in
           rw (same, get_or-set_other flags h.slot n false false ne) (marked n)
     ]
 

@@ -4,9 +4,9 @@ use mir.Val.{bool_byte}
 use Rattle.crack_row.specs.Ranges.{Range}
 use Rattle.crack_index.proofs.MarkLaws.{HasBound-contains, HasBound-mark}
 use Rattle.crack_state.specs.State.{State}
-use Rattle.crack_state.specs.Merge.{RefinesAt}
+use Rattle.crack_state.specs.Merge.{Stands, RefinesAt}
 use Rattle.crack_state.proofs.CrackLaws.{keys-refined}
-use Rattle.crack_store.specs.Parts.{IsMissing, Stands}
+use Rattle.crack_store.specs.Inside.{IsMissing}
 
 -- a bound that is missing after another was cracked was missing before
 missing_before : (s u : State) (first bound : ℕ) → RefinesAt s u first → IsMissing u bound → IsMissing s bound

@@ -1,5 +1,5 @@
 -- What a store sees of the flags of its cells. No public clause cites this module.
-use Rattle.std.specs.Prelude.{◌≡◌, ◌≤◌, ℕ, Bool, false, nat_lt, List, length, slice_index_or}
+use Rattle.std.specs.Prelude.{◌≡◌, ℕ, Bool, false, nat_lt, List, length, slice_index_or}
 use Rattle.crack_arena.specs.Arena.{Handle, times, slots}
 
 -- whether the cell's flag is set; a cell without a flag counts as clear
@@ -10,7 +10,7 @@ flag_of flags n = slice_index_or flags n false
 abbrev pub AreMarked : List Bool → List Handle → Type 0
 AreMarked flags handles = (n : ℕ) → flag_of flags n ≡ nat_lt 0 (times n (slots handles))
 
--- the flags say of each cell whether one of the handles names it, and every cell has a flag
+-- each cell has a flag, which says whether one of the handles names it
 pub record AreFlagsOf (flags : List Bool) (cells : ℕ) (handles : List Handle) : Type 0 where
   pub right : AreMarked flags handles
-  pub covered : cells ≤ length flags
+  pub covered : length flags ≡ cells

@@ -6,7 +6,7 @@ ghost use Rattle.crack_state.specs.State.{IsIntact, live_rows};
 ghost use Rattle.crack_state.specs.Steps.{hand_key, piece_end, pushed_on, appended, bounds_above, raise_next as next_raised};
 
 use crate::Store;
-use crate::parts::Parts;
+use crate::inside::Inside;
 use crack_arena::Handle;
 use crack_index::{CrackerIndex, Piece};
 use crack_row::{Bound, Key, Row};
@@ -15,20 +15,20 @@ use std::marker::Model;
 
 /// A store with one cell in hand, which stands in no list. It can't be let go: a step ends it and gives the store back.
 pub struct Carrying {
-    pub(crate) parts: Parts,
+    pub(crate) inside: Inside,
     pub(crate) hand: Handle<Row>,
 }
 
 impl Model for Carrying {
     ghost use Rattle.std.specs.Prelude.{[], ◌∷◌};
     ghost use Rattle.crack_state.specs.State.{Carried};
-    ghost use Rattle.crack_store.specs.Parts.{state_of, AreIntact};
+    ghost use Rattle.crack_store.specs.Inside.{lists_of, KeepsIntact};
 
     ghost Value = { Carried };
 
-    ghost view = { λ c. record { store = state_of c.parts; hand = c.hand } };
+    ghost view = { λ c. record { store = lists_of c.inside; hand = c.hand } };
 
-    ghost invariant = { λ c. AreIntact c.parts (c.hand ∷ []) };
+    ghost invariant = { λ c. KeepsIntact c.inside (c.hand ∷ []) };
 }
 
 impl Carrying {
@@ -36,7 +36,7 @@ impl Carrying {
     pub fn facts(&self)
         ensures { IsIntact self.now.store (self.now.hand ∷ []) }
     {
-        let _ = &self.parts;
+        let _ = &self.inside;
     }
 
     /// The hand, and the row that it reads. O(1).
@@ -44,7 +44,7 @@ impl Carrying {
         ensures handle { result.0 ≡ self.now.hand }
         ensures row { read self.now.store.cells self.now.hand ≡ Some result.1 }
     {
-        match self.parts.arena.get(self.hand) {
+        match self.inside.arena.get(self.hand) {
             Some(row) => (self.hand, *row),
             None => unreachable!(),
         }
@@ -54,14 +54,14 @@ impl Carrying {
     pub fn column_len(&self) -> usize
         ensures { result ≡ length self.now.store.column }
     {
-        self.parts.column.len()
+        self.inside.column.len()
     }
 
     /// What merges have counted.
     pub fn tally(&self) -> MergeReport
         ensures { result ≡ self.now.store.tally }
     {
-        self.parts.tally
+        self.inside.tally
     }
 
     /// The key of the row in hand.
@@ -79,9 +79,9 @@ impl Carrying {
         ensures end { result.to ≡ piece_end self.now.store (hand_key self.now) }
         ensures within { result.to ≤ length self.now.store.column }
     {
-        self.parts
+        self.inside
             .index
-            .piece_of(self.hand_key(), self.parts.column.len())
+            .piece_of(self.hand_key(), self.inside.column.len())
     }
 
     /// Puts the hand where its own piece ends; each bound above its key that stands there moves up by one, and the row that
@@ -94,9 +94,9 @@ impl Carrying {
     {
         let key = self.hand_key();
         let place = self.own_piece().to;
-        raise_next(&mut self.parts.index, key);
-        self.hand = self.parts.column.swap_in(place, self.hand);
-        self.parts.tally.moved = self.parts.tally.moved.saturating_add(1);
+        raise_next(&mut self.inside.index, key);
+        self.hand = self.inside.column.swap_in(place, self.hand);
+        self.inside.tally.moved = self.inside.tally.moved.saturating_add(1);
     }
 
     /// Puts the hand behind the column's last row, where its own piece ends there; each bound above its key that stands there
@@ -109,10 +109,10 @@ impl Carrying {
         ensures live { live_rows result ≡ live_rows self.store }
     {
         let key = self.hand_key();
-        let Carrying { mut parts, hand } = self;
-        raise_next(&mut parts.index, key);
-        parts.column.append(hand);
-        Store { parts }
+        let Carrying { mut inside, hand } = self;
+        raise_next(&mut inside.index, key);
+        inside.column.append(hand);
+        Store { inside }
     }
 }
 

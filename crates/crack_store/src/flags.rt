@@ -1,12 +1,12 @@
 //! A flag for each cell.
-ghost use Rattle.std.specs.Prelude.{◌≡◌, ℕ, ◌<◌, [], length, true, false, slice_set, max, OnOk, OnErr, IfErr};
+ghost use Rattle.std.specs.Prelude.{◌≡◌, ℕ, ◌+◌, ◌<◌, ◌≤◌, [], length, true, false, slice_set, max, OnOk, OnErr, IfErr};
 ghost use Rattle.crack_store.specs.Flags.{flag_of};
 
 use crack_row::Refusal;
 use std::alloc::Global;
 use std::marker::Model;
 
-/// A flag for each cell with a number below some bound, so that no list is searched to see whether it names the cell.
+/// A flag for each cell, so that no list is searched to see whether it names the cell.
 #[derive(Drop)]
 pub(crate) struct Flags {
     flags: Vec<bool>,
@@ -30,17 +30,17 @@ impl Flags {
         }
     }
 
-    /// Gives each cell with a number below `cells` a flag, a clear one where it has none; amortised O(1) for each new one.
-    /// Refused with 8 alone.
+    /// Gives each of the first `cells` cells a flag, a clear one where it has none. Amortised O(1). Refused with 8 alone.
     pub(crate) fn cover(&mut self, cells: usize) -> Result<(), Refusal>
+        requires { cells ≤ length self.old + 1 }
         ensures flags { (n : ℕ) → flag_of self.new n ≡ flag_of self.old n }
         ensures ok { OnOk result (length self.new ≡ max (length self.old) cells) }
         ensures same { OnErr result (self.new ≡ self.old) }
         ensures full { OnErr result (length self.old < cells) }
         ensures err { IfErr result (λ e. e ≡ Refusal.OutOfMemory) }
     {
-        if cells > self.flags.len() {
-            self.flags.resize(cells, false)?;
+        if self.flags.len() < cells {
+            self.flags.push(false)?;
         }
         Ok(())
     }

@@ -6,7 +6,7 @@
 
 pub mod carrying;
 mod flags;
-mod parts;
+mod inside;
 pub mod store;
 
 pub use carrying::Carrying;

@@ -1,17 +1,18 @@
 //! The store.
-ghost use Rattle.std.specs.Prelude.{◌≡◌, ◌+◌, ◌-◌, ◌<◌, ◌≤◌, ◌∷◌, [], length, IfOk, IfErr, OnOk, OnErr, IfNone, None};
+ghost use Rattle.std.specs.Prelude.{◌≡◌, ◌+◌, ◌-◌, ◌<◌, ◌≤◌, ◌∷◌, [], length, IfOk, IfErr, OnOk, OnErr, IsOk, IfNone, None};
 ghost use Rattle.std.specs.List.Sorted.{IsPermutation};
 ghost use Rattle.crack_row.specs.Layouts.{IsLayout};
 ghost use Rattle.crack_arena.specs.Rows.{keys_at};
-ghost use Rattle.crack_pending.specs.Pending.{StandsAt, Finds};
+ghost use Rattle.crack_arena.specs.Arena.{StandsAt};
+ghost use Rattle.crack_pending.specs.Pending.{Finds};
 ghost use Rattle.crack_state.specs.State.{State, IsIntact, live_rows, handle_of};
 ghost use Rattle.crack_state.specs.Steps.{lifted, admitted, IsAdmissible, SameButRoom};
-ghost use Rattle.crack_state.specs.Merge.{Refines, IsCracked, edge};
-ghost use Rattle.crack_store.specs.Parts.{Stands, no_cells, pending_by, bound_above, IsLayoutOf};
+ghost use Rattle.crack_state.specs.Merge.{Refines, Stands, IsCracked, edge};
+ghost use Rattle.crack_store.specs.Inside.{no_cells, pending_by, bound_above, IsLayoutOf};
 
 use crate::Carrying;
 use crate::flags::Flags;
-use crate::parts::{Parts, crack_at, is_missing};
+use crate::inside::{Inside, crack_at, is_missing};
 use crack_arena::{Arena, Handle};
 use crack_column::CrackerColumn;
 use crack_index::CrackerIndex;
@@ -26,19 +27,19 @@ use std::marker::Model;
 /// ("Database Cracking", CIDR 2007; "Updating a Cracked Database", SIGMOD 2007).
 #[derive(Drop)]
 pub struct Store {
-    pub(crate) parts: Parts,
+    pub(crate) inside: Inside,
 }
 
 impl Model for Store {
     ghost use Rattle.std.specs.Prelude.{[]};
     ghost use Rattle.crack_state.specs.State.{State};
-    ghost use Rattle.crack_store.specs.Parts.{state_of, AreIntact};
+    ghost use Rattle.crack_store.specs.Inside.{lists_of, KeepsIntact};
 
     ghost Value = { State };
 
-    ghost view = { λ s. state_of s.parts };
+    ghost view = { λ s. lists_of s.inside };
 
-    ghost invariant = { λ s. AreIntact s.parts [] };
+    ghost invariant = { λ s. KeepsIntact s.inside [] };
 }
 
 impl Store {
@@ -47,16 +48,14 @@ impl Store {
         ensures { result ≡ no_cells keys result.column_room result.in_room }
     {
         Store {
-            parts: Parts {
-                alloc,
+            inside: Inside {
                 keys,
                 arena: Arena::new(alloc),
                 column: CrackerColumn::new(alloc),
                 index: CrackerIndex::new(alloc),
                 pending_in: PendingIn::new(alloc),
                 pending_out: PendingOut::new(alloc),
-                in_flags: Flags::new(alloc),
-                out_flags: Flags::new(alloc),
+                flags: Flags::new(alloc),
                 serials: IndexMap::new(alloc),
                 tally: MergeReport {
                     put_in: 0,
@@ -73,7 +72,7 @@ impl Store {
     pub fn facts(&self)
         ensures { IsIntact self.now [] }
     {
-        let _ = &self.parts;
+        let _ = &self.inside;
     }
 
     /// Keeps a row in a new cell behind the last pending insertion. O(1).
@@ -85,16 +84,17 @@ impl Store {
         ensures same { OnErr result (SameButRoom self.old self.new) }
         ensures err { IfErr result (λ e. e ≡ Refusal.OutOfMemory) }
     {
-        let cells = self.parts.arena.cells() + 1;
-        self.parts.pending_in.reserve(1)?;
-        self.parts.in_flags.cover(cells)?;
-        self.parts.out_flags.cover(cells)?;
-        self.parts.arena.reserve(1)?;
-        self.parts.serials.reserve(1)?;
-        let handle = self.parts.arena.put_reserved(row);
-        let _ = self.parts.serials.insert(row.serial.0, handle);
-        self.parts.pending_in.push(handle);
-        self.parts.in_flags.set(handle.slot());
+        self.inside.pending_in.reserve(1)?;
+        self.inside.arena.reserve(1)?;
+        self.inside.serials.reserve(1)?;
+        let new_cells = (self.inside.arena.free_cells() == 0) as usize;
+        self.inside
+            .flags
+            .cover(self.inside.arena.cells() + new_cells)?;
+        let handle = self.inside.arena.put_reserved(row);
+        let _ = self.inside.serials.insert(row.serial.0, handle);
+        self.inside.pending_in.push(handle);
+        self.inside.flags.set(handle.slot());
         Ok(())
     }
 
@@ -103,8 +103,8 @@ impl Store {
         ensures value { result ≡ pending_by self.now serial.0 }
         ensures none { IfNone result (handle_of self.now.serials serial.0 ≡ None) }
     {
-        match self.parts.serials.get(&serial.0) {
-            Some(handle) => Some(self.parts.in_flags.contains(handle.slot())),
+        match self.inside.serials.get(&serial.0) {
+            Some(handle) => Some(self.inside.flags.contains(handle.slot())),
             None => None,
         }
     }
@@ -117,13 +117,14 @@ impl Store {
         ensures cracked { OnOk result (IsCracked self.new range) }
         ensures live { live_rows self.new ≡ live_rows self.old }
         ensures same { OnErr result (SameButRoom self.old self.new) }
+        ensures spare { IsCracked self.old range → IsOk result }
         ensures err { IfErr result (λ e. e ≡ Refusal.OutOfMemory) }
     {
-        let low = is_missing(&self.parts, range.low());
-        let high = is_missing(&self.parts, range.high());
-        self.parts.index.reserve(low as usize + high as usize)?;
-        crack_at(&mut self.parts, range.low());
-        crack_at(&mut self.parts, range.high());
+        let low = is_missing(&self.inside, range.low());
+        let high = is_missing(&self.inside, range.high());
+        self.inside.index.reserve(low as usize + high as usize)?;
+        crack_at(&mut self.inside, range.low());
+        crack_at(&mut self.inside, range.high());
         Ok(())
     }
 
@@ -137,8 +138,8 @@ impl Store {
         ensures pending_in { OnOk result (0 < self.new.in_room) }
         ensures err { IfErr result (λ e. e ≡ Refusal.OutOfMemory) }
     {
-        self.parts.column.reserve(1)?;
-        self.parts.pending_in.reserve(1)
+        self.inside.column.reserve(1)?;
+        self.inside.pending_in.reserve(1)
     }
 
     /// Takes the pending insertion at this place of the order of arrival into the hand.
@@ -148,11 +149,11 @@ impl Store {
         ensures after { result ≡ lifted place self }
         ensures live { live_rows result.store ≡ live_rows self }
     {
-        let Store { mut parts } = self;
-        let hand = parts.pending_in.take(place);
-        parts.in_flags.clear(hand.slot());
-        parts.tally.put_in = parts.tally.put_in.saturating_add(1);
-        Carrying { parts, hand }
+        let Store { mut inside } = self;
+        let hand = inside.pending_in.take(place);
+        inside.flags.clear(hand.slot());
+        inside.tally.put_in = inside.tally.put_in.saturating_add(1);
+        Carrying { inside, hand }
     }
 
     /// How many rows stand in the column between the ends of a range by which it was cracked. O(log bounds).
@@ -161,7 +162,7 @@ impl Store {
         ensures value { result ≡ edge self.now range.high - edge self.now range.low }
         ensures order { edge self.now range.low ≤ edge self.now range.high }
     {
-        let _ = &self.parts;
+        let _ = &self.inside;
         (self.edge(range.high()) - self.edge(range.low())) as u64
     }
 
@@ -170,13 +171,13 @@ impl Store {
         requires { Stands self.now bound.0 }
         ensures { result ≡ edge self.now bound.0 }
     {
-        if bound <= self.parts.keys.low() {
+        if bound <= self.inside.keys.low() {
             return 0;
         }
-        if self.parts.keys.high() <= bound {
-            return self.parts.column.len();
+        if self.inside.keys.high() <= bound {
+            return self.inside.column.len();
         }
-        match self.parts.index.position(bound) {
+        match self.inside.index.position(bound) {
             Some(place) => place,
             None => unreachable!(),
         }
@@ -186,9 +187,9 @@ impl Store {
     pub fn next_bound(&self, bound: Bound) -> Bound
         ensures { result.0 ≡ bound_above self.now bound.0 }
     {
-        match self.parts.index.next_after(bound) {
+        match self.inside.index.next_after(bound) {
             Some((next, _)) => next,
-            None => self.parts.keys.high(),
+            None => self.inside.keys.high(),
         }
     }
 
@@ -204,9 +205,9 @@ impl Store {
         let pending_in = self.pending_in() as u64;
         let pending_out = self.pending_out() as u64;
         let pieces = self
-            .parts
+            .inside
             .index
-            .pieces(self.parts.alloc, self.parts.keys, self.column_len())?;
+            .pieces(self.inside.keys, self.column_len())?;
         Ok(Layout {
             rows: column - pending_out + pending_in,
             column,
@@ -222,56 +223,56 @@ impl Store {
     pub fn pending_in(&self) -> usize
         ensures { result ≡ length self.now.pending_in }
     {
-        self.parts.pending_in.len()
+        self.inside.pending_in.len()
     }
 
     /// The number of pending deletions.
     pub fn pending_out(&self) -> usize
         ensures { result ≡ length self.now.pending_out }
     {
-        self.parts.pending_out.len()
+        self.inside.pending_out.len()
     }
 
     /// The number of rows in the column, doomed ones too.
     pub fn column_len(&self) -> usize
         ensures { result ≡ length self.now.column }
     {
-        self.parts.column.len()
+        self.inside.column.len()
     }
 
     /// The number of cells, free ones too.
     pub fn cells(&self) -> usize
         ensures { result ≡ length self.now.cells }
     {
-        self.parts.arena.cells()
+        self.inside.arena.cells()
     }
 
     /// The number of free cells.
     pub fn free_cells(&self) -> usize
         ensures { result ≡ length self.now.free }
     {
-        self.parts.arena.free_cells()
+        self.inside.arena.free_cells()
     }
 
     /// What merges have counted.
     pub fn tally(&self) -> MergeReport
         ensures { result ≡ self.now.tally }
     {
-        self.parts.tally
+        self.inside.tally
     }
 
     /// The first pending insertion with its key in the range. O(pending insertions).
     pub fn first_in(&self, range: KeyRange) -> Option<usize>
         ensures { Finds range (keys_at self.now.cells self.now.pending_in) 0 result }
     {
-        self.parts.pending_in.first_in(range, &self.parts.arena)
+        self.inside.pending_in.first_in(range, &self.inside.arena)
     }
 
     /// The first pending deletion with its key in the range. O(pending deletions).
     pub fn first_out(&self, range: KeyRange) -> Option<usize>
         ensures { Finds range (keys_at self.now.cells self.now.pending_out) 0 result }
     {
-        self.parts.pending_out.first_in(range, &self.parts.arena)
+        self.inside.pending_out.first_in(range, &self.inside.arena)
     }
 
     /// The pending deletion at this place of the order of arrival. O(1).
@@ -279,6 +280,6 @@ impl Store {
         requires { place < length self.now.pending_out }
         ensures { StandsAt self.now.pending_out place result }
     {
-        self.parts.pending_out.at(place)
+        self.inside.pending_out.at(place)
     }
 }

@@ -50,7 +50,7 @@ fn pieces_join_and_make_up_the_column(rt: HostRuntime) -> Result<(), Fail> {
     index.add(Bound(15), 1);
     index.add(Bound(25), 2);
     let sizes = [(0, 15, 1), (15, 25, 1), (25, 4294967296, 2)];
-    let pieces = index.pieces(rt.alloc(), KeyRange::all(), 4)?;
+    let pieces = index.pieces(KeyRange::all(), 4)?;
     assert_eq!(rt; pieces.len(), 3);
     for (piece, (low, high, size)) in pieces.iter().zip(sizes) {
         assert_eq!(rt;

@@ -10,39 +10,39 @@ use Rattle.crack_column.proofs.column.CrackerColumn.crack_two.Goals.{After-deref
 end_len : (c : After-deref) → c.args.to ≤ c.self.inside.len
 end_len c =
     let within = rw (← c.self.view_is) at c.requires.within in
-    omega (arith, within, length-in c.self.inside.handles.items c.self.inside.places.items c.self.inside.len c.self.invariant.are.within)
+    omega (arith, within, length-in c.self.inside.handles.items c.self.inside.tags.items c.self.inside.len c.self.invariant.are.within)
 
-remembers : (c : After-deref) → Remembers c.args.arena.now.cells (handles_in c.self.inside.handles.items c.self.inside.places.items c.self.inside.len) (keys_in c.self.inside.places.items c.self.inside.len)
+remembers : (c : After-deref) → Remembers c.args.arena.now.cells (handles_in c.self.inside.handles.items c.self.inside.tags.items c.self.inside.len) (keys_in c.self.inside.tags.items c.self.inside.len)
 remembers c = rw (← c.self.view_is) at c.requires.remembered
 
-turned : (c : After-crack_between-place) → Turns c.args.arena.now.cells c.self.inside.handles.items c.args.bound.0 c.args.from c.args.to c.self.inside.places.items c.crack_between-place.new.places.items c.crack_between-place.result.0 c.crack_between-place.result.1
+turned : (c : After-crack_between-place) → Turns c.args.arena.now.cells c.self.inside.handles.items c.args.bound.0 c.args.from c.args.to c.self.inside.tags.items c.crack_between-place.new.tags.items c.crack_between-place.result.0 c.crack_between-place.result.1
 turned c = rw (c.deref.ensures.value) at c.crack_between-place.ensures.turned
 
-cracked : (c : After-crack_between-place) → Cracks c.args.arena.now.cells c.args.bound.0 c.args.from c.args.to (handles_in c.self.inside.handles.items c.self.inside.places.items c.self.inside.len) (keys_in c.self.inside.places.items c.self.inside.len) (handles_in c.self.inside.handles.items c.crack_between-place.new.places.items c.self.inside.len) (keys_in c.crack_between-place.new.places.items c.self.inside.len) c.crack_between-place.result.0
+cracked : (c : After-crack_between-place) → Cracks c.args.arena.now.cells c.args.bound.0 c.args.from c.args.to (handles_in c.self.inside.handles.items c.self.inside.tags.items c.self.inside.len) (keys_in c.self.inside.tags.items c.self.inside.len) (handles_in c.self.inside.handles.items c.crack_between-place.new.tags.items c.self.inside.len) (keys_in c.crack_between-place.new.tags.items c.self.inside.len) c.crack_between-place.result.0
 cracked c =
-    Cracks-Turns c.args.arena.now.cells c.self.inside.handles.items c.args.bound.0 c.args.from c.args.to c.self.inside.places.items c.crack_between-place.new.places.items c.crack_between-place.result.0 c.crack_between-place.result.1 c.self.inside.len c.self.invariant.are c.requires.order (end_len c.before) (turned c)
+    Cracks-Turns c.args.arena.now.cells c.self.inside.handles.items c.args.bound.0 c.args.from c.args.to c.self.inside.tags.items c.crack_between-place.new.tags.items c.crack_between-place.result.0 c.crack_between-place.result.1 c.self.inside.len c.self.invariant.are c.requires.order (end_len c.before) (turned c)
 
 -- what became known was unknown
-learned : (c : After-crack_between-place) → times unknown (keys_in c.crack_between-place.new.places.items c.self.inside.len) + c.crack_between-place.result.1 ≤ c.self.inside.unread
+learned : (c : After-crack_between-place) → times unknown (keys_in c.crack_between-place.new.tags.items c.self.inside.len) + c.crack_between-place.result.1 ≤ c.self.inside.unread
 learned c =
-    let same = unread-Turns c.args.arena.now.cells c.self.inside.handles.items c.args.bound.0 c.args.from c.args.to c.self.inside.places.items c.crack_between-place.new.places.items c.crack_between-place.result.0 c.crack_between-place.result.1 c.self.inside.len c.self.invariant.are c.requires.order (end_len c.before) (turned c) in
+    let same = unread-Turns c.args.arena.now.cells c.self.inside.handles.items c.args.bound.0 c.args.from c.args.to c.self.inside.tags.items c.crack_between-place.new.tags.items c.crack_between-place.result.0 c.crack_between-place.result.1 c.self.inside.len c.self.invariant.are c.requires.order (end_len c.before) (turned c) in
     omega (arith, same, c.self.invariant.most)
 
-drawn : (c : After-crack_between-place) → AreDrawn c.self.inside.handles.items c.crack_between-place.new.places.items c.self.inside.len
+drawn : (c : After-crack_between-place) → AreDrawn c.self.inside.handles.items c.crack_between-place.new.tags.items c.self.inside.len
 drawn c =
-    AreDrawn-Turns c.args.arena.now.cells c.self.inside.handles.items c.args.bound.0 c.args.from c.args.to c.self.inside.places.items c.crack_between-place.new.places.items c.crack_between-place.result.0 c.crack_between-place.result.1 c.self.inside.len c.self.invariant.are c.requires.order (end_len c.before) (turned c)
+    AreDrawn-Turns c.args.arena.now.cells c.self.inside.handles.items c.args.bound.0 c.args.from c.args.to c.self.inside.tags.items c.crack_between-place.new.tags.items c.crack_between-place.result.0 c.crack_between-place.result.1 c.self.inside.len c.self.invariant.are c.requires.order (end_len c.before) (turned c)
 
-long : (c : After-crack_between-place) → length c.crack_between-place.new.places.items ≡ length c.self.inside.places.items
+long : (c : After-crack_between-place) → length c.crack_between-place.new.tags.items ≡ length c.self.inside.tags.items
 long c =
-    length-Turns c.args.arena.now.cells c.self.inside.handles.items c.args.bound.0 c.args.from c.args.to c.self.inside.places.items c.crack_between-place.new.places.items c.crack_between-place.result.0 c.crack_between-place.result.1 c.self.inside.len c.self.invariant.are c.requires.order (end_len c.before) (turned c)
+    length-Turns c.args.arena.now.cells c.self.inside.handles.items c.args.bound.0 c.args.from c.args.to c.self.inside.tags.items c.crack_between-place.new.tags.items c.crack_between-place.result.0 c.crack_between-place.result.1 c.self.inside.len c.self.invariant.are c.requires.order (end_len c.before) (turned c)
 
 pub crack_between-place-requires-clause-known : goal.crack_between-place-requires-clause-known
 crack_between-place-requires-clause-known c =
-    rw (c.deref.ensures.value) (Knows-Remembers c.args.arena.now.cells c.self.inside.handles.items c.self.inside.places.items c.self.inside.len c.args.from c.args.to c.self.invariant.are.within (end_len c) (remembers c))
+    rw (c.deref.ensures.value) (Knows-Remembers c.args.arena.now.cells c.self.inside.handles.items c.self.inside.tags.items c.self.inside.len c.args.from c.args.to c.self.invariant.are.within (end_len c) (remembers c))
 
 pub crack_between-place-requires-clause-unread : goal.crack_between-place-requires-clause-unread
 crack_between-place-requires-clause-unread c =
-    let few = unknown-between c.self.inside.places.items c.self.inside.len c.args.from c.args.to c.self.invariant.are.within c.requires.order (end_len c) in
+    let few = unknown-between c.self.inside.tags.items c.self.inside.len c.args.from c.args.to c.self.invariant.are.within c.requires.order (end_len c) in
     omega (arith, few, c.self.invariant.most)
 
 pub overflow_sub-self : goal.overflow_sub-self

@@ -7,8 +7,11 @@ use Rattle.crack_index.proofs.MarkLaws.{AreJoined-pieces, sum_of_sizes}
 use Rattle.crack_index.proofs.index.CrackerIndex.pieces.Goals as goal
 
 pub returns-clause-joined : goal.returns-clause-joined
-returns-clause-joined c =
-    IfOk-weaker c.piece_sizes.result _ _ (λ v is. rw is (AreJoined-pieces (record { 0 = c.args.keys.low }) 0 c.deref.result.now (record { 0 = c.args.keys.high }) c.args.len)) c.piece_sizes.ensures.ok
+returns-clause-joined c = λ between.
+    let marks = c.self.inside.marks.items in
+    let within : All (λ m. (c.args.keys.low ≤ m.bound.0) × (m.bound.0 ≤ c.args.keys.high)) marks = rw (← c.self.view_is) at between in
+    let joined = AreJoined-pieces (record { 0 = c.args.keys.low }) 0 marks (record { 0 = c.args.keys.high }) c.args.len (omega arith) c.self.invariant within in
+    IfOk-weaker c.piece_sizes.result _ _ (λ v is. rw is (rw c.deref.ensures.value joined)) c.piece_sizes.ensures.ok
 
 pub returns-clause-sizes : goal.returns-clause-sizes
 returns-clause-sizes c = λ bounded.

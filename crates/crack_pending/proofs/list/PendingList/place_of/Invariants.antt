@@ -1,5 +1,5 @@
 use Rattle.std.proofs.Common.{ℕ, ◌<◌}
-use Rattle.crack_pending.specs.Pending.{StandsAt}
+use Rattle.crack_arena.specs.Arena.{StandsAt}
 use Rattle.crack_pending.proofs.list.PendingList.place_of.Given as goal
 
 abbrev pub invariant-places : goal.invariant-places

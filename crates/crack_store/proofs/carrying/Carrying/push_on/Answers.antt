@@ -4,13 +4,13 @@ use Rattle.crack_index.specs.Marks.{next_mark}
 use Rattle.crack_state.specs.State.{Carried}
 use Rattle.crack_state.specs.Steps.{hand_key, piece_end, raise_next}
 use Rattle.crack_state.proofs.StepLaws.{IsIntact-pushed_on, bounds_above-pushed_on}
-use Rattle.crack_store.specs.Parts.{state_of}
+use Rattle.crack_store.specs.Inside.{lists_of}
 use Rattle.crack_store.proofs.EdgeLemmas.{positions_small}
 use Rattle.crack_store.proofs.carrying.Carrying.push_on.Goals as goal
 
 -- the store with its hand as it was
 abbrev before : goal.After-self-2-1 → Carried
-before c = record { store = state_of c.self.inside.parts; hand = c.self.inside.hand }
+before c = record { store = lists_of c.self.inside.inside; hand = c.self.inside.hand }
 
 room : (c : goal.After-self-2-1) → piece_end (before c).store (hand_key (before c)) < length (before c).store.column
 room c = rw (← c.self.view_is) at c.requires
@@ -27,14 +27,13 @@ hand : (c : goal.After-self-2-1) → c.swap_in-self-inside.result ≡ get_or (be
 hand c = sym (rw (place c) at (get_or_from_slice_get (before c).store.column c.own_piece-place.result.to c.swap_in-self-inside.result (before c).hand c.swap_in-self-inside.ensures.result))
 
 pub raise_next-requires : goal.raise_next-requires
-raise_next-requires c = positions_small (state_of c.self.inside.parts) (c.self.inside.hand ∷ []) c.self.invariant.intact
+raise_next-requires c = positions_small (lists_of c.self.inside.inside) (c.self.inside.hand ∷ []) c.self.invariant.intact
 
 pub invariant_of-self : goal.invariant_of-self
 invariant_of-self c =
     record {
       intact = rw (c.swap_in-self-inside.ensures.after, marks c, c.saturating_add-self-inside.ensures, hand c, place c) (IsIntact-pushed_on (before c) (room c) c.self.invariant.intact);
-      in_flags = c.self.invariant.in_flags;
-      out_flags = c.self.invariant.out_flags;
+      flags = c.self.invariant.flags;
     }
 
 pub returns-clause-after : goal.returns-clause-after

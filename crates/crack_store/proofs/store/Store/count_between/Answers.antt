@@ -1,15 +1,15 @@
-use Rattle.std.proofs.Common.{◌≤◌, [], inl, inr, refl}
+use Rattle.std.proofs.Common.{◌≤◌, []}
 use Rattle.crack_state.specs.Merge.{IsCracked, edge}
-use Rattle.crack_store.specs.Parts.{state_of}
+use Rattle.crack_store.specs.Inside.{lists_of}
 use Rattle.crack_store.proofs.EdgeLemmas.{edge_order}
 use Rattle.crack_store.proofs.store.Store.count_between.Goals as goal
 
 pub returns-clause-order : goal.returns-clause-order
 returns-clause-order c =
-    let s = state_of c.self.inside.parts in
+    let s = lists_of c.self.inside.inside in
     let range = c.args.range in
     let cracked : IsCracked s range = rw (← c.self.view_is) at c.requires in
-    let order : edge s range.low ≤ edge s range.high = edge_order s [] range.low range.high c.self.invariant.intact c.low.ensures.ordered (λ l h. cracked range.low (inl refl, l, h)) (λ l h. cracked range.high (inr refl, l, h)) in
+    let order : edge s range.low ≤ edge s range.high = edge_order s [] range.low range.high c.self.invariant.intact c.low.ensures.ordered cracked.0 cracked.1 in
     rw (← c.self.view_is) order
 
 pub overflow_sub-result : goal.overflow_sub-result

@@ -1,27 +1,27 @@
-use Rattle.std.proofs.Common.{◌≡◌, false}
-use Rattle.crack_state.specs.Merge.{RefinesAt, Refines}
+use Rattle.std.proofs.Common.{◌≡◌, false, arith}
+use Rattle.crack_state.specs.Merge.{Stands, RefinesAt, Refines}
 use Rattle.crack_state.proofs.CrackLaws.{Refines-both, IsCracked-refined}
-use Rattle.crack_store.specs.Parts.{state_of, Stands}
+use Rattle.crack_store.specs.Inside.{lists_of}
 use Rattle.crack_store.proofs.MissingLemmas.{room_left}
 use Rattle.crack_store.proofs.store.Store.crack.Goals as goal
 
 -- a place is left for the second end
 pub crack_at-requires-2-clause-room : goal.crack_at-requires-2-clause-room
 crack_at-requires-2-clause-room c =
-    let s = state_of c.self.inside.parts in
-    let low_cracked = state_of c.crack_at.new.parts in
+    let s = lists_of c.self.inside.inside in
+    let low_cracked = lists_of c.crack_at.new.inside in
     let first : RefinesAt s low_cracked c.args.range.low = rw (c.in_ok-reserve.ensures.marks, c.low-2.ensures.value) at c.crack_at.ensures.refined in
     let low_stands : c.is_missing-low.result ≡ false → Stands s c.args.range.low = λ e. rw c.low.ensures.value at (c.is_missing-low.ensures.stands e) in
     let high_stands : c.is_missing-high.result ≡ false → Stands s c.args.range.high = λ e. rw c.high.ensures.value at (c.is_missing-high.ensures.stands e) in
-    let kept : Stands s c.args.range.low → c.crack_at.new.parts.index.room ≡ c.reserve.new.self.room = rw (c.in_ok-reserve.ensures.marks, c.low-2.ensures.value) at c.crack_at.ensures.kept in
-    rw c.high-2.ensures.value (room_left s low_cracked c.args.range.low c.args.range.high c.reserve.new.self.room c.crack_at.new.parts.index.room c.is_missing-low.result c.is_missing-high.result first low_stands high_stands c.in_ok-reserve.ensures.ok c.crack_at.ensures.room kept)
+    let kept : Stands s c.args.range.low → c.crack_at.new.inside.index.room ≡ c.reserve.new.self.room = rw (c.in_ok-reserve.ensures.marks, c.low-2.ensures.value) at c.crack_at.ensures.kept in
+    rw c.high-2.ensures.value (room_left s low_cracked c.args.range.low c.args.range.high c.reserve.new.self.room c.crack_at.new.inside.index.room c.is_missing-low.result c.is_missing-high.result first low_stands high_stands (omega (arith, c.in_ok-reserve.ensures.ok)) c.crack_at.ensures.room kept)
 
 -- cracked at the one end, and then at the other
-refined : (c : goal.After-crack_at-2) → Refines (state_of c.self.inside.parts) (state_of c.crack_at-2.new.parts) c.args.range
+refined : (c : goal.After-crack_at-2) → Refines (lists_of c.self.inside.inside) (lists_of c.crack_at-2.new.inside) c.args.range
 refined c =
-    let s = state_of c.self.inside.parts in
-    let low_cracked = state_of c.crack_at.new.parts in
-    let both_cracked = state_of c.crack_at-2.new.parts in
+    let s = lists_of c.self.inside.inside in
+    let low_cracked = lists_of c.crack_at.new.inside in
+    let both_cracked = lists_of c.crack_at-2.new.inside in
     let first : RefinesAt s low_cracked c.args.range.low = rw (c.in_ok-reserve.ensures.marks, c.low-2.ensures.value) at c.crack_at.ensures.refined in
     let second : RefinesAt low_cracked both_cracked c.args.range.high = rw c.high-2.ensures.value at c.crack_at-2.ensures.refined in
     Refines-both s low_cracked both_cracked c.args.range first second
@@ -30,4 +30,4 @@ pub returns-clause-ok : goal.returns-clause-ok
 returns-clause-ok c = rw (← c.self.view_is) (refined c)
 
 pub returns-clause-cracked : goal.returns-clause-cracked
-returns-clause-cracked c = IsCracked-refined (state_of c.self.inside.parts) (state_of c.crack_at-2.new.parts) c.args.range (refined c)
+returns-clause-cracked c = IsCracked-refined (lists_of c.self.inside.inside) (lists_of c.crack_at-2.new.inside) c.args.range (refined c)

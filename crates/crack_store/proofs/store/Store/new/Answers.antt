@@ -1,4 +1,4 @@
-use Rattle.std.proofs.Common.{rules, arith}
+use Rattle.std.proofs.Common.{rules, refl}
 use Rattle.crack_arena.specs.Arena.{times}
 use Rattle.crack_store.proofs.FlagLemmas.{AreMarked-none}
 use Rattle.crack_store.proofs.store.Store.new.Goals as goal
@@ -8,12 +8,8 @@ unfolding times
 invariant_of-result c =
     record {
       intact = search rules;
-      in_flags = record {
+      flags = record {
         right = rw (c.new-4.ensures, c.new-6.ensures) AreMarked-none;
-        covered = rw c.new.ensures.cells (omega arith);
-      };
-      out_flags = record {
-        right = rw (c.new-5.ensures, c.new-7.ensures) AreMarked-none;
-        covered = rw c.new.ensures.cells (omega arith);
+        covered = rw (c.new.ensures.cells, c.new-6.ensures) refl;
       };
     }

@@ -1,4 +1,4 @@
--- What a contract sees of the parts of a store.
+-- What a contract sees of the inside of a store.
 use Rattle.std.specs.Prelude.{◌≡◌, ◌<◌, ◌+◌, ◌-◌, ℕ, Bool, nat_lt, List, [], length, Option, Some, None}
 use Rattle.std.specs.Option.{option_map}
 use Rattle.crack_row.specs.Ranges.{Range}
@@ -8,12 +8,12 @@ use Rattle.crack_index.specs.Marks.{HasBound, next_mark, pieces_from}
 use Rattle.crack_arena.specs.Arena.{Handle, times, slots}
 use Rattle.crack_state.specs.declared.MergeReport.{MergeReport}
 use Rattle.crack_state.specs.State.{State, IsIntact, handle_of}
-use Rattle.crack_store.specs.declared.parts.Parts.{Parts}
+use Rattle.crack_store.specs.declared.inside.Inside.{Inside}
 use Rattle.crack_store.specs.Flags.{AreFlagsOf}
 
--- the parts as lists
-abbrev pub state_of : Parts → State
-state_of p = record {
+-- the inside as lists
+abbrev pub lists_of : Inside → State
+lists_of p = record {
   keys = p.keys;
   cells = p.arena.cells;
   free = p.arena.free;
@@ -28,21 +28,16 @@ state_of p = record {
   in_room = p.pending_in.room;
 }
 
--- what the parts keep, with no hand or one; each cell has two flags, which say whether it is pending and whether it is doomed
-pub record AreIntact (p : Parts) (hand : List Handle) : Type 0 where
-  pub intact : IsIntact (state_of p) hand
-  pub in_flags : AreFlagsOf p.in_flags (length p.arena.cells) p.pending_in.handles
-  pub out_flags : AreFlagsOf p.out_flags (length p.arena.cells) p.pending_out.handles
+-- what the inside keeps, with no hand or one; each cell has one flag, which says whether it is a pending insertion
+pub record KeepsIntact (p : Inside) (hand : List Handle) : Type 0 where
+  pub intact : IsIntact (lists_of p) hand
+  pub flags : AreFlagsOf p.flags (length p.arena.cells) p.pending_in.handles
 
 -- the bound lies strictly between the partition's ends, and doesn't stand in the index
 pub record IsMissing (s : State) (bound : ℕ) : Type 0 where
   pub low : s.keys.low < bound
   pub high : bound < s.keys.high
   pub apart : HasBound s.marks bound → ⊥
-
--- the bound is an end of the partition or lies outside, or stands in the index
-abbrev pub Stands : State → ℕ → Type 0
-Stands s bound = s.keys.low < bound → bound < s.keys.high → HasBound s.marks bound
 
 -- nothing was counted
 abbrev pub no_report : MergeReport

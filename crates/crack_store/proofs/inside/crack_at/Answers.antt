@@ -1,20 +1,19 @@
 use Rattle.std.proofs.Common.{◌≡◌, ◌<◌, [], refl}
-use Rattle.crack_state.specs.Steps.{CracksAt}
 use Rattle.crack_state.proofs.PieceLaws.{piece_end-le}
-use Rattle.crack_state.proofs.CrackLaws.{IsIntact-cracked, RefinesAt-cracked, RefinesBy-refl}
-use Rattle.crack_store.specs.Parts.{state_of}
-use Rattle.crack_store.proofs.parts.crack_at.Goals as goal
+use Rattle.crack_state.proofs.CrackLaws.{CracksAt, IsIntact-cracked, RefinesAt-cracked, RefinesBy-refl}
+use Rattle.crack_store.specs.Inside.{lists_of}
+use Rattle.crack_store.proofs.inside.crack_at.Goals as goal
 
 pub crack_two-place-requires-clause-within : goal.crack_two-place-requires-clause-within
 crack_two-place-requires-clause-within c =
     let intact = c.requires.intact.intact in
-    rw (c.piece_of-piece.ensures.value, c.len.ensures.value) (piece_end-le (state_of c.args.parts.now) c.args.bound.0 intact.rising intact.obeyed)
+    rw (c.piece_of-piece.ensures.value, c.len.ensures.value) (piece_end-le (lists_of c.args.inside.now) c.args.bound.0 intact.rising intact.obeyed)
 
 pub add-requires-clause-order : goal.add-requires-clause-order
 add-requires-clause-order c = c.piece_of-piece.ensures.fits c.crack_two-place.result c.crack_two-place.ensures.cracked.low c.crack_two-place.ensures.cracked.high
 
 -- the bound's own piece was cracked by it
-cracked : (c : goal.After-add) → CracksAt (state_of c.args.parts.now) (state_of (record c.args.parts.now { column = c.crack_two-place.new.self; index = c.add.new.self })) c.args.bound
+cracked : (c : goal.After-add) → CracksAt (lists_of c.args.inside.now) (lists_of (record c.args.inside.now { column = c.crack_two-place.new.self; index = c.add.new.self })) c.args.bound
 cracked c =
     let missing = c.is_missing.ensures.missing c.if-not-is_missing.false in
     record {
@@ -28,22 +27,21 @@ cracked c =
 
 pub returns-clause-intact : goal.returns-clause-intact
 returns-clause-intact c =
-    let old = c.args.parts.now in
+    let old = c.args.inside.now in
     let new = record old { column = c.crack_two-place.new.self; index = c.add.new.self } in
     record {
-      intact = IsIntact-cracked (state_of old) (state_of new) [] c.args.bound (cracked c) c.requires.intact.intact;
-      in_flags = c.requires.intact.in_flags;
-      out_flags = c.requires.intact.out_flags;
+      intact = IsIntact-cracked (lists_of old) (lists_of new) [] c.args.bound (cracked c) c.requires.intact.intact;
+      flags = c.requires.intact.flags;
     }
 
 pub returns-clause-refined : goal.returns-clause-refined
 returns-clause-refined c =
-    let old = c.args.parts.now in
+    let old = c.args.inside.now in
     let new = record old { column = c.crack_two-place.new.self; index = c.add.new.self } in
-    RefinesAt-cracked (state_of old) (state_of new) [] c.args.bound (cracked c) c.requires.intact.intact
+    RefinesAt-cracked (lists_of old) (lists_of new) [] c.args.bound (cracked c) c.requires.intact.intact
 
 pub returns-then-not-is_missing-clause-refined : goal.returns-then-not-is_missing-clause-refined
 returns-then-not-is_missing-clause-refined c =
-    let s = state_of c.args.parts.now in
+    let s = lists_of c.args.inside.now in
     let stands = c.is_missing.ensures.stands c.if-not-is_missing.true in
     RefinesBy-refl (λ b. (b ≡ c.args.bound.0) × (s.keys.low < b) × (b < s.keys.high)) s (λ b is. rw is.0 (stands (rw is.0 at is.1) (rw is.0 at is.2)))

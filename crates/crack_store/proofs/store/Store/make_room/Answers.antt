@@ -1,0 +1,9 @@
+use Rattle.std.proofs.Common.{[], arith}
+use Rattle.crack_state.proofs.LayoutLaws.{cells-intact}
+use Rattle.crack_store.specs.Inside.{lists_of}
+use Rattle.crack_store.proofs.store.Store.make_room.Goals as goal
+
+pub reserve-requires : goal.reserve-requires
+reserve-requires c =
+    let intact = c.self.invariant.intact in
+    omega (arith, cells-intact (lists_of c.self.inside.inside) [] intact, intact.few_cells)
