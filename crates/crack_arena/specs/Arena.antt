@@ -144,6 +144,6 @@ after_call (Free h) a = cond (is_some (read a.cells h)) (freed_at h a) a
 after_call (Reserve n) a = a
 
 -- the arena after one call and then the next, refused ones left out
-abbrev pub after : {T : Type 0} → List (Call T) → Arena T → Arena T
-after [] a = a
-after (c ∷ cs) a = after cs (after_call c a)
+abbrev pub after_calls : {T : Type 0} → List (Call T) → Arena T → Arena T
+after_calls [] a = a
+after_calls (c ∷ cs) a = after_calls cs (after_call c a)

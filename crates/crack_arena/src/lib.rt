@@ -8,7 +8,7 @@ ghost use Rattle.std.specs.Prelude.{◌≡◌, ◌+◌, ◌<◌, ◌≤◌, List
 ghost use Rattle.crack_row.specs.declared.refusal.Refusal.TheVariants.{OutOfMemory};
 ghost use Rattle.std.proofs.Common.{rules};
 ghost use Rattle.std.specs.Cmp.Rules.{comparing};
-ghost use Rattle.crack_arena.specs.Arena.{same_handle, read, freed, CanPut, handle_for, put_in, set_at, freed_at, cell_at, IsWhole, IsSpent, KeepsSpent, Call, after};
+ghost use Rattle.crack_arena.specs.Arena.{same_handle, read, freed, CanPut, handle_for, put_in, set_at, freed_at, cell_at, IsWhole, IsSpent, KeepsSpent, Call, after_calls};
 
 mod rows;
 
@@ -199,7 +199,7 @@ impl<T> Arena<T> {
     /// States of a spent handle that no list of calls revives it, and does nothing.
     pub fn stays_spent(&self, handle: Handle<T>)
         requires { IsSpent self.now.cells handle }
-        ensures { (calls : List (Call T)) → read (after calls self.now).cells handle ≡ None }
+        ensures { (calls : List (Call T)) → read (after_calls calls self.now).cells handle ≡ None }
     {
         let _ = &self.cells;
     }
@@ -228,7 +228,7 @@ impl<T> Arena<T> {
         ensures room { OnOk result (additional ≤ self.new.room) }
         ensures kept { self.old.room ≤ self.new.room }
         ensures refused { IfErr result (λ e. e ≡ OutOfMemory) }
-        ensures short { OnErr result (self.old.room < additional) }
+        ensures full { OnErr result (self.old.room < additional) }
         ensures unchanged { OnErr result (self.new ≡ self.old) }
     {
         if additional > self.free {
@@ -316,7 +316,7 @@ impl<T> Arena<T> {
         ensures after { MatchOption result (self.new ≡ self.old) (λ _. self.new ≡ freed_at handle self.old) }
         ensures keeps_spent { KeepsSpent self.old.cells self.new.cells }
         ensures spent { OnSome result (IsSpent self.new.cells handle) }
-        ensures ever_after { OnSome result ((calls : List (Call T)) → read (after calls self.new).cells handle ≡ None) }
+        ensures ever_after { OnSome result ((calls : List (Call T)) → read (after_calls calls self.new).cells handle ≡ None) }
     {
         let slot = handle.slot() as usize;
         let generation = handle.generation();

@@ -199,7 +199,7 @@ pub fn next_line<R: Read, W: Write>(
 fn move_back(bytes: &mut [u8; ROOM_BYTES], start: usize, end: usize) -> usize
     requires ordered { start ≤ end }
     requires within { end ≤ ROOM_BYTES }
-    ensures short { result ≤ KEPT_BYTES }
+    ensures few { result ≤ KEPT_BYTES }
     ensures line { slice_range bytes.new (KEPT_BYTES - result) KEPT_BYTES ≡ kept_of (slice_range bytes.old start end) }
 {
     let kept = (end - start).min(KEPT_BYTES);

@@ -261,7 +261,7 @@ fn is_digit(b: u8) -> bool
 /// The number that digits spell.
 fn value_of(word: &[u8]) -> u128
     requires digits { list_all is_digit word.now ≡ true }
-    requires short { length word.now ≤ MOST_DIGITS }
+    requires few { length word.now ≤ MOST_DIGITS }
     ensures { result ≡ value_on 0 word.now }
 {
     let mut value: u128 = 0;

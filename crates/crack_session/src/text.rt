@@ -73,7 +73,7 @@ pub fn write_text<W: Write>(bytes: &[u8], writer: &mut Watched<W>) -> Result<(),
 fn push_carried(text: &mut Text, refusal: &Refusal)
     requires { length text.old.items + 21 ≤ TEXT_BYTES }
     ensures value { text.new.items ≡ text.old.items ++ carried_text refusal.now }
-    ensures short { length text.new.items ≤ length text.old.items + 21 }
+    ensures few { length text.new.items ≤ length text.old.items + 21 }
 {
     if let Refusal::HistoryFull { length } = refusal {
         push(text, b" ");
@@ -86,7 +86,7 @@ fn push_carried(text: &mut Text, refusal: &Refusal)
 fn push_number(text: &mut Text, number: u64)
     requires { length text.old.items + 20 ≤ TEXT_BYTES }
     ensures digits { text.new.items ≡ text.old.items ++ decimal number }
-    ensures short { length text.new.items ≤ length text.old.items + 20 }
+    ensures few { length text.new.items ≤ length text.old.items + 20 }
 {
     if number < 10 {
         push(text, &[b'0' + number as u8]);

@@ -1,7 +1,7 @@
 //! The bounds of a cracked column and their places.
 
 use crack_index::CrackerIndex;
-use crack_row::{Bound, Key, KeyRange, PieceSize};
+use crack_row::{Bound, GREATEST_BOUND, Key, KeyRange, PieceSize};
 use std::alloc::Global;
 use std::process::Abort;
 use std::test::Fail;
@@ -57,7 +57,11 @@ fn pieces_join_and_make_up_the_column(rt: HostRuntime) -> Result<(), Fail> {
     index.reserve(2)?;
     index.add(Bound(15), 1);
     index.add(Bound(25), 2);
-    let sizes = [piece(0, 15, 1), piece(15, 25, 1), piece(25, 4294967296, 2)];
+    let sizes = [
+        piece(0, 15, 1),
+        piece(15, 25, 1),
+        piece(25, GREATEST_BOUND, 2),
+    ];
     let pieces = index.pieces(KeyRange::all(), 4)?;
     assert_eq!(rt; pieces.as_slice(), sizes.as_slice());
     Ok(())

@@ -3,7 +3,7 @@ ghost use Rattle.std.specs.Prelude.{◌≡◌, ◌<◌, ◌≤◌, [], OnOk, IfO
 ghost use Rattle.crack_state.specs.Merge.{IsCracked};
 
 use crack_merge::merge_complete;
-use crack_row::{Key, KeyRange, Payload, Refusal, Row, Serial};
+use crack_row::{GREATEST_BOUND, Key, KeyRange, Payload, Refusal, Row, Serial};
 use crack_store::{MergeReport, Store};
 use std::alloc::Global;
 use std::process::Abort;
@@ -11,10 +11,10 @@ use std::process::Abort;
 /// Puts a row of this key among the pending insertions of a store of all keys.
 fn insert(rt: &impl Abort, store: &mut Store, key: u32) -> Result<(), Refusal>
     requires low { store.old.keys.low ≡ 0 }
-    requires high { store.old.keys.high ≡ 4294967296 }
+    requires high { store.old.keys.high ≡ GREATEST_BOUND }
     requires none_doomed { store.old.pending_out ≡ [] }
     ensures low { OnOk result (store.new.keys.low ≡ 0) }
-    ensures high { OnOk result (store.new.keys.high ≡ 4294967296) }
+    ensures high { OnOk result (store.new.keys.high ≡ GREATEST_BOUND) }
     ensures none_doomed { OnOk result (store.new.pending_out ≡ []) }
 {
     let cells = store.cells();
@@ -32,7 +32,7 @@ fn insert(rt: &impl Abort, store: &mut Store, key: u32) -> Result<(), Refusal>
 /// A store of all keys whose column has the keys 10, 20, 30 and 40, and what the merge of these counted.
 fn filled(rt: &impl Abort, alloc: Global) -> Result<(Store, MergeReport), Refusal>
     ensures low { IfOk result (λ r. r.0.keys.low ≡ 0) }
-    ensures high { IfOk result (λ r. r.0.keys.high ≡ 4294967296) }
+    ensures high { IfOk result (λ r. r.0.keys.high ≡ GREATEST_BOUND) }
     ensures none_doomed { IfOk result (λ r. r.0.pending_out ≡ []) }
 {
     let mut store = Store::new(alloc, KeyRange::all());
@@ -47,11 +47,11 @@ fn filled(rt: &impl Abort, alloc: Global) -> Result<(Store, MergeReport), Refusa
 fn merge_at(store: Store, range: KeyRange) -> Result<(Store, MergeReport), Refusal>
     requires some { range.low < range.high }
     requires low { store.keys.low ≡ 0 }
-    requires high { store.keys.high ≡ 4294967296 }
-    requires within { range.high ≤ 4294967296 }
+    requires high { store.keys.high ≡ GREATEST_BOUND }
+    requires within { range.high ≤ GREATEST_BOUND }
     requires none_doomed { store.pending_out ≡ [] }
     ensures low { IfOk result (λ r. r.0.keys.low ≡ 0) }
-    ensures high { IfOk result (λ r. r.0.keys.high ≡ 4294967296) }
+    ensures high { IfOk result (λ r. r.0.keys.high ≡ GREATEST_BOUND) }
     ensures none_doomed { IfOk result (λ r. r.0.pending_out ≡ []) }
     ensures cracked { IfOk result (λ r. IsCracked r.0 range) }
 {
@@ -88,7 +88,7 @@ fn merge_two(
     keys: [u32; 2],
 ) -> Result<(Store, MergeReport, u64), Refusal>
     requires low { store.keys.low ≡ 0 }
-    requires high { store.keys.high ≡ 4294967296 }
+    requires high { store.keys.high ≡ GREATEST_BOUND }
     requires none_doomed { store.pending_out ≡ [] }
 {
     let mut store = store;

@@ -1,7 +1,7 @@
 //! A store: each call with ample memory; and which bounds move where several stand at one place.
 ghost use Rattle.std.specs.Prelude.{◌≡◌, ◌<◌, length, IfOk, OnOk};
 
-use crack_row::{Bound, Key, KeyRange, Payload, Row, Serial};
+use crack_row::{Bound, GREATEST_BOUND, Key, KeyRange, Payload, Row, Serial};
 use crack_store::{Carrying, Store};
 use std::alloc::Global;
 use std::process::Abort;
@@ -10,9 +10,9 @@ use std::test::Fail;
 /// Puts a row among the pending insertions of a store of all keys.
 fn admit(rt: &impl Abort, store: &mut Store, serial: u64, key: u32) -> Result<(), Fail>
     requires low { store.old.keys.low ≡ 0 }
-    requires high { store.old.keys.high ≡ 4294967296 }
+    requires high { store.old.keys.high ≡ GREATEST_BOUND }
     ensures low { OnOk result (store.new.keys.low ≡ 0) }
-    ensures high { OnOk result (store.new.keys.high ≡ 4294967296) }
+    ensures high { OnOk result (store.new.keys.high ≡ GREATEST_BOUND) }
 {
     let there = store.is_pending(Serial(serial)).is_some();
     let cells = store.cells();
@@ -116,7 +116,7 @@ fn assert_found(rt: &impl Abort, store: &Store) -> Result<(), Fail> {
     let range = KeyRange::new(20, 50)?;
     assert_eq!(rt; store.first_in(range), Some(1));
     assert_eq!(rt; store.first_out(KeyRange::all()), None);
-    assert_eq!(rt; store.next_bound(Bound(20)).0, 4294967296);
+    assert_eq!(rt; store.next_bound(Bound(20)).0, GREATEST_BOUND);
     Ok(())
 }
 
