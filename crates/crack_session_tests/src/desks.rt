@@ -2,7 +2,6 @@
 use crack_plain::PlainTable;
 use crack_row::{Bound, Command, Policy, Refusal, Reply};
 use crack_session::Desk;
-use std::alloc::Global;
 
 /// A plain table that finds no memory for what it is asked first.
 #[derive(Drop)]

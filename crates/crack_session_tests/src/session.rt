@@ -247,7 +247,7 @@ fn writer_fails_behind_a_want_of_room(rt: HostRuntime) -> Result<(), Fail> {
 }
 
 /// A session whose writer takes bytes and can't hand them on.
-fn fail_the_flush<D: Desk + Drop>(rt: &impl Abort, alloc: Global, mut desk: D) -> Result<(), Fail> {
+fn fail_the_flush<D: Desk + Drop>(rt: &impl Abort, mut desk: D) -> Result<(), Fail> {
     let mut reader = Watched::new(b"".as_slice());
     let mut writer = Watched::new(Clogged);
     let result = serve(&mut desk, Policy::Complete, &mut reader, &mut writer);
@@ -267,7 +267,7 @@ fn fail_the_flush<D: Desk + Drop>(rt: &impl Abort, alloc: Global, mut desk: D) -
 #[test]
 fn writer_fails_when_flushed(rt: HostRuntime) -> Result<(), Fail> {
     let desk = OneDesk::open(rt.alloc(), GREATEST_LIMIT)?;
-    fail_the_flush(&rt, rt.alloc(), desk)
+    fail_the_flush(&rt, desk)
 }
 
 /// A session whose reader fails in a line that was begun.
@@ -410,7 +410,7 @@ fn refusals_are_printed_as_they_are_replied(rt: HostRuntime) -> Result<(), Fail>
 }
 
 /// A desk by itself: what it is asked, how many it accepted, and that there is one partition.
-fn ask_it<D: Desk + Drop>(rt: &impl Abort, alloc: Global, mut desk: D) -> Result<(), Fail> {
+fn ask_it<D: Desk + Drop>(rt: &impl Abort, mut desk: D) -> Result<(), Fail> {
     let insert = Command::Insert {
         key: Key(7),
         payload: Payload(70),
@@ -430,8 +430,8 @@ fn ask_it<D: Desk + Drop>(rt: &impl Abort, alloc: Global, mut desk: D) -> Result
 #[test]
 fn desks(rt: HostRuntime) -> Result<(), Fail> {
     let desk = OneDesk::open(rt.alloc(), GREATEST_LIMIT)?;
-    ask_it(&rt, rt.alloc(), desk)?;
-    ask_it(&rt, rt.alloc(), PlainTable::new(rt.alloc()))?;
+    ask_it(&rt, desk)?;
+    ask_it(&rt, PlainTable::new(rt.alloc()))?;
     for limit in [0, GREATEST_LIMIT + 1] {
         let refused = OneDesk::open(rt.alloc(), limit).err();
         assert!(rt; matches!(refused, Some(Refusal::BadLimit)));
