@@ -2,7 +2,8 @@
 
 Reads the system's list of processes (/proc) four times a second. A process is known by its command line: the crate is that behind
 `--crate-name`; one in a folder of its own beside the repository tries an edit, one whose output is a test program proves tests, and all
-others prove, build or run the crate itself. What a process used after it was last seen is missing, a quarter of a second at most.
+others prove, build or run the crate itself. What a process used after it was last seen is missing, a quarter of a second at most. Where a
+system has no /proc, nothing is seen.
 """
 
 import os
@@ -67,7 +68,7 @@ class Sampler(threading.Thread):
                 self.seen[process, stat[1]] = (known[0] if known and known[0] else task_of(process), stat[2])
 
     def run(self):
-        while not self.ended.is_set():
+        while os.path.isdir("/proc") and not self.ended.is_set():
             self.sample()
             time.sleep(SECONDS)
 
