@@ -177,8 +177,9 @@ def measure_column(table, runs):
 
 def measure_partition(table, runs):
     words = [str(PART_ROWS), str(COUNTS)]
-    programs = [[BENCH, "partition"], *([PEERS, name] for name in ("partition", "inline", "rows"))]
-    ours, same, inline, rows = compare([[*program, *words] for program in programs], runs)
+    # (those that are compared stand side by side, and far from the passes over all rows, which disturb what runs after them)
+    programs = [[PEERS, "rows"], [PEERS, "inline"], [BENCH, "partition"], [PEERS, "partition"]]
+    rows, inline, ours, same = compare([[*program, *words] for program in programs], runs)
     for what, names in (
         (f"{PART_ROWS} inserts, beside plain Rust", ["load"]),
         ("a first count of everything, beside plain Rust", ["everything"]),
