@@ -3,23 +3,33 @@ use Rattle.std.specs.Prelude.{Option, Some, None, option_and_then}
 use Rattle.crack_row.specs.Ranges.{Range}
 use Rattle.crack_row.specs.declared.Key.{Key}
 use Rattle.crack_row.specs.declared.command.Command.{Command}
-use Rattle.crack_row.specs.declared.command.Command.TheVariants.{Insert, Count}
+use Rattle.crack_row.specs.declared.command.Command.TheVariants.{Insert, Delete, Update, Count, Sum, Select}
 use Rattle.crack_row.specs.declared.command.Change.{Change}
-use Rattle.crack_row.specs.declared.command.Change.TheVariants.{Place}
+use Rattle.crack_row.specs.declared.command.Change.TheVariants.{Place, Remove, Rewrite}
 
 -- the change that a command makes to the rows, if any
 abbrev pub change_of : Command → Option Change
 change_of (Insert key payload) = Some (Place key payload)
+change_of (Delete serial) = Some (Remove serial)
+change_of (Update serial key payload) = Some (Rewrite serial key payload)
 change_of (Count range) = None
+change_of (Sum range) = None
+change_of (Select range) = None
 
 -- the range that a command reads, if any
 abbrev pub range_of : Command → Option Range
 range_of (Insert key payload) = None
+range_of (Delete serial) = None
+range_of (Update serial key payload) = None
 range_of (Count range) = Some range
+range_of (Sum range) = Some range
+range_of (Select range) = Some range
 
 -- the key that a change brings, if any
 abbrev pub brought_key : Change → Option Key
 brought_key (Place key payload) = Some key
+brought_key (Remove serial) = None
+brought_key (Rewrite serial key payload) = Some key
 
 -- the key that a command brings, if any
 abbrev pub key_of : Command → Option Key

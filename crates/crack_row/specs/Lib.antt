@@ -4,3 +4,4 @@ pub mod Layouts
 pub mod Ranges
 pub mod Refusals
 pub mod Replies
+pub mod Rows

@@ -3,23 +3,53 @@ ghost use Rattle.std.specs.Prelude.{◌≡◌, IfOk, IfErr, IsOk};
 ghost use Rattle.crack_row.specs.Commands.{change_of, range_of, key_of};
 ghost use Rattle.crack_row.specs.Replies.{IsFlat};
 
-use crate::{Key, KeyRange, Payload, Refusal, Serial};
+use crate::{Key, KeyRange, Payload, Refusal, Row, RowList, Serial};
 use std::alloc::Global;
 
 /// What a worker asks of a partition.
 #[derive(Clone, Copy, Debug)]
 pub enum Command {
     /// Places a row.
-    Insert { key: Key, payload: Payload },
+    Insert {
+        key: Key,
+        payload: Payload,
+    },
+    /// Takes a row out.
+    Delete {
+        serial: Serial,
+    },
+    /// Replaces the key and the payload of a row, which keeps its serial.
+    Update {
+        serial: Serial,
+        key: Key,
+        payload: Payload,
+    },
     /// Counts the rows whose key is in the range.
     Count(KeyRange),
+    /// Adds up the payloads of the rows whose key is in the range.
+    Sum(KeyRange),
+    /// Lists the rows whose key is in the range.
+    Select(KeyRange),
 }
 
 /// What a command is to change in the rows.
 #[derive(Clone, Copy, Debug)]
 pub enum Change {
     /// A row more, which gets the next serial.
-    Place { key: Key, payload: Payload },
+    Place {
+        key: Key,
+        payload: Payload,
+    },
+    /// The row of this serial less, if there is one.
+    Remove {
+        serial: Serial,
+    },
+    /// Another key and another payload for the row of this serial, if there is one.
+    Rewrite {
+        serial: Serial,
+        key: Key,
+        payload: Payload,
+    },
 }
 
 impl Command {
@@ -27,12 +57,19 @@ impl Command {
     pub fn change(&self) -> Option<Change>
         ensures { result ≡ change_of self.now }
     {
-        match self {
-            Command::Insert { key, payload } => Some(Change::Place {
-                key: *key,
-                payload: *payload,
+        match *self {
+            Command::Insert { key, payload } => Some(Change::Place { key, payload }),
+            Command::Delete { serial } => Some(Change::Remove { serial }),
+            Command::Update {
+                serial,
+                key,
+                payload,
+            } => Some(Change::Rewrite {
+                serial,
+                key,
+                payload,
             }),
-            Command::Count(_) => None,
+            Command::Count(_) | Command::Sum(_) | Command::Select(_) => None,
         }
     }
 
@@ -40,9 +77,9 @@ impl Command {
     pub fn range(&self) -> Option<KeyRange>
         ensures { result ≡ range_of self.now }
     {
-        match self {
-            Command::Insert { key: _, payload: _ } => None,
-            Command::Count(range) => Some(*range),
+        match *self {
+            Command::Insert { .. } | Command::Delete { .. } | Command::Update { .. } => None,
+            Command::Count(range) | Command::Sum(range) | Command::Select(range) => Some(range),
         }
     }
 
@@ -51,8 +88,8 @@ impl Command {
         ensures { result ≡ key_of self.now }
     {
         match self.change() {
-            Some(Change::Place { key, payload: _ }) => Some(key),
-            None => None,
+            Some(Change::Place { key, .. }) | Some(Change::Rewrite { key, .. }) => Some(key),
+            Some(Change::Remove { .. }) | None => None,
         }
     }
 }
@@ -62,6 +99,8 @@ impl Command {
 pub enum Policy {
     /// All of them, once the range needs one.
     Complete,
+    /// Those alone whose key is in the range.
+    Gradual,
 }
 
 /// What a partition answers.
@@ -69,20 +108,38 @@ pub enum Policy {
 pub enum Reply {
     /// The serial of the row that was placed.
     Placed(Serial),
+    /// The row that was taken out, as it was.
+    Gone(Row),
+    /// The row was changed.
+    Changed,
+    /// There is no row of this serial.
+    NoRow,
     /// The number of rows in the range.
     Counted(u64),
+    /// The sum of the payloads in the range.
+    Summed(u128),
+    /// The rows in the range, in rising serial.
+    Rows(RowList),
 }
 
 impl Reply {
-    /// A copy, as for a receipt. Refused with 8 where it finds no memory; a reply without a list wants none.
-    pub fn copy(&self, _alloc: Global) -> Result<Reply, Refusal>
+    /// A copy, as for a receipt: O(rows of its list). Refused with 8 where it finds no memory; a reply without a list wants none.
+    pub fn copy(&self, alloc: Global) -> Result<Reply, Refusal>
         ensures ok { IfOk result (λ r. r ≡ self.now) }
         ensures err { IfErr result (λ e. e ≡ Refusal.OutOfMemory) }
         ensures flat { IsFlat self.now → IsOk result }
     {
         match self {
             Reply::Placed(serial) => Ok(Reply::Placed(*serial)),
+            Reply::Gone(row) => Ok(Reply::Gone(*row)),
+            Reply::Changed => Ok(Reply::Changed),
+            Reply::NoRow => Ok(Reply::NoRow),
             Reply::Counted(count) => Ok(Reply::Counted(*count)),
+            Reply::Summed(sum) => Ok(Reply::Summed(*sum)),
+            Reply::Rows(rows) => {
+                let copied = rows.copy(alloc)?;
+                Ok(Reply::Rows(copied))
+            }
         }
     }
 }

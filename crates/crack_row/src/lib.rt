@@ -5,12 +5,14 @@ pub mod command;
 pub mod layout;
 pub mod range;
 pub mod refusal;
+pub mod rows;
 pub mod watched;
 
 pub use command::{Change, Command, Entry, Policy, Reply};
 pub use layout::{Layout, PieceList, PieceSize};
 pub use range::KeyRange;
 pub use refusal::Refusal;
+pub use rows::RowList;
 pub use watched::Watched;
 
 /// The greatest key.

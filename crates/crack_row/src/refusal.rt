@@ -14,7 +14,7 @@ pub enum Refusal {
     /// The ends of a range are out of order, or the high end is above `GREATEST_BOUND`.
     #[error("refused 2")]
     BadRange,
-    /// An insert names a key outside the partition.
+    /// An insert or an update names a key outside the partition.
     #[error("refused 4")]
     KeyOutside,
     /// There is no partition of this number.

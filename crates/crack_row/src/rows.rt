@@ -1,0 +1,53 @@
+//! The rows that a reply lists.
+ghost use Rattle.std.specs.Prelude.{◌≡◌, IfOk, IfErr};
+
+use crate::{Refusal, Row};
+use std::alloc::Global;
+use std::marker::Model;
+
+/// The rows of a reply. Contracts see a list.
+#[derive(Drop, Debug)]
+pub struct RowList {
+    rows: Vec<Row>,
+}
+
+impl Model for RowList {
+    ghost use Rattle.std.specs.Prelude.{List};
+    ghost use Rattle.crack_row.specs.declared.Row.{Row};
+
+    ghost Value = { List Row };
+
+    ghost view = { λ l. l.rows.items };
+}
+
+impl RowList {
+    /// The rows of a vector. Takes no memory.
+    pub fn from_vec(rows: Vec<Row>) -> RowList
+        ensures { result ≡ rows.items }
+    {
+        RowList { rows }
+    }
+
+    /// The vector of the rows. Takes no memory.
+    pub fn into_vec(self) -> Vec<Row>
+        ensures { result.items ≡ self }
+    {
+        self.rows
+    }
+
+    /// The rows, to read.
+    pub fn as_slice(&self) -> &[Row]
+        ensures { result.now ≡ self.now }
+    {
+        self.rows.as_slice()
+    }
+
+    /// A copy: O(rows). Refused with 8 where it finds no memory.
+    pub fn copy(&self, alloc: Global) -> Result<RowList, Refusal>
+        ensures ok { IfOk result (λ copy. copy ≡ self.now) }
+        ensures err { IfErr result (λ e. e ≡ Refusal.OutOfMemory) }
+    {
+        let rows = Vec::from_slice(alloc, self.rows.as_slice())?;
+        Ok(RowList::from_vec(rows))
+    }
+}
