@@ -1,11 +1,9 @@
 -- What follows of the totals of histories.
-use Rattle.std.specs.Prelude.{◌≡◌, ℕ, ◌+◌, ◌≤◌, Bool, false, List, [], ◌∷◌, ◌++◌, if◌then◌else◌}
-use Rattle.std.proofs.Common.{arith, refl, ap}
+use Rattle.std.specs.Prelude.{◌≡◌, ◌+◌, ◌≤◌, List, [], ◌∷◌, ◌++◌, if◌then◌else◌}
+use Rattle.std.proofs.Common.{arith}
 use Rattle.std.proofs.lemmas.List.Sums.{sum_by-append, count_by-le-length}
-use Rattle.crack_row.specs.declared.command.Reply.{Reply}
-use Rattle.crack_row.specs.declared.command.Reply.TheVariants.{Placed, Counted}
 use Rattle.crack_row.specs.declared.command.Entry.{Entry}
-use Rattle.crack_plain.specs.Totals.{is_placed, is_gone, accepted, inserted, deleted}
+use Rattle.crack_plain.specs.Totals.{is_placed, is_gone, is_changed, accepted, inserted, deleted, updated}
 
 -- one list of entries after another
 pub inserted-append : (xs ys : List Entry) → inserted (xs ++ ys) ≡ inserted xs + inserted ys
@@ -13,6 +11,9 @@ inserted-append xs ys = sum_by-append _ xs ys
 
 pub deleted-append : (xs ys : List Entry) → deleted (xs ++ ys) ≡ deleted xs + deleted ys
 deleted-append xs ys = sum_by-append _ xs ys
+
+pub updated-append : (xs ys : List Entry) → updated (xs ++ ys) ≡ updated xs + updated ys
+updated-append xs ys = sum_by-append _ xs ys
 
 -- one more entry before
 pub inserted-cons : (e : Entry) (es : List Entry) → inserted (e ∷ es) ≡ (if is_placed e.reply then 1 else 0) + inserted es
@@ -28,18 +29,17 @@ inserted-push es e = omega (arith, inserted-append es (e ∷ []))
 pub deleted-push : (es : List Entry) (e : Entry) → deleted (es ++ e ∷ []) ≡ deleted es + (if is_gone e.reply then 1 else 0)
 deleted-push es e = omega (arith, deleted-append es (e ∷ []))
 
+pub updated-push : (es : List Entry) (e : Entry) → updated (es ++ e ∷ []) ≡ updated es + (if is_changed e.reply then 1 else 0)
+updated-push es e = omega (arith, updated-append es (e ∷ []))
+
 -- no more rows were placed than commands were answered
 pub inserted-le-accepted : (es : List Entry) → inserted es ≤ accepted es
 inserted-le-accepted es = count_by-le-length _ es
 
--- no reply takes a row out
-pub is_gone-none : (r : Reply) → is_gone r ≡ false
-is_gone-none (Placed serial) = refl
-is_gone-none (Counted count) = refl
+-- no more rows went than commands were answered
+pub deleted-le-accepted : (es : List Entry) → deleted es ≤ accepted es
+deleted-le-accepted es = count_by-le-length _ es
 
-pub deleted-none : (es : List Entry) → deleted es ≡ 0
-deleted-none [] = refl
-deleted-none (e ∷ es) =
-    let one : Bool → ℕ = λ b. if b then 1 else 0 in
-    let now = ap one (is_gone-none e.reply) in
-    omega (arith, deleted-none es, deleted-cons e es, now)
+-- no more rows were changed than commands were answered
+pub updated-le-accepted : (es : List Entry) → updated es ≤ accepted es
+updated-le-accepted es = count_by-le-length _ es

@@ -1,16 +1,20 @@
 -- The plain table: rows changed by commands and filtered by ranges, with no piece, handle, pending row, policy or lock.
-use Rattle.std.specs.Prelude.{◌≡◌, ℕ, ◌+◌, ◌<◌, ◌≤◌, List, [], ◌∷◌, ◌++◌, length, count_by, All, AllPairs, Option, Some, None, IfSome, Bool, true, false}
+use Rattle.std.specs.Prelude.{◌≡◌, ℕ, ◌+◌, ◌<◌, ◌≤◌, List, [], ◌∷◌, ◌++◌, length, map, filter, find, count_by, All, AllPairs, Option, Some, None, IfSome, Bool, true, false}
 use Rattle.crack_row.specs.Ranges.{Range, IsIn, in_range}
 use Rattle.crack_row.specs.Commands.{change_of, key_of}
 use Rattle.crack_row.specs.Replies.{IsFlat}
+use Rattle.crack_row.specs.Rows.{row_with, has_serial, is_other, replaced, sum_of}
+use Rattle.crack_row.specs.declared.TheConstants.{GREATEST_BOUND}
+use Rattle.crack_row.specs.declared.layout.Layout.{Layout}
 use Rattle.crack_row.specs.declared.Key.{Key}
 use Rattle.crack_row.specs.declared.Row.{Row}
+use Rattle.crack_row.specs.declared.Serial.{Serial}
 use Rattle.crack_row.specs.declared.command.Change.{Change}
-use Rattle.crack_row.specs.declared.command.Change.TheVariants.{Place}
+use Rattle.crack_row.specs.declared.command.Change.TheVariants.{Place, Remove, Rewrite}
 use Rattle.crack_row.specs.declared.command.Command.{Command}
-use Rattle.crack_row.specs.declared.command.Command.TheVariants.{Insert, Count}
+use Rattle.crack_row.specs.declared.command.Command.TheVariants.{Insert, Delete, Update, Count, Sum, Select}
 use Rattle.crack_row.specs.declared.command.Reply.{Reply}
-use Rattle.crack_row.specs.declared.command.Reply.TheVariants.{Placed, Counted}
+use Rattle.crack_row.specs.declared.command.Reply.TheVariants.{Placed, Gone, Changed, NoRow, Counted, Summed, Rows}
 use Rattle.crack_row.specs.declared.command.Entry.{Entry}
 
 -- the rows, in rising serial, and the serial of the next row
@@ -27,15 +31,40 @@ pub record IsNumbered (s : PlainState) : Type 0 where
   pub rising : AllPairs (λ (earlier later : Row). earlier.serial.0 < later.serial.0) s.rows
   pub below : All (λ (row : Row). row.serial.0 < s.next) s.rows
 
+-- the row of a serial, if there is one
+abbrev pub row_in : List Row → Serial → Option Row
+row_in rows serial = find (has_serial serial.0) rows
+
+-- what a delete is replied where this is the row of its serial: the row as it was
+abbrev pub gone : Option Row → Reply
+gone None = NoRow
+gone (Some row) = Gone row
+
+-- what an update is replied where this is the row of its serial
+abbrev pub rewritten : Option Row → Reply
+rewritten None = NoRow
+rewritten (Some row) = Changed
+
+-- the rows whose key is in the range
+abbrev pub rows_in : Range → List Row → List Row
+rows_in range rows = filter (in_range range) rows
+
 -- what a command is replied
 abbrev pub reply_to : PlainState → Command → Reply
 reply_to s (Insert key payload) = Placed (record { 0 = s.next })
+reply_to s (Delete serial) = gone (row_in s.rows serial)
+reply_to s (Update serial key payload) = rewritten (row_in s.rows serial)
 reply_to s (Count range) = Counted (count_by (in_range range) s.rows)
+reply_to s (Sum range) = Summed (sum_of (rows_in range s.rows))
+reply_to s (Select range) = Rows (rows_in range s.rows)
 
--- the state that a change leaves: a row that is placed gets the next serial
+-- the state that a change leaves: a row that is placed gets the next serial; the row of a serial goes, or keeps its serial and its
+-- place and gets another key and another payload
 abbrev pub changed : PlainState → Option Change → PlainState
 changed s None = s
 changed s (Some (Place key payload)) = record { rows = s.rows ++ record { serial = record { 0 = s.next }; key = key; payload = payload } ∷ []; next = s.next + 1 }
+changed s (Some (Remove serial)) = record s { rows = filter (is_other serial.0) s.rows }
+changed s (Some (Rewrite serial key payload)) = record s { rows = map (replaced (row_with serial key payload)) s.rows }
 
 -- the state that a command leaves
 abbrev pub after : PlainState → Command → PlainState
@@ -45,6 +74,8 @@ after s command = changed s (change_of command)
 abbrev pub places_row : Option Change → Bool
 places_row None = false
 places_row (Some (Place key payload)) = true
+places_row (Some (Remove serial)) = false
+places_row (Some (Rewrite serial key payload)) = false
 
 -- the command is answered from what is there: no row is placed, and the reply has no list
 pub record TakesNoMemory (s : PlainState) (command : Command) : Type 0 where
@@ -87,3 +118,11 @@ pub record IsLegal (keys : Range) (limit : ℕ) (history : List Entry) : Type 0 
 pub record Table : Type 0 where
   pub state : PlainState
   pub accepted : ℕ
+
+-- all keys
+abbrev pub all_keys : Range
+all_keys = record { low = 0; high = GREATEST_BOUND }
+
+-- what stands where, if the rows are taken as a column of one piece: each has a cell, and nothing is pending or free
+abbrev pub whole_layout : PlainState → Layout
+whole_layout s = record { rows = length s.rows; column = length s.rows; pending_out = 0; pending_in = 0; cells = length s.rows; free = 0; pieces = record { low = record { 0 = 0 }; high = record { 0 = GREATEST_BOUND }; size = length s.rows } ∷ [] }

@@ -1,12 +1,72 @@
-//! Slow look-ups in a list of rows.
-ghost use Rattle.std.specs.Prelude.{◌≡◌, count_by};
+//! Slow look-ups in a list of rows, and changes of it.
+ghost use Rattle.std.specs.Prelude.{◌≡◌, map, filter, count_by, IfOk, IfErr};
 ghost use Rattle.crack_row.specs.Ranges.{in_range};
+ghost use Rattle.crack_row.specs.Rows.{is_other, replaced, sum_of};
+ghost use Rattle.crack_plain.specs.Plain.{row_in, rows_in};
 
-use crack_row::{KeyRange, Row};
+use crack_row::{KeyRange, Refusal, Row, Serial};
+use std::alloc::Global;
+
+/// The row of this serial, if there is one: O(rows).
+pub(crate) fn row_in(rows: &[Row], serial: Serial) -> Option<Row>
+    ensures { result ≡ row_in rows.now serial }
+{
+    'rows: for place in 0..rows.len() {
+        if rows[place].serial == serial {
+            return Some(rows[place]);
+        }
+    }
+    None
+}
+
+/// Takes out the row of this serial, if there is one: O(rows).
+pub(crate) fn take_out(rows: &mut Vec<Row>, serial: Serial)
+    ensures { rows.new.items ≡ filter (is_other serial.0) rows.old.items }
+{
+    rows.retain(|row| row.serial != serial);
+}
+
+/// Puts a row in the place of the one of its serial, if there is one: O(rows).
+pub(crate) fn replace(rows: &mut [Row], new: Row)
+    ensures { rows.new ≡ map (replaced new) rows.old }
+{
+    'rows: for place in 0..rows.len() {
+        rows[place] = replaced(new, rows[place]);
+    }
+}
+
+/// A row, unless it has the serial of the first: that stands in its place.
+fn replaced(new: Row, row: Row) -> Row
+    ensures { result ≡ replaced new row }
+{
+    if row.serial == new.serial { new } else { row }
+}
 
 /// How many rows have their key in the range: O(rows).
 pub(crate) fn count_in(rows: &[Row], range: KeyRange) -> u64
     ensures { result ≡ count_by (in_range range) rows.now }
 {
     rows.iter().filter(|row| range.contains(row.key)).count() as u64
+}
+
+/// The sum of the payloads of the rows whose key is in the range: O(rows).
+pub(crate) fn sum_in(rows: &[Row], range: KeyRange) -> u128
+    ensures { result ≡ sum_of (rows_in range rows.now) }
+{
+    rows.iter()
+        .filter(|row| range.contains(row.key))
+        .map(|row| row.payload.0 as u128)
+        .sum()
+}
+
+/// The rows whose key is in the range: O(rows). Refused with 8 where it finds no memory.
+pub(crate) fn rows_in(alloc: Global, rows: &[Row], range: KeyRange) -> Result<Vec<Row>, Refusal>
+    ensures ok { IfOk result (λ listed. listed.items ≡ rows_in range rows.now) }
+    ensures err { IfErr result (λ e. e ≡ Refusal.OutOfMemory) }
+{
+    rows.iter()
+        .copied()
+        .filter(|row| range.contains(row.key))
+        .collect(alloc)
+        .map_err(|_| Refusal::OutOfMemory)
 }

@@ -1,10 +1,15 @@
 //! A table that is a plain list of rows.
-ghost use Rattle.std.specs.Prelude.{◌≡◌, ◌+◌, ◌<◌, ◌≤◌, length, Err, IfOk, IfErr, IsOk, OnErr, OnOk};
-ghost use Rattle.crack_plain.specs.Plain.{no_rows, answer, IsNumbered, TakesNoMemory};
+ghost use Rattle.std.specs.Prelude.{◌≡◌, ◌+◌, ◌<◌, ◌≤◌, ◌^◌, false, length, Err, IfOk, IfErr, IsOk, OnErr, OnOk};
+ghost use Rattle.crack_row.specs.Layouts.{IsLayout};
+ghost use Rattle.crack_row.specs.Replies.{IsFlat};
+ghost use Rattle.crack_plain.specs.Plain.{PlainState, no_rows, answer, reply_to, changed, places_row, all_keys, whole_layout, IsNumbered, TakesNoMemory};
 
 use crate::MOST_ACCEPTED;
-use crate::list::count_in;
-use crack_row::{Command, Refusal, Reply, Row, Serial};
+use crate::list::{count_in, replace, row_in, rows_in, sum_in, take_out};
+use crack_row::{
+    Bound, Change, Command, GREATEST_BOUND, Layout, PieceList, PieceSize, Refusal, Reply, Row,
+    RowList, Serial,
+};
 use std::alloc::Global;
 use std::marker::Model;
 
@@ -58,8 +63,32 @@ impl PlainTable {
         self.accepted
     }
 
+    /// What stands where, if the rows are taken as a column of one piece: O(1). Refused with 8 where it finds no memory.
+    pub fn whole_layout(&self) -> Result<Layout, Refusal>
+        ensures ok { IfOk result (λ layout. layout ≡ whole_layout self.now.state) }
+        ensures equations { IfOk result (λ layout. IsLayout all_keys layout) }
+        ensures err { IfErr result (λ e. e ≡ Refusal.OutOfMemory) }
+    {
+        let rows = self.rows.len() as u64;
+        let mut pieces = Vec::new(*self.rows.allocator());
+        pieces.push(PieceSize {
+            low: Bound(0),
+            high: Bound(GREATEST_BOUND),
+            size: rows,
+        })?;
+        Ok(Layout {
+            rows,
+            column: rows,
+            pending_out: 0,
+            pending_in: 0,
+            cells: rows,
+            free: 0,
+            pieces: PieceList::from_vec(pieces),
+        })
+    }
+
     /// Answers one command. An insert is O(1), all else O(rows).
-    /// Refused with 8 where an insert finds no memory, and with 6 once `MOST_ACCEPTED` commands were accepted.
+    /// Refused with 8 where an insert or a select finds no memory, and with 6 once `MOST_ACCEPTED` commands were accepted.
     pub fn apply(&mut self, command: &Command) -> Result<Reply, Refusal>
         ensures reply { IfOk result (λ reply. reply ≡ (answer self.old.state command.now).0) }
         ensures state { OnOk result (self.new.state ≡ (answer self.old.state command.now).1) }
@@ -74,21 +103,73 @@ impl PlainTable {
                 length: MOST_ACCEPTED,
             });
         }
-        let reply = match command {
-            Command::Insert { key, payload } => {
-                let serial = Serial(self.next);
-                let row = Row {
-                    serial,
-                    key: *key,
-                    payload: *payload,
-                };
-                self.rows.push(row)?;
-                self.next += 1;
-                Reply::Placed(serial)
-            }
-            Command::Count(range) => Reply::Counted(count_in(self.rows.as_slice(), *range)),
-        };
+        let reply = self.reply_to(command)?;
+        perform(&mut self.rows, &mut self.next, command.change())?;
         self.accepted += 1;
         Ok(reply)
     }
+
+    /// What the command is replied: O(rows). Refused with 8 where a list finds no memory.
+    fn reply_to(&self, command: &Command) -> Result<Reply, Refusal>
+        ensures reply { IfOk result (λ reply. reply ≡ reply_to self.now.state command.now) }
+        ensures err { IfErr result (λ e. e ≡ Refusal.OutOfMemory) }
+        ensures spare { IsFlat (reply_to self.now.state command.now) → IsOk result }
+    {
+        let rows = self.rows.as_slice();
+        match *command {
+            Command::Insert { .. } => Ok(Reply::Placed(Serial(self.next))),
+            Command::Delete { serial } => Ok(match row_in(rows, serial) {
+                Some(row) => Reply::Gone(row),
+                None => Reply::NoRow,
+            }),
+            Command::Update { serial, .. } => Ok(match row_in(rows, serial) {
+                Some(_) => Reply::Changed,
+                None => Reply::NoRow,
+            }),
+            Command::Count(range) => Ok(Reply::Counted(count_in(rows, range))),
+            Command::Sum(range) => Ok(Reply::Summed(sum_in(rows, range))),
+            Command::Select(range) => {
+                let listed = rows_in(*self.rows.allocator(), rows, range)?;
+                Ok(Reply::Rows(RowList::from_vec(listed)))
+            }
+        }
+    }
+}
+
+/// Makes a change of the rows, if there is one: O(rows), and O(1) for a row more. Refused with 8 where a row more finds no memory.
+fn perform(rows: &mut Vec<Row>, next: &mut u64, change: Option<Change>) -> Result<(), Refusal>
+    requires small { next.old + 1 < 2 ^ 64 }
+    ensures changed { OnOk result (let old : PlainState = record { rows = rows.old.items; next = next.old } in let new : PlainState = record { rows = rows.new.items; next = next.new } in new ≡ changed old change) }
+    ensures same { OnErr result ((rows.new.items ≡ rows.old.items) × (next.new ≡ next.old)) }
+    ensures err { IfErr result (λ e. e ≡ Refusal.OutOfMemory) }
+    ensures spare { places_row change ≡ false → IsOk result }
+{
+    match change {
+        Some(Change::Place { key, payload }) => {
+            let serial = Serial(*next);
+            rows.push(Row {
+                serial,
+                key,
+                payload,
+            })?;
+            *next += 1;
+        }
+        Some(Change::Remove { serial }) => take_out(rows, serial),
+        Some(
+            Change::Rewrite {
+                serial,
+                key,
+                payload,
+            },
+        ) => replace(
+            rows,
+            Row {
+                serial,
+                key,
+                payload,
+            },
+        ),
+        None => {}
+    }
+    Ok(())
 }
