@@ -1,3 +1,5 @@
 mod ArenaLemmas
 mod Laws
+pub mod Places
+pub mod Remembering
 pub mod Times

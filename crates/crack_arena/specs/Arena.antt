@@ -1,5 +1,6 @@
 -- What a contract sees of an arena and its handles.
 use Rattle.std.specs.Prelude.{◌≡◌, ℕ, ◌+◌, ◌-◌, ◌<◌, ◌≤◌, ◌^◌, ◌==◌, ◌&&◌, Bool, List, length, [], ◌∷◌, ◌++◌, Option, Some, None, is_some, is_none, slice_index_or, slice_set, map, refl, sum_by, count_by, cond, nat_lt, drop}
+use Rattle.std.specs.List.{position_or_len}
 use Rattle.std.specs.Coded.{Coded, code_by, coded×, coded_ℕ, coded_list, coded_option}
 
 -- the cell's number, and the generation of the cell that the handle was made at
@@ -66,6 +67,10 @@ times n xs = sum_by (λ x. cond (x == n) 1 0) xs
 -- the numbers of the cells that the handles name
 abbrev pub slots : List Handle → List ℕ
 slots handles = map (λ (h : Handle). h.slot) handles
+
+-- the place of the first handle of this slot, or the list's length
+abbrev pub place_in : List Handle → ℕ → ℕ
+place_in handles slot = position_or_len (λ (h : Handle). h.slot == slot) handles
 
 -- what is read where there is no handle
 abbrev pub no_handle : Handle

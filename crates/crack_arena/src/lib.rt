@@ -13,7 +13,7 @@ ghost use Rattle.crack_arena.specs.Arena.{same_handle, read, freed, CanPut, hand
 mod rows;
 
 use crack_row::Refusal;
-pub use rows::key_of;
+pub use rows::{key_of, payload_of};
 use std::alloc::{AllocError, Global};
 use std::marker::{Model, PhantomData};
 use std::{fmt, mem};
@@ -77,6 +77,17 @@ impl<T> fmt::Debug for Handle<T> {
 }
 
 impl<T> Handle<T> {
+    /// The handle of these numbers, for one who keeps them apart. An arena need not have made it.
+    pub fn new(slot: u32, generation: u64) -> Handle<T>
+        ensures { result ≡ record { slot = slot; generation = generation } }
+    {
+        Handle {
+            slot,
+            generation,
+            of: PhantomData,
+        }
+    }
+
     /// The cell's number, from 0.
     pub fn slot(&self) -> u32
         ensures { result ≡ self.now.slot }
