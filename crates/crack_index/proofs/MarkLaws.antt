@@ -9,7 +9,7 @@ use Rattle.crack_row.specs.declared.Bound.{Bound}
 use Rattle.crack_row.specs.declared.layout.PieceSize.{PieceSize}
 use Rattle.crack_row.specs.Layouts.{AreJoined}
 use Rattle.crack_index.specs.declared.mark.Mark.{Mark}
-use Rattle.crack_index.specs.Marks.{no_mark, InOrder, Rising, Fits, bounds_of, HasBound, place_of, next_mark, last_mark, start_of, end_of, size_between, pieces_from, added, one_up, one_down, raised, lowered, lowered_at}
+use Rattle.crack_index.specs.Marks.{no_mark, InOrder, Rising, Fits, bounds_of, HasBound, place_of, next_mark, last_mark, first_behind, last_before, start_of, end_of, size_between, pieces_from, added, one_up, one_down, raised, lowered, lowered_at}
 
 -- Rising
 
@@ -370,6 +370,65 @@ Rising-lowered high place marks rising = Rising-map (lowered high place) (InOrde
 
 pub Rising-lowered_at : (place : ℕ) (marks : List Mark) → Rising marks → Rising (map (lowered_at place) marks)
 Rising-lowered_at place marks rising = Rising-map (lowered_at place) (InOrder-lowered_at place) marks rising
+
+-- The neighbours of a number, once the bounds next to it moved past a place
+
+-- a number at or above the bounds up to a place, and below those behind it: its next mark is the first behind the place, also
+-- once bounds at the place moved up
+pub next_mark-raised : (low place number : ℕ) (marks : List Mark) → All (λ m. m.position ≤ place → m.bound.0 ≤ number) marks → All (λ m. place < m.position → number < m.bound.0) marks → next_mark number (map (raised low place) marks) ≡ first_behind place marks
+next_mark-raised low place number [] up_to behind = refl
+next_mark-raised low place number (m ∷ ms) up_to behind = elim (cases_lt place m.position) [
+  | inl l ↦
+      let above : number < m.bound.0 = behind zero m (omega arith) l in
+      let stays : raised low place m ≡ m = rw (and_right (leb low m.bound.0) (eqb m.position place) (ne_eqb m.position place (λ e. absurd (omega arith)))) refl in
+      rw (lt-ltb place m.position l, lt-ltb number m.bound.0 above) (ap (λ (x : Mark). Some x) stays)
+  | inr l ↦
+      let below : m.bound.0 ≤ number = up_to zero m (omega arith) l in
+      rw (le-ltb place m.position l, le-ltb number m.bound.0 below)
+      (next_mark-raised low place number ms (All-tail (λ x. x.position ≤ place → x.bound.0 ≤ number) m ms up_to) (All-tail (λ x. place < x.position → number < x.bound.0) m ms behind))
+]
+
+-- a number at or above the bounds before a place, and below those from it on: its last mark is the last before the place, also
+-- once bounds at the place moved down
+pub last_mark-lowered : (high place number : ℕ) (marks : List Mark) → All (λ m. m.position < place → m.bound.0 ≤ number) marks → All (λ m. place ≤ m.position → number < m.bound.0) marks → last_mark number (map (lowered high place) marks) ≡ last_before place marks
+last_mark-lowered high place number [] before from = refl
+last_mark-lowered high place number (m ∷ ms) before from = elim (cases_lt m.position place) [
+  | inl l ↦
+      let below : m.bound.0 ≤ number = before zero m (omega arith) l in
+      let stays : lowered high place m ≡ m = rw (and_right (leb m.bound.0 high) (eqb m.position place) (ne_eqb m.position place (λ e. absurd (omega arith)))) refl in
+      let rest = last_mark-lowered high place number ms (All-tail (λ x. x.position < place → x.bound.0 ≤ number) m ms before) (All-tail (λ x. place ≤ x.position → number < x.bound.0) m ms from) in
+      rw (lt-ltb m.position place l, le-leb m.bound.0 number below, rest) (ap (λ (x : Mark). Some (unwrap_or (last_before place ms) x)) stays)
+  | inr l ↦
+      let above : number < m.bound.0 = from zero m (omega arith) l in
+      rw (le-ltb m.position place l, lt-leb m.bound.0 number above) refl
+]
+
+-- the first mark behind a place is there, also once bounds at the place moved up
+pub first_behind-kept : (low place : ℕ) (marks : List Mark) (m : Mark) → first_behind place marks ≡ Some m → Contains (map (raised low place) marks) m
+first_behind-kept low place [] m found = absurd (cc)
+first_behind-kept low place (n ∷ ns) m found = elim (cases_lt place n.position) [
+  | inl l ↦
+      let one : Some n ≡ Some m = rw (lt-ltb place n.position l) at found in
+      let same : n ≡ m = cc in
+      let stays : raised low place n ≡ n = rw (and_right (leb low n.bound.0) (eqb n.position place) (ne_eqb n.position place (λ e. absurd (omega arith)))) refl in
+      (zero, omega arith, stays ∙ same)
+  | inr l ↦ Contains-behind (raised low place n) (map (raised low place) ns) m (first_behind-kept low place ns m (rw (le-ltb place n.position l) at found))
+]
+
+-- the last mark before a place is there, also once bounds at the place moved down
+pub last_before-kept : (high place : ℕ) (marks : List Mark) (m : Mark) → last_before place marks ≡ Some m → Contains (map (lowered high place) marks) m
+last_before-kept high place [] m found = absurd (cc)
+last_before-kept high place (n ∷ ns) m found = elim (cases_lt n.position place) [
+  | inl l ↦ by_rest (last_before place ns) refl (rw (lt-ltb n.position place l) at found) l (λ e. last_before-kept high place ns m e)
+  | inr l ↦ let none : None ≡ Some m = rw (le-ltb n.position place l) at found in absurd (cc)
+]
+  where
+    by_rest : (o : Option Mark) → o ≡ last_before place ns → Some (unwrap_or o n) ≡ Some m → n.position < place → (last_before place ns ≡ Some m → Contains (map (lowered high place) ns) m) → Contains (map (lowered high place) (n ∷ ns)) m
+    by_rest None is one l _ =
+        let same : n ≡ m = cc in
+        let stays : lowered high place n ≡ n = rw (and_right (leb n.bound.0 high) (eqb n.position place) (ne_eqb n.position place (λ e. absurd (omega arith)))) refl in
+        (zero, omega arith, stays ∙ same)
+    by_rest (Some x) is one l others = Contains-behind (lowered high place n) (map (lowered high place) ns) m (others (sym is ∙ one))
 
 -- The sizes of the pieces
 

@@ -1,17 +1,19 @@
 -- How the bounds at one place are found and moved.
 use Rattle.std.proofs.Common.{◌≡◌, ◌≢◌, ℕ, zero, suc, ◌+◌, ◌-◌, ◌<◌, ◌≤◌, List, [], ◌∷◌, ◌++◌, map, take, drop, length, get_or, append_assoc, leb, eqb, Some, None, refl, sym, ap, ◌∙◌, inl, inr, arith}
-use Rattle.std.specs.List.{All, between, insert, slice_get}
+use Rattle.std.specs.Prelude.{Option, IfSome}
+use Rattle.std.specs.List.{All, Contains, between, insert, slice_get}
 use Rattle.std.specs.List.Sorted.{IsNonDecreasingBy, IsPartitionPoint}
 use Rattle.std.proofs.lemmas.Bool.{cases_eq, cases_lt, lt-ltb, le-ltb, lt-leb, le-leb, eq-eqb, ne_eqb, and_right}
 use Rattle.std.proofs.lemmas.List.{ext_get_or, get_or_default, length-map, get_or-map, map-append, get_or-take, get_or-drop, length-take-le, length-drop, drop-drop, drop_more, take_at}
-use Rattle.std.proofs.lemmas.List.Elements.{All-contains}
+use Rattle.std.proofs.lemmas.List.Elements.{All-contains, Contains-get_or}
 use Rattle.std.proofs.lemmas.Option.{slice_get-get_or}
 use Rattle.std.proofs.lemmas.List.Edits.{split_between, length-between, get_or-between}
 use Rattle.crack_row.specs.declared.Bound.{Bound}
 use Rattle.crack_row.specs.declared.layout.PieceSize.{PieceSize}
 use Rattle.crack_index.specs.declared.mark.Mark.{Mark}
+use Rattle.crack_index.specs.declared.near.NearBound.{NearBound}
 use Rattle.crack_index.proofs.MarkLaws.{last_mark-is, last_mark-none, HasBound-mark, HasBound-contains, place_of-mark}
-use Rattle.crack_index.specs.Marks.{no_mark, Rising, HasBound, place_of, raised, lowered, lowered_at, one_up, one_down, next_mark, last_mark, added, size_between, pieces_from}
+use Rattle.crack_index.specs.Marks.{no_mark, Rising, HasBound, place_of, raised, lowered, lowered_at, one_up, one_down, next_mark, last_mark, near_mark, first_behind, last_before, added, size_between, pieces_from}
 
 pub bounds_rise : (marks : List Mark) → Rising marks → IsNonDecreasingBy (λ (m : Mark). m.bound.0) marks
 bounds_rise marks rising = λ i j d h k. elim (cases_eq i j) [
@@ -239,6 +241,145 @@ last_mark-split marks number (suc at) h split =
     rw (end, slice_get-get_or (take (suc at) marks) at no_mark (omega arith), get_or-take (suc at) marks at no_mark (omega arith))
     (last_mark-at marks number at (omega arith) (rw next at split))
 
+-- an element of a rest, and of a beginning
+pub slice_get-rest : (xs : List Mark) (n : ℕ) → slice_get (drop n xs) 0 ≡ slice_get xs n
+slice_get-rest [] zero = refl
+slice_get-rest [] (suc n) = refl
+slice_get-rest (x ∷ xs) zero = refl
+slice_get-rest (x ∷ xs) (suc n) = slice_get-rest xs n
+
+pub slice_get-begin : (xs : List Mark) (n i : ℕ) → i < n → slice_get (take n xs) i ≡ slice_get xs i
+slice_get-begin xs zero i h = absurd (omega arith)
+slice_get-begin [] (suc n) i h = refl
+slice_get-begin (x ∷ xs) (suc n) zero h = refl
+slice_get-begin (x ∷ xs) (suc n) (suc i) h = slice_get-begin xs n i (omega arith)
+
+-- the first mark behind a place stands behind all that aren't
+pub first_behind-split : (marks : List Mark) (place at : ℕ) → at ≤ length marks → IsPartitionPoint (λ (m : Mark). m.position ≤ place) (λ m. place < m.position) marks at → first_behind place marks ≡ slice_get marks at
+first_behind-split [] place at h split = refl
+first_behind-split (m ∷ ms) place zero h split = rw (lt-ltb place m.position (split.1 zero no_mark (omega arith) (omega arith))) refl
+first_behind-split (m ∷ ms) place (suc at) h split =
+    rw (le-ltb place m.position (split.0 zero no_mark (omega arith) (omega arith)))
+    (first_behind-split ms place at (omega arith) (λ k d i j. split.0 (suc k) d (omega arith) (omega arith), λ k d i j. split.1 (suc k) d (omega arith) (omega arith)))
+
+last_before-past : (marks : List Mark) (place : ℕ) → All (λ m. place ≤ m.position) marks → last_before place marks ≡ None
+last_before-past [] place from = refl
+last_before-past (m ∷ ms) place from = rw (le-ltb m.position place (from zero no_mark (omega arith))) refl
+
+last_before-at : (marks : List Mark) (place at : ℕ) → at < length marks → IsPartitionPoint (λ (m : Mark). m.position < place) (λ m. place ≤ m.position) marks (at + 1) → last_before place marks ≡ Some (get_or marks at no_mark)
+last_before-at [] place at h split = absurd (omega arith)
+last_before-at (m ∷ ms) place zero h split =
+    rw (lt-ltb m.position place (split.0 zero no_mark (omega arith) (omega arith)), last_before-past ms place (λ k d j. split.1 (suc k) d (omega arith) (omega arith))) refl
+last_before-at (m ∷ ms) place (suc at) h split =
+    rw (lt-ltb m.position place (split.0 zero no_mark (omega arith) (omega arith)), last_before-at ms place at (omega arith) (λ k d i j. split.0 (suc k) d (omega arith) (omega arith), λ k d i j. split.1 (suc k) d (omega arith) (omega arith))) refl
+
+-- the last mark before a place stands at the end of those
+pub last_before-split : (marks : List Mark) (place at : ℕ) → at ≤ length marks → IsPartitionPoint (λ (m : Mark). m.position < place) (λ m. place ≤ m.position) marks at → last_before place marks ≡ slice_get (take at marks) (at - 1)
+last_before-split marks place zero h split = last_before-past marks place (λ k d j. split.1 k d (omega arith) j)
+last_before-split marks place (suc at) h split =
+    let end : suc at - 1 ≡ at = omega arith in
+    let next : suc at ≡ at + 1 = omega arith in
+    rw (end, slice_get-begin marks (suc at) at (omega arith), slice_get-get_or marks at no_mark (omega arith))
+    (last_before-at marks place at (omega arith) (rw next at split))
+
+-- a mark with the bound of one that is there is that one
+same_bound : (marks : List Mark) (m : Mark) (at : ℕ) → Rising marks → Contains marks m → at < length marks → (get_or marks at no_mark).bound.0 ≡ m.bound.0 → get_or marks at no_mark ≡ m
+same_bound marks m at rising is h e =
+    let own : get_or marks is.0 no_mark ≡ m = get_or_default marks is.0 no_mark m is.1 ∙ is.2 in
+    let bound : (get_or marks is.0 no_mark).bound.0 ≡ m.bound.0 = ap (λ (x : Mark). x.bound.0) own in
+    elim (cases_lt at is.0) [
+      | inl l ↦ absurd (let o = rising at is.0 no_mark l is.1 in omega (arith, o.bounds, bound, e))
+      | inr l ↦ elim (cases_eq at is.0) [
+        | inl s ↦ ap (λ (i : ℕ). get_or marks i no_mark) s ∙ own
+        | inr ne ↦ absurd (let o = rising is.0 at no_mark (omega arith) h in omega (arith, o.bounds, bound, e))
+      ]
+    ]
+
+-- the mark of an index is one that is there, by its place among the marks
+pub record IsAt (marks : List Mark) (m : Mark) (at : ℕ) : Type 0 where
+  pub within : at < length marks
+  pub is : get_or marks at no_mark ≡ m
+
+-- by a hint that holds
+pub IsAt-hint : (marks : List Mark) (m : Mark) (at : ℕ) → Rising marks → Contains marks m → at < length marks → (get_or marks at no_mark).bound.0 ≡ m.bound.0 → IsAt marks m at
+IsAt-hint marks m at rising is h e = record { within = h; is = same_bound marks m at rising is h e }
+
+-- by a search
+pub IsAt-search : (marks : List Mark) (m : Mark) (at : ℕ) → Rising marks → Contains marks m → IsPartitionPoint (λ (n : Mark). n.bound.0 < m.bound.0) (λ n. m.bound.0 ≤ n.bound.0) marks at → IsAt marks m at
+IsAt-search marks m at rising is split =
+    let found = found_below marks m.bound.0 at rising (HasBound-mark marks m is) split in
+    IsAt-hint marks m at rising is found.0 found.1
+
+-- what of the marks at a place is seen from one of them on
+pub level_first : (marks : List Mark) (start : ℕ) → Rising marks → start < length marks → (k : ℕ) (d : Mark) → k < start + 1 → (get_or marks k d).position ≤ (get_or marks start no_mark).position
+level_first marks start rising h = λ k d j. omega (arith, positions_rise marks rising k start d (omega arith) h, ap (λ (x : Mark). x.position) (get_or_default marks start d no_mark h))
+
+pub level_ends : (marks : List Mark) (start end : ℕ) → Rising marks → start < end
+    → ((k : ℕ) (d : Mark) → k < end → (get_or marks k d).position ≤ (get_or marks start no_mark).position)
+    → (end < length marks → (get_or marks end no_mark).position ≢ (get_or marks start no_mark).position)
+    → IsPartitionPoint (λ (m : Mark). m.position ≤ (get_or marks start no_mark).position) (λ m. (get_or marks start no_mark).position < m.position) marks end
+level_ends marks start end rising order level other = (
+  λ k d h j. level k d j,
+  λ k d h j.
+      let inside : end < length marks = omega arith in
+      let apart = other inside in
+      let up = positions_rise marks rising start end no_mark (omega arith) inside in
+      let rest = positions_rise marks rising end k d h j in
+      let same : (get_or marks end d).position ≡ (get_or marks end no_mark).position = ap (λ (x : Mark). x.position) (get_or_default marks end d no_mark inside) in
+      omega (arith, apart, up, rest, same),
+)
+
+-- and up to one of them
+pub level_last : (marks : List Mark) (last : ℕ) → Rising marks → last < length marks → (k : ℕ) (d : Mark) → last ≤ k → k < length marks → (get_or marks last no_mark).position ≤ (get_or marks k d).position
+level_last marks last rising h = λ k d i j. omega (arith, positions_rise marks rising last k d i j, ap (λ (x : Mark). x.position) (get_or_default marks last d no_mark h))
+
+pub level_begins : (marks : List Mark) (last start : ℕ) → Rising marks → last < length marks → start ≤ last
+    → ((k : ℕ) (d : Mark) → start ≤ k → k < length marks → (get_or marks last no_mark).position ≤ (get_or marks k d).position)
+    → (0 < start → (get_or marks (start - 1) no_mark).position ≢ (get_or marks last no_mark).position)
+    → IsPartitionPoint (λ (m : Mark). m.position < (get_or marks last no_mark).position) (λ m. (get_or marks last no_mark).position ≤ m.position) marks start
+level_begins marks last start rising inside order level other = (
+  λ k d h j.
+      let before : start - 1 < length marks = omega arith in
+      let apart = other (omega arith) in
+      let up = positions_rise marks rising (start - 1) last no_mark (omega arith) inside in
+      let rest = positions_rise marks rising k (start - 1) d (omega arith) before in
+      let same : (get_or marks (start - 1) d).position ≡ (get_or marks (start - 1) no_mark).position = ap (λ (x : Mark). x.position) (get_or_default marks (start - 1) d no_mark before) in
+      omega (arith, apart, up, rest, same),
+  λ k d h j. level k d h j,
+)
+
+-- a raise from one of the marks moves those from it on, as long as they stand at its place
+pub Moves-raised_at : (marks : List Mark) (m : Mark) (start end : ℕ) → Rising marks → IsAt marks m start → end ≤ length marks
+    → IsPartitionPoint (λ (n : Mark). n.position ≤ (get_or marks start no_mark).position) (λ n. (get_or marks start no_mark).position < n.position) marks end
+    → Moves (raised m.bound.0 m.position) one_up marks m.position start end
+Moves-raised_at marks m start end rising found within split =
+    let inside = found.within in
+    let bound : (d : Mark) → (get_or marks start d).bound.0 ≡ m.bound.0 = λ d. ap (λ (x : Mark). x.bound.0) (get_or_default marks start d no_mark inside ∙ found.is) in
+    let low : IsPartitionPoint (λ (n : Mark). n.bound.0 < m.bound.0) (λ n. m.bound.0 ≤ n.bound.0) marks start = (
+      λ k d h j. omega (arith, (rising k start d j inside).bounds, bound d),
+      λ k d h j. omega (arith, bounds_rise marks rising start k d h j, bound d),
+    ) in
+    let there : HasBound marks m.bound.0 = rw found.is at (HasBound-mark marks (get_or marks start no_mark) (Contains-get_or marks start no_mark inside)) in
+    let place : place_of m.bound.0 marks ≡ m.position = place_of-at m.bound.0 marks start rising inside (bound no_mark) ∙ ap (λ (x : Mark). x.position) found.is in
+    rw place at (Moves-raised marks m.bound.0 start end rising there within low split)
+
+-- a lowering up to one of the marks moves those up to it, from where they stand at its place
+pub Moves-lowered_from : (marks : List Mark) (m : Mark) (start last : ℕ) → Rising marks → IsAt marks m last
+    → IsPartitionPoint (λ (n : Mark). n.position < (get_or marks last no_mark).position) (λ n. (get_or marks last no_mark).position ≤ n.position) marks start
+    → Moves (lowered m.bound.0 m.position) one_down marks m.position start (last + 1)
+Moves-lowered_from marks m start last rising found split =
+    let inside = found.within in
+    let bound : (d : Mark) → (get_or marks last d).bound.0 ≡ m.bound.0 = λ d. ap (λ (x : Mark). x.bound.0) (get_or_default marks last d no_mark inside ∙ found.is) in
+    let high : IsPartitionPoint (λ (n : Mark). n.bound.0 ≤ m.bound.0) (λ n. m.bound.0 < n.bound.0) marks (last + 1) = (
+      λ k d h j. omega (arith, bounds_rise marks rising k last d (omega arith) inside, bound d),
+      λ k d h j. omega (arith, (rising last k d (omega arith) j).bounds, bound d),
+    ) in
+    let there : HasBound marks m.bound.0 = rw found.is at (HasBound-mark marks (get_or marks last no_mark) (Contains-get_or marks last no_mark inside)) in
+    let place : place_of m.bound.0 marks ≡ m.position = place_of-at m.bound.0 marks last rising inside (bound no_mark) ∙ ap (λ (x : Mark). x.position) found.is in
+    let end : last + 1 - 1 ≡ last = omega arith in
+    let low : IsPartitionPoint (λ (n : Mark). n.position < (get_or marks (last + 1 - 1) no_mark).position) (λ n. (get_or marks (last + 1 - 1) no_mark).position ≤ n.position) marks start = rw end split in
+    rw place at (Moves-lowered marks m.bound.0 start (last + 1) rising there (omega arith) high low)
+
 -- a mark is added where those that aren't above it end
 pub insert-added : (marks : List Mark) (m : Mark) (at : ℕ) → at ≤ length marks → IsPartitionPoint (λ (n : Mark). n.bound.0 ≤ m.bound.0) (λ n. m.bound.0 < n.bound.0) marks at → insert marks at m ≡ added m marks
 insert-added [] m zero h split = refl
@@ -270,6 +411,15 @@ position-none b marks rising none there =
 -- the marks behind a slice that was lent
 pub with_slice : (old new back : List Mark) (f : Mark → Mark) (len : ℕ) → len ≡ length old → new ≡ map f old → Rising (map f old) → Rising (take len (new ++ back))
 with_slice old new back f len long is rising = rw (take_at new back len (omega (arith, ap (λ (l : List Mark). length l) is, length-map old f)), is) rising
+
+-- what holds of the moved marks, where a slice of them was lent
+pub of_slice : (P : List Mark → Type 0) (old new back : List Mark) (f : Mark → Mark) (len : ℕ) → len ≡ length old → new ≡ map f old → P (map f old) → P (take len (new ++ back))
+of_slice P old new back f len long is holds = rw (take_at new back len (omega (arith, ap (λ (l : List Mark). length l) is, length-map old f)), is) holds
+
+-- what holds of the mark that is looked for holds of the one that was found
+pub of_found : (P : Mark → Type 0) (found : Option NearBound) (o : Option Mark) → near_mark found ≡ o → ((m : Mark) → o ≡ Some m → P m) → IfSome found (λ n. P n.mark)
+of_found P None o e holds = tt
+of_found P (Some n) o e holds = holds n.mark (sym e)
 
 -- one more piece
 pub pieces_more : (made : List PieceSize) (low : Bound) (from : ℕ) (marks : List Mark) (i : ℕ) (high : Bound) (to : ℕ) → i < length marks → made ++ pieces_from low from (drop i marks) high to ≡ (made ++ size_between low from (get_or marks i no_mark).bound (get_or marks i no_mark).position ∷ []) ++ pieces_from (get_or marks i no_mark).bound (get_or marks i no_mark).position (drop (i + 1) marks) high to

@@ -4,6 +4,7 @@ use Rattle.std.specs.Option.{option_map}
 use Rattle.crack_row.specs.declared.Bound.{Bound}
 use Rattle.crack_row.specs.declared.layout.PieceSize.{PieceSize}
 use Rattle.crack_index.specs.declared.mark.Mark.{Mark}
+use Rattle.crack_index.specs.declared.near.NearBound.{NearBound}
 use Rattle.crack_index.specs.declared.index.Piece.{Piece}
 
 -- what contracts see of an index: its marks in rising order, and for how many more it has room
@@ -51,6 +52,20 @@ next_mark number (m ∷ ms) = cond (nat_lt number m.bound.0) (Some m) (next_mark
 abbrev pub last_mark : ℕ → List Mark → Option Mark
 last_mark number [] = None
 last_mark number (m ∷ ms) = cond (nat_le m.bound.0 number) (Some (unwrap_or (last_mark number ms) m)) None
+
+-- the mark that a search found, without the hint of where it was found
+abbrev pub near_mark : Option NearBound → Option Mark
+near_mark found = option_map (λ (n : NearBound). n.mark) found
+
+-- the first mark that stands behind the place
+abbrev pub first_behind : ℕ → List Mark → Option Mark
+first_behind place [] = None
+first_behind place (m ∷ ms) = cond (nat_lt place m.position) (Some m) (first_behind place ms)
+
+-- the last mark before the first that stands at the place or behind it
+abbrev pub last_before : ℕ → List Mark → Option Mark
+last_before place [] = None
+last_before place (m ∷ ms) = cond (nat_lt m.position place) (Some (unwrap_or (last_before place ms) m)) None
 
 -- a mark as a pair
 abbrev pub pair_of : Mark → Bound × ℕ

@@ -1,10 +1,10 @@
 //! The cracker index: the bounds that divide a cracked column, each with its place.
-ghost use Rattle.std.specs.Prelude.{◌≡◌, ℕ, ◌+◌, ◌-◌, ◌<◌, ◌≤◌, ◌==◌, ◌↔◌, [], map, length, All, sum_by, IsOk, IsSome, IfSome, IfOk, IfErr, OnOk, IsTrue};
+ghost use Rattle.std.specs.Prelude.{◌≡◌, ℕ, ◌+◌, ◌-◌, ◌<◌, ◌≤◌, ◌==◌, ◌↔◌, [], map, length, All, Contains, sum_by, IsOk, IsSome, IfSome, IfOk, IfErr, OnOk, IsTrue};
 ghost use Rattle.std.specs.Option.{option_map};
 ghost use Rattle.crack_row.specs.Layouts.{AreJoined};
-ghost use Rattle.crack_index.specs.Marks.{Rising, Fits, HasBound, place_of, next_mark, pair_of, added, raised, lowered, lowered_at, piece_at, pieces_from};
+ghost use Rattle.crack_index.specs.Marks.{Rising, Fits, HasBound, place_of, next_mark, last_mark, near_mark, first_behind, last_before, pair_of, added, raised, lowered, lowered_at, piece_at, pieces_from};
 
-use crate::{Mark, sorted};
+use crate::{Mark, NearBound, sorted};
 use crack_row::{Bound, Key, KeyRange, PieceSize, Refusal};
 use std::alloc::Global;
 use std::marker::Model;
@@ -111,6 +111,24 @@ impl CrackerIndex {
         above.map(|mark| (mark.bound, mark.position))
     }
 
+    /// The least bound above this key. O(log bounds).
+    pub fn bound_above(&self, key: Key) -> Option<NearBound>
+        ensures value { near_mark result ≡ next_mark key.0 self.now.marks }
+        ensures there { IfSome result (λ n. Contains self.now.marks n.mark) }
+        ensures rising { Rising self.now.marks }
+    {
+        sorted::mark_above(&self.marks, u64::from(key.0))
+    }
+
+    /// The greatest bound at or below this key. O(log bounds).
+    pub fn bound_below(&self, key: Key) -> Option<NearBound>
+        ensures value { near_mark result ≡ last_mark key.0 self.now.marks }
+        ensures there { IfSome result (λ n. Contains self.now.marks n.mark) }
+        ensures rising { Rising self.now.marks }
+    {
+        sorted::mark_below(&self.marks, u64::from(key.0))
+    }
+
     /// The piece whose keys hold this key, in a column of `len` rows. O(log bounds).
     pub fn piece_of(&self, key: Key, len: usize) -> Piece
         ensures value { result ≡ piece_at key.0 len self.now.marks }
@@ -171,5 +189,35 @@ impl CrackerIndex {
         ensures rising { Rising self.new.marks }
     {
         sorted::lower_at(&mut self.marks, position);
+    }
+
+    /// Each bound at or above this one that stands where it stands moves up by one, and the answer is the first bound that
+    /// stood behind that place. O(1) and the bounds at that place where nothing was added since this one was found, else
+    /// O(log bounds) more.
+    pub fn raise_past(&mut self, near: NearBound) -> Option<NearBound>
+        requires there { Contains self.old.marks near.mark }
+        requires small { near.mark.position < usize.MAX }
+        ensures marks { self.new.marks ≡ map (raised near.mark.bound.0 near.mark.position) self.old.marks }
+        ensures next { near_mark result ≡ first_behind near.mark.position self.old.marks }
+        ensures there { IfSome result (λ n. Contains self.new.marks n.mark) }
+        ensures room { self.new.room ≡ self.old.room }
+        ensures rising { Rising self.new.marks }
+    {
+        sorted::raise_past(&mut self.marks, near)
+    }
+
+    /// Each bound at or below this one that stands where it stands moves down by one, and the answer is the last bound that
+    /// stood before that place. O(1) and the bounds at that place where nothing was added since this one was found, else
+    /// O(log bounds) more.
+    pub fn lower_past(&mut self, near: NearBound) -> Option<NearBound>
+        requires there { Contains self.old.marks near.mark }
+        requires above_zero { 0 < near.mark.position }
+        ensures marks { self.new.marks ≡ map (lowered near.mark.bound.0 near.mark.position) self.old.marks }
+        ensures next { near_mark result ≡ last_before near.mark.position self.old.marks }
+        ensures there { IfSome result (λ n. Contains self.new.marks n.mark) }
+        ensures room { self.new.room ≡ self.old.room }
+        ensures rising { Rising self.new.marks }
+    {
+        sorted::lower_past(&mut self.marks, near)
     }
 }

@@ -4,7 +4,9 @@
 
 pub mod index;
 pub mod mark;
+pub mod near;
 mod sorted;
 
 pub use index::{CrackerIndex, Piece};
 pub use mark::Mark;
+pub use near::NearBound;

@@ -1,9 +1,9 @@
 //! Marks in rising order in a slice: searches by halves, and the moves of the bounds at one place.
-ghost use Rattle.std.specs.Prelude.{◌≡◌, ◌+◌, ◌-◌, ◌<◌, ◌≤◌, map, length, All, IfOk, IfErr, vec_len, vec_capacity};
+ghost use Rattle.std.specs.Prelude.{◌≡◌, ◌+◌, ◌-◌, ◌<◌, ◌≤◌, map, take, length, get_or, slice_get, All, Contains, IfOk, IfErr, vec_len, vec_capacity};
 ghost use Rattle.std.specs.List.Sorted.{IsPartitionPoint};
-ghost use Rattle.crack_index.specs.Marks.{Rising, HasBound, last_mark, next_mark, place_of, raised, lowered, lowered_at, one_up, one_down, added, pieces_from, size_between};
+ghost use Rattle.crack_index.specs.Marks.{no_mark, Rising, HasBound, last_mark, next_mark, near_mark, first_behind, last_before, place_of, raised, lowered, lowered_at, one_up, one_down, added, pieces_from, size_between};
 
-use crate::Mark;
+use crate::{Mark, NearBound};
 use crack_row::{Bound, KeyRange, PieceSize, Refusal};
 use std::alloc::Global;
 
@@ -52,6 +52,119 @@ pub(crate) fn neighbours(marks: &[Mark], number: u64) -> (Option<Mark>, Option<M
     let at = bounds_up_to(marks, number);
     let (below, above) = marks.split_at(at);
     (below.last().copied(), above.first().copied())
+}
+
+/// The mark at this index, if there is one.
+fn near_at(marks: &[Mark], at: usize) -> Option<NearBound>
+    ensures { near_mark result ≡ slice_get marks.now at }
+{
+    match marks.get(at) {
+        Some(mark) => Some(NearBound {
+            mark: *mark,
+            hint: at,
+        }),
+        None => None,
+    }
+}
+
+/// The mark before this index, if there is one.
+fn near_before(marks: &[Mark], at: usize) -> Option<NearBound>
+    requires { at ≤ length marks.now }
+    ensures { near_mark result ≡ slice_get (take at marks.now) (at - 1) }
+{
+    if at == 0 {
+        return None;
+    }
+    near_at(marks, at - 1)
+}
+
+/// The first mark whose bound is above the number. O(log marks).
+pub(crate) fn mark_above(marks: &[Mark], number: u64) -> Option<NearBound>
+    requires { Rising marks.now }
+    ensures { near_mark result ≡ next_mark number marks.now }
+{
+    near_at(marks, bounds_up_to(marks, number))
+}
+
+/// The last mark whose bound is at or below the number. O(log marks).
+pub(crate) fn mark_below(marks: &[Mark], number: u64) -> Option<NearBound>
+    requires { Rising marks.now }
+    ensures { near_mark result ≡ last_mark number marks.now }
+{
+    near_before(marks, bounds_up_to(marks, number))
+}
+
+/// Where a mark that is there stands among the marks. O(1) where its hint holds, else O(log marks).
+fn index_of(marks: &[Mark], near: NearBound) -> usize
+    requires rising { Rising marks.now }
+    requires there { Contains marks.now near.mark }
+    ensures within { result < length marks.now }
+    ensures is { get_or marks.now result no_mark ≡ near.mark }
+{
+    match marks.get(near.hint) {
+        Some(mark) if mark.bound.0 == near.mark.bound.0 => near.hint,
+        _ => bounds_below(marks, near.mark.bound.0),
+    }
+}
+
+/// Where the marks end that stand at this one's place. O(marks behind it at that place).
+fn level_end(marks: &[Mark], start: usize) -> usize
+    requires rising { Rising marks.now }
+    requires start { start < length marks.now }
+    ensures within { result ≤ length marks.now }
+    ensures split { IsPartitionPoint (λ m. m.position ≤ (get_or marks.now start no_mark).position) (λ m. (get_or marks.now start no_mark).position < m.position) marks.now result }
+{
+    let place = marks[start].position;
+    let mut end = start + 1;
+    'level: while end < marks.len() && marks[end].position == place {
+        end += 1;
+    }
+    end
+}
+
+/// Where the marks begin that stand at this one's place. O(marks before it at that place).
+fn level_start(marks: &[Mark], last: usize) -> usize
+    requires rising { Rising marks.now }
+    requires last { last < length marks.now }
+    ensures within { result ≤ last }
+    ensures split { IsPartitionPoint (λ m. m.position < (get_or marks.now last no_mark).position) (λ m. (get_or marks.now last no_mark).position ≤ m.position) marks.now result }
+{
+    let place = marks[last].position;
+    let mut start = last;
+    'level: while 0 < start && marks[start - 1].position == place {
+        start -= 1;
+    }
+    start
+}
+
+/// Each bound at or above this one that stands where it stands moves up by one; the first that stood behind that place.
+pub(crate) fn raise_past(marks: &mut [Mark], near: NearBound) -> Option<NearBound>
+    requires rising { Rising marks.old }
+    requires there { Contains marks.old near.mark }
+    requires small { near.mark.position < usize.MAX }
+    ensures marks { marks.new ≡ map (raised near.mark.bound.0 near.mark.position) marks.old }
+    ensures next { near_mark result ≡ first_behind near.mark.position marks.old }
+{
+    let start = index_of(marks, near);
+    let end = level_end(marks, start);
+    let next = near_at(marks, end);
+    raise_all(&mut marks[start..end]);
+    next
+}
+
+/// Each bound at or below this one that stands where it stands moves down by one; the last that stood before that place.
+pub(crate) fn lower_past(marks: &mut [Mark], near: NearBound) -> Option<NearBound>
+    requires rising { Rising marks.old }
+    requires there { Contains marks.old near.mark }
+    requires above_zero { 0 < near.mark.position }
+    ensures marks { marks.new ≡ map (lowered near.mark.bound.0 near.mark.position) marks.old }
+    ensures next { near_mark result ≡ last_before near.mark.position marks.old }
+{
+    let last = index_of(marks, near);
+    let start = level_start(marks, last);
+    let next = near_before(marks, start);
+    lower_all(&mut marks[start..last + 1]);
+    next
 }
 
 /// Each bound at or above this one that stands where it stands moves up by one.
