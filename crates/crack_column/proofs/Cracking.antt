@@ -10,7 +10,7 @@ use Rattle.std.proofs.lemmas.Bool.{cases_lt}
 use Rattle.crack_arena.specs.Arena.{Cell, Handle, no_handle}
 use Rattle.crack_row.specs.declared.Row.{Row}
 use Rattle.crack_arena.specs.Rows.{key_at}
-use Rattle.crack_column.specs.Column.{Remembers, IsDividedAt, Cracks}
+use Rattle.crack_column.specs.Column.{Memory, nothing, memory_at, Remembers, IsDividedAt, Cracks}
 
 -- what stands where in a list whose middle was replaced
 pub record Replaced {X : Type 0} (from to : ℕ) (old piece new : List X) : Type 0 where
@@ -49,27 +49,27 @@ between_parts xs a m b first last within =
 whole : (xs : List Handle) → between 0 (length xs) xs ≡ xs
 whole xs = between_from_start xs (length xs) ∙ take_all (length xs) xs (omega arith)
 
-module _ (cells : List (Cell Row)) (bound from to : ℕ) (handles : List Handle) (keys : List ℕ) (handles' : List Handle) (keys' : List ℕ) (place : ℕ) where
-  order : Cracks cells bound from to handles keys handles' keys' place → from ≤ to
+module _ (cells : List (Cell Row)) (bound from to : ℕ) (handles : List Handle) (remembered : List Memory) (handles' : List Handle) (remembered' : List Memory) (place : ℕ) where
+  order : Cracks cells bound from to handles remembered handles' remembered' place → from ≤ to
   order c = omega (arith, c.low, c.high)
 
-  length_piece : (c : Cracks cells bound from to handles keys handles' keys' place) → length c.piece ≡ to - from
+  length_piece : (c : Cracks cells bound from to handles remembered handles' remembered' place) → length c.piece ≡ to - from
   length_piece c = length_permutation (between from to handles) c.piece c.kept ∙ length-between handles from to c.within
 
   -- the handles, place by place
-  placed : (c : Cracks cells bound from to handles keys handles' keys' place) → Replaced from to handles c.piece handles'
+  placed : (c : Cracks cells bound from to handles remembered handles' remembered' place) → Replaced from to handles c.piece handles'
   placed c = replaced from to handles c.piece handles' (order c) c.within (length_piece c) c.handles_are
 
   -- no handle more or less
-  pub length-Cracks : Cracks cells bound from to handles keys handles' keys' place → length handles' ≡ length handles
+  pub length-Cracks : Cracks cells bound from to handles remembered handles' remembered' place → length handles' ≡ length handles
   length-Cracks c = (placed c).len
 
   -- a place outside the stretch holds what it held
-  pub Cracks-outside : Cracks cells bound from to handles keys handles' keys' place → (k : ℕ) (d : Handle) → (k < from) ⊎ (to ≤ k) → get_or handles' k d ≡ get_or handles k d
+  pub Cracks-outside : Cracks cells bound from to handles remembered handles' remembered' place → (k : ℕ) (d : Handle) → (k < from) ⊎ (to ≤ k) → get_or handles' k d ≡ get_or handles k d
   Cracks-outside c k d outside = elim outside [ inl l ↦ (placed c).before k d l | inr g ↦ (placed c).behind k d g ]
 
   -- and so does each stretch that lies apart
-  pub Cracks-apart : Cracks cells bound from to handles keys handles' keys' place → (a b : ℕ) → b ≤ length handles → (b ≤ from) ⊎ (to ≤ a) → between a b handles' ≡ between a b handles
+  pub Cracks-apart : Cracks cells bound from to handles remembered handles' remembered' place → (a b : ℕ) → b ≤ length handles → (b ≤ from) ⊎ (to ≤ a) → between a b handles' ≡ between a b handles
   Cracks-apart c a b within apart =
       let long = length-Cracks c in
       let new_len = length-between handles' a b (omega (arith, long)) in
@@ -79,7 +79,7 @@ module _ (cells : List (Cell Row)) (bound from to : ℕ) (handles : List Handle)
       rw (get_or-between handles' a b k no_handle inside, get_or-between handles a b k no_handle inside) (Cracks-outside c (a + k) no_handle (elim apart [ inl l ↦ inl (omega arith) | inr g ↦ inr (omega arith) ])))
 
   -- the stretch now
-  piece_now : (c : Cracks cells bound from to handles keys handles' keys' place) → between from to handles' ≡ c.piece
+  piece_now : (c : Cracks cells bound from to handles remembered handles' remembered' place) → between from to handles' ≡ c.piece
   piece_now c =
       let long = length-Cracks c in
       let new_len = length-between handles' from to (omega (arith, long, c.within)) in
@@ -89,11 +89,11 @@ module _ (cells : List (Cell Row)) (bound from to : ℕ) (handles : List Handle)
       rw (get_or-between handles' from to k no_handle inside, (placed c).inside (from + k) no_handle (omega arith) inside, back) refl)
 
   -- in the stretch stand the same handles
-  pub Cracks-own : Cracks cells bound from to handles keys handles' keys' place → IsPermutation (between from to handles) (between from to handles')
+  pub Cracks-own : Cracks cells bound from to handles remembered handles' remembered' place → IsPermutation (between from to handles) (between from to handles')
   Cracks-own c = rw (piece_now c) c.kept
 
   -- and so in each stretch that holds it
-  pub Cracks-around : Cracks cells bound from to handles keys handles' keys' place → (a b : ℕ) → a ≤ from → to ≤ b → b ≤ length handles → IsPermutation (between a b handles) (between a b handles')
+  pub Cracks-around : Cracks cells bound from to handles remembered handles' remembered' place → (a b : ℕ) → a ≤ from → to ≤ b → b ≤ length handles → IsPermutation (between a b handles) (between a b handles')
   Cracks-around c a b first last within =
       let long = length-Cracks c in
       let old : between a b handles ≡ between a from handles ++ (between from to handles ++ between to b handles) = between_parts handles a from b first (omega (arith, order c)) within ∙ ap (λ ys. between a from handles ++ ys) (between_parts handles from to b (order c) last within) in
@@ -101,14 +101,14 @@ module _ (cells : List (Cell Row)) (bound from to : ℕ) (handles : List Handle)
       rw (old, new, Cracks-apart c a from (omega (arith, order c, c.within)) (inl (omega arith)), Cracks-apart c to b within (inr (omega arith))) (IsPermutation-append_right (between a from handles) (between from to handles ++ between to b handles) (between from to handles' ++ between to b handles) (IsPermutation-append_left (between to b handles) (between from to handles) (between from to handles') (Cracks-own c)))
 
   -- and in the whole column
-  pub Cracks-whole : Cracks cells bound from to handles keys handles' keys' place → IsPermutation handles handles'
+  pub Cracks-whole : Cracks cells bound from to handles remembered handles' remembered' place → IsPermutation handles handles'
   Cracks-whole c =
       let around = Cracks-around c 0 (length handles) (omega arith) c.within (omega arith) in
       let new : between 0 (length handles) handles' ≡ handles' = ap (λ n. between 0 n handles') (sym (length-Cracks c)) ∙ whole handles' in
       rw (whole handles, new) at around
 
   -- the whole column is divided at the place, where the stretch lies between two lesser and greater bounds
-  pub Cracks-divides : Cracks cells bound from to handles keys handles' keys' place → (low high : ℕ) → low ≤ bound → bound ≤ high → IsDividedAt low (map (key_at cells) handles) from → IsDividedAt high (map (key_at cells) handles) to → IsDividedAt bound (map (key_at cells) handles') place
+  pub Cracks-divides : Cracks cells bound from to handles remembered handles' remembered' place → (low high : ℕ) → low ≤ bound → bound ≤ high → IsDividedAt low (map (key_at cells) handles) from → IsDividedAt high (map (key_at cells) handles) to → IsDividedAt bound (map (key_at cells) handles') place
   Cracks-divides c low high below above d e =
       let at = placed c in
       let f = key_at cells in
@@ -133,7 +133,7 @@ module _ (cells : List (Cell Row)) (bound from to : ℕ) (handles : List Handle)
       }
 
   -- each other bound that divides the column at an end of the stretch or outside it still does
-  pub Cracks-keeps : Cracks cells bound from to handles keys handles' keys' place → (other at : ℕ) → (at ≤ from) ⊎ (to ≤ at) → IsDividedAt other (map (key_at cells) handles) at → IsDividedAt other (map (key_at cells) handles') at
+  pub Cracks-keeps : Cracks cells bound from to handles remembered handles' remembered' place → (other at : ℕ) → (at ≤ from) ⊎ (to ≤ at) → IsDividedAt other (map (key_at cells) handles) at → IsDividedAt other (map (key_at cells) handles') at
   Cracks-keeps c other at outside d =
       let now = placed c in
       let f = key_at cells in
@@ -165,20 +165,20 @@ module _ (cells : List (Cell Row)) (bound from to : ℕ) (handles : List Handle)
             ]);
       }
 
-  -- all keys of the stretch are remembered, and none is forgotten
-  pub Cracks-remembers : Cracks cells bound from to handles keys handles' keys' place → Remembers cells handles keys → Remembers cells handles' keys'
+  -- all rows of the stretch are remembered, and none is forgotten
+  pub Cracks-remembers : Cracks cells bound from to handles remembered handles' remembered' place → Remembers cells handles remembered → Remembers cells handles' remembered'
   Cracks-remembers c r =
       let now = placed c in
-      let f = key_at cells in
+      let f = memory_at cells in
       let long = length_piece c in
-      let beside = replaced from to keys (map f c.piece) keys' (order c) (omega (arith, c.within, r.beside)) (length-map c.piece f ∙ long) c.keys_are in
+      let beside = replaced from to remembered (map f c.piece) remembered' (order c) (omega (arith, c.within, r.beside)) (length-map c.piece f ∙ long) c.remembered_are in
       record {
         beside = beside.len ∙ r.beside ∙ sym now.len;
         right = λ k d h. elim (cases_lt k from) [
-          | inl l ↦ rw (now.before k d l, beside.before k 0 l) (r.right k d (omega (arith, now.len)))
+          | inl l ↦ rw (now.before k d l, beside.before k nothing l) (r.right k d (omega (arith, now.len)))
           | inr g ↦ elim (cases_lt k to) [
-            | inl l ↦ inr (rw (now.inside k d g l, beside.inside k 0 g l) (get_or-map f c.piece (k - from) d 0 (omega arith)))
-            | inr m ↦ rw (now.behind k d m, beside.behind k 0 m) (r.right k d (omega (arith, now.len)))
+            | inl l ↦ inr (rw (now.inside k d g l, beside.inside k nothing g l) (get_or-map f c.piece (k - from) d nothing (omega arith)))
+            | inr m ↦ rw (now.behind k d m, beside.behind k nothing m) (r.right k d (omega (arith, now.len)))
           ]
         ];
       }

@@ -1,21 +1,23 @@
--- What a column's handles and keys are, place by place, after a row was put at a place or a stretch was turned.
+-- What a column's handles are and what it remembers, place by place, after a row was put at a place or a stretch was turned.
 use Rattle.std.proofs.Common.{◌≡◌, ◌≢◌, ℕ, zero, suc, ◌+◌, ◌-◌, ◌<◌, ◌≤◌, ◌^◌, List, [], ◌∷◌, ◌++◌, length, map, get_or, set, take, drop, slice_get, Some, refl, sym, ap, ◌∙◌, inl, inr, arith, length-append, length-set}
-use Rattle.std.specs.Prelude.{remove}
+use Rattle.std.specs.Prelude.{remove, sum_by}
 use Rattle.std.specs.List.{All, between}
 use Rattle.std.specs.List.Sorted.{IsPermutation}
-use Rattle.std.proofs.lemmas.List.{ext_get_or, append_assoc, take-append-drop, drop-drop, take-map, length-map, get_or-map, get_or-take, length-take-le, get_or-set_same, get_or-set_other, get_or_append_left, get_or_push, map-append, get_or_default}
+use Rattle.std.proofs.lemmas.List.{ext_get_or, append_assoc, take-append-drop, drop-drop, take-map, take_all, take_more, take_more_set, map-set, length-map, get_or-map, get_or-take, length-take-le, get_or-set_same, get_or-set_other, get_or_append_left, get_or_push, map-append, get_or_default}
 use Rattle.std.proofs.lemmas.List.Edits.{length-between, get_or-between, get_or-remove_below, get_or-remove_above, length-remove}
 use Rattle.std.proofs.lemmas.List.Sorted.{All-permutation, IsPermutation-map, IsPermutation-append_right, IsPermutation-append_left, length_permutation}
+use Rattle.std.proofs.lemmas.List.Sums.{sum_by-cons}
 use Rattle.std.proofs.lemmas.Option.{slice_get-get_or}
+use Rattle.std.proofs.Math.Seq.{take-set-lt}
 use Rattle.std.proofs.lemmas.Bool.{cases_eq, cases_lt}
 use Rattle.crack_arena.specs.Arena.{Cell, Handle, times, no_handle}
 use Rattle.crack_arena.proofs.Times.{times-map-remove, times_map_at, times_head, times-nil, times-map-append, times_one, times_other, times-cons, times-le-length, times-IsPermutation, times-append, times-set}
 use Rattle.crack_row.specs.declared.Row.{Row}
 use Rattle.crack_column.specs.declared.tag.Tag.{Tag}
 use Rattle.crack_arena.specs.Rows.{key_at}
-use Rattle.crack_column.specs.Column.{unknown, Remembers, Cracks}
+use Rattle.crack_column.specs.Column.{Memory, unknown, nothing, memory_at, Remembers, Cracks}
 use Rattle.crack_column.proofs.Cracking.{Replaced, replaced}
-use Rattle.crack_column.specs.Tickets.{no_tag, ticket_of, remembered_of, handle_of, handles_in, keys_in, Knows, AreDrawn, Kept, Turns, forgotten}
+use Rattle.crack_column.specs.Tickets.{no_tag, tag_for, ticket_of, remembered_key, memory_of, handle_of, handles_in, remembered_in, unread_in, Knows, AreDrawn, Kept, Turns, forgotten}
 
 -- two tags don't bear one ticket
 apart : (ts : List Tag) (i j : ℕ) → i < length ts → j < length ts → j ≢ i → times (get_or ts i no_tag).ticket (map ticket_of ts) ≤ 1 → (get_or ts j no_tag).ticket ≢ (get_or ts i no_tag).ticket
@@ -43,34 +45,54 @@ times_none [] n all = times-nil n
 times_none (t ∷ ts) n all =
     omega (arith, times-cons n t.ticket (map ticket_of ts), times_one n t.ticket, times_other n t.ticket (λ e. absurd (omega (arith, e, all 0 t (omega arith)))), times_none ts n (λ k d l. all (suc k) d (omega arith)))
 
--- a column's handles and keys, place by place
-pub length-in : (hs : List Handle) (ts : List Tag) (len : ℕ) → len ≤ length ts → length (handles_in hs ts len) ≡ len
-length-in hs ts len within = length-map (take len ts) (handle_of hs) ∙ length-take-le len ts within
+-- a column's handles, and what it remembers, place by place
+pub length-in : (gs : List ℕ) (ts : List Tag) (len : ℕ) → len ≤ length ts → length (handles_in gs ts len) ≡ len
+length-in gs ts len within = length-map (take len ts) (handle_of gs) ∙ length-take-le len ts within
 
-pub length-keys_in : (ts : List Tag) (len : ℕ) → len ≤ length ts → length (keys_in ts len) ≡ len
-length-keys_in ts len within = length-map (take len ts) remembered_of ∙ length-take-le len ts within
+pub length-remembered_in : (ts : List Tag) (len : ℕ) → len ≤ length ts → length (remembered_in ts len) ≡ len
+length-remembered_in ts len within = length-map (take len ts) memory_of ∙ length-take-le len ts within
 
-pub handle_in : (hs : List Handle) (ts : List Tag) (len k : ℕ) (d : Handle) → len ≤ length ts → k < len → get_or (handles_in hs ts len) k d ≡ handle_of hs (get_or ts k no_tag)
-handle_in hs ts len k d within inside =
-    rw (get_or-map (handle_of hs) (take len ts) k no_tag d (omega (arith, length-take-le len ts within)), get_or-take len ts k no_tag inside) refl
+pub handle_in : (gs : List ℕ) (ts : List Tag) (len k : ℕ) (d : Handle) → len ≤ length ts → k < len → get_or (handles_in gs ts len) k d ≡ handle_of gs (get_or ts k no_tag)
+handle_in gs ts len k d within inside =
+    rw (get_or-map (handle_of gs) (take len ts) k no_tag d (omega (arith, length-take-le len ts within)), get_or-take len ts k no_tag inside) refl
 
-pub key_in : (ts : List Tag) (len k d : ℕ) → len ≤ length ts → k < len → get_or (keys_in ts len) k d ≡ (get_or ts k no_tag).key
-key_in ts len k d within inside =
-    rw (get_or-map remembered_of (take len ts) k no_tag d (omega (arith, length-take-le len ts within)), get_or-take len ts k no_tag inside) refl
+pub memory_in : (ts : List Tag) (len k : ℕ) (d : Memory) → len ≤ length ts → k < len → get_or (remembered_in ts len) k d ≡ memory_of (get_or ts k no_tag)
+memory_in ts len k d within inside =
+    rw (get_or-map memory_of (take len ts) k no_tag d (omega (arith, length-take-le len ts within)), get_or-take len ts k no_tag inside) refl
+
+-- no more tags don't know their rows than there are
+pub unread-le : (ts : List Tag) (len : ℕ) → len ≤ length ts → unread_in (take len ts) ≤ len
+unread-le ts len within = omega (arith, times-le-length unknown (map remembered_key (take len ts)), length-map (take len ts) remembered_key, length-take-le len ts within)
+
+-- one tag more at the end
+pub remembered-longer : (ts ts' : List Tag) (len : ℕ) (t : Tag) → take (len + 1) ts' ≡ take len ts ++ t ∷ [] → remembered_in ts' (len + 1) ≡ remembered_in ts len ++ memory_of t ∷ []
+remembered-longer ts ts' len t longer = ap (λ (xs : List Tag). map memory_of xs) longer ∙ map-append memory_of (take len ts) (t ∷ [])
+
+pub unread-longer : (ts ts' : List Tag) (len : ℕ) (t : Tag) → take (len + 1) ts' ≡ take len ts ++ t ∷ [] → unread_in (take (len + 1) ts') ≡ unread_in (take len ts) + times unknown (t.key ∷ [])
+unread-longer ts ts' len t longer = ap unread_in longer ∙ times-map-append unknown remembered_key (take len ts) (t ∷ [])
+
+pub handles-last : (gs : List ℕ) (ts : List Tag) (len : ℕ) → len < length ts → handles_in gs ts (len + 1) ≡ handles_in gs ts len ++ handle_of gs (get_or ts len no_tag) ∷ []
+handles-last gs ts len inside = ap (λ (xs : List Tag). map (handle_of gs) xs) (take_more ts len no_tag inside) ∙ map-append (handle_of gs) (take len ts) (get_or ts len no_tag ∷ [])
+
+pub remembered-last : (ts : List Tag) (len : ℕ) → len < length ts → remembered_in ts (len + 1) ≡ remembered_in ts len ++ memory_of (get_or ts len no_tag) ∷ []
+remembered-last ts len inside = remembered-longer ts ts len (get_or ts len no_tag) (take_more ts len no_tag inside)
+
+pub unread-last : (ts : List Tag) (len : ℕ) → len < length ts → unread_in (take (len + 1) ts) ≡ unread_in (take len ts) + times unknown ((get_or ts len no_tag).key ∷ [])
+unread-last ts len inside = unread-longer ts ts len (get_or ts len no_tag) (take_more ts len no_tag inside)
 
 -- a row was put at a place
-module _ (hs : List Handle) (ts : List Tag) (place : ℕ) (h : Handle) (hs' : List Handle) (ts' : List Tag) (out : Handle) (len : ℕ) (are : AreDrawn hs ts len) (inside : place < length ts) (kept : Kept hs ts place h hs' ts' out) where
+module _ (gs : List ℕ) (ts : List Tag) (place : ℕ) (h : Handle) (m : Memory) (gs' : List ℕ) (ts' : List Tag) (out : Handle) (known : Memory) (len : ℕ) (are : AreDrawn gs ts len) (inside : place < length ts) (kept : Kept gs ts place h m gs' ts' out known) where
   pub length-Kept : length ts' ≡ length ts
-  length-Kept = rw kept.tags_are (length-set ts place (forgotten (get_or ts place no_tag)))
+  length-Kept = rw kept.tags_are (length-set ts place (tag_for (get_or ts place no_tag).ticket h m))
 
-  pub length_handles-Kept : length hs' ≡ length hs
-  length_handles-Kept = rw kept.handles_are (length-set hs (get_or ts place no_tag).ticket h)
+  pub length_generations-Kept : length gs' ≡ length gs
+  length_generations-Kept = rw kept.generations_are (length-set gs (get_or ts place no_tag).ticket h.generation)
 
-  pub tag_now : get_or ts' place no_tag ≡ forgotten (get_or ts place no_tag)
-  tag_now = rw kept.tags_are (get_or-set_same ts place (forgotten (get_or ts place no_tag)) no_tag inside)
+  tag_now : get_or ts' place no_tag ≡ (tag_for (get_or ts place no_tag).ticket h m)
+  tag_now = rw kept.tags_are (get_or-set_same ts place (tag_for (get_or ts place no_tag).ticket h m) no_tag inside)
 
   other_tag : (k : ℕ) → k ≢ place → get_or ts' k no_tag ≡ get_or ts k no_tag
-  other_tag k ne = rw kept.tags_are (get_or-set_other ts place k (forgotten (get_or ts place no_tag)) no_tag ne)
+  other_tag k ne = rw kept.tags_are (get_or-set_other ts place k (tag_for (get_or ts place no_tag).ticket h m) no_tag ne)
 
   tickets-Kept : map ticket_of ts' ≡ map ticket_of ts
   tickets-Kept =
@@ -82,95 +104,111 @@ module _ (hs : List Handle) (ts : List Tag) (place : ℕ) (h : Handle) (hs' : Li
       ] in
       get_or-map ticket_of ts' k no_tag 0 (omega arith) ∙ same ∙ sym (get_or-map ticket_of ts k no_tag 0 (omega (arith, length-Kept))))
 
-  pub handle_now : handle_of hs' (get_or ts' place no_tag) ≡ h
-  handle_now = rw (tag_now, kept.handles_are) (get_or-set_same hs (get_or ts place no_tag).ticket h no_handle (are.drawn place no_tag inside))
+  handle_now : handle_of gs' (get_or ts' place no_tag) ≡ h
+  handle_now =
+      let generation : get_or gs' (get_or ts place no_tag).ticket 0 ≡ h.generation = rw kept.generations_are (get_or-set_same gs (get_or ts place no_tag).ticket h.generation 0 (are.drawn place no_tag inside)) in
+      rw tag_now (ap (λ g. let k : Handle = record { slot = h.slot; generation = g } in k) generation)
 
-  pub other_handle : (k : ℕ) → k ≢ place → k < length ts → handle_of hs' (get_or ts' k no_tag) ≡ handle_of hs (get_or ts k no_tag)
+  other_handle : (k : ℕ) → k ≢ place → k < length ts → handle_of gs' (get_or ts' k no_tag) ≡ handle_of gs (get_or ts k no_tag)
   other_handle k ne within =
-      rw (other_tag k ne, kept.handles_are) (get_or-set_other hs (get_or ts place no_tag).ticket (get_or ts k no_tag).ticket h no_handle (apart ts place k inside within ne (are.once (get_or ts place no_tag).ticket)))
+      let generation : get_or gs' (get_or ts k no_tag).ticket 0 ≡ get_or gs (get_or ts k no_tag).ticket 0 = rw kept.generations_are (get_or-set_other gs (get_or ts place no_tag).ticket (get_or ts k no_tag).ticket h.generation 0 (apart ts place k inside within ne (are.once (get_or ts place no_tag).ticket))) in
+      rw (other_tag k ne) (ap (λ g. let n : Handle = record { slot = (get_or ts k no_tag).slot; generation = g } in n) generation)
 
   -- as many tags as before, or one more where the place was behind the end
-  pub AreDrawn-Kept : (len' : ℕ) → len' ≤ length ts → AreDrawn hs' ts' len'
+  pub AreDrawn-Kept : (len' : ℕ) → len' ≤ length ts → AreDrawn gs' ts' len'
   AreDrawn-Kept len' within = record {
-    beside = omega (arith, length-Kept, length_handles-Kept, are.beside);
+    beside = omega (arith, length-Kept, length_generations-Kept, are.beside);
     within = omega (arith, length-Kept);
     few = omega (arith, length-Kept, are.few);
     drawn = λ k d l. elim (cases_eq k place) [
-      | inl e ↦ rw (e, get_or_default ts' place d no_tag (omega (arith, length-Kept)), tag_now) (omega (arith, length_handles-Kept, are.drawn place no_tag inside))
-      | inr ne ↦ rw (get_or_default ts' k d no_tag l, other_tag k ne) (omega (arith, length_handles-Kept, are.drawn k no_tag (omega (arith, length-Kept))))
+      | inl e ↦ rw (e, get_or_default ts' place d no_tag (omega (arith, length-Kept)), tag_now) (omega (arith, length_generations-Kept, are.drawn place no_tag inside))
+      | inr ne ↦ rw (get_or_default ts' k d no_tag l, other_tag k ne) (omega (arith, length_generations-Kept, are.drawn k no_tag (omega (arith, length-Kept))))
     ];
     once = λ n. rw tickets-Kept (are.once n);
   }
 
-  pub handles-swapped : place < len → handles_in hs' ts' len ≡ set (handles_in hs ts len) place h
+  pub handles-swapped : place < len → handles_in gs' ts' len ≡ set (handles_in gs ts len) place h
   handles-swapped first =
       let within : len ≤ length ts' = omega (arith, length-Kept, are.within) in
-      let long = length-in hs ts len are.within in
-      let long_now = length-in hs' ts' len within in
-      ext_get_or no_handle (handles_in hs' ts' len) (set (handles_in hs ts len) place h) (omega (arith, length-set (handles_in hs ts len) place h)) (λ k l.
-      rw (handle_in hs' ts' len k no_handle within (omega arith)) (elim (cases_eq k place) [
-        | inl e ↦ rw (e, get_or-set_same (handles_in hs ts len) place h no_handle (omega arith)) handle_now
-        | inr ne ↦ rw (get_or-set_other (handles_in hs ts len) place k h no_handle ne, handle_in hs ts len k no_handle are.within (omega arith)) (other_handle k ne (omega (arith, are.within)))
+      let long = length-in gs ts len are.within in
+      let long_now = length-in gs' ts' len within in
+      ext_get_or no_handle (handles_in gs' ts' len) (set (handles_in gs ts len) place h) (omega (arith, length-set (handles_in gs ts len) place h)) (λ k l.
+      rw (handle_in gs' ts' len k no_handle within (omega arith)) (elim (cases_eq k place) [
+        | inl e ↦ rw (e, get_or-set_same (handles_in gs ts len) place h no_handle (omega arith)) handle_now
+        | inr ne ↦ rw (get_or-set_other (handles_in gs ts len) place k h no_handle ne, handle_in gs ts len k no_handle are.within (omega arith)) (other_handle k ne (omega (arith, are.within)))
       ]))
 
-  pub keys-swapped : place < len → keys_in ts' len ≡ set (keys_in ts len) place unknown
-  keys-swapped first =
-      let within : len ≤ length ts' = omega (arith, length-Kept, are.within) in
-      let long = length-keys_in ts len are.within in
-      let long_now = length-keys_in ts' len within in
-      ext_get_or 0 (keys_in ts' len) (set (keys_in ts len) place unknown) (omega (arith, length-set (keys_in ts len) place unknown)) (λ k l.
-      rw (key_in ts' len k 0 within (omega arith)) (elim (cases_eq k place) [
-        | inl e ↦ rw (e, get_or-set_same (keys_in ts len) place unknown 0 (omega arith), tag_now) refl
-        | inr ne ↦ rw (get_or-set_other (keys_in ts len) place k unknown 0 ne, key_in ts len k 0 are.within (omega arith), other_tag k ne) refl
-      ]))
+  first_tags : place < len → take len ts' ≡ set (take len ts) place (tag_for (get_or ts place no_tag).ticket h m)
+  first_tags first = ap (λ (xs : List Tag). take len xs) kept.tags_are ∙ take-set-lt len ts place (tag_for (get_or ts place no_tag).ticket h m) first
 
-  pub handles-longer : place ≡ len → handles_in hs' ts' (len + 1) ≡ handles_in hs ts len ++ h ∷ []
+  pub remembered-swapped : place < len → remembered_in ts' len ≡ set (remembered_in ts len) place m
+  remembered-swapped first = ap (λ (xs : List Tag). map memory_of xs) (first_tags first) ∙ map-set memory_of (take len ts) place (tag_for (get_or ts place no_tag).ticket h m)
+
+  pub unread-swapped : place < len → unread_in (take len ts') + times unknown (known.key ∷ []) ≡ unread_in (take len ts) + times unknown (m.key ∷ [])
+  unread-swapped first =
+      let ks = map remembered_key (take len ts) in
+      let new : map remembered_key (take len ts') ≡ set ks place m.key = ap (λ (xs : List Tag). map remembered_key xs) (first_tags first) ∙ map-set remembered_key (take len ts) place (tag_for (get_or ts place no_tag).ticket h m) in
+      let long : length ks ≡ len = length-map (take len ts) remembered_key ∙ length-take-le len ts are.within in
+      let old : get_or ks place 0 ≡ known.key = get_or-map remembered_key (take len ts) place no_tag 0 (omega (arith, length-take-le len ts are.within)) ∙ ap remembered_key (get_or-take len ts place no_tag first) ∙ ap (λ (x : Memory). x.key) (sym kept.known_is) in
+      rw (new, ← old) (times-set unknown ks place m.key 0 (omega arith))
+
+  pub tags-longer : place ≡ len → take (len + 1) ts' ≡ take len ts ++ (tag_for (get_or ts place no_tag).ticket h m) ∷ []
+  tags-longer last =
+      let is : ts' ≡ set ts len (tag_for (get_or ts place no_tag).ticket h m) = kept.tags_are ∙ ap (λ n. set ts n (tag_for (get_or ts place no_tag).ticket h m)) last in
+      ap (λ (xs : List Tag). take (len + 1) xs) is ∙ take_more_set ts len (tag_for (get_or ts place no_tag).ticket h m) (omega arith)
+
+  pub handles-longer : place ≡ len → handles_in gs' ts' (len + 1) ≡ handles_in gs ts len ++ h ∷ []
   handles-longer last =
       let within : len + 1 ≤ length ts' = omega (arith, length-Kept) in
-      let long = length-in hs ts len are.within in
-      let long_now = length-in hs' ts' (len + 1) within in
-      ext_get_or no_handle (handles_in hs' ts' (len + 1)) (handles_in hs ts len ++ h ∷ []) (omega (arith, length-append (handles_in hs ts len) (h ∷ []))) (λ k l.
-      rw (handle_in hs' ts' (len + 1) k no_handle within (omega arith)) (elim (cases_eq k place) [
-        | inl e ↦ rw (get_or_push (handles_in hs ts len) h no_handle k (omega arith), e) handle_now
-        | inr ne ↦ rw (get_or_append_left (handles_in hs ts len) (h ∷ []) no_handle k (omega arith), handle_in hs ts len k no_handle are.within (omega arith)) (other_handle k ne (omega (arith, are.within)))
+      let long = length-in gs ts len are.within in
+      let long_now = length-in gs' ts' (len + 1) within in
+      ext_get_or no_handle (handles_in gs' ts' (len + 1)) (handles_in gs ts len ++ h ∷ []) (omega (arith, length-append (handles_in gs ts len) (h ∷ []))) (λ k l.
+      rw (handle_in gs' ts' (len + 1) k no_handle within (omega arith)) (elim (cases_eq k place) [
+        | inl e ↦ rw (get_or_push (handles_in gs ts len) h no_handle k (omega arith), e) handle_now
+        | inr ne ↦ rw (get_or_append_left (handles_in gs ts len) (h ∷ []) no_handle k (omega arith), handle_in gs ts len k no_handle are.within (omega arith)) (other_handle k ne (omega (arith, are.within)))
       ]))
 
 -- a row was put behind all others, under a new ticket
-module _ (hs : List Handle) (ts : List Tag) (h : Handle) (are : AreDrawn hs ts (length ts)) where
-  pub AreDrawn-draw : length ts < 2 ^ 32 → AreDrawn (hs ++ h ∷ []) (ts ++ record { key = unknown; ticket = length hs } ∷ []) (length ts + 1)
+module _ (gs : List ℕ) (ts : List Tag) (h : Handle) (m : Memory) (are : AreDrawn gs ts (length ts)) where
+  pub AreDrawn-draw : length ts < 2 ^ 32 → AreDrawn (gs ++ h.generation ∷ []) (ts ++ (tag_for (length gs) h m) ∷ []) (length ts + 1)
   AreDrawn-draw few =
-      let t : Tag = record { key = unknown; ticket = length hs } in
-      let long = length-append ts (t ∷ []) in
-      let longer = length-append hs (h ∷ []) in
+      let long = length-append ts ((tag_for (length gs) h m) ∷ []) in
+      let longer = length-append gs (h.generation ∷ []) in
       record {
         beside = omega (arith, are.beside);
         within = omega arith;
         few = omega arith;
         drawn = λ k d l. elim (cases_eq k (length ts)) [
-          | inl e ↦ rw (get_or_push ts t d k (sym e)) (omega arith)
-          | inr ne ↦ rw (get_or_append_left ts (t ∷ []) d k (omega arith)) (omega (arith, are.drawn k d (omega arith)))
+          | inl e ↦ rw (get_or_push ts (tag_for (length gs) h m) d k (sym e)) (omega arith)
+          | inr ne ↦ rw (get_or_append_left ts ((tag_for (length gs) h m) ∷ []) d k (omega arith)) (omega (arith, are.drawn k d (omega arith)))
         ];
-        once = λ n. elim (cases_eq (length hs) n) [
+        once = λ n. elim (cases_eq (length gs) n) [
           | inl e ↦
-              let both : times n (map ticket_of (ts ++ t ∷ [])) ≡ times n (map ticket_of ts) + times n (length hs ∷ []) = times-map-append n ticket_of ts (t ∷ []) in
+              let both : times n (map ticket_of (ts ++ (tag_for (length gs) h m) ∷ [])) ≡ times n (map ticket_of ts) + times n (length gs ∷ []) = times-map-append n ticket_of ts ((tag_for (length gs) h m) ∷ []) in
               let none : times n (map ticket_of ts) ≡ 0 = times_none ts n (λ k d l. omega (arith, e, are.drawn k d l)) in
-              omega (arith, both, none, times-le-length n (length hs ∷ []))
+              omega (arith, both, none, times-le-length n (length gs ∷ []))
           | inr ne ↦
-              let both : times n (map ticket_of (ts ++ t ∷ [])) ≡ times n (map ticket_of ts) + times n (length hs ∷ []) = times-map-append n ticket_of ts (t ∷ []) in
-              omega (arith, both, times_other n (length hs) ne, are.once n)
+              let both : times n (map ticket_of (ts ++ (tag_for (length gs) h m) ∷ [])) ≡ times n (map ticket_of ts) + times n (length gs ∷ []) = times-map-append n ticket_of ts ((tag_for (length gs) h m) ∷ []) in
+              omega (arith, both, times_other n (length gs) ne, are.once n)
         ];
       }
 
-  pub handles-draw : handles_in (hs ++ h ∷ []) (ts ++ record { key = unknown; ticket = length hs } ∷ []) (length ts + 1) ≡ handles_in hs ts (length ts) ++ h ∷ []
+  pub tags-draw : take (length ts + 1) (ts ++ (tag_for (length gs) h m) ∷ []) ≡ take (length ts) ts ++ (tag_for (length gs) h m) ∷ []
+  tags-draw = take_all (length ts + 1) (ts ++ (tag_for (length gs) h m) ∷ []) (omega (arith, length-append ts ((tag_for (length gs) h m) ∷ []))) ∙ ap (λ (xs : List Tag). xs ++ (tag_for (length gs) h m) ∷ []) (sym (take_all (length ts) ts (omega arith)))
+
+  pub handles-draw : handles_in (gs ++ h.generation ∷ []) (ts ++ (tag_for (length gs) h m) ∷ []) (length ts + 1) ≡ handles_in gs ts (length ts) ++ h ∷ []
   handles-draw =
-      let t : Tag = record { key = unknown; ticket = length hs } in
-      let within : length ts + 1 ≤ length (ts ++ t ∷ []) = omega (arith, length-append ts (t ∷ [])) in
-      let long = length-in hs ts (length ts) are.within in
-      let long_now = length-in (hs ++ h ∷ []) (ts ++ t ∷ []) (length ts + 1) within in
-      ext_get_or no_handle (handles_in (hs ++ h ∷ []) (ts ++ t ∷ []) (length ts + 1)) (handles_in hs ts (length ts) ++ h ∷ []) (omega (arith, length-append (handles_in hs ts (length ts)) (h ∷ []))) (λ k l.
-      rw (handle_in (hs ++ h ∷ []) (ts ++ t ∷ []) (length ts + 1) k no_handle within (omega arith)) (elim (cases_eq k (length ts)) [
-        | inl e ↦ rw (get_or_push (handles_in hs ts (length ts)) h no_handle k (omega arith), get_or_push ts t no_tag k (sym e)) (get_or_push hs h no_handle (length hs) refl)
-        | inr ne ↦ rw (get_or_append_left (handles_in hs ts (length ts)) (h ∷ []) no_handle k (omega arith), handle_in hs ts (length ts) k no_handle are.within (omega arith), get_or_append_left ts (t ∷ []) no_tag k (omega arith)) (get_or_append_left hs (h ∷ []) no_handle (get_or ts k no_tag).ticket (are.drawn k no_tag (omega arith)))
+      let within : length ts + 1 ≤ length (ts ++ (tag_for (length gs) h m) ∷ []) = omega (arith, length-append ts ((tag_for (length gs) h m) ∷ [])) in
+      let long = length-in gs ts (length ts) are.within in
+      let long_now = length-in (gs ++ h.generation ∷ []) (ts ++ (tag_for (length gs) h m) ∷ []) (length ts + 1) within in
+      let newest : get_or (gs ++ h.generation ∷ []) (length gs) 0 ≡ h.generation = get_or_push gs h.generation 0 (length gs) refl in
+      ext_get_or no_handle (handles_in (gs ++ h.generation ∷ []) (ts ++ (tag_for (length gs) h m) ∷ []) (length ts + 1)) (handles_in gs ts (length ts) ++ h ∷ []) (omega (arith, length-append (handles_in gs ts (length ts)) (h ∷ []))) (λ k l.
+      rw (handle_in (gs ++ h.generation ∷ []) (ts ++ (tag_for (length gs) h m) ∷ []) (length ts + 1) k no_handle within (omega arith)) (elim (cases_eq k (length ts)) [
+        | inl e ↦ rw (get_or_push (handles_in gs ts (length ts)) h no_handle k (omega arith), get_or_push ts (tag_for (length gs) h m) no_tag k (sym e)) (ap (λ g. let n : Handle = record { slot = h.slot; generation = g } in n) newest)
+        | inr ne ↦
+            let t : Tag = get_or ts k no_tag in
+            let old : get_or (gs ++ h.generation ∷ []) t.ticket 0 ≡ get_or gs t.ticket 0 = get_or_append_left gs (h.generation ∷ []) 0 t.ticket (are.drawn k no_tag (omega arith)) in
+            rw (get_or_append_left (handles_in gs ts (length ts)) (h ∷ []) no_handle k (omega arith), handle_in gs ts (length ts) k no_handle are.within (omega arith), get_or_append_left ts ((tag_for (length gs) h m) ∷ []) no_tag k (omega arith)) (ap (λ g. let n : Handle = record { slot = t.slot; generation = g } in n) old)
       ]))
 
 split_in_three : {X : Type 0} (xs : List X) (from to : ℕ) → from ≤ to → xs ≡ take from xs ++ (between from to xs ++ drop to xs)
@@ -180,7 +218,7 @@ split_in_three xs from to order =
     rw (behind, take-append-drop (to - from) (drop from xs), take-append-drop from xs) refl
 
 -- what is read off a stretch of the column's tags
-stretch_of : {X : Type 0} (f : Tag → X) (d : X) (ts : List Tag) (len from to : ℕ) → len ≤ length ts → to ≤ len → between from to (map f (take len ts)) ≡ map f (between from to ts)
+pub stretch_of : {X : Type 0} (f : Tag → X) (d : X) (ts : List Tag) (len from to : ℕ) → len ≤ length ts → to ≤ len → between from to (map f (take len ts)) ≡ map f (between from to ts)
 stretch_of f d ts len from to within end =
     let cut = length-between ts from to (omega arith) in
     let long : length (map f (take len ts)) ≡ len = length-map (take len ts) f ∙ length-take-le len ts within in
@@ -188,50 +226,53 @@ stretch_of f d ts len from to within end =
     ext_get_or d (between from to (map f (take len ts))) (map f (between from to ts)) (omega (arith, length-map (between from to ts) f)) (λ k l.
     rw (get_or-between (map f (take len ts)) from to k d (omega arith), get_or-map f (take len ts) (from + k) no_tag d (omega (arith, length-take-le len ts within)), get_or-take len ts (from + k) no_tag (omega arith), get_or-map f (between from to ts) k no_tag d (omega arith), get_or-between ts from to k no_tag (omega arith)) refl)
 
--- how many keys are unknown: after one was forgotten, with one more, in a stretch
-pub unknown-set : (ks : List ℕ) (place : ℕ) → place < length ks → times unknown (set ks place unknown) ≤ times unknown ks + 1
-unknown-set ks place inside = omega (arith, times-set unknown ks place unknown 0 inside, times_head unknown [], times-nil unknown)
-
-pub unknown-push : (ks : List ℕ) → times unknown (ks ++ unknown ∷ []) ≡ times unknown ks + 1
-unknown-push ks = omega (arith, times-append unknown ks (unknown ∷ []), times_head unknown [], times-nil unknown)
-
-pub unknown-take : (n : ℕ) (ks : List ℕ) → times unknown (take n ks) ≤ times unknown ks
-unknown-take n ks = omega (arith, ap (times unknown) (take-append-drop n ks), times-append unknown (take n ks) (drop n ks))
-
-pub unknown-between : (ts : List Tag) (len from to : ℕ) → len ≤ length ts → from ≤ to → to ≤ len → times unknown (map remembered_of (between from to ts)) ≤ times unknown (keys_in ts len)
-unknown-between ts len from to within order end =
-    let ks = keys_in ts len in
+-- no more in a stretch than in the column
+pub unread-between : (ts : List Tag) (len from to : ℕ) → len ≤ length ts → from ≤ to → to ≤ len → unread_in (between from to ts) ≤ unread_in (take len ts)
+unread-between ts len from to within order end =
+    let ks = map remembered_key (take len ts) in
     let split : ks ≡ take from ks ++ (between from to ks ++ drop to ks) = split_in_three ks from to order in
-    rw (← stretch_of remembered_of 0 ts len from to within end) (omega (arith, ap (times unknown) split, times-append unknown (take from ks) (between from to ks ++ drop to ks), times-append unknown (between from to ks) (drop to ks)))
+    rw (← stretch_of remembered_key 0 ts len from to within end) (omega (arith, ap (times unknown) split, times-append unknown (take from ks) (between from to ks ++ drop to ks), times-append unknown (between from to ks) (drop to ks)))
+
+-- what is read off a stretch of tags sums up to what is read off its handles
+pub sum_by-map : {X Y : Type 0} (f : Y → ℕ) (g : X → Y) (xs : List X) → sum_by f (map g xs) ≡ sum_by (λ x. f (g x)) xs
+sum_by-map f g [] = refl
+sum_by-map f g (x ∷ xs) = omega (arith, sum_by-cons f (g x) (map g xs), sum_by-cons (λ y. f (g y)) x xs, sum_by-map f g xs)
 
 -- a stretch of the column was turned
-module _ (cells : List (Cell Row)) (hs : List Handle) (bound from to : ℕ) (ts ts' : List Tag) (place learned len : ℕ) (are : AreDrawn hs ts len) (order : from ≤ to) (end : to ≤ len) (turned : Turns cells hs bound from to ts ts' place learned) where
-  -- handles are read off tickets
-  by_tickets : (xs : List Tag) → map (handle_of hs) xs ≡ map (λ n. get_or hs n no_handle) (map ticket_of xs)
-  by_tickets [] = refl
-  by_tickets (t ∷ xs) = ap (λ ys. handle_of hs t ∷ ys) (by_tickets xs)
+module _ (cells : List (Cell Row)) (gs : List ℕ) (bound from to : ℕ) (ts ts' : List Tag) (place learned len : ℕ) (are : AreDrawn gs ts len) (order : from ≤ to) (end : to ≤ len) (turned : Turns cells gs bound from to ts ts' place learned) where
+  -- handles and tickets are read off what a crack keeps
+  handles_bare : (xs : List Tag) → map (handle_of gs) xs ≡ map (handle_of gs) (map forgotten xs)
+  handles_bare [] = refl
+  handles_bare (t ∷ xs) = ap (λ ys. handle_of gs t ∷ ys) (handles_bare xs)
+
+  tickets_bare : (xs : List Tag) → map ticket_of xs ≡ map ticket_of (map forgotten xs)
+  tickets_bare [] = refl
+  tickets_bare (t ∷ xs) = ap (λ ys. t.ticket ∷ ys) (tickets_bare xs)
 
   stretch_long : length turned.stretch ≡ to - from
   stretch_long =
-      let same = length_permutation (map ticket_of (between from to ts)) (map ticket_of turned.stretch) turned.kept in
-      omega (arith, same, length-map turned.stretch ticket_of, length-map (between from to ts) ticket_of, length-between ts from to (omega (arith, are.within)))
+      let same = length_permutation (map forgotten (between from to ts)) (map forgotten turned.stretch) turned.kept in
+      omega (arith, same, length-map turned.stretch forgotten, length-map (between from to ts) forgotten, length-between ts from to (omega (arith, are.within)))
+
+  kept_tickets : IsPermutation (map ticket_of (between from to ts)) (map ticket_of turned.stretch)
+  kept_tickets = rw (tickets_bare (between from to ts), tickets_bare turned.stretch) (IsPermutation-map ticket_of (map forgotten (between from to ts)) (map forgotten turned.stretch) turned.kept)
 
   at : Replaced from to ts turned.stretch ts'
   at = replaced from to ts turned.stretch ts' order (omega (arith, are.within)) stretch_long turned.are
 
   tickets-Turns : IsPermutation (map ticket_of ts) (map ticket_of ts')
   tickets-Turns =
-      let middle = IsPermutation-append_right (map ticket_of (take from ts)) _ _ (IsPermutation-append_left (map ticket_of (drop to ts)) (map ticket_of (between from to ts)) (map ticket_of turned.stretch) turned.kept) in
+      let middle = IsPermutation-append_right (map ticket_of (take from ts)) _ _ (IsPermutation-append_left (map ticket_of (drop to ts)) (map ticket_of (between from to ts)) (map ticket_of turned.stretch) kept_tickets) in
       let old : map ticket_of ts ≡ map ticket_of (take from ts) ++ (map ticket_of (between from to ts) ++ map ticket_of (drop to ts)) = ap (map ticket_of) (split_in_three ts from to order) ∙ map-append ticket_of (take from ts) (between from to ts ++ drop to ts) ∙ ap (λ ys. map ticket_of (take from ts) ++ ys) (map-append ticket_of (between from to ts) (drop to ts)) in
       let new : map ticket_of ts' ≡ map ticket_of (take from ts) ++ (map ticket_of turned.stretch ++ map ticket_of (drop to ts)) = ap (map ticket_of) (turned.are ∙ append_assoc (take from ts) turned.stretch (drop to ts)) ∙ map-append ticket_of (take from ts) (turned.stretch ++ drop to ts) ∙ ap (λ ys. map ticket_of (take from ts) ++ ys) (map-append ticket_of turned.stretch (drop to ts)) in
       rw (old, new) middle
 
-  tickets_drawn : All (λ n. n < length hs) (map ticket_of ts')
+  tickets_drawn : All (λ n. n < length gs) (map ticket_of ts')
   tickets_drawn =
-      All-permutation (λ n. n < length hs) (map ticket_of ts) (map ticket_of ts') tickets-Turns (λ k d l.
+      All-permutation (λ n. n < length gs) (map ticket_of ts) (map ticket_of ts') tickets-Turns (λ k d l.
       rw (get_or-map ticket_of ts k no_tag d (omega (arith, length-map ts ticket_of))) (are.drawn k no_tag (omega (arith, length-map ts ticket_of))))
 
-  pub AreDrawn-Turns : AreDrawn hs ts' len
+  pub AreDrawn-Turns : AreDrawn gs ts' len
   AreDrawn-Turns = record {
     beside = at.len ∙ are.beside;
     within = omega (arith, at.len, are.within);
@@ -244,14 +285,20 @@ module _ (cells : List (Cell Row)) (hs : List Handle) (bound from to : ℕ) (ts 
   length-Turns = at.len
 
   -- a crack of the tags is one of the handles
-  long_old : length (handles_in hs ts len) ≡ len
-  long_old = length-in hs ts len are.within
+  long_old : length (handles_in gs ts len) ≡ len
+  long_old = length-in gs ts len are.within
 
-  keys_read : map remembered_of turned.stretch ≡ map (key_at cells) (map (handle_of hs) turned.stretch)
+  keys_read : map remembered_key turned.stretch ≡ map (key_at cells) (map (handle_of gs) turned.stretch)
   keys_read =
-      ext_get_or 0 (map remembered_of turned.stretch) (map (key_at cells) (map (handle_of hs) turned.stretch)) (omega (arith, length-map turned.stretch remembered_of, length-map (map (handle_of hs) turned.stretch) (key_at cells), length-map turned.stretch (handle_of hs))) (λ k l.
-      let inside : k < length turned.stretch = omega (arith, length-map turned.stretch remembered_of) in
-      rw (get_or-map remembered_of turned.stretch k no_tag 0 inside, get_or-map (key_at cells) (map (handle_of hs) turned.stretch) k no_handle 0 (omega (arith, length-map turned.stretch (handle_of hs))), get_or-map (handle_of hs) turned.stretch k no_tag no_handle inside) (turned.read k no_tag inside))
+      ext_get_or 0 (map remembered_key turned.stretch) (map (key_at cells) (map (handle_of gs) turned.stretch)) (omega (arith, length-map turned.stretch remembered_key, length-map (map (handle_of gs) turned.stretch) (key_at cells), length-map turned.stretch (handle_of gs))) (λ k l.
+      let inside : k < length turned.stretch = omega (arith, length-map turned.stretch remembered_key) in
+      rw (get_or-map remembered_key turned.stretch k no_tag 0 inside, get_or-map (key_at cells) (map (handle_of gs) turned.stretch) k no_handle 0 (omega (arith, length-map turned.stretch (handle_of gs))), get_or-map (handle_of gs) turned.stretch k no_tag no_handle inside) (ap (λ (m : Memory). m.key) (turned.read k no_tag inside)))
+
+  rows_read : map memory_of turned.stretch ≡ map (memory_at cells) (map (handle_of gs) turned.stretch)
+  rows_read =
+      ext_get_or nothing (map memory_of turned.stretch) (map (memory_at cells) (map (handle_of gs) turned.stretch)) (omega (arith, length-map turned.stretch memory_of, length-map (map (handle_of gs) turned.stretch) (memory_at cells), length-map turned.stretch (handle_of gs))) (λ k l.
+      let inside : k < length turned.stretch = omega (arith, length-map turned.stretch memory_of) in
+      rw (get_or-map memory_of turned.stretch k no_tag nothing inside, get_or-map (memory_at cells) (map (handle_of gs) turned.stretch) k no_handle nothing (omega (arith, length-map turned.stretch (handle_of gs))), get_or-map (handle_of gs) turned.stretch k no_tag no_handle inside) (turned.read k no_tag inside))
 
   -- a list over the column's tags, whose middle is read off the stretch
   module _ {X : Type 0} (f : Tag → X) (d : X) where
@@ -274,40 +321,51 @@ module _ (cells : List (Cell Row)) (hs : List Handle) (bound from to : ℕ) (ts 
           ]
         ]))
 
-  pub Cracks-Turns : Cracks cells bound from to (handles_in hs ts len) (keys_in ts len) (handles_in hs ts' len) (keys_in ts' len) place
+  pub Cracks-Turns : Cracks cells bound from to (handles_in gs ts len) (remembered_in ts len) (handles_in gs ts' len) (remembered_in ts' len) place
   Cracks-Turns = record {
     within = omega (arith, long_old);
-    piece = map (handle_of hs) turned.stretch;
-    kept = rw (stretch_of (handle_of hs) no_handle ts len from to are.within end, by_tickets (between from to ts), by_tickets turned.stretch) (IsPermutation-map (λ n. get_or hs n no_handle) (map ticket_of (between from to ts)) (map ticket_of turned.stretch) turned.kept);
-    handles_are = over_tags (handle_of hs) no_handle;
-    keys_are = rw (← keys_read) (over_tags remembered_of 0);
+    piece = map (handle_of gs) turned.stretch;
+    kept = rw (stretch_of (handle_of gs) no_handle ts len from to are.within end, handles_bare (between from to ts), handles_bare turned.stretch) (IsPermutation-map (handle_of gs) (map forgotten (between from to ts)) (map forgotten turned.stretch) turned.kept);
+    handles_are = over_tags (handle_of gs) no_handle;
+    remembered_are = rw (← rows_read) (over_tags memory_of nothing);
     low = turned.low;
     high = turned.high;
     divided = rw (← keys_read) turned.divided;
   }
 
-  -- the keys that became known are unknown no more
-  pub unread-Turns : times unknown (keys_in ts' len) + learned ≡ times unknown (keys_in ts len)
+  -- the rows that became known are unread no more
+  pub unread-Turns : unread_in (take len ts') + learned ≡ unread_in (take len ts)
   unread-Turns =
-      let ks = keys_in ts len in
-      let old_long : length ks ≡ len = length-keys_in ts len are.within in
-      let cut : between from to ks ≡ map remembered_of (between from to ts) = stretch_of remembered_of 0 ts len from to are.within end in
+      let ks = map remembered_key (take len ts) in
+      let old_long : length ks ≡ len = length-map (take len ts) remembered_key ∙ length-take-le len ts are.within in
+      let cut : between from to ks ≡ map remembered_key (between from to ts) = stretch_of remembered_key 0 ts len from to are.within end in
       let split : ks ≡ take from ks ++ (between from to ks ++ drop to ks) = split_in_three ks from to order in
-      let old : times unknown ks ≡ times unknown (take from ks) + (times unknown (map remembered_of (between from to ts)) + times unknown (drop to ks)) = ap (times unknown) split ∙ times-append unknown (take from ks) (between from to ks ++ drop to ks) ∙ ap (λ n. times unknown (take from ks) + n) (times-append unknown (between from to ks) (drop to ks)) ∙ ap (λ (ys : List ℕ). times unknown (take from ks) + (times unknown ys + times unknown (drop to ks))) cut in
-      let new : times unknown (keys_in ts' len) ≡ times unknown (take from ks ++ map remembered_of turned.stretch) + times unknown (drop to ks) = ap (times unknown) (over_tags remembered_of 0) ∙ times-append unknown (take from ks ++ map remembered_of turned.stretch) (drop to ks) in
-      omega (arith, old, new, times-append unknown (take from ks) (map remembered_of turned.stretch), turned.fewer)
+      let old : times unknown ks ≡ times unknown (take from ks) + (times unknown (map remembered_key (between from to ts)) + times unknown (drop to ks)) = ap (times unknown) split ∙ times-append unknown (take from ks) (between from to ks ++ drop to ks) ∙ ap (λ n. times unknown (take from ks) + n) (times-append unknown (between from to ks) (drop to ks)) ∙ ap (λ (ys : List ℕ). times unknown (take from ks) + (times unknown ys + times unknown (drop to ks))) cut in
+      let new : times unknown (map remembered_key (take len ts')) ≡ times unknown (take from ks ++ map remembered_key turned.stretch) + times unknown (drop to ks) = ap (times unknown) (over_tags remembered_key 0) ∙ times-append unknown (take from ks ++ map remembered_key turned.stretch) (drop to ks) in
+      omega (arith, old, new, times-append unknown (take from ks) (map remembered_key turned.stretch), turned.fewer)
 
 -- what the column remembers, its tags know
-pub Knows-Remembers : (cells : List (Cell Row)) (hs : List Handle) (ts : List Tag) (len from to : ℕ) → len ≤ length ts → to ≤ len → Remembers cells (handles_in hs ts len) (keys_in ts len) → All (Knows cells hs) (between from to ts)
-Knows-Remembers cells hs ts len from to within end remembers = λ k d l.
+pub Knows-Remembers : (cells : List (Cell Row)) (gs : List ℕ) (ts : List Tag) (len from to : ℕ) → len ≤ length ts → to ≤ len → Remembers cells (handles_in gs ts len) (remembered_in ts len) → All (Knows cells gs) (between from to ts)
+Knows-Remembers cells gs ts len from to within end remembers = λ k d l.
     let inside : from + k < to = omega (arith, length-between ts from to (omega arith)) in
-    let know : Knows cells hs (get_or ts (from + k) no_tag) = rw (key_in ts len (from + k) 0 within (omega arith), handle_in hs ts len (from + k) no_handle within (omega arith)) at (remembers.right (from + k) no_handle (omega (arith, length-in hs ts len within))) in
+    let know : Knows cells gs (get_or ts (from + k) no_tag) = rw (memory_in ts len (from + k) nothing within (omega arith), handle_in gs ts len (from + k) no_handle within (omega arith)) at (remembers.right (from + k) no_handle (omega (arith, length-in gs ts len within))) in
     rw (get_or-between ts from to k d inside, get_or_default ts (from + k) d no_tag (omega arith)) know
 
+-- the tags of a stretch bear tickets that were drawn
+pub drawn-between : (gs : List ℕ) (ts : List Tag) (from to : ℕ) → to ≤ length ts → All (λ t. t.ticket < length gs) ts → All (λ t. t.ticket < length gs) (between from to ts)
+drawn-between gs ts from to within all = λ k d l.
+    let inside : from + k < to = omega (arith, length-between ts from to within) in
+    rw (get_or-between ts from to k d inside) (all (from + k) d (omega arith))
+
 -- the handle that stands at a place
-pub stands_at : (hs : List Handle) (ts : List Tag) (len place : ℕ) → len ≤ length ts → place < len → slice_get (handles_in hs ts len) place ≡ Some (handle_of hs (get_or ts place no_tag))
-stands_at hs ts len place within inside =
-    slice_get-get_or (handles_in hs ts len) place no_handle (omega (arith, length-in hs ts len within)) ∙ ap (λ (h : Handle). Some h) (handle_in hs ts len place no_handle within inside)
+pub stands_at : (gs : List ℕ) (ts : List Tag) (len place : ℕ) → len ≤ length ts → place < len → slice_get (handles_in gs ts len) place ≡ Some (handle_of gs (get_or ts place no_tag))
+stands_at gs ts len place within inside =
+    slice_get-get_or (handles_in gs ts len) place no_handle (omega (arith, length-in gs ts len within)) ∙ ap (λ (h : Handle). Some h) (handle_in gs ts len place no_handle within inside)
+
+-- and what is remembered of it
+pub remembered_at : (ts : List Tag) (len place : ℕ) → len ≤ length ts → place < len → slice_get (remembered_in ts len) place ≡ Some (memory_of (get_or ts place no_tag))
+remembered_at ts len place within inside =
+    slice_get-get_or (remembered_in ts len) place nothing (omega (arith, length-remembered_in ts len within)) ∙ ap (λ (m : Memory). Some m) (memory_in ts len place nothing within inside)
 
 take_shorter : (len longer : ℕ) (ts : List Tag) → len ≤ longer → take len (take longer ts) ≡ take len ts
 take_shorter zero longer ts fewer = refl
@@ -316,8 +374,8 @@ take_shorter (suc n) (suc m) [] fewer = refl
 take_shorter (suc n) (suc m) (t ∷ ts) fewer = ap (λ qs. t ∷ qs) (take_shorter n m ts (omega arith))
 
 -- the first handles alone
-pub handles-shorter : (hs : List Handle) (ts : List Tag) (len longer : ℕ) → len ≤ longer → take len (handles_in hs ts longer) ≡ handles_in hs ts len
-handles-shorter hs ts len longer fewer = take-map (handle_of hs) len (take longer ts) ∙ ap (map (handle_of hs)) (take_shorter len longer ts fewer)
+pub handles-shorter : (gs : List ℕ) (ts : List Tag) (len longer : ℕ) → len ≤ longer → take len (handles_in gs ts longer) ≡ handles_in gs ts len
+handles-shorter gs ts len longer fewer = take-map (handle_of gs) len (take longer ts) ∙ ap (map (handle_of gs)) (take_shorter len longer ts fewer)
 
-pub keys-shorter : (ts : List Tag) (len longer : ℕ) → len ≤ longer → take len (keys_in ts longer) ≡ keys_in ts len
-keys-shorter ts len longer fewer = take-map remembered_of len (take longer ts) ∙ ap (map remembered_of) (take_shorter len longer ts fewer)
+pub remembered-shorter : (ts : List Tag) (len longer : ℕ) → len ≤ longer → take len (remembered_in ts longer) ≡ remembered_in ts len
+remembered-shorter ts len longer fewer = take-map memory_of len (take longer ts) ∙ ap (map memory_of) (take_shorter len longer ts fewer)

@@ -3,27 +3,48 @@ use Rattle.std.specs.Prelude.{◌≡◌, ℕ, ◌-◌, ◌<◌, ◌≤◌, ◌^�
 use Rattle.std.specs.List.{between}
 use Rattle.std.specs.List.Sorted.{IsPermutation}
 use Rattle.crack_arena.specs.Arena.{Cell, Handle}
-use Rattle.crack_arena.specs.Rows.{key_at}
+use Rattle.crack_arena.specs.Rows.{key_at, payload_at}
 use Rattle.crack_row.specs.declared.Row.{Row}
 
--- what stands beside a handle whose key isn't remembered; a row with the greatest key is never remembered
+-- what a column remembers of a row
+pub record Memory : Type 0 where
+  pub key : ℕ
+  pub payload : ℕ
+
+-- the key that is remembered where the row isn't; so a row with the greatest key is never known
 abbrev pub unknown : ℕ
 unknown = 2 ^ 32 - 1
 
--- handles in cracked order, what is remembered of their keys, and how many more fit in without memory
+-- the row isn't known
+abbrev pub nothing : Memory
+nothing = record { key = unknown; payload = 0 }
+
+-- what is to be remembered of the row that the handle reads
+abbrev pub memory_at : List (Cell Row) → Handle → Memory
+memory_at cells h = record { key = key_at cells h; payload = payload_at cells h }
+
+-- the row isn't known, or both its key and its payload are remembered
+abbrev pub Agrees : List (Cell Row) → Handle → Memory → Type 0
+Agrees cells h m = (m.key ≡ unknown) ⊎ (m ≡ memory_at cells h)
+
+-- handles in cracked order, what is remembered of their rows, and how many more fit in without memory
 pub record Column : Type 0 where
   pub handles : List Handle
-  pub keys : List ℕ
+  pub remembered : List Memory
   pub room : ℕ
 
--- each key that is remembered is that of its handle's row
-pub record Remembers (cells : List (Cell Row)) (handles : List Handle) (keys : List ℕ) : Type 0 where
-  pub beside : length keys ≡ length handles
-  pub right : (k : ℕ) (d : Handle) → k < length handles → (slice_index keys k ≡ unknown) ⊎ (slice_index keys k ≡ key_at cells (slice_index_or handles k d))
+-- what is remembered of each handle's row is right
+pub record Remembers (cells : List (Cell Row)) (handles : List Handle) (remembered : List Memory) : Type 0 where
+  pub beside : length remembered ≡ length handles
+  pub right : (k : ℕ) (d : Handle) → k < length handles → Agrees cells (slice_index_or handles k d) (slice_index_or remembered k nothing)
 
--- over whatever cells the first column remembers its keys rightly, the second does
+-- over whatever cells the first column remembers its rows rightly, the second does
 abbrev pub StillRemembers : Column → Column → Type 0
-StillRemembers old new = (cells : List (Cell Row)) → Remembers cells old.handles old.keys → Remembers cells new.handles new.keys
+StillRemembers old new = (cells : List (Cell Row)) → Remembers cells old.handles old.remembered → Remembers cells new.handles new.remembered
+
+-- and where this is right of the handle's row besides
+abbrev pub StillRemembersWith : Handle → Memory → Column → Column → Type 0
+StillRemembersWith h m old new = (cells : List (Cell Row)) → Remembers cells old.handles old.remembered → Agrees cells h m → Remembers cells new.handles new.remembered
 
 -- the keys below the bound stand before the place, all others from it on
 pub record IsDividedAt (bound : ℕ) (keys : List ℕ) (place : ℕ) : Type 0 where
@@ -31,13 +52,13 @@ pub record IsDividedAt (bound : ℕ) (keys : List ℕ) (place : ℕ) : Type 0 wh
   pub below : (k : ℕ) → k < place → slice_index keys k < bound
   pub above : (k : ℕ) → place ≤ k → k < length keys → bound ≤ slice_index keys k
 
--- from `from` up to `to` the same handles stand in some order, divided by the bound at the place, their keys remembered; all else is as it was
-pub record Cracks (cells : List (Cell Row)) (bound from to : ℕ) (handles : List Handle) (keys : List ℕ) (handles' : List Handle) (keys' : List ℕ) (place : ℕ) : Type 0 where
+-- from `from` up to `to` the same handles stand in some order, divided by the bound at the place, their rows remembered; all else is as it was
+pub record Cracks (cells : List (Cell Row)) (bound from to : ℕ) (handles : List Handle) (remembered : List Memory) (handles' : List Handle) (remembered' : List Memory) (place : ℕ) : Type 0 where
   pub within : to ≤ length handles
   pub piece : List Handle
   pub kept : IsPermutation (between from to handles) piece
   pub handles_are : handles' ≡ take from handles ++ piece ++ drop to handles
-  pub keys_are : keys' ≡ take from keys ++ map (key_at cells) piece ++ drop to keys
+  pub remembered_are : remembered' ≡ take from remembered ++ map (memory_at cells) piece ++ drop to remembered
   pub low : from ≤ place
   pub high : place ≤ to
   pub divided : IsDividedAt bound (map (key_at cells) piece) (place - from)

@@ -1,77 +1,91 @@
--- How a column keeps its handles: each under a ticket of its own, which the tag at its place bears.
-use Rattle.std.specs.Prelude.{◌≡◌, ℕ, ◌+◌, ◌-◌, ◌<◌, ◌≤◌, ◌^◌, ◌⊎◌, List, ◌++◌, length, map, take, drop, All, slice_index_or, slice_set, min}
+-- How a column keeps its handles: the slot of each in the tag at its place, its generation under the ticket that the tag bears.
+use Rattle.std.specs.Prelude.{◌≡◌, ℕ, ◌+◌, ◌-◌, ◌<◌, ◌≤◌, ◌^◌, List, ◌++◌, length, map, take, drop, All, slice_index, slice_index_or, slice_set, min}
 use Rattle.std.specs.List.{between}
 use Rattle.std.specs.List.Sorted.{IsPermutation}
-use Rattle.crack_arena.specs.Arena.{Cell, Handle, times, no_handle}
+use Rattle.crack_arena.specs.Arena.{Cell, Handle, times}
 use Rattle.crack_row.specs.declared.Row.{Row}
 use Rattle.crack_column.specs.declared.tag.Tag.{Tag}
-use Rattle.crack_arena.specs.Rows.{key_at}
-use Rattle.crack_column.specs.Column.{unknown, IsDividedAt}
+use Rattle.crack_column.specs.Column.{Memory, unknown, memory_at, Agrees, IsDividedAt}
 
 abbrev pub ticket_of : Tag → ℕ
 ticket_of t = t.ticket
 
 -- the key that a tag remembers
-abbrev pub remembered_of : Tag → ℕ
-remembered_of t = t.key
+abbrev pub remembered_key : Tag → ℕ
+remembered_key t = t.key
 
--- the handle that is kept under the tag's ticket
-abbrev pub handle_of : List Handle → Tag → Handle
-handle_of handles t = slice_index_or handles t.ticket no_handle
+-- what a tag remembers
+abbrev pub memory_of : Tag → Memory
+memory_of t = record { key = t.key; payload = t.payload }
+
+-- the handle of the tag's slot, and of the generation under its ticket
+abbrev pub handle_of : List ℕ → Tag → Handle
+handle_of generations t = record { slot = t.slot; generation = slice_index generations t.ticket }
 
 -- the handles of the column that has so many places
-abbrev pub handles_in : List Handle → List Tag → ℕ → List Handle
-handles_in handles tags len = map (handle_of handles) (take len tags)
+abbrev pub handles_in : List ℕ → List Tag → ℕ → List Handle
+handles_in generations tags len = map (handle_of generations) (take len tags)
 
-abbrev pub keys_in : List Tag → ℕ → List ℕ
-keys_in tags len = map remembered_of (take len tags)
+-- and what is remembered of them
+abbrev pub remembered_in : List Tag → ℕ → List Memory
+remembered_in tags len = map memory_of (take len tags)
+
+-- how many of the tags don't know their rows
+abbrev pub unread_in : List Tag → ℕ
+unread_in tags = times unknown (map remembered_key tags)
 
 -- how many more handles fit in without memory, where as many tickets were drawn
 abbrev pub room_in : ℕ → ℕ → ℕ → ℕ → ℕ
-room_in tickets handle_capacity tag_capacity len = tickets - len + min (2 ^ 32 - tickets) (min (handle_capacity - tickets) (tag_capacity - tickets))
+room_in tickets generation_capacity tag_capacity len = tickets - len + min (2 ^ 32 - tickets) (min (generation_capacity - tickets) (tag_capacity - tickets))
 
--- a key that the tag remembers is that of its handle's row
-abbrev pub Knows : List (Cell Row) → List Handle → Tag → Type 0
-Knows cells handles t = (t.key ≡ unknown) ⊎ (t.key ≡ key_at cells (handle_of handles t))
+-- what the tag remembers is right of its handle's row
+abbrev pub Knows : List (Cell Row) → List ℕ → Tag → Type 0
+Knows cells generations t = Agrees cells (handle_of generations t) (memory_of t)
 
--- the tag bears the key of its handle's row
-abbrev pub Read : List (Cell Row) → List Handle → Tag → Type 0
-Read cells handles t = t.key ≡ key_at cells (handle_of handles t)
+-- the tag bears key and payload of its handle's row
+abbrev pub Read : List (Cell Row) → List ℕ → Tag → Type 0
+Read cells generations t = memory_of t ≡ memory_at cells (handle_of generations t)
 
 -- each ticket is drawn by one tag; those behind the column's end keep theirs for a later row
-pub record AreDrawn (handles : List Handle) (tags : List Tag) (len : ℕ) : Type 0 where
-  pub beside : length tags ≡ length handles
+pub record AreDrawn (generations : List ℕ) (tags : List Tag) (len : ℕ) : Type 0 where
+  pub beside : length tags ≡ length generations
   pub within : len ≤ length tags
   pub few : length tags ≤ 2 ^ 32
-  pub drawn : All (λ t. t.ticket < length handles) tags
+  pub drawn : All (λ t. t.ticket < length generations) tags
   pub once : (ticket : ℕ) → times ticket (map ticket_of tags) ≤ 1
 
--- and the tags whose key isn't known are at most so many
-pub record IsKept (handles : List Handle) (tags : List Tag) (len unread : ℕ) : Type 0 where
-  pub are : AreDrawn handles tags len
-  pub most : times unknown (keys_in tags len) ≤ unread
+-- and so many tags of the column don't know their rows
+pub record IsKept (generations : List ℕ) (tags : List Tag) (len unread : ℕ) : Type 0 where
+  pub are : AreDrawn generations tags len
+  pub counted : unread_in (take len tags) ≡ unread
 
--- what a tag bears whose row was put there anew
+-- the tag of a ticket, for a handle of whose row this is remembered
+abbrev pub tag_for : ℕ → Handle → Memory → Tag
+tag_for ticket h m = record { key = m.key; ticket = ticket; payload = m.payload; slot = h.slot }
+
+-- the tag without what it remembers
 abbrev pub forgotten : Tag → Tag
-forgotten t = record t { key = unknown }
+forgotten t = record t { key = unknown; payload = 0 }
 
 abbrev pub no_tag : Tag
-no_tag = record { key = 0; ticket = 0 }
+no_tag = record { key = 0; ticket = 0; payload = 0; slot = 0 }
 
--- the handle is kept under the ticket at the place now, its key isn't known, and the one that was kept there comes out
-pub record Kept (handles : List Handle) (tags : List Tag) (place : ℕ) (handle : Handle) (handles' : List Handle) (tags' : List Tag) (out : Handle) : Type 0 where
-  pub handles_are : handles' ≡ slice_set handles (slice_index_or tags place no_tag).ticket handle
-  pub tags_are : tags' ≡ slice_set tags place (forgotten (slice_index_or tags place no_tag))
-  pub out_is : out ≡ handle_of handles (slice_index_or tags place no_tag)
+-- the handle is kept at the place now, under the ticket there, with what is remembered of its row; the one that was kept there
+-- comes out, with what was remembered
+pub record Kept (generations : List ℕ) (tags : List Tag) (place : ℕ) (handle : Handle) (memory : Memory) (generations' : List ℕ) (tags' : List Tag) (out : Handle) (known : Memory) : Type 0 where
+  pub generations_are : generations' ≡ slice_set generations (slice_index_or tags place no_tag).ticket handle.generation
+  pub tags_are : tags' ≡ slice_set tags place (tag_for (slice_index_or tags place no_tag).ticket handle memory)
+  pub out_is : out ≡ handle_of generations (slice_index_or tags place no_tag)
+  pub known_is : known ≡ memory_of (slice_index_or tags place no_tag)
 
--- from `from` up to `to` the same tickets stand in some order, divided by the bound at the place, their keys read, so many of which
--- weren't known; all else is as it was
-pub record Turns (cells : List (Cell Row)) (handles : List Handle) (bound from to : ℕ) (tags tags' : List Tag) (place learned : ℕ) : Type 0 where
+-- from `from` up to `to` the same tickets and slots stand in some order, divided by the bound at the place, their rows read, so many of
+-- which weren't known; all else is as it was
+pub record Turns (cells : List (Cell Row)) (generations : List ℕ) (bound from to : ℕ) (tags tags' : List Tag) (place learned : ℕ) : Type 0 where
   pub stretch : List Tag
   pub are : tags' ≡ take from tags ++ stretch ++ drop to tags
-  pub kept : IsPermutation (map ticket_of (between from to tags)) (map ticket_of stretch)
-  pub read : All (Read cells handles) stretch
+  pub kept : IsPermutation (map forgotten (between from to tags)) (map forgotten stretch)
+  pub read : All (Read cells generations) stretch
   pub low : from ≤ place
   pub high : place ≤ to
-  pub divided : IsDividedAt bound (map remembered_of stretch) (place - from)
-  pub fewer : times unknown (map remembered_of stretch) + learned ≡ times unknown (map remembered_of (between from to tags))
+  pub divided : IsDividedAt bound (map remembered_key stretch) (place - from)
+  pub fewer : unread_in stretch + learned ≡ unread_in (between from to tags)

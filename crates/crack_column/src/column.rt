@@ -1,57 +1,60 @@
 //! The cracker column, and how a crack divides a stretch of it.
-ghost use Rattle.std.specs.Prelude.{◌≡◌, ◌+◌, ◌-◌, ◌<◌, ◌≤◌, ◌^◌, ◌↔◌, List, [], ◌∷◌, ◌++◌, Some, length, map, vec_len, slice_get, slice_set, vec_capacity, IsTrue, OnOk, OnErr, IfErr, All, MatchOption, take};
+ghost use Rattle.std.specs.Prelude.{◌≡◌, ◌+◌, ◌-◌, ◌<◌, ◌≤◌, ◌^◌, ◌↔◌, List, [], ◌∷◌, ◌++◌, Some, length, vec_len, slice_get, slice_index_or, slice_set, vec_capacity, IsTrue, OnOk, OnErr, IfErr, All, MatchOption, take, sum_by};
 ghost use Rattle.std.specs.List.{between};
-ghost use Rattle.crack_arena.specs.Arena.{Cell, times, StandsAt, IsFirstAt, IsAbsent};
-ghost use Rattle.crack_column.specs.Column.{unknown, Remembers, StillRemembers, Cracks};
-ghost use Rattle.crack_column.specs.Tickets.{AreDrawn, remembered_of, Knows, Turns, Kept, handles_in, keys_in, room_in};
+ghost use Rattle.crack_arena.specs.Arena.{Cell, times, StandsAt, IsFirstAt, IsAbsent, no_handle};
+ghost use Rattle.crack_arena.specs.Rows.{payload_at};
+ghost use Rattle.crack_column.specs.Column.{unknown, nothing, Remembers, StillRemembers, StillRemembersWith, Cracks};
+ghost use Rattle.crack_column.specs.Tickets.{AreDrawn, Knows, Turns, Kept, handles_in, remembered_in, unread_in, room_in, tag_for};
 
-use crate::tag::{Tag, UNKNOWN, crack};
+use crate::remembered::Remembered;
+use crate::tag::{self, Tag};
 use crack_arena::{Arena, Handle};
 use crack_row::{Bound, Refusal, Row};
 use std::alloc::Global;
 use std::marker::Model;
 use std::mem;
 
-/// Handles in cracked order. A crack moves no handle: each is kept under a ticket, and what a crack exchanges are tags,
-/// which bear a ticket and the key of its row. A ticket has 32 bits, so there are at most 4294967296 places.
-/// A key is asked of the arena once; only the greatest key is asked for again.
+/// Handles in cracked order. A crack exchanges tags of 16 bytes, one at each place: a tag has its row's key and payload, the handle's
+/// slot, and the ticket under which the handle's generation is kept, 8 bytes more, which no crack moves.
+/// A ticket has 32 bits, so there are at most 4294967296 places.
+/// A row is asked of the arena once, if at all; only one with the greatest key is asked for again.
 #[derive(Drop)]
 pub struct CrackerColumn {
     /// By ticket.
-    handles: Vec<Handle<Row>>,
+    generations: Vec<u64>,
     /// In cracked order; those behind `len` keep their tickets for later rows.
     tags: Vec<Tag>,
     len: usize,
-    /// No fewer than the tags whose key isn't known.
+    /// How many tags don't know their rows.
     unread: usize,
 }
 
 impl Model for CrackerColumn {
     ghost use Rattle.std.specs.Prelude.{length, vec_capacity};
     ghost use Rattle.crack_column.specs.Column.{Column};
-    ghost use Rattle.crack_column.specs.Tickets.{IsKept, handles_in, keys_in, room_in};
+    ghost use Rattle.crack_column.specs.Tickets.{IsKept, handles_in, remembered_in, room_in};
 
     ghost Value = { Column };
 
     ghost view = { λ c. record {
-      handles = handles_in c.handles.items c.tags.items c.len;
-      keys = keys_in c.tags.items c.len;
-      room = room_in (length c.tags.items) (vec_capacity c.handles) (vec_capacity c.tags) c.len;
+      handles = handles_in c.generations.items c.tags.items c.len;
+      remembered = remembered_in c.tags.items c.len;
+      room = room_in (length c.tags.items) (vec_capacity c.generations) (vec_capacity c.tags) c.len;
     } };
 
-    ghost invariant = { λ c. IsKept c.handles.items c.tags.items c.len c.unread };
+    ghost invariant = { λ c. IsKept c.generations.items c.tags.items c.len c.unread };
 }
 
 impl CrackerColumn {
     /// A column without handles. Takes no memory.
     pub fn new(alloc: Global) -> CrackerColumn
         ensures handles { result.handles ≡ [] }
-        ensures keys { result.keys ≡ [] }
+        ensures remembered { result.remembered ≡ [] }
         ensures room { result.room ≡ 0 }
-        ensures remembered { (cells : List (Cell Row)) → Remembers cells result.handles result.keys }
+        ensures right { (cells : List (Cell Row)) → Remembers cells result.handles result.remembered }
     {
         CrackerColumn {
-            handles: Vec::new(alloc),
+            generations: Vec::new(alloc),
             tags: Vec::new(alloc),
             len: 0,
             unread: 0,
@@ -61,7 +64,7 @@ impl CrackerColumn {
     /// The number of handles. O(1).
     pub fn len(&self) -> usize
         ensures value { result ≡ length self.now.handles }
-        ensures beside { length self.now.keys ≡ length self.now.handles }
+        ensures beside { length self.now.remembered ≡ length self.now.handles }
     {
         self.len
     }
@@ -78,19 +81,47 @@ impl CrackerColumn {
         requires { place < length self.now.handles }
         ensures { StandsAt self.now.handles place result }
     {
-        self.handles[self.tags[place].ticket as usize]
+        self.tags[place].handle(&self.generations)
+    }
+
+    /// The slot of the handle at the place. O(1), and reads that place alone.
+    pub fn slot_at(&self, place: usize) -> u32
+        requires { place < length self.now.handles }
+        ensures { result ≡ (slice_index_or self.now.handles place no_handle).slot }
+    {
+        self.tags[place].slot
     }
 
     /// The first place where the handle stands; none where it stands nowhere. O(n).
     pub fn place_of(&self, handle: Handle<Row>) -> Option<usize>
         ensures { MatchOption result (IsAbsent self.now.handles handle) (IsFirstAt self.now.handles handle) }
     {
-        'places: for place in 0..self.len {
-            if self.at(place) == handle {
-                return Some(place);
-            }
+        tag::find(&self.tags[..self.len], &self.generations, handle)
+    }
+
+    /// The first place from `from` up to and without `to` where the handle stands; none where it stands at none of them. O(to - from).
+    pub fn place_between(&self, from: usize, to: usize, handle: Handle<Row>) -> Option<usize>
+        requires order { from ≤ to }
+        requires within { to ≤ length self.now.handles }
+        ensures { MatchOption result
+            (IsAbsent (between from to self.now.handles) handle)
+            (λ place. (from ≤ place) × IsFirstAt (between from to self.now.handles) handle (place - from)) }
+    {
+        match tag::find(&self.tags[from..to], &self.generations, handle) {
+            Some(place) => Some(from + place),
+            None => None,
         }
-        None
+    }
+
+    /// The sum of the payloads of the rows from the place `from` up to and without `to`. O(to - from), takes no memory.
+    /// A row is asked of the arena where it isn't known, and only there.
+    pub fn sum_between(&self, from: usize, to: usize, arena: &Arena<Row>) -> u64
+        requires order { from ≤ to }
+        requires within { to ≤ length self.now.handles }
+        requires remembered { Remembers arena.now.cells self.now.handles self.now.remembered }
+        ensures { result ≡ sum_by (payload_at arena.now.cells) (between from to self.now.handles) }
+    {
+        tag::sum(&self.tags[from..to], self.unread, &self.generations, arena)
     }
 
     /// Makes room for so many handles more; refused with 8 where it finds no memory. A handle of each cell of an arena fits.
@@ -104,38 +135,86 @@ impl CrackerColumn {
         ensures remembered { StillRemembers self.old self.new }
     {
         let more = additional.saturating_sub(self.tags.len() - self.len);
-        self.handles.reserve(more)?;
+        self.generations.reserve(more)?;
         self.tags.reserve(more)?;
         Ok(())
     }
 
-    /// Puts the handle at the end, into room that was reserved. Its key isn't known. O(1).
+    /// Puts the handle at the end, into room that was reserved. Its row isn't known. O(1).
     pub fn append(&mut self, handle: Handle<Row>)
         requires { 0 < self.old.room }
         ensures after { self.new ≡ record {
           handles = self.old.handles ++ handle ∷ [];
-          keys = self.old.keys ++ unknown ∷ [];
+          remembered = self.old.remembered ++ nothing ∷ [];
           room = self.old.room - 1;
         } }
         ensures remembered { StillRemembers self.old self.new }
     {
-        keep_last(&mut self.handles, &mut self.tags, self.len, handle);
-        self.len += 1;
-        self.unread = self.unread.saturating_add(1);
+        self.append_remembered(handle, Remembered::nothing());
     }
 
-    /// Puts the handle at the place, and gives back the one that stood there. Its key isn't known. O(1).
+    /// Puts the handle at the end, into room that was reserved, with what is to be remembered of its row. O(1).
+    pub fn append_remembered(&mut self, handle: Handle<Row>, remembered: Remembered)
+        requires { 0 < self.old.room }
+        ensures after { self.new ≡ record {
+          handles = self.old.handles ++ handle ∷ [];
+          remembered = self.old.remembered ++ remembered ∷ [];
+          room = self.old.room - 1;
+        } }
+        ensures remembered { StillRemembersWith handle remembered self.old self.new }
+    {
+        self.unread += remembered.unread();
+        keep_last(
+            &mut self.generations,
+            &mut self.tags,
+            self.len,
+            handle,
+            remembered,
+        );
+        self.len += 1;
+    }
+
+    /// Puts the handle at the place, and gives back the one that stood there. Its row isn't known. O(1).
     pub fn swap_in(&mut self, place: usize, handle: Handle<Row>) -> Handle<Row>
         requires { place < length self.old.handles }
         ensures result { slice_get self.old.handles place ≡ Some result }
         ensures after { self.new ≡ record self.old {
           handles = slice_set self.old.handles place handle;
-          keys = slice_set self.old.keys place unknown;
+          remembered = slice_set self.old.remembered place nothing;
         } }
         ensures remembered { StillRemembers self.old self.new }
     {
-        self.unread = self.unread.saturating_add(1);
-        keep(&mut self.handles, &mut self.tags, place, handle)
+        self.swap_in_remembered(place, handle, Remembered::nothing())
+            .0
+    }
+
+    /// Puts the handle at the place, with what is to be remembered of its row, and gives back the one that stood there, with what was
+    /// remembered. O(1).
+    pub fn swap_in_remembered(
+        &mut self,
+        place: usize,
+        handle: Handle<Row>,
+        remembered: Remembered,
+    ) -> (Handle<Row>, Remembered)
+        requires { place < length self.old.handles }
+        ensures handle { slice_get self.old.handles place ≡ Some result.0 }
+        ensures known { slice_get self.old.remembered place ≡ Some result.1 }
+        ensures after { self.new ≡ record self.old {
+          handles = slice_set self.old.handles place handle;
+          remembered = slice_set self.old.remembered place remembered;
+        } }
+        ensures remembered { StillRemembersWith handle remembered self.old self.new }
+    {
+        self.unread += remembered.unread();
+        let (out, known) = keep(
+            &mut self.generations,
+            &mut self.tags,
+            place,
+            handle,
+            remembered,
+        );
+        self.unread -= known.unread();
+        (out, known)
     }
 
     /// Takes the last handle out. O(1).
@@ -143,26 +222,47 @@ impl CrackerColumn {
         ensures handles { MatchOption result
             ((self.old.handles ≡ []) × (self.new ≡ self.old))
             (λ h. self.old.handles ≡ self.new.handles ++ h ∷ []) }
-        ensures keys { self.new.keys ≡ take (length self.new.handles) self.old.keys }
+        ensures known { self.new.remembered ≡ take (length self.new.handles) self.old.remembered }
+        ensures room { MatchOption result (self.new.room ≡ self.old.room) (λ _. self.new.room ≡ self.old.room + 1) }
+        ensures remembered { StillRemembers self.old self.new }
+    {
+        match self.pop_remembered() {
+            Some((handle, _)) => Some(handle),
+            None => None,
+        }
+    }
+
+    /// Takes the last handle out, with what was remembered of its row. O(1).
+    pub fn pop_remembered(&mut self) -> Option<(Handle<Row>, Remembered)>
+        ensures handles { MatchOption result
+            ((self.old.handles ≡ []) × (self.new ≡ self.old))
+            (λ r. self.old.handles ≡ self.new.handles ++ r.0 ∷ []) }
+        ensures known { MatchOption result
+            (self.old.remembered ≡ [])
+            (λ r. self.old.remembered ≡ self.new.remembered ++ r.1 ∷ []) }
+        ensures beside { length self.new.remembered ≡ length self.new.handles }
         ensures room { MatchOption result (self.new.room ≡ self.old.room) (λ _. self.new.room ≡ self.old.room + 1) }
         ensures remembered { StillRemembers self.old self.new }
     {
         self.len = self.len.checked_sub(1)?;
-        Some(self.handles[self.tags[self.len].ticket as usize])
+        let last = self.tags[self.len];
+        let remembered = last.remembered();
+        self.unread -= remembered.unread();
+        Some((last.handle(&self.generations), remembered))
     }
 
     /// Cracks in two: reorders what stands from the place `from` up to and without `to`, rows below the bound first,
     /// and gives the place of the first row at or above it. In place, without memory.
-    /// O(to - from); reads each key there that isn't remembered through the arena, and remembers it.
+    /// O(to - from); reads each row there that isn't known through the arena, and remembers it.
     pub fn crack_two(&mut self, from: usize, to: usize, bound: Bound, arena: &Arena<Row>) -> usize
         requires order { from ≤ to }
         requires within { to ≤ length self.old.handles }
-        requires remembered { Remembers arena.now.cells self.old.handles self.old.keys }
+        requires remembered { Remembers arena.now.cells self.old.handles self.old.remembered }
         ensures cracked { Cracks arena.now.cells bound.0 from to
-            self.old.handles self.old.keys self.new.handles self.new.keys result }
+            self.old.handles self.old.remembered self.new.handles self.new.remembered result }
         ensures length { length self.new.handles ≡ length self.old.handles }
         ensures room { self.new.room ≡ self.old.room }
-        ensures remembered { Remembers arena.now.cells self.new.handles self.new.keys }
+        ensures remembered { Remembers arena.now.cells self.new.handles self.new.remembered }
     {
         let unread = self.unread;
         let (place, learned) = crack_between(
@@ -170,7 +270,7 @@ impl CrackerColumn {
             from,
             to,
             unread,
-            &self.handles,
+            &self.generations,
             bound,
             arena,
         );
@@ -179,77 +279,89 @@ impl CrackerColumn {
     }
 }
 
-/// Cracks the tags from the place `from` up to and without `to`, of which at most so many keys are unread.
-/// The place between, and how many keys are known now that weren't.
+/// Cracks the tags from the place `from` up to and without `to`, of which at most so many rows are unread.
+/// The place between, and how many rows are known now that weren't.
 fn crack_between(
     tags: &mut Vec<Tag>,
     from: usize,
     to: usize,
     unread: usize,
-    handles: &[Handle<Row>],
+    generations: &[u64],
     bound: Bound,
     arena: &Arena<Row>,
 ) -> (usize, usize)
     requires order { from ≤ to }
     requires within { to ≤ vec_len tags.old }
-    requires drawn { All (λ t. t.ticket < length handles.now) tags.old.items }
-    requires known { All (Knows arena.now.cells handles.now) (between from to tags.old.items) }
-    requires unread { times unknown (map remembered_of (between from to tags.old.items)) ≤ unread }
-    ensures turned { Turns arena.now.cells handles.now bound.0 from to tags.old.items tags.new.items result.0 result.1 }
+    requires drawn { All (λ t. t.ticket < length generations.now) tags.old.items }
+    requires known { All (Knows arena.now.cells generations.now) (between from to tags.old.items) }
+    requires unread { unread_in (between from to tags.old.items) ≤ unread }
+    ensures turned { Turns arena.now.cells generations.now bound.0 from to tags.old.items tags.new.items result.0 result.1 }
     ensures capacity { vec_capacity tags.new ≡ vec_capacity tags.old }
 {
-    let (place, learned) = crack(&mut tags[from..to], unread, handles, bound, arena);
+    let (place, learned) = tag::crack(&mut tags[from..to], unread, generations, bound, arena);
     (from + place, learned)
 }
 
-/// Keeps the handle under the ticket at the place, and gives back the one that was kept there.
+/// Keeps the handle at the place, under the ticket there, and gives back the one that was kept there.
 fn keep(
-    handles: &mut Vec<Handle<Row>>,
+    generations: &mut Vec<u64>,
     tags: &mut Vec<Tag>,
     place: usize,
     handle: Handle<Row>,
-) -> Handle<Row>
+    remembered: Remembered,
+) -> (Handle<Row>, Remembered)
     requires within { place < vec_len tags.old }
-    requires drawn { All (λ t. t.ticket < vec_len handles.old) tags.old.items }
-    ensures kept { Kept handles.old.items tags.old.items place handle handles.new.items tags.new.items result }
-    ensures capacities { (vec_capacity handles.new ≡ vec_capacity handles.old) × (vec_capacity tags.new ≡ vec_capacity tags.old) }
+    requires drawn { All (λ t. t.ticket < vec_len generations.old) tags.old.items }
+    ensures kept { Kept generations.old.items tags.old.items place handle remembered generations.new.items tags.new.items result.0 result.1 }
+    ensures capacities { (vec_capacity generations.new ≡ vec_capacity generations.old) × (vec_capacity tags.new ≡ vec_capacity tags.old) }
 {
-    let here = &mut tags[place];
-    here.key = UNKNOWN;
-    mem::replace(&mut handles[here.ticket as usize], handle)
+    let here = tags[place];
+    tags[place] = Tag::new(here.ticket, handle, remembered);
+    let generation = mem::replace(&mut generations[here.ticket as usize], handle.generation());
+    (Handle::new(here.slot, generation), here.remembered())
 }
 
 /// Keeps the handle at the place behind the last: under the ticket that stands there, or under a new one.
-fn keep_last(handles: &mut Vec<Handle<Row>>, tags: &mut Vec<Tag>, len: usize, handle: Handle<Row>)
-    requires are { AreDrawn handles.old.items tags.old.items len }
-    requires room { 0 < room_in (vec_len tags.old) (vec_capacity handles.old) (vec_capacity tags.old) len }
-    ensures are { AreDrawn handles.new.items tags.new.items (len + 1) }
-    ensures handles { handles_in handles.new.items tags.new.items (len + 1) ≡ handles_in handles.old.items tags.old.items len ++ handle ∷ [] }
-    ensures keys { keys_in tags.new.items (len + 1) ≡ keys_in tags.old.items len ++ unknown ∷ [] }
-    ensures room { room_in (vec_len tags.new) (vec_capacity handles.new) (vec_capacity tags.new) (len + 1) + 1
-        ≡ room_in (vec_len tags.old) (vec_capacity handles.old) (vec_capacity tags.old) len }
+fn keep_last(
+    generations: &mut Vec<u64>,
+    tags: &mut Vec<Tag>,
+    len: usize,
+    handle: Handle<Row>,
+    remembered: Remembered,
+)
+    requires are { AreDrawn generations.old.items tags.old.items len }
+    requires room { 0 < room_in (vec_len tags.old) (vec_capacity generations.old) (vec_capacity tags.old) len }
+    ensures are { AreDrawn generations.new.items tags.new.items (len + 1) }
+    ensures handles { handles_in generations.new.items tags.new.items (len + 1)
+        ≡ handles_in generations.old.items tags.old.items len ++ handle ∷ [] }
+    ensures known { remembered_in tags.new.items (len + 1) ≡ remembered_in tags.old.items len ++ remembered ∷ [] }
+    ensures unread { unread_in (take (len + 1) tags.new.items) ≡ unread_in (take len tags.old.items) + times unknown (remembered.key ∷ []) }
+    ensures room { room_in (vec_len tags.new) (vec_capacity generations.new) (vec_capacity tags.new) (len + 1) + 1
+        ≡ room_in (vec_len tags.old) (vec_capacity generations.old) (vec_capacity tags.old) len }
 {
     if len < tags.len() {
-        keep(handles, tags, len, handle);
+        keep(generations, tags, len, handle, remembered);
     } else {
-        draw(handles, tags, handle);
+        draw(generations, tags, handle, remembered);
     }
 }
 
 /// Keeps the handle under a new ticket, with a tag behind all others.
-fn draw(handles: &mut Vec<Handle<Row>>, tags: &mut Vec<Tag>, handle: Handle<Row>)
-    requires beside { vec_len tags.old ≡ vec_len handles.old }
+fn draw(
+    generations: &mut Vec<u64>,
+    tags: &mut Vec<Tag>,
+    handle: Handle<Row>,
+    remembered: Remembered,
+)
+    requires beside { vec_len tags.old ≡ vec_len generations.old }
     requires few { vec_len tags.old < 2 ^ 32 }
-    requires handle_room { vec_len handles.old < vec_capacity handles.old }
+    requires generation_room { vec_len generations.old < vec_capacity generations.old }
     requires tag_room { vec_len tags.old < vec_capacity tags.old }
-    ensures handles { handles.new.items ≡ handles.old.items ++ handle ∷ [] }
-    ensures tags { tags.new.items ≡ tags.old.items ++ record { key = unknown; ticket = length handles.old.items } ∷ [] }
-    ensures capacities { (vec_capacity handles.new ≡ vec_capacity handles.old) × (vec_capacity tags.new ≡ vec_capacity tags.old) }
+    ensures generations { generations.new.items ≡ generations.old.items ++ handle.generation ∷ [] }
+    ensures tags { tags.new.items ≡ tags.old.items ++ tag_for (length generations.old.items) handle remembered ∷ [] }
+    ensures capacities { (vec_capacity generations.new ≡ vec_capacity generations.old) × (vec_capacity tags.new ≡ vec_capacity tags.old) }
 {
-    let ticket = handles.len() as u32;
-    handles.push_reserved(handle);
-    tags.push_reserved(Tag {
-        key: UNKNOWN,
-        ticket,
-    });
+    let ticket = generations.len() as u32;
+    generations.push_reserved(handle.generation());
+    tags.push_reserved(Tag::new(ticket, handle, remembered));
 }

@@ -2,6 +2,8 @@
 #![tactic(auto)]
 
 pub mod column;
+pub mod remembered;
 mod tag;
 
 pub use column::CrackerColumn;
+pub use remembered::Remembered;

@@ -1,77 +1,188 @@
-//! The tags of a cracker column, one at each place: what a crack reads, and what it exchanges.
-ghost use Rattle.std.specs.Prelude.{◌≡◌, ◌+◌, ◌<◌, ◌≤◌, All, length, map};
+//! The tags of a cracker column, one at each place: what a crack and a sum read, and what a crack exchanges.
+ghost use Rattle.std.specs.Prelude.{◌≡◌, ◌+◌, ◌<◌, ◌≤◌, ◌^◌, All, MatchOption, length, map, sum_by};
 ghost use Rattle.std.specs.List.Sorted.{IsPermutation};
-ghost use Rattle.crack_arena.specs.Arena.{times};
-ghost use Rattle.crack_column.specs.Column.{IsDividedAt, unknown};
-ghost use Rattle.crack_column.specs.Tickets.{ticket_of, remembered_of, Knows, Read};
+ghost use Rattle.crack_arena.specs.Arena.{IsAbsent, IsFirstAt};
+ghost use Rattle.crack_arena.specs.Rows.{payload_at};
+ghost use Rattle.crack_column.specs.Column.{IsDividedAt};
+ghost use Rattle.crack_column.specs.Tickets.{remembered_key, memory_of, handle_of, tag_for, forgotten, unread_in, Knows, Read};
 
-use crack_arena::{Arena, Handle, key_of};
+use crate::remembered::{Remembered, UNKNOWN};
+use crack_arena::{Arena, Handle, payload_of};
 use crack_row::{Bound, Row};
 
-/// Stands for a key that isn't remembered. A row with this very key is asked for it by each crack.
-pub(crate) const UNKNOWN: u32 = u32::MAX;
-
-/// What a crack exchanges, 8 bytes: the key of a row, once a crack has read it, and the ticket under which its handle is kept.
+/// What stands at a place, 16 bytes: what is remembered of a row, its handle's slot, and the ticket under which its generation is kept.
 #[derive(Clone, Copy)]
 pub(crate) struct Tag {
     pub(crate) key: u32,
     pub(crate) ticket: u32,
+    pub(crate) payload: u32,
+    pub(crate) slot: u32,
 }
 
-/// Reads the keys of the tags, if any of at most so many is unread, and puts those below the bound first.
-/// How many these are, and how many keys are known now that weren't.
+impl Tag {
+    /// The tag of a ticket, for a handle of whose row this is remembered.
+    pub(crate) fn new(ticket: u32, handle: Handle<Row>, remembered: Remembered) -> Tag
+        ensures { result ≡ tag_for ticket handle remembered }
+    {
+        Tag {
+            key: remembered.key(),
+            ticket,
+            payload: remembered.payload(),
+            slot: handle.slot(),
+        }
+    }
+
+    pub(crate) fn remembered(&self) -> Remembered
+        ensures { result ≡ memory_of self.now }
+    {
+        Remembered::new(self.key, self.payload)
+    }
+
+    pub(crate) fn handle(&self, generations: &[u64]) -> Handle<Row>
+        requires { self.now.ticket < length generations.now }
+        ensures { result ≡ handle_of generations.now self.now }
+    {
+        Handle::new(self.slot, generations[self.ticket as usize])
+    }
+
+    /// The tag, once this is remembered of its row.
+    fn knowing(self, remembered: Remembered) -> Tag
+        ensures { result ≡ record self { key = remembered.key; payload = remembered.payload } }
+    {
+        Tag {
+            key: remembered.key(),
+            payload: remembered.payload(),
+            ..self
+        }
+    }
+
+    /// The payload of the row. It is asked of the arena where the row isn't known.
+    fn payload(&self, generations: &[u64], arena: &Arena<Row>) -> u32
+        requires drawn { self.now.ticket < length generations.now }
+        requires known { Knows arena.now.cells generations.now self.now }
+        ensures { result ≡ payload_at arena.now.cells (handle_of generations.now self.now) }
+    {
+        if self.key == UNKNOWN {
+            return payload_of(arena, self.handle(generations)).0;
+        }
+        self.payload
+    }
+}
+
+/// Reads the rows of the tags, if any of at most so many is unread, and puts those below the bound first.
+/// How many these are, and how many rows are known now that weren't.
 pub(crate) fn crack(
     tags: &mut [Tag],
     unread: usize,
-    handles: &[Handle<Row>],
+    generations: &[u64],
     bound: Bound,
     arena: &Arena<Row>,
 ) -> (usize, usize)
-    requires drawn { All (λ t. t.ticket < length handles.now) tags.old }
-    requires known { All (Knows arena.now.cells handles.now) tags.old }
-    requires unread { times unknown (map remembered_of tags.old) ≤ unread }
-    ensures kept { IsPermutation (map ticket_of tags.old) (map ticket_of tags.new) }
-    ensures read { All (Read arena.now.cells handles.now) tags.new }
-    ensures divided { IsDividedAt bound.0 (map remembered_of tags.new) result.0 }
-    ensures fewer { times unknown (map remembered_of tags.new) + result.1 ≡ times unknown (map remembered_of tags.old) }
+    requires drawn { All (λ t. t.ticket < length generations.now) tags.old }
+    requires known { All (Knows arena.now.cells generations.now) tags.old }
+    requires unread { unread_in tags.old ≤ unread }
+    ensures kept { IsPermutation (map forgotten tags.old) (map forgotten tags.new) }
+    ensures read { All (Read arena.now.cells generations.now) tags.new }
+    ensures divided { IsDividedAt bound.0 (map remembered_key tags.new) result.0 }
+    ensures fewer { unread_in tags.new + result.1 ≡ unread_in tags.old }
 {
     if unread == 0 {
         return (divide(tags, bound), 0);
     }
-    let learned = learn(tags, handles, arena);
+    let learned = learn(tags, generations, arena);
     (divide(tags, bound), learned)
 }
 
-/// Reads each key that isn't known. How many are known now.
-fn learn(tags: &mut [Tag], handles: &[Handle<Row>], arena: &Arena<Row>) -> usize
-    requires drawn { All (λ t. t.ticket < length handles.now) tags.old }
-    requires known { All (Knows arena.now.cells handles.now) tags.old }
-    ensures tickets { map ticket_of tags.new ≡ map ticket_of tags.old }
-    ensures read { All (Read arena.now.cells handles.now) tags.new }
-    ensures fewer { times unknown (map remembered_of tags.new) + result ≡ times unknown (map remembered_of tags.old) }
+/// Reads each row that isn't known. How many are known now.
+fn learn(tags: &mut [Tag], generations: &[u64], arena: &Arena<Row>) -> usize
+    requires drawn { All (λ t. t.ticket < length generations.now) tags.old }
+    requires known { All (Knows arena.now.cells generations.now) tags.old }
+    ensures kept { map forgotten tags.new ≡ map forgotten tags.old }
+    ensures read { All (Read arena.now.cells generations.now) tags.new }
+    ensures fewer { unread_in tags.new + result ≡ unread_in tags.old }
 {
     let mut learned = 0;
     'tags: for i in 0..tags.len() {
         if tags[i].key == UNKNOWN {
-            let key = key_of(arena, handles[tags[i].ticket as usize]).0;
-            tags[i].key = key;
-            learned += (key != UNKNOWN) as usize;
+            let read = Remembered::read(arena, tags[i].handle(generations));
+            tags[i] = tags[i].knowing(read);
+            learned += (read.key() != UNKNOWN) as usize;
         }
     }
     learned
 }
 
 /// Puts the keys below the bound first, and gives their number.
-/// The exchange is made at each step, so that no branch hangs on a key.
+/// The exchange is made at each step, so that no branch hangs on a key. The key is read first and then its place: to read the whole
+/// place before its key costs more than twice as much.
 fn divide(tags: &mut [Tag], bound: Bound) -> usize
     ensures kept { IsPermutation tags.old tags.new }
-    ensures divided { IsDividedAt bound.0 (map remembered_of tags.new) result }
+    ensures divided { IsDividedAt bound.0 (map remembered_key tags.new) result }
 {
     let mut low = 0;
     'tags: for i in 0..tags.len() {
         let below = (tags[i].key as u64) < bound.0;
-        tags.swap(low, i);
+        let here = tags[i];
+        tags[i] = tags[low];
+        tags[low] = here;
         low += below as usize;
     }
     low
+}
+
+/// The sum of the payloads of the tags' rows, of which at most so many aren't known.
+pub(crate) fn sum(tags: &[Tag], unread: usize, generations: &[u64], arena: &Arena<Row>) -> u64
+    requires few { length tags.now ≤ 2 ^ 32 }
+    requires drawn { All (λ t. t.ticket < length generations.now) tags.now }
+    requires known { All (Knows arena.now.cells generations.now) tags.now }
+    requires unread { unread_in tags.now ≤ unread }
+    ensures { result ≡ sum_by (λ t. payload_at arena.now.cells (handle_of generations.now t)) tags.now }
+{
+    if unread == 0 {
+        sum_remembered(tags)
+    } else {
+        sum_read(tags, generations, arena)
+    }
+}
+
+/// The sum of the payloads that the tags remember. No branch and no cell.
+fn sum_remembered(tags: &[Tag]) -> u64
+    requires few { length tags.now ≤ 2 ^ 32 }
+    ensures { result ≡ sum_by (λ t. t.payload) tags.now }
+{
+    let mut sum = 0u64;
+    'tags: for i in 0..tags.len() {
+        sum += tags[i].payload as u64;
+    }
+    sum
+}
+
+/// The sum of the payloads of the tags' rows.
+fn sum_read(tags: &[Tag], generations: &[u64], arena: &Arena<Row>) -> u64
+    requires few { length tags.now ≤ 2 ^ 32 }
+    requires drawn { All (λ t. t.ticket < length generations.now) tags.now }
+    requires known { All (Knows arena.now.cells generations.now) tags.now }
+    ensures { result ≡ sum_by (λ t. payload_at arena.now.cells (handle_of generations.now t)) tags.now }
+{
+    let mut sum = 0u64;
+    'tags: for i in 0..tags.len() {
+        sum += tags[i].payload(generations, arena) as u64;
+    }
+    sum
+}
+
+/// The first of the tags whose handle this is. Reads the generation where the slot is the same, and nowhere else.
+pub(crate) fn find(tags: &[Tag], generations: &[u64], handle: Handle<Row>) -> Option<usize>
+    requires drawn { All (λ t. t.ticket < length generations.now) tags.now }
+    ensures { MatchOption result
+        (IsAbsent (map (handle_of generations.now) tags.now) handle)
+        (IsFirstAt (map (handle_of generations.now) tags.now) handle) }
+{
+    let slot = handle.slot();
+    'tags: for i in 0..tags.len() {
+        if tags[i].slot == slot && tags[i].handle(generations) == handle {
+            return Some(i);
+        }
+    }
+    None
 }

@@ -9,8 +9,8 @@ tags-preserved c =
     let key = (get_or c.tags.tags c.tags.i no_tag).key in
     let inside : c.tags.i < length c.tags.tags = omega arith in
     elim (cases_lt key c.args.bound.0) [
-      | inl l ↦ rw (lt-ltb key c.args.bound.0 l) (IsPartway-step c.args.bound.0 c.args.tags.now c.tags.tags c.swap.new.self c.tags.low c.tags.i (c.tags.low + 1) inside c.swap.ensures.permutation c.swap.ensures.after (inl (l, refl)) c.tags.invariant)
-      | inr l ↦ rw (le-ltb key c.args.bound.0 l, add-zero) (IsPartway-step c.args.bound.0 c.args.tags.now c.tags.tags c.swap.new.self c.tags.low c.tags.i c.tags.low inside c.swap.ensures.permutation c.swap.ensures.after (inr (l, refl)) c.tags.invariant)
+      | inl l ↦ rw (lt-ltb key c.args.bound.0 l) (IsPartway-step c.args.bound.0 c.args.tags.now c.tags.tags _ c.tags.low c.tags.i (c.tags.low + 1) inside refl (inl (l, refl)) c.tags.invariant)
+      | inr l ↦ rw (le-ltb key c.args.bound.0 l, add-zero) (IsPartway-step c.args.bound.0 c.args.tags.now c.tags.tags _ c.tags.low c.tags.i c.tags.low inside refl (inr (l, refl)) c.tags.invariant)
     ]
 
 pub returns-clause-divided : goal.returns-clause-divided

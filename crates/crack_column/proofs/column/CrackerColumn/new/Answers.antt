@@ -13,5 +13,5 @@ invariant_of-result c =
         drawn = λ k d h. absurd (omega arith);
         once = λ n. omega (arith, times-nil n);
       };
-      most = omega (arith, times-nil unknown);
+      counted = times-nil unknown;
     })

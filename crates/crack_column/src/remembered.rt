@@ -1,0 +1,86 @@
+//! What a cracker column remembers of a row.
+ghost use Rattle.std.specs.Prelude.{◌≡◌, [], ◌∷◌};
+ghost use Rattle.crack_arena.specs.Arena.{times};
+ghost use Rattle.crack_column.specs.Column.{unknown, nothing, memory_at};
+
+use crack_arena::{Arena, Handle};
+use crack_row::Row;
+use std::marker::Model;
+
+/// Stands for a key that isn't remembered.
+pub(crate) const UNKNOWN: u32 = u32::MAX;
+
+/// The key and the payload of a row, or that the row isn't known.
+#[derive(Clone, Copy)]
+pub struct Remembered {
+    key: u32,
+    payload: u32,
+}
+
+impl Model for Remembered {
+    ghost use Rattle.crack_column.specs.Column.{Memory};
+
+    ghost Value = { Memory };
+
+    ghost view = { λ r. record { key = r.key; payload = r.payload } };
+
+    ghost inverse = { λ m. record { key = m.key; payload = m.payload } };
+}
+
+impl Remembered {
+    /// What is to be remembered of the row. One with the greatest key isn't known by it. O(1).
+    pub fn of(row: Row) -> Remembered
+        ensures { result ≡ record { key = row.key.0; payload = row.payload.0 } }
+    {
+        Remembered {
+            key: row.key.0,
+            payload: row.payload.0,
+        }
+    }
+
+    /// Of a row that isn't known. O(1).
+    pub fn nothing() -> Remembered
+        ensures { result ≡ nothing }
+    {
+        Remembered {
+            key: UNKNOWN,
+            payload: 0,
+        }
+    }
+
+    /// What is to be remembered of the row that the handle reads.
+    pub(crate) fn read(arena: &Arena<Row>, handle: Handle<Row>) -> Remembered
+        ensures { result ≡ memory_at arena.now.cells handle }
+    {
+        match arena.get(handle) {
+            Some(row) => Remembered::of(*row),
+            None => Remembered::new(0, 0),
+        }
+    }
+
+    /// Of a row that has this key and this payload.
+    pub(crate) fn new(key: u32, payload: u32) -> Remembered
+        ensures { result ≡ record { key = key; payload = payload } }
+    {
+        Remembered { key, payload }
+    }
+
+    pub(crate) fn key(&self) -> u32
+        ensures { result ≡ self.now.key }
+    {
+        self.key
+    }
+
+    pub(crate) fn payload(&self) -> u32
+        ensures { result ≡ self.now.payload }
+    {
+        self.payload
+    }
+
+    /// 1 where the row isn't known, else 0.
+    pub(crate) fn unread(&self) -> usize
+        ensures { result ≡ times unknown (self.now.key ∷ []) }
+    {
+        (self.key == UNKNOWN) as usize
+    }
+}
