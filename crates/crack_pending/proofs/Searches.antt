@@ -13,7 +13,7 @@ use Rattle.crack_arena.specs.Rows.{key_at, keys_at}
 use Rattle.crack_pending.specs.Pending.{NoneIn, IsFirstIn}
 
 -- what stands at a place, whatever is read where there is none
-StandsAt-get_or : (handles : List Handle) (i : ℕ) (d : Handle) → i < length handles → StandsAt handles i (get_or handles i d)
+pub StandsAt-get_or : (handles : List Handle) (i : ℕ) (d : Handle) → i < length handles → StandsAt handles i (get_or handles i d)
 StandsAt-get_or handles i d within = record { within = within; is = get_or_default handles i d (get_or handles i d) within }
 
 module _ (cells : List (Cell Row)) where

@@ -1,12 +1,32 @@
 -- What contracts see of the pending rows.
-use Rattle.std.specs.Prelude.{ℕ, ◌<◌, ◌≤◌, List, length, Option, Some, None, slice_index}
+use Rattle.std.specs.Prelude.{◌≡◌, ◌≢◌, ℕ, ◌<◌, ◌≤◌, List, length, Option, Some, None, slice_index, slice_index_or}
 use Rattle.crack_row.specs.Ranges.{Range, IsIn}
-use Rattle.crack_arena.specs.Arena.{Handle}
+use Rattle.crack_row.specs.declared.Row.{Row}
+use Rattle.crack_arena.specs.Arena.{Cell, Handle, place_in, no_handle}
+use Rattle.crack_arena.specs.Rows.{key_at, RemembersKeys}
 
--- the handles in the order of their arrival, and how many more need no memory
+-- the handles in the order of their arrival, what is remembered of their keys, how many more need no memory, and how many
+-- cells, from the first, may have a handle here
 pub record Pending : Type 0 where
   pub handles : List Handle
+  pub keys : List ℕ
   pub room : ℕ
+  pub covered : ℕ
+
+-- over whatever cells the first list remembers its keys rightly, the second does
+abbrev pub StillRemembersKeys : Pending → Pending → Type 0
+StillRemembersKeys old new =
+    (cells : List (Cell Row)) → RemembersKeys cells old.handles old.keys → RemembersKeys cells new.handles new.keys
+
+-- so does the second where it has one handle more, whose row has this key
+abbrev pub RemembersOneMore : Handle → ℕ → Pending → Pending → Type 0
+RemembersOneMore handle key old new =
+    (cells : List (Cell Row)) → key ≡ key_at cells handle → RemembersKeys cells old.handles old.keys → RemembersKeys cells new.handles new.keys
+
+-- once the row of this slot has this key, and all others read as before, the second list remembers its keys rightly
+abbrev pub RemembersAnew : ℕ → ℕ → Pending → Pending → Type 0
+RemembersAnew slot key old new =
+    (cells cells' : List (Cell Row)) → key ≡ key_at cells' (slice_index_or old.handles (place_in old.handles slot) no_handle) → ((h : Handle) → h.slot ≢ slot → key_at cells' h ≡ key_at cells h) → RemembersKeys cells old.handles old.keys → RemembersKeys cells' new.handles new.keys
 
 -- none of the keys from one place up to another lies in the range
 abbrev pub NoneIn : Range → List ℕ → ℕ → ℕ → Type 0

@@ -1,7 +1,10 @@
 //! The pending insertions and the pending deletions of a partition: handles in the order of their arrival.
 #![tactic(auto)]
 
-mod gap;
+mod closing;
 pub mod list;
+mod pass;
+mod rows;
+mod spots;
 
 pub use list::{PendingIn, PendingList, PendingOut};

@@ -1,13 +1,14 @@
 //! The lists of pending rows.
-ghost use Rattle.std.specs.Prelude.{◌≡◌, ◌+◌, ◌<◌, ◌≤◌, ◌↔◌, ◌∷◌, [], ◌++◌, length, IsTrue, MatchOption, IfErr, OnOk, OnErr};
+ghost use Rattle.std.specs.Prelude.{◌≡◌, ◌+◌, ◌-◌, ◌<◌, ◌≤◌, ◌^◌, ◌↔◌, ◌∷◌, [], ◌++◌, ℕ, length, All, IsTrue, MatchOption, IfErr, OnOk, OnErr, List, slice_set};
 ghost use Rattle.std.specs.List.{remove};
-ghost use Rattle.crack_arena.specs.Rows.{keys_at};
-ghost use Rattle.crack_arena.specs.Arena.{StandsAt, IsFirstAt, IsAbsent};
-ghost use Rattle.crack_pending.specs.Pending.{Finds};
+ghost use Rattle.crack_row.specs.declared.Row.{Row};
+ghost use Rattle.crack_arena.specs.Rows.{keys_at, unknown, RemembersKeys};
+ghost use Rattle.crack_arena.specs.Arena.{Cell, StandsAt, IsFirstAt, IsAbsent, times, slots, place_in};
+ghost use Rattle.crack_pending.specs.Pending.{Finds, StillRemembersKeys, RemembersOneMore, RemembersAnew};
 
-use crate::gap::GapList;
-use crack_arena::{Arena, Handle, key_of};
-use crack_row::{KeyRange, Refusal, Row};
+use crate::spots::{SpotList, UNKNOWN};
+use crack_arena::{Arena, Handle};
+use crack_row::{Key, KeyRange, Refusal, Row};
 use std::alloc::Global;
 use std::marker::{Model, PhantomData};
 
@@ -26,10 +27,11 @@ pub type PendingIn = PendingList<Insertions>;
 pub type PendingOut = PendingList<Deletions>;
 
 /// The handles of pending rows in the order of their arrival (the pending columns of "Updating a Cracked Database",
-/// SIGMOD 2007).
+/// SIGMOD 2007), each beside the key of its row where that is remembered. No cell has two handles in a list.
+/// A row that goes leaves a hole; holes are closed up once there are as many as rows. Places count rows, never holes.
 #[derive(Drop)]
 pub struct PendingList<Kind> {
-    list: GapList,
+    list: SpotList,
     kind: PhantomData<Kind>,
 }
 
@@ -38,41 +40,89 @@ impl<Kind> Model for PendingList<Kind> {
 
     ghost Value = { Pending };
 
-    ghost view = { λ p. record { handles = p.list.handles; room = p.list.room } };
+    ghost view = { λ p. p.list };
 }
 
 impl<Kind> PendingList<Kind> {
     /// An empty list. It takes no memory.
     pub fn new(alloc: Global) -> Self
-        ensures { result ≡ record { handles = []; room = 0 } }
+        ensures after { result ≡ record { handles = []; keys = []; room = 0; covered = 0 } }
+        ensures remembered { (cells : List (Cell Row)) → RemembersKeys cells result.handles result.keys }
     {
         PendingList {
-            list: GapList::new(alloc),
+            list: SpotList::new(alloc),
             kind: PhantomData,
         }
     }
 
+    /// States what is true of every list, and does nothing.
+    pub fn facts(&self)
+        ensures once { (slot : ℕ) → times slot (slots self.now.handles) ≤ 1 }
+        ensures covered { All (λ h. h.slot < self.now.covered) self.now.handles }
+        ensures beside { length self.now.keys ≡ length self.now.handles }
+    {
+        self.list.facts();
+    }
+
     /// Makes room for as many pushes; amortised O(1) for each of them. Refused with 8 alone.
     pub fn reserve(&mut self, additional: usize) -> Result<(), Refusal>
+        requires { length self.old.handles + additional ≤ 2 ^ 32 }
         ensures same { self.new ≡ record self.old { room = self.new.room } }
         ensures room { OnOk result (additional ≤ self.new.room) }
         ensures kept { self.old.room ≤ self.new.room }
         ensures full { OnErr result (self.old.room < additional) }
         ensures err { IfErr result (λ e. e ≡ Refusal.OutOfMemory) }
+        ensures remembered { StillRemembersKeys self.old self.new }
     {
         self.list.reserve(additional)
     }
 
-    /// Puts the handle behind all others. It takes no memory. O(1).
-    pub fn push(&mut self, handle: Handle<Row>)
-        requires { 0 < self.old.room }
-        ensures handles { self.new.handles ≡ self.old.handles ++ handle ∷ [] }
-        ensures room { self.new.room + 1 ≡ self.old.room }
+    /// Makes place for the handles of as many cells, counted from the first; amortised O(1) for each that is new.
+    /// Refused with 8 alone.
+    pub fn cover(&mut self, cells: usize) -> Result<(), Refusal>
+        ensures same { self.new ≡ record self.old { covered = self.new.covered } }
+        ensures covered { OnOk result (cells ≤ self.new.covered) }
+        ensures kept { self.old.covered ≤ self.new.covered }
+        ensures full { OnErr result (self.old.covered < cells) }
+        ensures unchanged { OnErr result (self.new ≡ self.old) }
+        ensures err { IfErr result (λ e. e ≡ Refusal.OutOfMemory) }
+        ensures remembered { StillRemembersKeys self.old self.new }
     {
-        self.list.push(handle);
+        self.list.cover(cells)
     }
 
-    /// The handle at the place, counted from the first arrival. O(1).
+    /// Puts the handle behind all others; the key of its row isn't remembered. It takes no memory. O(1).
+    pub fn push(&mut self, handle: Handle<Row>)
+        requires room { 0 < self.old.room }
+        requires covered { handle.slot < self.old.covered }
+        requires absent { times handle.slot (slots self.old.handles) ≡ 0 }
+        ensures after { self.new ≡ record self.old {
+          handles = self.old.handles ++ handle ∷ [];
+          keys = self.old.keys ++ unknown ∷ [];
+          room = self.old.room - 1;
+        } }
+        ensures remembered { StillRemembersKeys self.old self.new }
+    {
+        self.list.push(handle, UNKNOWN);
+    }
+
+    /// Puts the handle behind all others, and remembers the key of its row. It takes no memory. O(1).
+    pub fn push_keyed(&mut self, handle: Handle<Row>, key: Key)
+        requires room { 0 < self.old.room }
+        requires covered { handle.slot < self.old.covered }
+        requires absent { times handle.slot (slots self.old.handles) ≡ 0 }
+        ensures after { self.new ≡ record self.old {
+          handles = self.old.handles ++ handle ∷ [];
+          keys = self.old.keys ++ key.0 ∷ [];
+          room = self.old.room - 1;
+        } }
+        ensures remembered { RemembersOneMore handle key.0 self.old self.new }
+    {
+        self.list.push(handle, key.0);
+    }
+
+    /// The handle at the place, counted from the first arrival. O(1) where there are no holes, and else one pass over the marks
+    /// of the spots from where the last row was taken.
     pub fn at(&self, place: usize) -> Handle<Row>
         requires { place < length self.now.handles }
         ensures { StandsAt self.now.handles place result }
@@ -80,60 +130,96 @@ impl<Kind> PendingList<Kind> {
         self.list.at(place)
     }
 
-    /// Takes the handle at the place; the later ones close up. It takes no memory.
-    /// O(1) at the place of the last take, so taking k of i rows at rising places costs O(i + k) in all.
+    /// Goes on from this place when one is looked for next, so that taking k of i rows at rising places, wherever they are struck,
+    /// costs O(i + k) in all. Contracts see no change.
+    pub fn seek(&mut self, place: usize)
+        requires { place < length self.old.handles }
+        ensures { self.new ≡ self.old }
+    {
+        self.list.seek(place);
+    }
+
+    /// Takes the handle at the place. It takes no memory; what room there was stays.
+    /// Taking k of i rows at rising places costs O(i + k) in all, and at the first place amortised O(1) each.
     pub fn take(&mut self, place: usize) -> Handle<Row>
         requires { place < length self.old.handles }
         ensures value { StandsAt self.old.handles place result }
         ensures handles { self.new.handles ≡ remove self.old.handles place }
-        ensures room { self.new.room ≡ self.old.room + 1 }
+        ensures keys { self.new.keys ≡ remove self.old.keys place }
+        ensures room { self.old.room ≤ self.new.room }
+        ensures covered { self.new.covered ≡ self.old.covered }
+        ensures remembered { StillRemembersKeys self.old self.new }
     {
         self.list.take(place)
     }
 
-    /// The first place whose row has its key in the range. O(len).
+    /// Whether a handle of the cell of this number is in the list. O(1).
+    pub fn contains(&self, slot: u32) -> bool
+        ensures { IsTrue result ↔ (0 < times slot (slots self.now.handles)) }
+    {
+        self.list.contains(slot)
+    }
+
+    /// Takes out the handle of the cell that this one names, wherever it stands. It takes no memory; what room there was stays.
+    /// Amortised O(1), however many rows there are.
+    pub fn strike(&mut self, handle: Handle<Row>)
+        requires { 0 < times handle.slot (slots self.old.handles) }
+        ensures handles { self.new.handles ≡ remove self.old.handles (place_in self.old.handles handle.slot) }
+        ensures keys { self.new.keys ≡ remove self.old.keys (place_in self.old.handles handle.slot) }
+        ensures room { self.old.room ≤ self.new.room }
+        ensures covered { self.new.covered ≡ self.old.covered }
+        ensures remembered { StillRemembersKeys self.old self.new }
+    {
+        self.list.strike(handle.slot());
+    }
+
+    /// Remembers another key for the row whose cell this handle names. O(1).
+    pub fn remember(&mut self, handle: Handle<Row>, key: Key)
+        requires { 0 < times handle.slot (slots self.old.handles) }
+        ensures after { self.new ≡ record self.old {
+          keys = slice_set self.old.keys (place_in self.old.handles handle.slot) key.0;
+        } }
+        ensures remembered { RemembersAnew handle.slot key.0 self.old self.new }
+    {
+        self.list.remember(handle.slot(), key.0);
+    }
+
+    /// The first place whose row has its key in the range. O(len), without a branch for each key.
     pub fn first_in(&self, range: KeyRange, arena: &Arena<Row>) -> Option<usize>
+        requires { RemembersKeys arena.now.cells self.now.handles self.now.keys }
         ensures { Finds range (keys_at arena.now.cells self.now.handles) 0 result }
     {
         self.next_in(range, 0, arena)
     }
 
-    /// The first place at or after `from` whose row has its key in the range; O(1) for each place that it passes.
+    /// The first place at or after `from` whose row has its key in the range; O(1) for each place that it passes, without a
+    /// branch for each key. It looks at a handle only where a key lies in the range, or isn't remembered.
     /// A command that takes rows goes on from where it took the last one, and so passes over the list once.
     pub fn next_in(&self, range: KeyRange, from: usize, arena: &Arena<Row>) -> Option<usize>
+        requires { RemembersKeys arena.now.cells self.now.handles self.now.keys }
         ensures { Finds range (keys_at arena.now.cells self.now.handles) from result }
     {
-        'places: for place in from..self.list.len() {
-            if range.contains(key_of(arena, self.list.at(place))) {
-                return Some(place);
-            }
-        }
-        None
+        self.list.next_in(range, from, arena)
     }
 
-    /// The first place where the handle stands; none where it stands nowhere. O(len).
+    /// The first place where the handle stands; none where it stands nowhere. O(1) where there are no holes, else O(len).
     pub fn place_of(&self, handle: Handle<Row>) -> Option<usize>
         ensures { MatchOption result (IsAbsent self.now.handles handle) (IsFirstAt self.now.handles handle) }
     {
-        'places: for place in 0..self.list.len() {
-            if self.list.at(place) == handle {
-                return Some(place);
-            }
-        }
-        None
+        self.list.place_of(handle)
     }
 
-    /// How many handles.
+    /// How many handles. O(1).
     pub fn len(&self) -> usize
         ensures { result ≡ length self.now.handles }
     {
         self.list.len()
     }
 
-    /// Whether there is no handle.
+    /// Whether there is no handle. O(1).
     pub fn is_empty(&self) -> bool
         ensures { IsTrue result ↔ (length self.now.handles ≡ 0) }
     {
-        self.list.len() == 0
+        self.len() == 0
     }
 }

@@ -1,0 +1,325 @@
+-- What callers see of handles at spots, and how each step keeps them.
+use Rattle.std.proofs.Common.{◌≡◌, ◌≢◌, ℕ, ◌+◌, ◌-◌, ◌<◌, ◌≤◌, ◌^◌, Bool, true, false, List, [], ◌∷◌, ◌++◌, length, get_or, set, Option, Some, None, refl, sym, ap, ◌∙◌, inl, inr, arith, length-append, length-set}
+use Rattle.std.specs.List.{remove}
+use Rattle.std.proofs.lemmas.Bool.{cases_eq, cases_lt, true≢false}
+use Rattle.std.proofs.lemmas.List.{get_or_append_left, get_or_push, get_or-set_same, get_or-set_other, get_or_default}
+use Rattle.crack_row.specs.Ranges.{Range}
+use Rattle.crack_row.specs.declared.Row.{Row}
+use Rattle.crack_arena.specs.Arena.{Cell, Handle, StandsAt, IsFirstAt, IsAbsent, no_handle, times, slots, place_in}
+use Rattle.crack_arena.specs.Rows.{key_at, keys_at, RemembersKeys}
+use Rattle.crack_arena.proofs.Times.{times_map_at}
+use Rattle.crack_arena.proofs.Remembering.{RemembersKeys-anew}
+use Rattle.crack_arena.proofs.Places.{place_in-within, place_in-slot, place_in-is, times_apart_once}
+use Rattle.std.specs.Prelude.{MatchOption, IsTrue, is_some, Result, Ok, Err, OnOk}
+use Rattle.crack_pending.specs.Pending.{Pending, NoneIn, IsFirstIn}
+use Rattle.crack_pending.specs.Spots.{kept, place_at, Stands, LeadBack, room_in, AreKept, KnowKeys, IsMissed, IsHit, IsSpotWith, IsNowhere}
+use Rattle.crack_pending.proofs.Kept.{place_at-le, place_at-more, place_at-before, place_at-hole_before, place_at-push, place_at-few, kept-full, Stands-within, length-kept, kept-at, kept-hole, kept-set, kept-at_place, spot_of}
+use Rattle.crack_pending.proofs.Moves.{kept-apart}
+use Rattle.crack_pending.proofs.Searches.{keys_at-StandsAt, length-keys_at, StandsAt-get_or}
+
+module _ (handles : List Handle) (stands : List Bool) (beside : length stands ≡ length handles) where
+  -- a row's place is one of the list
+  pub place-within : (spot : ℕ) → Stands stands spot → place_at stands spot < length (kept stands handles)
+  place-within spot at =
+      let within = Stands-within stands spot at in
+      omega (arith, length-kept stands handles beside, place_at-before stands spot (length stands) at within)
+
+  -- and it stands there
+  pub place-StandsAt : (spot : ℕ) (h : Handle) → Stands stands spot → h ≡ get_or handles spot h → StandsAt (kept stands handles) (place_at stands spot) h
+  place-StandsAt spot h at is = record { within = place-within spot at; is = is ∙ sym (kept-at stands handles spot h beside at) }
+
+  pub spot-times : (slot spot : ℕ) → IsSpotWith handles stands slot spot → 0 < times slot (slots (kept stands handles))
+  spot-times slot spot with =
+      times_map_at slot (λ (h : Handle). h.slot) (kept stands handles) (place_at stands spot) no_handle (place-within spot with.stands_there) (ap (λ (h : Handle). h.slot) (kept-at stands handles spot no_handle beside with.stands_there) ∙ with.of)
+
+  pub nowhere-times : (slot : ℕ) → IsNowhere handles stands slot → times slot (slots (kept stands handles)) ≡ 0
+  nowhere-times slot nowhere = elim (cases_eq (times slot (slots (kept stands handles))) 0) [
+    | inl e ↦ e
+    | inr ne ↦
+        let place = place_in (kept stands handles) slot in
+        let within = place_in-within (kept stands handles) slot (omega (arith, ne)) in
+        let s = spot_of stands place (omega (arith, within, length-kept stands handles beside)) in
+        let of : (get_or handles s.spot no_handle).slot ≡ slot = ap (λ (h : Handle). h.slot) (sym (kept-at_place stands handles place no_handle beside s)) ∙ place_in-slot (kept stands handles) slot no_handle within in
+        absurd (nowhere s.spot (record { stands_there = s.stands; of = of }))
+  ]
+
+  module _ (spots : List ℕ) (led : LeadBack handles stands spots) where
+    pub spot-place_in : (slot spot : ℕ) → IsSpotWith handles stands slot spot → place_in (kept stands handles) slot ≡ place_at stands spot
+    spot-place_in slot spot with =
+        let here : (get_or (kept stands handles) (place_at stands spot) no_handle).slot ≡ slot = ap (λ (h : Handle). h.slot) (kept-at stands handles spot no_handle beside with.stands_there) ∙ with.of in
+        let within = place-within spot with.stands_there in
+        place_in-is (kept stands handles) slot (place_at stands spot) no_handle within here (λ k less same.
+        let one : k ≡ place_at stands spot = kept-apart handles stands spots beside led k (place_at stands spot) (omega (arith, less, within)) within (same ∙ sym here) in
+        absurd (omega (arith, one, less)))
+
+    pub once : (slot : ℕ) → times slot (slots (kept stands handles)) ≤ 1
+    once slot = times_apart_once (kept stands handles) slot (kept-apart handles stands spots beside led)
+
+    -- a spot that a cell leads to, where no row of it stands: none stands anywhere
+    pub led-nowhere : (slot spot : ℕ) → get_or spots slot 0 ≡ spot → (IsSpotWith handles stands slot spot → ⊥) → IsNowhere handles stands slot
+    led-nowhere slot spot at none other with =
+        let back = (led other with.stands_there).is in
+        let same : other ≡ spot = sym (rw (with.of) at back) ∙ at in
+        none (rw same at with)
+
+    pub uncovered-nowhere : (slot : ℕ) → length spots ≤ slot → IsNowhere handles stands slot
+    uncovered-nowhere slot past other with =
+        let covered = (led other with.stands_there).covered in
+        absurd (omega (arith, covered, past, with.of))
+
+    -- the place of a handle is the first, and it is nowhere where its cell's row is another
+    pub handle-first : (h : Handle) (spot : ℕ) → IsSpotWith handles stands h.slot spot → h ≡ get_or handles spot h → IsFirstAt (kept stands handles) h (place_at stands spot)
+    handle-first h spot with is =
+        let here = place-StandsAt spot h with.stands_there is in
+        record {
+          here = here;
+          before = λ k less stands_k.
+              let at_k : (get_or (kept stands handles) k no_handle).slot ≡ h.slot = ap (λ (x : Handle). x.slot) (get_or_default (kept stands handles) k no_handle h stands_k.within ∙ sym stands_k.is) in
+              let at : (get_or (kept stands handles) (place_at stands spot) no_handle).slot ≡ h.slot = ap (λ (x : Handle). x.slot) (get_or_default (kept stands handles) (place_at stands spot) no_handle h here.within ∙ sym here.is) in
+              let one : k ≡ place_at stands spot = kept-apart handles stands spots beside led k (place_at stands spot) stands_k.within here.within (at_k ∙ sym at) in
+              absurd (omega (arith, one, less));
+        }
+
+  -- where a handle stands, so does its slot
+  pub stands-spot : (h : Handle) (place : ℕ) → StandsAt (kept stands handles) place h → (spot : ℕ) × (IsSpotWith handles stands h.slot spot × (h ≡ get_or handles spot h))
+  stands-spot h place there =
+      let s = spot_of stands place (omega (arith, there.within, length-kept stands handles beside)) in
+      let is : h ≡ get_or handles s.spot h = there.is ∙ kept-at_place stands handles place h beside s in
+      let same : get_or handles s.spot no_handle ≡ h = get_or_default handles s.spot no_handle h (omega (arith, Stands-within stands s.spot s.stands, beside)) ∙ sym is in
+      (s.spot, (record { stands_there = s.stands; of = ap (λ (x : Handle). x.slot) same }, is))
+
+  pub nowhere-absent : (h : Handle) → IsNowhere handles stands h.slot → IsAbsent (kept stands handles) h
+  nowhere-absent h nowhere place there = nowhere (stands-spot h place there).0 (stands-spot h place there).1.0
+
+  pub other-absent : (spots : List ℕ) → LeadBack handles stands spots → (h other : Handle) (spot : ℕ) → IsSpotWith handles stands h.slot spot → other ≡ get_or handles spot other → other ≢ h → IsAbsent (kept stands handles) h
+  other-absent spots led h other spot with is differs place there =
+      let found = stands-spot h place there in
+      let back = (led found.0 found.1.0.stands_there).is in
+      let back_spot = (led spot with.stands_there).is in
+      let same : found.0 ≡ spot = sym (rw (found.1.0.of) at back) ∙ (rw (with.of) at back_spot) in
+      let within = Stands-within stands spot with.stands_there in
+      let here : h ≡ get_or handles spot h = rw same at found.1.1 in
+      differs (is ∙ get_or_default handles spot other h (omega (arith, within, beside)) ∙ sym here)
+
+module _ (handles : List Handle) (keys : List ℕ) (stands : List Bool) (spots : List ℕ) (beside : length stands ≡ length handles) (keys_beside : length keys ≡ length handles) (led : LeadBack handles stands spots) (slot spot : ℕ) (with : IsSpotWith handles stands slot spot) where
+  -- another key beside a row
+  pub other_key : (key : ℕ) → kept stands (set keys spot key) ≡ set (kept stands keys) (place_in (kept stands handles) slot) key
+  other_key key =
+      kept-set stands keys spot key (omega (arith, beside, keys_beside)) with.stands_there ∙ ap (λ p. set (kept stands keys) p key) (sym (spot-place_in handles stands beside spots led slot spot with))
+
+  pub anew : (cells cells' : List (Cell Row)) (key : ℕ) → key ≡ key_at cells' (get_or (kept stands handles) (place_in (kept stands handles) slot) no_handle) → ((h : Handle) → h.slot ≢ slot → key_at cells' h ≡ key_at cells h) → RemembersKeys cells (kept stands handles) (kept stands keys) → RemembersKeys cells' (kept stands handles) (kept stands (set keys spot key))
+  anew cells cells' key is others r =
+      let rows = kept stands handles in
+      let place = place_in rows slot in
+      let within : place < length rows = place_in-within rows slot (spot-times handles stands beside slot spot with) in
+      rw (other_key key) (RemembersKeys-anew cells cells' rows (kept stands keys) place key is (λ k d k_within ne.
+      others (get_or rows k d) (λ same.
+      let at_k : (get_or rows k no_handle).slot ≡ slot = ap (λ (h : Handle). h.slot) (get_or_default rows k no_handle d k_within) ∙ same in
+      ne (kept-apart handles stands spots beside led k place k_within within (at_k ∙ sym (place_in-slot rows slot no_handle within))))) r)
+
+  -- a hole where it stood
+  pub struck : {X : Type 0} (xs : List X) → length stands ≡ length xs → kept (set stands spot false) xs ≡ remove (kept stands xs) (place_in (kept stands handles) slot)
+  struck xs xs_beside =
+      kept-hole stands xs spot xs_beside with.stands_there ∙ ap (λ p. remove (kept stands xs) p) (sym (spot-place_in handles stands beside spots led slot spot with))
+
+-- a key that is remembered beside a row is right at its spot
+pub KnowKeys-kept : (cells : List (Cell Row)) (handles : List Handle) (keys : List ℕ) (stands : List Bool) → length stands ≡ length handles → length keys ≡ length handles → RemembersKeys cells (kept stands handles) (kept stands keys) → KnowKeys cells handles keys stands
+KnowKeys-kept cells handles keys stands beside keys_beside r spot at =
+    rw (kept-at stands handles spot no_handle beside at, kept-at stands keys spot 0 (omega (arith, beside, keys_beside)) at) at (r.right (place_at stands spot) no_handle (place-within handles stands beside spot at))
+
+module _ (range : Range) (cells : List (Cell Row)) (handles : List Handle) (stands : List Bool) (beside : length stands ≡ length handles) where
+  -- what no row between two spots has, none has between their places
+  missed-NoneIn : (start end : ℕ) → IsMissed range cells handles stands start end → place_at stands end ≤ length (kept stands handles) → NoneIn range (keys_at cells (kept stands handles)) (place_at stands start) (place_at stands end)
+  missed-NoneIn start end missed short k after before inside =
+      let within : k < length (kept stands handles) = omega (arith, before, short) in
+      let s = spot_of stands k (omega (arith, within, length-kept stands handles beside)) in
+      let key : get_or (keys_at cells (kept stands handles)) k 0 ≡ key_at cells (get_or handles s.spot no_handle) =
+      keys_at-StandsAt cells (kept stands handles) k _ (StandsAt-get_or (kept stands handles) k no_handle within) ∙ ap (key_at cells) (kept-at_place stands handles k no_handle beside s) in
+      let from_on : start ≤ s.spot = elim (cases_lt s.spot start) [
+        | inl l ↦ absurd (omega (arith, place_at-before stands s.spot start s.stands l, s.is, after))
+        | inr m ↦ m
+      ] in
+      let up_to : s.spot < end = elim (cases_lt s.spot end) [
+        | inl l ↦ l
+        | inr m ↦ absurd (omega (arith, place_at-le stands end s.spot m, s.is, before))
+      ] in
+      missed s.spot from_on up_to s.stands (rw key at inside)
+
+  pub finds-none : (start : ℕ) → IsMissed range cells handles stands start (length handles) → NoneIn range (keys_at cells (kept stands handles)) (place_at stands start) (length (keys_at cells (kept stands handles)))
+  finds-none start missed =
+      let long = length-kept stands handles beside in
+      let end : length (keys_at cells (kept stands handles)) ≡ place_at stands (length handles) = length-keys_at cells (kept stands handles) ∙ long ∙ ap (place_at stands) beside in
+      rw end (missed-NoneIn start (length handles) missed (omega (arith, end, length-keys_at cells (kept stands handles))))
+
+  pub finds-some : (start spot : ℕ) → IsHit range cells handles stands start (length handles) spot → IsFirstIn range (keys_at cells (kept stands handles)) (place_at stands start) (place_at stands spot)
+  finds-some start spot hit =
+      let within = place-within handles stands beside spot hit.stands_there in
+      let key : get_or (keys_at cells (kept stands handles)) (place_at stands spot) 0 ≡ key_at cells (get_or handles spot no_handle) =
+      keys_at-StandsAt cells (kept stands handles) (place_at stands spot) _ (StandsAt-get_or (kept stands handles) (place_at stands spot) no_handle within) ∙ ap (key_at cells) (kept-at stands handles spot no_handle beside hit.stands_there) in
+      record {
+        after = place_at-le stands start spot hit.after;
+        within = omega (arith, within, length-keys_at cells (kept stands handles));
+        holds = rw key (hit.holds);
+        before = missed-NoneIn start spot hit.before (omega (arith, within));
+      }
+
+module _ (handles : List Handle) (keys : List ℕ) (stands : List Bool) (spots : List ℕ) (rows hint_place hint_spot : ℕ) (are : AreKept handles keys stands spots rows hint_place hint_spot) where
+  -- a hole more
+  pub kept_hole : (spot hint_place' hint_spot' : ℕ) → Stands stands spot → hint_spot' ≤ length handles → hint_place' ≡ place_at (set stands spot false) hint_spot' → AreKept handles keys (set stands spot false) spots (rows - 1) hint_place' hint_spot'
+  kept_hole spot hint_place' hint_spot' at near hinted =
+      let within = Stands-within stands spot at in
+      let long = length-set stands spot false in
+      let less = place_at-hole_before stands spot (length stands) at within in
+      let less' : place_at (set stands spot false) (length (set stands spot false)) + 1 ≡ place_at stands (length stands) = rw long less in
+      record {
+        keys_beside = are.keys_beside;
+        stands_beside = long ∙ are.stands_beside;
+        counted = omega (arith, are.counted, less');
+        few = are.few;
+        led = λ other there. elim (cases_eq other spot) [
+          | inl e ↦ absurd (true≢false (sym there ∙ rw e (get_or-set_same stands spot false false within)))
+          | inr ne ↦ are.led other (sym (get_or-set_other stands spot other false false ne) ∙ there)
+        ];
+        near = near;
+        hinted = hinted;
+      }
+
+  -- a row more, behind all spots
+  pub kept_more : (h : Handle) (key : ℕ) → length handles < 2 ^ 32 → h.slot < length spots → times h.slot (slots (kept stands handles)) ≡ 0 → AreKept (handles ++ h ∷ []) (keys ++ key ∷ []) (stands ++ true ∷ []) (set spots h.slot (length handles)) (rows + 1) hint_place hint_spot
+  kept_more h key few covered absent =
+      let long = length-append handles (h ∷ []) in
+      let stands_long = length-append stands (true ∷ []) in
+      let whole : length (stands ++ true ∷ []) ≡ length stands + 1 = omega (arith, stands_long) in
+      let there : get_or (stands ++ true ∷ []) (length stands) false ≡ true = get_or_push stands true false (length stands) refl in
+      let more : place_at (stands ++ true ∷ []) (length stands + 1) ≡ place_at (stands ++ true ∷ []) (length stands) + 1 = rw there at (place_at-more (stands ++ true ∷ []) (length stands) (omega (arith, whole))) in
+      let before = place_at-push stands true (length stands) (omega arith) in
+      record {
+        keys_beside = omega (arith, are.keys_beside, long, length-append keys (key ∷ []));
+        stands_beside = omega (arith, are.stands_beside, long, stands_long);
+        counted = rw whole (omega (arith, are.counted, more, before));
+        few = omega (arith, few, long);
+        led = λ spot at. elim (cases_eq spot (length handles)) [
+          | inl e ↦ rw (e, get_or_push handles h no_handle (length handles) refl) (record {
+            covered = omega (arith, covered, length-set spots h.slot (length handles));
+            is = get_or-set_same spots h.slot (length handles) 0 covered;
+          })
+          | inr ne ↦
+              let inside : spot < length handles = omega (arith, Stands-within (stands ++ true ∷ []) spot at, whole, are.stands_beside, ne) in
+              let old : Stands stands spot = sym (get_or_append_left stands (true ∷ []) false spot (omega (arith, inside, are.stands_beside))) ∙ at in
+              let one = are.led spot old in
+              let other : (get_or handles spot no_handle).slot ≢ h.slot = λ e.
+              absurd (omega (arith, absent, spot-times handles stands are.stands_beside h.slot spot (record { stands_there = old; of = e }))) in
+              rw (get_or_append_left handles (h ∷ []) no_handle spot inside) (record {
+                covered = omega (arith, one.covered, length-set spots h.slot (length handles));
+                is = get_or-set_other spots h.slot (get_or handles spot no_handle).slot (length handles) 0 other ∙ one.is;
+              })
+        ];
+        near = omega (arith, are.near, long);
+        hinted = are.hinted ∙ sym (place_at-push stands true hint_spot (omega (arith, are.near, are.stands_beside)));
+      }
+
+  -- another key beside
+  pub kept_key : (spot key : ℕ) → AreKept handles (set keys spot key) stands spots rows hint_place hint_spot
+  kept_key spot key = record {
+    keys_beside = length-set keys spot key ∙ are.keys_beside;
+    stands_beside = are.stands_beside;
+    counted = are.counted;
+    few = are.few;
+    led = are.led;
+    near = are.near;
+    hinted = are.hinted;
+  }
+
+  -- more cells covered
+  pub kept_covered : (spots' : List ℕ) → length spots ≤ length spots' → ((k : ℕ) → k < length spots → get_or spots' k 0 ≡ get_or spots k 0) → AreKept handles keys stands spots' rows hint_place hint_spot
+  kept_covered spots' longer same = record {
+    keys_beside = are.keys_beside;
+    stands_beside = are.stands_beside;
+    counted = are.counted;
+    few = are.few;
+    led = λ spot at. let one = are.led spot at in record {
+      covered = omega (arith, one.covered, longer);
+      is = same (get_or handles spot no_handle).slot one.covered ∙ one.is;
+    };
+    near = are.near;
+    hinted = are.hinted;
+  }
+
+-- lists that are the same, and the room
+pub same_view : (hs hs' : List Handle) (ks ks' : List ℕ) (room covered covered' : ℕ) → hs ≡ hs' → ks ≡ ks' → covered ≡ covered' → (let now : Pending = record { handles = hs; keys = ks; room = room; covered = covered } in let old : Pending = record { handles = hs'; keys = ks'; room = room; covered = covered' } in now ≡ old)
+same_view hs hs' ks ks' room covered covered' e f g = rw (e, f, g) refl
+
+pub view_after : (hs hs' : List Handle) (ks ks' : List ℕ) (room room' covered covered' : ℕ) → hs ≡ hs' → ks ≡ ks' → room ≡ room' → covered ≡ covered' → (let now : Pending = record { handles = hs; keys = ks; room = room; covered = covered } in let old : Pending = record { handles = hs'; keys = ks'; room = room'; covered = covered' } in now ≡ old)
+view_after hs hs' ks ks' room room' covered covered' e f h g = rw (e, f, h, g) refl
+
+-- fewer spots and more memory: no less room
+pub room-more : (n n' h h' k k' s s' : ℕ) → n' ≤ n → h ≤ h' → k ≤ k' → s ≤ s' → room_in n h k s ≤ room_in n' h' k' s'
+room-more n n' h h' k k' s s' a b c d = omega (arith, a, b, c, d)
+
+pub room-enough : (n more h k s : ℕ) → n + more ≤ 2 ^ 32 → n + more ≤ h → n + more ≤ k → n + more ≤ s → more ≤ room_in n h k s
+room-enough n more h k s a b c d = omega (arith, a, b, c, d)
+
+pub room-less : (n h k s : ℕ) → room_in (n + 1) h k s ≡ room_in n h k s - 1
+room-less n h k s = omega arith
+
+pub room-some : (n h k s : ℕ) → 0 < room_in n h k s → (n < 2 ^ 32) × (n < h) × (n < k) × (n < s)
+room-some n h k s some = (omega (arith, some), omega (arith, some), omega (arith, some), omega (arith, some))
+
+-- what follows from three things, where all is well
+pub OnOk_three : {A E : Type 0} (r : Result A E) (P Q R S : Type 0) → OnOk r P → OnOk r Q → OnOk r R → (P → Q → R → S) → OnOk r S
+OnOk_three (Ok x) P Q R S p q s f = f p q s
+OnOk_three (Err e) P Q R S p q s f = tt
+
+pub handle-is : (h k : Handle) → h.slot ≡ k.slot → h.generation ≡ k.generation → h ≡ k
+handle-is h k e f = rw (e, f) refl
+
+-- what a look for a slot says of the list
+pub contained : (handles : List Handle) (stands : List Bool) → length stands ≡ length handles → (slot : ℕ) (found : Option ℕ) (b : Bool) → MatchOption found (IsNowhere handles stands slot) (λ spot. IsSpotWith handles stands slot spot) → b ≡ is_some found → (IsTrue b → 0 < times slot (slots (kept stands handles))) × (0 < times slot (slots (kept stands handles)) → IsTrue b)
+contained handles stands beside slot None b nowhere e = (
+  λ is. absurd (true≢false (sym is ∙ e)),
+  λ some. absurd (omega (arith, some, nowhere-times handles stands beside slot nowhere)),
+)
+contained handles stands beside slot (Some spot) b with e = (λ _. spot-times handles stands beside slot spot with, λ _. e)
+
+-- where holes are closed up
+pub record IsClosed (handles : List Handle) (keys : List ℕ) (stands : List Bool) (spots : List ℕ) (rows : ℕ) (handles' : List Handle) (keys' : List ℕ) (stands' : List Bool) (spots' : List ℕ) : Type 0 where
+  pub handles_are : handles' ≡ kept stands handles
+  pub keys_are : keys' ≡ kept stands keys
+  pub long : length stands' ≡ rows
+  pub full : place_at stands' rows ≡ rows
+  pub led : LeadBack handles' stands' spots'
+
+module _ (handles : List Handle) (keys : List ℕ) (stands : List Bool) (spots : List ℕ) (rows hint_place hint_spot : ℕ) (are : AreKept handles keys stands spots rows hint_place hint_spot) (handles' : List Handle) (keys' : List ℕ) (stands' : List Bool) (spots' : List ℕ) (closed : IsClosed handles keys stands spots rows handles' keys' stands' spots') where
+  closed-beside : length stands' ≡ length handles'
+  closed-beside = closed.long ∙ are.counted ∙ sym (length-kept stands handles are.stands_beside) ∙ ap length (sym closed.handles_are)
+
+  closed-keys_beside : length keys' ≡ length handles'
+  closed-keys_beside =
+      ap length closed.keys_are ∙ length-kept stands keys (omega (arith, are.stands_beside, are.keys_beside)) ∙ sym (length-kept stands handles are.stands_beside) ∙ ap length (sym closed.handles_are)
+
+  closed-full : place_at stands' (length stands') ≡ length stands'
+  closed-full = rw (closed.long) closed.full
+
+  pub closed-fewer : length handles' ≤ length handles
+  closed-fewer =
+      omega (arith, closed-beside, closed.long, are.counted, place_at-few stands (length stands), are.stands_beside)
+
+  pub closed-rows : length handles' ≡ rows
+  closed-rows = sym closed-beside ∙ closed.long
+
+  pub closed-kept : AreKept handles' keys' stands' spots' rows 0 0
+  closed-kept = record {
+    keys_beside = closed-keys_beside;
+    stands_beside = closed-beside;
+    counted = sym closed.long ∙ sym closed-full;
+    few = omega (arith, closed-fewer, are.few);
+    led = closed.led;
+    near = omega arith;
+    hinted = refl;
+  }
+
+  pub closed-handles : kept stands' handles' ≡ kept stands handles
+  closed-handles = kept-full stands' handles' closed-beside closed-full ∙ closed.handles_are
+
+  pub closed-keys : kept stands' keys' ≡ kept stands keys
+  closed-keys = kept-full stands' keys' (closed-beside ∙ sym closed-keys_beside) closed-full ∙ closed.keys_are

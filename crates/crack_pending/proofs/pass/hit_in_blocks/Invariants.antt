@@ -1,0 +1,13 @@
+use Rattle.std.proofs.Common.{◌-◌, ◌≤◌, length}
+use Rattle.crack_pending.specs.Spots.{IsMissed}
+use Rattle.crack_pending.proofs.pass.hit_in_blocks.Given as goal
+
+abbrev pub invariant-far : goal.invariant-far
+invariant-far l = record {
+  after : l.from ≤ l.spot;
+  within : l.spot ≤ length l.handles;
+  missed : IsMissed l.range l.arena.cells l.handles l.stands l.from l.spot;
+}
+
+abbrev pub decreases-far : goal.decreases-far
+decreases-far l = length l.handles - l.spot

@@ -1,0 +1,18 @@
+use Rattle.std.proofs.Common.{arith}
+use Rattle.crack_pending.proofs.Kept.{length-kept}
+use Rattle.crack_pending.proofs.Views.{place-StandsAt}
+use Rattle.crack_pending.proofs.spots.SpotList.at.Goals as goal
+
+pub spot_of-requires-clause-within : goal.spot_of-requires-clause-within
+spot_of-requires-clause-within c =
+    let a = c.self.invariant in
+    let within = rw (← c.self.view_is) at c.requires in
+    omega (arith, within, length-kept c.self.inside.stands.items c.self.inside.handles.items a.stands_beside, a.counted)
+
+pub returns : goal.returns
+returns c =
+    let a = c.self.invariant in
+    let stands = rw (c.deref.ensures.value) at c.spot_of.ensures.stands in
+    let place = rw (c.deref.ensures.value) at c.spot_of.ensures.place in
+    let there = place-StandsAt c.self.inside.handles.items c.self.inside.stands.items a.stands_beside c.spot_of.result c.index.result.now stands c.index.ensures in
+    rw (← c.self.view_is) (rw place at there)

@@ -1,0 +1,54 @@
+use Rattle.std.proofs.Common.{◌≡◌, ◌+◌, ◌-◌, ◌∷◌, [], ◌++◌, length, vec_capacity, ap, inl, inr, ◌∙◌, arith, length-append, length-set}
+use Rattle.crack_arena.proofs.Remembering.{RemembersKeys-append}
+use Rattle.crack_pending.specs.Spots.{kept, room_in}
+use Rattle.crack_pending.proofs.Kept.{kept-push, place_at-few}
+use Rattle.crack_pending.proofs.Views.{kept_more, view_after, room-less, room-some}
+use Rattle.crack_pending.proofs.spots.SpotList.push.Goals as goal
+
+pub overflow_add-self : goal.overflow_add-self
+overflow_add-self c =
+    let a = c.self.invariant in
+    omega (arith, a.counted, a.stands_beside, a.few, place_at-few c.self.inside.stands.items (length c.self.inside.stands.items))
+
+pub invariant_of-self : goal.invariant_of-self
+invariant_of-self c =
+    let a = c.self.invariant in
+    let i = c.self.inside in
+    let room = rw (← c.self.view_is) at c.requires.room in
+    let covered = rw (← c.self.view_is) at c.requires.covered in
+    let absent = rw (← c.self.view_is) at c.requires.absent in
+    let long : c.len.result ≡ length i.handles.items = omega (arith, c.len.ensures) in
+    rw (c.push_reserved.ensures.items, c.push_reserved-2.ensures.items, c.push_reserved-3.ensures.items, c.slot.ensures, long)
+    (kept_more i.handles.items i.keys.items i.stands.items i.spots.items i.rows i.hint_place i.hint_spot a c.args.handle c.args.key (room-some _ _ _ _ room).0 covered absent)
+
+pub returns-clause-after : goal.returns-clause-after
+returns-clause-after c =
+    let a = c.self.invariant in
+    let i = c.self.inside in
+    let h = c.args.handle in
+    let handles : kept c.push_reserved-3.new.self.items c.push_reserved.new.self.items ≡ kept i.stands.items i.handles.items ++ h ∷ [] =
+    rw (c.push_reserved.ensures.items, c.push_reserved-3.ensures.items) (kept-push i.stands.items i.handles.items h a.stands_beside) in
+    let keys : kept c.push_reserved-3.new.self.items c.push_reserved-2.new.self.items ≡ kept i.stands.items i.keys.items ++ c.args.key ∷ [] =
+    rw (c.push_reserved-2.ensures.items, c.push_reserved-3.ensures.items) (kept-push i.stands.items i.keys.items c.args.key (omega (arith, a.stands_beside, a.keys_beside))) in
+    let long : length c.push_reserved.new.self.items ≡ length i.handles.items + 1 = ap length c.push_reserved.ensures.items ∙ omega (arith, length-append i.handles.items (h ∷ [])) in
+    let room : room_in (length c.push_reserved.new.self.items) (vec_capacity c.push_reserved.new.self) (vec_capacity c.push_reserved-2.new.self) (vec_capacity c.push_reserved-3.new.self) ≡ room_in (length i.handles.items) (vec_capacity i.handles) (vec_capacity i.keys) (vec_capacity i.stands) - 1 =
+    rw (long, c.push_reserved.ensures.capacity, c.push_reserved-2.ensures.capacity, c.push_reserved-3.ensures.capacity) (room-less (length i.handles.items) (vec_capacity i.handles) (vec_capacity i.keys) (vec_capacity i.stands)) in
+    rw (← c.self.view_is) (view_after _ _ _ _ _ _ _ _ handles keys room (length-set i.spots.items c.slot.result c.len.result))
+
+pub returns-clause-remembered : goal.returns-clause-remembered
+returns-clause-remembered c = λ cells is r.
+    let a = c.self.invariant in
+    let i = c.self.inside in
+    let known = rw (← c.self.view_is) at r in
+    let beside : length i.stands.items ≡ length i.keys.items = omega (arith, a.stands_beside, a.keys_beside) in
+    rw (c.push_reserved.ensures.items, c.push_reserved-2.ensures.items, c.push_reserved-3.ensures.items, kept-push i.stands.items i.handles.items c.args.handle a.stands_beside, kept-push i.stands.items i.keys.items c.args.key beside)
+    (RemembersKeys-append cells (kept i.stands.items i.handles.items) (kept i.stands.items i.keys.items) c.args.handle c.args.key (inr is) known)
+
+pub returns-clause-forgotten : goal.returns-clause-forgotten
+returns-clause-forgotten c = λ is cells r.
+    let a = c.self.invariant in
+    let i = c.self.inside in
+    let known = rw (← c.self.view_is) at r in
+    let beside : length i.stands.items ≡ length i.keys.items = omega (arith, a.stands_beside, a.keys_beside) in
+    rw (c.push_reserved.ensures.items, c.push_reserved-2.ensures.items, c.push_reserved-3.ensures.items, kept-push i.stands.items i.handles.items c.args.handle a.stands_beside, kept-push i.stands.items i.keys.items c.args.key beside)
+    (RemembersKeys-append cells (kept i.stands.items i.handles.items) (kept i.stands.items i.keys.items) c.args.handle c.args.key (inl is) known)

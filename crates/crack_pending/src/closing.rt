@@ -1,0 +1,93 @@
+//! How holes are closed up.
+ghost use Rattle.std.specs.Prelude.{◌≡◌, ◌+◌, ◌<◌, ◌≤◌, ◌^◌, ℕ, length, vec_len, vec_capacity, All};
+ghost use Rattle.crack_arena.specs.Arena.{Handle as Name};
+ghost use Rattle.crack_pending.specs.Spots.{kept, place_at, LeadBack, AreLed, AreApart};
+
+use crate::spots::StoredKey;
+use crack_arena::Handle;
+use crack_row::Row;
+
+/// Closes all holes up: the rows stand in their order without any, and each cell leads to the new spot. O(spots).
+pub(crate) fn close_up(
+    handles: &mut Vec<Handle<Row>>,
+    keys: &mut Vec<StoredKey>,
+    stands: &mut Vec<bool>,
+    spots: &mut Vec<u32>,
+    rows: usize,
+)
+    requires keys { vec_len keys.old ≡ vec_len handles.old }
+    requires stands { vec_len stands.old ≡ vec_len handles.old }
+    requires rows { rows ≡ place_at stands.old.items (vec_len stands.old) }
+    requires few { vec_len handles.old ≤ 2 ^ 32 }
+    requires led { LeadBack handles.old.items stands.old.items spots.old.items }
+    ensures handles { handles.new.items ≡ kept stands.old.items handles.old.items }
+    ensures keys { keys.new.items ≡ kept stands.old.items keys.old.items }
+    ensures rows { vec_len stands.new ≡ rows }
+    ensures full { place_at stands.new.items rows ≡ rows }
+    ensures led { LeadBack handles.new.items stands.new.items spots.new.items }
+    ensures covered { vec_len spots.new ≡ vec_len spots.old }
+    ensures handle_capacity { vec_capacity handles.new ≡ vec_capacity handles.old }
+    ensures key_capacity { vec_capacity keys.new ≡ vec_capacity keys.old }
+    ensures stand_capacity { vec_capacity stands.new ≡ vec_capacity stands.old }
+{
+    close_up_handles(handles, stands);
+    close_up_keys(keys, stands);
+    close_up_marks(stands, rows);
+    lead_back(spots, handles);
+}
+
+/// Moves the handles of rows to the front, in order.
+fn close_up_handles(handles: &mut Vec<Handle<Row>>, stands: &[bool])
+    requires { length stands.now ≡ vec_len handles.old }
+    ensures kept { handles.new.items ≡ kept stands.now handles.old.items }
+    ensures capacity { vec_capacity handles.new ≡ vec_capacity handles.old }
+{
+    let mut low = 0;
+    'spots: for spot in 0..stands.len() {
+        if stands[spot] {
+            handles[low] = handles[spot];
+            low += 1;
+        }
+    }
+    handles.truncate(low);
+}
+
+/// Moves the keys beside rows to the front, in order.
+fn close_up_keys(keys: &mut Vec<StoredKey>, stands: &[bool])
+    requires { length stands.now ≡ vec_len keys.old }
+    ensures kept { keys.new.items ≡ kept stands.now keys.old.items }
+    ensures capacity { vec_capacity keys.new ≡ vec_capacity keys.old }
+{
+    let mut low = 0;
+    'spots: for spot in 0..stands.len() {
+        if stands[spot] {
+            keys[low] = keys[spot];
+            low += 1;
+        }
+    }
+    keys.truncate(low);
+}
+
+/// Marks so many spots, and no more, as those of rows.
+fn close_up_marks(stands: &mut Vec<bool>, rows: usize)
+    requires { rows ≤ vec_len stands.old }
+    ensures length { vec_len stands.new ≡ rows }
+    ensures full { place_at stands.new.items rows ≡ rows }
+    ensures capacity { vec_capacity stands.new ≡ vec_capacity stands.old }
+{
+    stands.truncate(rows);
+    stands.fill(true);
+}
+
+/// Lets the cell of each handle lead to its spot.
+fn lead_back(spots: &mut Vec<u32>, handles: &[Handle<Row>])
+    requires few { length handles.now ≤ 2 ^ 32 }
+    requires covered { All (λ (h : Name). h.slot < vec_len spots.old) handles.now }
+    requires apart { AreApart handles.now }
+    ensures led { AreLed handles.now spots.new.items (length handles.now) }
+    ensures covered { vec_len spots.new ≡ vec_len spots.old }
+{
+    'spots: for spot in 0..handles.len() {
+        spots[handles[spot].slot() as usize] = spot as u32;
+    }
+}

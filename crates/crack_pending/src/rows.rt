@@ -1,0 +1,99 @@
+//! Spots at which a row stands, counted: the place of a row is how many stand before it.
+ghost use Rattle.std.specs.Prelude.{◌≡◌, ◌+◌, ◌<◌, ◌≤◌, length};
+ghost use Rattle.crack_pending.specs.Spots.{place_at, Stands};
+
+/// Counted at once, in 8 bits.
+const BLOCK: usize = 64;
+
+/// How many rows stand at a few spots.
+fn rows_in_block(stands: &[bool]) -> u8
+    requires { length stands.now < 256 }
+    ensures { result ≡ place_at stands.now (length stands.now) }
+{
+    let mut rows = 0u8;
+    'spots: for spot in 0..stands.len() {
+        rows += stands[spot] as u8;
+    }
+    rows
+}
+
+/// How many rows stand from one spot up to another.
+pub(crate) fn rows_between(stands: &[bool], from: usize, to: usize) -> usize
+    requires order { from ≤ to }
+    requires within { to ≤ length stands.now }
+    ensures { place_at stands.now to ≡ place_at stands.now from + result }
+{
+    let mut rows = 0;
+    let mut spot = from;
+    'far: while BLOCK < to - spot {
+        rows += rows_in_block(&stands[spot..spot + BLOCK]) as usize;
+        spot += BLOCK;
+    }
+    rows + rows_in_block(&stands[spot..to]) as usize
+}
+
+/// A spot with so many rows before it, from which it is less than a block to the row at the place; and how many these are.
+fn skip_blocks(stands: &[bool], before: usize, from: usize, place: usize) -> (usize, usize)
+    requires before { before ≡ place_at stands.now from }
+    requires order { before ≤ place }
+    requires within { place < place_at stands.now (length stands.now) }
+    ensures before { result.1 ≡ place_at stands.now result.0 }
+    ensures order { result.1 ≤ place }
+{
+    let mut rows = before;
+    let mut spot = from;
+    'far: while spot < stands.len() && BLOCK < stands.len() - spot {
+        let more = rows_in_block(&stands[spot..spot + BLOCK]) as usize;
+        if place - rows < more {
+            return (spot, rows);
+        }
+        rows += more;
+        spot += BLOCK;
+    }
+    (spot, rows)
+}
+
+/// The spot of the row at the place, from a spot on that has so many rows before it.
+fn spot_from(stands: &[bool], before: usize, from: usize, place: usize) -> usize
+    requires before { before ≡ place_at stands.now from }
+    requires order { before ≤ place }
+    requires within { place < place_at stands.now (length stands.now) }
+    ensures stands { Stands stands.now result }
+    ensures place { place_at stands.now result ≡ place }
+{
+    let (near, rows_before) = skip_blocks(stands, before, from, place);
+    let mut spot = near;
+    let mut rows = rows_before;
+    'spots: loop {
+        let here = stands[spot];
+        if here && rows == place {
+            return spot;
+        }
+        rows += here as usize;
+        spot += 1;
+    }
+}
+
+/// The spot of the row at the place. O(1) where there are no holes; else the rows are counted, from the spot that is told if
+/// the place isn't before it.
+pub(crate) fn spot_of(
+    stands: &[bool],
+    rows: usize,
+    before: usize,
+    from: usize,
+    place: usize,
+) -> usize
+    requires rows { rows ≡ place_at stands.now (length stands.now) }
+    requires before { before ≡ place_at stands.now from }
+    requires within { place < rows }
+    ensures stands { Stands stands.now result }
+    ensures place { place_at stands.now result ≡ place }
+{
+    if rows == stands.len() {
+        place
+    } else if before <= place {
+        spot_from(stands, before, from, place)
+    } else {
+        spot_from(stands, 0, 0, place)
+    }
+}

@@ -1,0 +1,384 @@
+//! A list that leaves a hole where a row goes.
+ghost use Rattle.std.specs.Prelude.{◌≡◌, ◌+◌, ◌-◌, ◌<◌, ◌≤◌, ◌^◌, ◌↔◌, ◌∷◌, [], ◌++◌, ℕ, length, All, IsTrue, MatchOption, false, IfErr, OnOk, OnErr, slice_set, slice_index, slice_index_or, vec_len, vec_capacity};
+ghost use Rattle.std.specs.List.{remove};
+ghost use Rattle.crack_arena.specs.Rows.{keys_at, unknown, RemembersKeys};
+ghost use Rattle.crack_arena.specs.Arena.{StandsAt, IsFirstAt, IsAbsent, times, slots, place_in, no_handle};
+ghost use Rattle.crack_pending.specs.Pending.{Finds, StillRemembersKeys, RemembersOneMore, RemembersAnew};
+ghost use Rattle.crack_pending.specs.Spots.{place_at, Stands, LeadBack, IsNowhere, IsSpotWith};
+
+use crate::closing::close_up;
+use crate::pass::first_hit;
+use crate::rows::{rows_between, spot_of};
+use crack_arena::{Arena, Handle};
+use crack_row::{KeyRange, Refusal, Row};
+use std::alloc::Global;
+use std::marker::Model;
+
+/// What stands beside a handle.
+pub(crate) type StoredKey = u32;
+
+/// Stands for a key that isn't remembered. A row with this very key is always looked up.
+pub(crate) const UNKNOWN: StoredKey = StoredKey::MAX;
+
+/// A spot is numbered by 32 bits.
+const MOST_SPOTS: usize = 4294967296;
+
+/// Handles in the order of their arrival, each at a spot of its own, and holes where rows went. A hole keeps its handle and
+/// its key, which nobody reads; a mark beside tells it from a row.
+#[derive(Drop)]
+pub(crate) struct SpotList {
+    handles: Vec<Handle<Row>>,
+    keys: Vec<StoredKey>,
+    /// Whether a row stands at the spot.
+    stands: Vec<bool>,
+    /// How many rows stand.
+    rows: usize,
+    /// By cell number: the spot of its handle, if it has one here.
+    spots: Vec<u32>,
+    /// How many rows stand before `hint_spot`, from which the next look for a place goes on.
+    hint_place: usize,
+    hint_spot: usize,
+}
+
+impl Model for SpotList {
+    ghost use Rattle.std.specs.Prelude.{length, vec_len, vec_capacity};
+    ghost use Rattle.crack_pending.specs.Pending.{Pending};
+    ghost use Rattle.crack_pending.specs.Spots.{kept, room_in, AreKept};
+
+    ghost Value = { Pending };
+
+    ghost view = { λ l. record {
+      handles = kept l.stands.items l.handles.items;
+      keys = kept l.stands.items l.keys.items;
+      room = room_in (length l.handles.items) (vec_capacity l.handles) (vec_capacity l.keys) (vec_capacity l.stands);
+      covered = length l.spots.items;
+    } };
+
+    ghost invariant = { λ l. AreKept l.handles.items l.keys.items l.stands.items l.spots.items l.rows l.hint_place l.hint_spot };
+}
+
+impl SpotList {
+    pub(crate) fn new(alloc: Global) -> SpotList
+        ensures { result ≡ record { handles = []; keys = []; room = 0; covered = 0 } }
+    {
+        SpotList {
+            handles: Vec::new(alloc),
+            keys: Vec::new(alloc),
+            stands: Vec::new(alloc),
+            rows: 0,
+            spots: Vec::new(alloc),
+            hint_place: 0,
+            hint_spot: 0,
+        }
+    }
+
+    pub(crate) fn facts(&self)
+        ensures once { (slot : ℕ) → times slot (slots self.now.handles) ≤ 1 }
+        ensures covered { All (λ h. h.slot < self.now.covered) self.now.handles }
+        ensures beside { length self.now.keys ≡ length self.now.handles }
+    {
+        let _ = &self.handles;
+    }
+
+    pub(crate) fn len(&self) -> usize
+        ensures { result ≡ length self.now.handles }
+    {
+        self.rows
+    }
+
+    /// How many more spots need no memory.
+    fn room(&self) -> usize
+        ensures { result ≡ self.now.room }
+    {
+        MOST_SPOTS
+            .min(
+                self.handles
+                    .capacity()
+                    .min(self.keys.capacity().min(self.stands.capacity())),
+            )
+            .saturating_sub(self.handles.len())
+    }
+
+    /// Closes all holes up before it grows; then it makes room for half as many more, so that n pushes cost O(n) however many
+    /// rows go between them.
+    pub(crate) fn reserve(&mut self, additional: usize) -> Result<(), Refusal>
+        requires { length self.old.handles + additional ≤ 2 ^ 32 }
+        ensures same { self.new ≡ record self.old { room = self.new.room } }
+        ensures room { OnOk result (additional ≤ self.new.room) }
+        ensures kept { self.old.room ≤ self.new.room }
+        ensures full { OnErr result (self.old.room < additional) }
+        ensures err { IfErr result (λ e. e ≡ Refusal.OutOfMemory) }
+        ensures remembered { StillRemembersKeys self.old self.new }
+    {
+        if additional <= self.room() {
+            return Ok(());
+        }
+        close_up(
+            &mut self.handles,
+            &mut self.keys,
+            &mut self.stands,
+            &mut self.spots,
+            self.rows,
+        );
+        self.hint_place = 0;
+        self.hint_spot = 0;
+        let wanted = additional.max(self.rows / 2);
+        grow(&mut self.handles, &mut self.keys, &mut self.stands, wanted)
+    }
+
+    pub(crate) fn cover(&mut self, cells: usize) -> Result<(), Refusal>
+        ensures same { self.new ≡ record self.old { covered = self.new.covered } }
+        ensures covered { OnOk result (cells ≤ self.new.covered) }
+        ensures kept { self.old.covered ≤ self.new.covered }
+        ensures full { OnErr result (self.old.covered < cells) }
+        ensures unchanged { OnErr result (self.new ≡ self.old) }
+        ensures err { IfErr result (λ e. e ≡ Refusal.OutOfMemory) }
+        ensures remembered { StillRemembersKeys self.old self.new }
+    {
+        lengthen(&mut self.spots, cells)
+    }
+
+    pub(crate) fn push(&mut self, handle: Handle<Row>, key: StoredKey)
+        requires room { 0 < self.old.room }
+        requires covered { handle.slot < self.old.covered }
+        requires absent { times handle.slot (slots self.old.handles) ≡ 0 }
+        ensures after { self.new ≡ record self.old {
+          handles = self.old.handles ++ handle ∷ [];
+          keys = self.old.keys ++ key ∷ [];
+          room = self.old.room - 1;
+        } }
+        ensures remembered { RemembersOneMore handle key self.old self.new }
+        ensures forgotten { key ≡ unknown → StillRemembersKeys self.old self.new }
+    {
+        self.spots[handle.slot() as usize] = self.handles.len() as u32;
+        self.handles.push_reserved(handle);
+        self.keys.push_reserved(key);
+        self.stands.push_reserved(true);
+        self.rows += 1;
+    }
+
+    pub(crate) fn at(&self, place: usize) -> Handle<Row>
+        requires { place < length self.now.handles }
+        ensures { StandsAt self.now.handles place result }
+    {
+        self.handles[spot_of(
+            &self.stands,
+            self.rows,
+            self.hint_place,
+            self.hint_spot,
+            place,
+        )]
+    }
+
+    /// The next look for a place goes on from this one.
+    pub(crate) fn seek(&mut self, place: usize)
+        requires { place < length self.old.handles }
+        ensures { self.new ≡ self.old }
+    {
+        self.hint_spot = spot_of(
+            &self.stands,
+            self.rows,
+            self.hint_place,
+            self.hint_spot,
+            place,
+        );
+        self.hint_place = place;
+    }
+
+    pub(crate) fn take(&mut self, place: usize) -> Handle<Row>
+        requires { place < length self.old.handles }
+        ensures value { StandsAt self.old.handles place result }
+        ensures handles { self.new.handles ≡ remove self.old.handles place }
+        ensures keys { self.new.keys ≡ remove self.old.keys place }
+        ensures room { self.old.room ≤ self.new.room }
+        ensures covered { self.new.covered ≡ self.old.covered }
+        ensures remembered { StillRemembersKeys self.old self.new }
+    {
+        let spot = spot_of(
+            &self.stands,
+            self.rows,
+            self.hint_place,
+            self.hint_spot,
+            place,
+        );
+        let handle = self.handles[spot];
+        self.stands[spot] = false;
+        self.rows -= 1;
+        self.hint_place = place;
+        self.hint_spot = spot;
+        self.close_up_if_sparse();
+        handle
+    }
+
+    pub(crate) fn strike(&mut self, slot: u32)
+        requires { 0 < times slot (slots self.old.handles) }
+        ensures handles { self.new.handles ≡ remove self.old.handles (place_in self.old.handles slot) }
+        ensures keys { self.new.keys ≡ remove self.old.keys (place_in self.old.handles slot) }
+        ensures room { self.old.room ≤ self.new.room }
+        ensures covered { self.new.covered ≡ self.old.covered }
+        ensures remembered { StillRemembersKeys self.old self.new }
+    {
+        let Some(spot) = spot_with(&self.handles, &self.stands, &self.spots, slot) else {
+            return;
+        };
+        self.hint_place = hint_without(&self.stands, self.hint_place, self.hint_spot, spot);
+        self.stands[spot] = false;
+        self.rows -= 1;
+        self.close_up_if_sparse();
+    }
+
+    /// Closes holes up once there are as many as rows.
+    fn close_up_if_sparse(&mut self)
+        ensures same { self.new ≡ record self.old { room = self.new.room } }
+        ensures kept { self.old.room ≤ self.new.room }
+    {
+        if self.handles.len() - self.rows < self.rows {
+            return;
+        }
+        close_up(
+            &mut self.handles,
+            &mut self.keys,
+            &mut self.stands,
+            &mut self.spots,
+            self.rows,
+        );
+        self.hint_place = 0;
+        self.hint_spot = 0;
+    }
+
+    pub(crate) fn remember(&mut self, slot: u32, key: StoredKey)
+        requires { 0 < times slot (slots self.old.handles) }
+        ensures after { self.new ≡ record self.old { keys = slice_set self.old.keys (place_in self.old.handles slot) key } }
+        ensures remembered { RemembersAnew slot key self.old self.new }
+    {
+        if let Some(spot) = spot_with(&self.handles, &self.stands, &self.spots, slot) {
+            self.keys[spot] = key;
+        }
+    }
+
+    pub(crate) fn contains(&self, slot: u32) -> bool
+        ensures { IsTrue result ↔ (0 < times slot (slots self.now.handles)) }
+    {
+        spot_with(&self.handles, &self.stands, &self.spots, slot).is_some()
+    }
+
+    pub(crate) fn place_of(&self, handle: Handle<Row>) -> Option<usize>
+        ensures { MatchOption result (IsAbsent self.now.handles handle) (IsFirstAt self.now.handles handle) }
+    {
+        match spot_with(&self.handles, &self.stands, &self.spots, handle.slot()) {
+            Some(spot) => {
+                if self.handles[spot].generation() != handle.generation() {
+                    return None;
+                }
+                Some(place_of_spot(&self.stands, self.rows, spot))
+            }
+            None => None,
+        }
+    }
+
+    pub(crate) fn next_in(&self, range: KeyRange, from: usize, arena: &Arena<Row>) -> Option<usize>
+        requires { RemembersKeys arena.now.cells self.now.handles self.now.keys }
+        ensures { Finds range (keys_at arena.now.cells self.now.handles) from result }
+    {
+        if self.rows <= from {
+            return None;
+        }
+        let start = spot_of(
+            &self.stands,
+            self.rows,
+            self.hint_place,
+            self.hint_spot,
+            from,
+        );
+        match first_hit(&self.handles, &self.keys, &self.stands, start, range, arena) {
+            Some(spot) => Some(from + rows_between(&self.stands, start, spot)),
+            None => None,
+        }
+    }
+}
+
+/// Makes room for so many spots more.
+fn grow(
+    handles: &mut Vec<Handle<Row>>,
+    keys: &mut Vec<StoredKey>,
+    stands: &mut Vec<bool>,
+    additional: usize,
+) -> Result<(), Refusal>
+    ensures handles { handles.new.items ≡ handles.old.items }
+    ensures keys { keys.new.items ≡ keys.old.items }
+    ensures stands { stands.new.items ≡ stands.old.items }
+    ensures handle_room { OnOk result (vec_len handles.old + additional ≤ vec_capacity handles.new) }
+    ensures key_room { OnOk result (vec_len keys.old + additional ≤ vec_capacity keys.new) }
+    ensures stand_room { OnOk result (vec_len stands.old + additional ≤ vec_capacity stands.new) }
+    ensures handle_kept { vec_capacity handles.old ≤ vec_capacity handles.new }
+    ensures key_kept { vec_capacity keys.old ≤ vec_capacity keys.new }
+    ensures stand_kept { vec_capacity stands.old ≤ vec_capacity stands.new }
+    ensures err { IfErr result (λ e. e ≡ Refusal.OutOfMemory) }
+{
+    handles.reserve(additional)?;
+    keys.reserve(additional)?;
+    stands.reserve(additional)?;
+    Ok(())
+}
+
+/// Puts zeros at the end until there are so many numbers.
+fn lengthen(spots: &mut Vec<u32>, cells: usize) -> Result<(), Refusal>
+    ensures same { (k : ℕ) → k < vec_len spots.old → slice_index spots.new.items k ≡ slice_index spots.old.items k }
+    ensures long { OnOk result (cells ≤ vec_len spots.new) }
+    ensures kept { vec_len spots.old ≤ vec_len spots.new }
+    ensures full { OnErr result (vec_len spots.old < cells) }
+    ensures unchanged { OnErr result (spots.new.items ≡ spots.old.items) }
+    ensures err { IfErr result (λ e. e ≡ Refusal.OutOfMemory) }
+{
+    if cells <= spots.len() {
+        return Ok(());
+    }
+    spots.reserve(cells - spots.len())?;
+    'cells: while spots.len() < cells {
+        spots.push_reserved(0);
+    }
+    Ok(())
+}
+
+/// The spot of the row whose handle names the cell of this number.
+fn spot_with(handles: &[Handle<Row>], stands: &[bool], spots: &[u32], slot: u32) -> Option<usize>
+    requires beside { length stands.now ≡ length handles.now }
+    requires led { LeadBack handles.now stands.now spots.now }
+    ensures { MatchOption result (IsNowhere handles.now stands.now slot) (λ spot. IsSpotWith handles.now stands.now slot spot) }
+{
+    if slot as usize >= spots.len() {
+        return None;
+    }
+    let spot = spots[slot as usize] as usize;
+    if spot < stands.len() && stands[spot] && handles[spot].slot() == slot {
+        Some(spot)
+    } else {
+        None
+    }
+}
+
+/// The place of the row at the spot.
+fn place_of_spot(stands: &[bool], rows: usize, spot: usize) -> usize
+    requires rows { rows ≡ place_at stands.now (length stands.now) }
+    requires within { spot ≤ length stands.now }
+    ensures { result ≡ place_at stands.now spot }
+{
+    if rows == stands.len() {
+        spot
+    } else {
+        rows_between(stands, 0, spot)
+    }
+}
+
+/// How many rows stand before the hint once the row at the spot has gone.
+fn hint_without(stands: &[bool], hint_place: usize, hint_spot: usize, spot: usize) -> usize
+    requires hinted { hint_place ≡ place_at stands.now hint_spot }
+    requires stands { Stands stands.now spot }
+    ensures { result ≡ place_at (slice_set stands.now spot false) hint_spot }
+{
+    if spot < hint_spot {
+        hint_place - 1
+    } else {
+        hint_place
+    }
+}
