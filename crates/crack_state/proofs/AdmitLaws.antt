@@ -15,7 +15,7 @@ use Rattle.crack_arena.proofs.Times.{times-nil, times-cons, times_one, times_oth
 use Rattle.crack_state.specs.State.{State, places, Reads, IsOwned, IsIntact, IsKeyed, IsLiveAt, AreEmpty, HaveKeysIn, handle_of, freed_of, live_at, live_rows}
 use Rattle.crack_state.specs.Steps.{next_handle, admitted, IsAdmissible}
 use Rattle.crack_state.proofs.OwnedLaws.{times-places}
-use Rattle.crack_state.proofs.CellLaws.{AgreeOff, read-off, Reads-off, keys-off, Remembers-off, read-value}
+use Rattle.crack_state.proofs.CellLaws.{AgreeOff, read-off, Reads-off, keys-off, read-value}
 use Rattle.crack_state.proofs.LiveLaws.{filter_map-less, range_with_len-more, times-range}
 
 -- one cell got a value, and no other changed
@@ -70,17 +70,17 @@ unused s (n ∷ ns) is owned =
     at_most true = omega arith
     at_most false = omega arith
 
-read-new : (cells after : List (Cell Row)) (h : Handle) (r : Row) → Filled cells after h r → read after h ≡ Some r
+pub read-new : (cells after : List (Cell Row)) (h : Handle) (r : Row) → Filled cells after h r → read after h ≡ Some r
 read-new cells after h r fill = rw (fill.cell, eq-eqb h.generation h.generation refl) refl
 
-handle_same : (g h : Handle) → g.slot ≡ h.slot → g.generation ≡ h.generation → g ≡ h
+pub handle_same : (g h : Handle) → g.slot ≡ h.slot → g.generation ≡ h.generation → g ≡ h
 handle_same g h slots_same generations = λ i. record { slot = slots_same i; generation = generations i }
 
-record SameHandle (g h : Handle) (q r : Row) : Type 0 where
-  handle : g ≡ h
-  row : q ≡ r
+pub record SameHandle (g h : Handle) (q r : Row) : Type 0 where
+  pub handle : g ≡ h
+  pub row : q ≡ r
 
-read_same : (cells after : List (Cell Row)) (h g : Handle) (r q : Row) → Filled cells after h r → g.slot ≡ h.slot → read after g ≡ Some q → SameHandle g h q r
+pub read_same : (cells after : List (Cell Row)) (h g : Handle) (r q : Row) → Filled cells after h r → g.slot ≡ h.slot → read after g ≡ Some q → SameHandle g h q r
 read_same cells after h g r q fill e found =
     let at : cell_at after g.slot ≡ record { generation = h.generation; value = Some r } = ap (cell_at after) e ∙ fill.cell in
     by_test (eqb h.generation g.generation) refl (rw at at found)
@@ -226,7 +226,6 @@ IsIntact-admitted row s may intact =
       keyed = IsKeyed-admitted row s h cells fill off (vacant s s.free refl intact.empty) may.fresh intact.keyed;
       empty = AreEmpty-admitted row s s.free refl owned intact.empty;
       within = HaveKeysIn-admitted row s s.free may.within intact.within;
-      remembers = Remembers-off h.slot s.cells cells s.column s.remembered fill.others off.column intact.remembers;
       few_cells = length_cells-admitted row s s.free refl may.cell intact.few_cells;
       few_freed = omega (arith, intact.few_freed, freed_of-admitted row s s.free refl owned);
       counted = intact.counted;

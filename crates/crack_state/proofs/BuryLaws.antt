@@ -1,30 +1,28 @@
--- Bury: the doomed hand's cell is freed. It keeps a store intact, and commands see the same rows. Its call is still to come.
+-- Bury: the doomed hand's cell is freed. It keeps a store intact, and commands see the same rows.
 use Rattle.std.proofs.Common.{◌≡◌, ◌≢◌, ℕ, ◌+◌, ◌*◌, ◌<◌, ◌≤◌, true, eqb, List, [], ◌∷◌, length, get_or, set, Option, None, refl, sym, ap, ◌∙◌, inl, inr, arith, length-set}
 use Rattle.std.specs.Prelude.{◌==◌, IfSome}
 use Rattle.std.specs.List.{remove, filter_map, range_with_len}
 use Rattle.std.proofs.Math.Nat.{min-le_right}
 use Rattle.std.proofs.lemmas.List.Sums.{passes_at_first, sum_by-set}
 use Rattle.std.proofs.lemmas.List.{get_or-set_same, get_or-set_other, get_or_default}
-use Rattle.std.proofs.lemmas.List.Elements.{All-nil, All-cons, All-set}
+use Rattle.std.proofs.lemmas.List.Elements.{All-nil, All-cons, All-set, All-get_or}
 use Rattle.std.proofs.lemmas.Bool.{cases_eq, ne_eqb, eq-eqb, eqb-true}
 use Rattle.crack_row.specs.Ranges.{IsIn}
 use Rattle.crack_row.specs.declared.Row.{Row}
 use Rattle.crack_row.specs.declared.command.Policy.{Policy}
-use Rattle.crack_row.specs.declared.command.Policy.TheVariants.{Complete}
-use Rattle.crack_arena.specs.Arena.{Cell, Handle, times, read, cell_at, empty_cell, slots}
+use Rattle.crack_arena.specs.Arena.{Cell, Handle, StandsAt, times, read, cell_at, empty_cell, slots, place_in}
 use Rattle.crack_arena.proofs.Times.{times-nil, times-cons, times_one, times_other, times_head, times-append}
 use Rattle.crack_state.specs.declared.MergeReport.{MergeReport}
 use Rattle.crack_state.specs.State.{State, Carried, Reads, IsCounted, IsIntact, IsKeyed, IsLiveAt, AreEmpty, freed_of, live_at, live_rows, greatest}
-use Rattle.crack_state.specs.Steps.{hand_key, more, lifted}
-use Rattle.crack_state.specs.StepsToCome.{place_in, IsDoomed, buried}
-use Rattle.crack_state.specs.Merge.{Follows, Tallies, MayEvict}
+use Rattle.crack_state.specs.Steps.{hand_key, IsDoomed, more, lifted, buried}
+use Rattle.crack_state.specs.Merge.{Follows, Tallies}
 use Rattle.crack_state.proofs.OwnedLaws.{times-taken, times-places, All-removed, HandApart, hand_apart}
-use Rattle.crack_state.proofs.CellLaws.{AgreeOff-set, read-off, Reads-off, keys-off, Remembers-off, generation_of_read}
+use Rattle.crack_state.proofs.CellLaws.{AgreeOff-set, read-off, Reads-off, keys-off, generation_of_read}
 use Rattle.crack_state.proofs.LiveLaws.{none_either}
-use Rattle.crack_state.proofs.FollowLaws.{Pushes, raised_counter, length-remove, bounds_above-few}
+use Rattle.crack_state.proofs.FollowLaws.{MayEvict-none, Pushes, raised_counter, length-remove, bounds_above-few}
 
 -- a slot that is in the list has a place there
-place_in-within : (hs : List Handle) (slot : ℕ) → 0 < times slot (slots hs) → place_in hs slot < length hs
+pub place_in-within : (hs : List Handle) (slot : ℕ) → 0 < times slot (slots hs) → place_in hs slot < length hs
 place_in-within [] slot some = absurd (omega (arith, times-nil slot))
 place_in-within (h ∷ hs) slot some = elim (cases_eq h.slot slot) [
   | inl e ↦ rw (eq-eqb h.slot slot e) (omega arith)
@@ -34,7 +32,7 @@ place_in-within (h ∷ hs) slot some = elim (cases_eq h.slot slot) [
 ]
 
 -- what stands there is of that slot
-place_in-found : (hs : List Handle) (slot : ℕ) (h : Handle) → place_in hs slot < length hs → h ≡ get_or hs (place_in hs slot) h → h.slot ≡ slot
+pub place_in-found : (hs : List Handle) (slot : ℕ) (h : Handle) → place_in hs slot < length hs → h ≡ get_or hs (place_in hs slot) h → h.slot ≡ slot
 place_in-found hs slot h within found =
     let passes : (get_or hs (place_in hs slot) h).slot == slot ≡ true = passes_at_first (λ (x : Handle). x.slot == slot) hs h within in
     eqb-true h.slot slot (rw (← found) at passes)
@@ -66,8 +64,34 @@ doomed_hand c doomed intact =
       taken = λ n. let split = times-taken n s.pending_out (place_in s.pending_out hand.slot) met place found in rw same at split;
     }
 
+-- handles of the same cell and generation are one
+one_handle : (h k : Handle) → h.slot ≡ k.slot → h.generation ≡ k.generation → h ≡ k
+one_handle h k slots_agree generations_agree =
+    let built : ℕ → ℕ → Handle = λ slot generation. record { slot = slot; generation = generation } in
+    ap (λ n. built n h.generation) slots_agree ∙ ap (λ n. built k.slot n) generations_agree
+
+-- the hand, which is doomed, is the pending deletion of its cell
+pub doomed_stands : (c : Carried) → IsDoomed c → IsIntact c.store (c.hand ∷ []) → StandsAt c.store.pending_out (place_in c.store.pending_out c.hand.slot) c.hand
+doomed_stands c doomed intact =
+    let s = c.store in
+    let hand = c.hand in
+    let place = place_in-within s.pending_out hand.slot doomed in
+    let met = get_or s.pending_out (place_in s.pending_out hand.slot) hand in
+    let found : met ≡ get_or s.pending_out (place_in s.pending_out hand.slot) met = get_or_default s.pending_out (place_in s.pending_out hand.slot) hand met place in
+    let same : met.slot ≡ hand.slot = place_in-found s.pending_out hand.slot met place found in
+    let met_reads : Reads s.cells met = rw found (All-get_or (Reads s.cells) s.pending_out (place_in s.pending_out hand.slot) met place intact.owned.doomed_reads) in
+    let hand_reads : Reads s.cells hand = intact.owned.hand_reads 0 hand (omega arith) in
+    let of_met : (cell_at s.cells hand.slot).generation ≡ met.generation = rw same at (generation_of_read s.cells met met_reads) in
+    record { within = place; is = one_handle hand met (sym same) (sym (generation_of_read s.cells hand hand_reads) ∙ of_met) }
+
+-- once it is struck, none of them names its cell
+pub off_buried : (c : Carried) → IsDoomed c → IsIntact c.store (c.hand ∷ []) → times c.hand.slot (slots (buried c).pending_out) ≡ 0
+off_buried c doomed intact =
+    let known = doomed_hand c doomed intact in
+    omega (arith, known.taken c.hand.slot, known.once, times_head c.hand.slot [], times-nil c.hand.slot)
+
 -- a cell without a value is read by no handle
-read-set_none : (cells : List (Cell Row)) (n g : ℕ) (h : Handle) → n < length cells → h.slot ≡ n → read (set cells n (record { generation = g; value = None })) h ≡ None
+pub read-set_none : (cells : List (Cell Row)) (n g : ℕ) (h : Handle) → n < length cells → h.slot ≡ n → read (set cells n (record { generation = g; value = None })) h ≡ None
 read-set_none cells n g h within same = rw (same, get_or-set_same cells n (record { generation = g; value = None }) empty_cell within) (none_either (eqb g h.generation))
 
 IsKeyed-buried : (cells : List (Cell Row)) (doomed left : List ℕ) (serials : List (ℕ × Handle)) (slot g : ℕ) → slot < length cells → ((n : ℕ) → times n left + times n (slot ∷ []) ≡ times n doomed) → IsKeyed cells doomed serials → IsKeyed (set cells slot (record { generation = g; value = None })) left serials
@@ -88,7 +112,7 @@ IsKeyed-buried cells doomed left serials slot g within taken keyed =
     }
 
 -- a free cell stays empty, and so is the cell that was freed
-AreEmpty-freed : (cells : List (Cell Row)) (n g : ℕ) (free : List ℕ) → n < length cells → AreEmpty cells free → AreEmpty (set cells n (record { generation = g; value = None })) (n ∷ free)
+pub AreEmpty-freed : (cells : List (Cell Row)) (n g : ℕ) (free : List ℕ) → n < length cells → AreEmpty cells free → AreEmpty (set cells n (record { generation = g; value = None })) (n ∷ free)
 AreEmpty-freed cells n g free within empty =
     let c : Cell Row = record { generation = g; value = None } in
     let mine : (cell_at (set cells n c) n).value ≡ None = ap (λ (x : Cell Row). x.value) (get_or-set_same cells n c empty_cell within) in
@@ -142,7 +166,6 @@ IsIntact-buried c doomed intact =
       keyed = IsKeyed-buried s.cells (slots s.pending_out) (slots left) s.serials hand.slot (hand.generation + 1) apart.within known.taken intact.keyed;
       empty = AreEmpty-freed s.cells hand.slot (hand.generation + 1) s.free apart.within intact.empty;
       within = All-set (λ (x : Cell Row). IfSome x.value (λ r. IsIn s.keys r.key.0)) s.cells hand.slot cell tt intact.within;
-      remembers = Remembers-off hand.slot s.cells cells s.column s.remembered agree apart.off_column intact.remembers;
       few_cells = omega (arith, intact.few_cells, length-set s.cells hand.slot cell);
       few_freed = omega (arith, intact.few_freed, freed-buried c doomed intact);
       counted = IsCounted-taken_out s.tally intact.counted;
@@ -199,12 +222,9 @@ Tallies-carried_buried policy s i c inside doomed intact now pushes =
             moved = more_moved c.store.tally.moved s.tally.moved s.tally.put_in c.store.tally.put_in (length s.marks) one (omega (arith, pushes.moved, few));
             pulled = more_pulled c.store.tally.pulled s.tally.pulled s.tally.taken_out (buried c).tally.taken_out (length s.marks) (two ∙ ap (λ n. n + 1) pushes.taken_out) pushes.pulled;
           };
-      evicts = by_policy policy;
+      evicts = MayEvict-none policy s (buried c) pushes.evicted;
     }
   where
-    by_policy : (p : Policy) → MayEvict p s (buried c)
-    by_policy Complete = pushes.evicted
-
     more_moved : (moved before put_in after q : ℕ) → after ≡ put_in + 1 → moved ≤ before + q → moved + put_in * (q + 1) ≤ before + after * (q + 1)
     more_moved moved before put_in after q one few = rw one (grind arith)
 

@@ -1,4 +1,4 @@
--- What handles read, and what is remembered of keys, as a cell or a place changes.
+-- What handles read, as a cell or a place changes.
 use Rattle.std.proofs.Common.{◌≡◌, ◌≢◌, ℕ, ◌<◌, List, [], ◌∷◌, map, length, get_or, set, cond, Bool, true, false, eqb, Some, None, IsSome, refl, sym, ap, inl, inr}
 use Rattle.std.specs.List.{All}
 use Rattle.std.proofs.lemmas.List.{get_or-set_other, get_or_past}
@@ -7,7 +7,6 @@ use Rattle.std.proofs.lemmas.Bool.{cases_lt, true≢false, eqb-true}
 use Rattle.crack_row.specs.declared.Row.{Row}
 use Rattle.crack_arena.specs.Arena.{Cell, Handle, times, read, cell_at, empty_cell, slots}
 use Rattle.crack_arena.specs.Rows.{key_of_row, key_at}
-use Rattle.crack_column.specs.Column.{Remembers}
 use Rattle.crack_state.specs.State.{Reads}
 use Rattle.crack_state.proofs.OwnedLaws.{apart_from_times}
 
@@ -66,9 +65,3 @@ key_at-off n cells after h agree ne = ap key_of_row (read-off n cells after h ag
 
 pub keys-off : (n : ℕ) (cells after : List (Cell Row)) (hs : List Handle) → AgreeOff n cells after → times n (slots hs) ≡ 0 → map (key_at after) hs ≡ map (key_at cells) hs
 keys-off n cells after hs agree none = map_agree (key_at after) (key_at cells) hs (λ k d h. key_at-off n cells after (get_or hs k d) agree (apart_from_times hs n none k d h))
-
-pub Remembers-off : (n : ℕ) (cells after : List (Cell Row)) (hs : List Handle) (keys : List ℕ) → AgreeOff n cells after → times n (slots hs) ≡ 0 → Remembers cells hs keys → Remembers after hs keys
-Remembers-off n cells after hs keys agree none remembers = record {
-  beside = remembers.beside;
-  right = λ k d h. rw (key_at-off n cells after (get_or hs k d) agree (apart_from_times hs n none k d h)) (remembers.right k d h);
-}

@@ -15,9 +15,9 @@ use Rattle.crack_index.specs.declared.mark.Mark.{Mark}
 use Rattle.crack_index.specs.Marks.{Rising, Fits, added, next_mark, last_mark, start_of, end_of, HasBound}
 use Rattle.crack_index.proofs.MarkLaws.{next_mark-is, last_mark-is, All-added, Contains-kept, HasBound-added, Rising-added, HasBound-mark, HasBound-contains}
 use Rattle.crack_arena.specs.Rows.{key_of_row, key_at}
-use Rattle.crack_column.specs.Column.{IsDividedAt, Cracks}
+use Rattle.crack_column.specs.Column.{Memory, IsDividedAt, Cracks}
 use Rattle.crack_column.proofs.Divisions.{IsDividedAt-zero, IsDividedAt-end}
-use Rattle.crack_column.proofs.Cracking.{length-Cracks, Cracks-apart, Cracks-around, Cracks-whole, Cracks-divides, Cracks-keeps, Cracks-remembers}
+use Rattle.crack_column.proofs.Cracking.{length-Cracks, Cracks-apart, Cracks-around, Cracks-whole, Cracks-divides, Cracks-keeps}
 use Rattle.crack_state.specs.State.{State, Reads, Divides, IsObeyed, HaveKeysIn, IsOwned, IsIntact, column_keys, live_rows}
 use Rattle.crack_state.specs.Steps.{piece_start, piece_end}
 use Rattle.crack_state.specs.Merge.{IsInner, IsCracked, cuts, RefinesBy, RefinesAt, Refines}
@@ -25,18 +25,20 @@ use Rattle.crack_state.proofs.OwnedLaws.{times-places}
 use Rattle.crack_state.proofs.CellLaws.{read_is_value, cell_within}
 use Rattle.crack_state.proofs.PieceLaws.{Divides-listed, piece_end-le, piece_end-before, piece_start-behind}
 
--- crack: a bound divides its own piece at a place; the column's handles, and what is remembered of their keys, stand in this order
-abbrev pub cracked_at : Bound → ℕ → List Handle → List ℕ → State → State
-cracked_at bound place handles keys s = record s { column = handles; remembered = keys; marks = added (record { bound = bound; position = place }) s.marks }
+-- crack: a bound divides its own piece at a place; the column's handles stand in this order
+abbrev pub cracked_at : Bound → ℕ → List Handle → State → State
+cracked_at bound place handles s = record s { column = handles; marks = added (record { bound = bound; position = place }) s.marks }
 
--- how a bound's own piece is cracked: its rows, divided by the bound, and no other
+-- how a bound's own piece is cracked: its rows, divided by the bound, and no other; whatever is remembered of them
 pub record CracksAt (s u : State) (bound : Bound) : Type 0 where
   pub place : ℕ
   pub missing : HasBound s.marks bound.0 → ⊥
   pub low : s.keys.low < bound.0
   pub high : bound.0 < s.keys.high
-  pub cracks : Cracks s.cells bound.0 (piece_start s bound.0) (piece_end s bound.0) s.column s.remembered u.column u.remembered place
-  pub after : u ≡ cracked_at bound place u.column u.remembered s
+  pub known : List Memory
+  pub known' : List Memory
+  pub cracks : Cracks s.cells bound.0 (piece_start s bound.0) (piece_end s bound.0) s.column known u.column known' place
+  pub after : u ≡ cracked_at bound place u.column s
 
 -- the key of what a handle reads is the partition's
 pub key_within : (keys : Range) (cells : List (Cell Row)) (h : Handle) → HaveKeysIn keys cells → Reads cells h → IsIn keys (key_at cells h)
@@ -115,8 +117,8 @@ Obeyed-cracked s u hand bound intact c =
     let high = piece_behind s hand bound.0 c.high intact in
     let keys = map (key_at s.cells) u.column in
     All-added (Divides keys) (record { bound = bound; position = c.place }) s.marks
-    (Cracks-divides s.cells bound.0 from to s.column s.remembered u.column u.remembered c.place c.cracks low.number high.number low.less high.more low.divides high.divides)
-    (λ k d h. Cracks-keeps s.cells bound.0 from to s.column s.remembered u.column u.remembered c.place c.cracks (get_or s.marks k d).bound.0 (get_or s.marks k d).position (mark_outside s bound.0 k d intact.rising intact.obeyed h) (intact.obeyed k d h))
+    (Cracks-divides s.cells bound.0 from to s.column c.known u.column c.known' c.place c.cracks low.number high.number low.less high.more low.divides high.divides)
+    (λ k d h. Cracks-keeps s.cells bound.0 from to s.column c.known u.column c.known' c.place c.cracks (get_or s.marks k d).bound.0 (get_or s.marks k d).position (mark_outside s bound.0 k d intact.rising intact.obeyed h) (intact.obeyed k d h))
 
 -- the new mark stands in order
 Fits-cracked : (s u : State) (hand : List Handle) (bound : Bound) → IsIntact s hand → (c : CracksAt s u bound) → Fits (record { bound = bound; position = c.place }) s.marks
@@ -135,14 +137,13 @@ IsIntact-cracked s u hand bound c intact =
     let to = piece_end s bound.0 in
     let m : Mark = record { bound = bound; position = c.place } in
     rw c.after (record {
-      owned = IsOwned-permuted s.cells s.free s.column u.column s.pending_in s.pending_out hand (Cracks-whole s.cells bound.0 from to s.column s.remembered u.column u.remembered c.place c.cracks) intact.owned;
+      owned = IsOwned-permuted s.cells s.free s.column u.column s.pending_in s.pending_out hand (Cracks-whole s.cells bound.0 from to s.column c.known u.column c.known' c.place c.cracks) intact.owned;
       obeyed = Obeyed-cracked s u hand bound intact c;
       rising = Rising-added m s.marks intact.rising c.missing (Fits-cracked s u hand bound intact c);
       inside = All-added (λ (x : Mark). (s.keys.low < x.bound.0) × (x.bound.0 < s.keys.high)) m s.marks (c.low, c.high) intact.inside;
       keyed = intact.keyed;
       empty = intact.empty;
       within = intact.within;
-      remembers = Cracks-remembers s.cells bound.0 from to s.column s.remembered u.column u.remembered c.place c.cracks intact.remembers;
       few_cells = intact.few_cells;
       few_freed = intact.few_freed;
       counted = intact.counted;
@@ -166,15 +167,15 @@ RefinesAt-cracked s u hand bound c intact =
     let marks : u.marks ≡ added m s.marks = ap (λ (x : State). x.marks) c.after in
     record {
       same = rw c.after refl;
-      long = length-Cracks s.cells bound.0 from to s.column s.remembered u.column u.remembered c.place c.cracks;
+      long = length-Cracks s.cells bound.0 from to s.column c.known u.column c.known' c.place c.cracks;
       pieces = λ p q is_p is_q.
           let out_p = All-contains Out (cuts s) p outside is_p in
           let out_q = All-contains Out (cuts s) q outside is_q in
-          let apart : (q ≤ from) ⊎ (to ≤ p) → IsPermutation (between p q s.column) (between p q u.column) = λ o. rw (Cracks-apart s.cells bound.0 from to s.column s.remembered u.column u.remembered c.place c.cracks p q out_q.1 o) (IsPermutation-refl (between p q s.column)) in
+          let apart : (q ≤ from) ⊎ (to ≤ p) → IsPermutation (between p q s.column) (between p q u.column) = λ o. rw (Cracks-apart s.cells bound.0 from to s.column c.known u.column c.known' c.place c.cracks p q out_q.1 o) (IsPermutation-refl (between p q s.column)) in
           elim out_q.0 [
             | inl l ↦ apart (inl l)
             | inr l ↦ elim out_p.0 [
-              | inl k ↦ Cracks-around s.cells bound.0 from to s.column s.remembered u.column u.remembered c.place c.cracks p q k l out_q.1
+              | inl k ↦ Cracks-around s.cells bound.0 from to s.column c.known u.column c.known' c.place c.cracks p q k l out_q.1
               | inr k ↦ apart (inr k)
             ]
           ];
@@ -217,7 +218,7 @@ RefinesBy-refl IsNew s there = record {
 -- one refinement after another
 pub RefinesBy-trans : (IsNew IsNewer : ℕ → Type 0) (s u v : State) → RefinesBy IsNew s u → RefinesBy IsNewer u v → RefinesBy (λ b. IsNew b ⊎ IsNewer b) s v
 RefinesBy-trans IsNew IsNewer s u v a b = record {
-  same = b.same ∙ ap (λ (x : State). let y : State = record x { column = v.column; remembered = v.remembered; marks = v.marks; column_room = v.column_room; in_room = v.in_room } in y) a.same;
+  same = b.same ∙ ap (λ (x : State). let y : State = record x { column = v.column; marks = v.marks; column_room = v.column_room; in_room = v.in_room } in y) a.same;
   long = b.long ∙ a.long;
   pieces = λ p q is_p is_q. IsPermutation-trans (between p q s.column) (between p q u.column) (between p q v.column) (a.pieces p q is_p is_q) (b.pieces p q (cuts_kept IsNew s u a p is_p) (cuts_kept IsNew s u a q is_q));
   kept = λ m is. b.kept m (a.kept m is);

@@ -6,7 +6,7 @@ use Rattle.std.proofs.Math.Nat.{min-le_left, min-le_right, le-min}
 use Rattle.std.proofs.lemmas.Bool.{cases_lt}
 use Rattle.std.proofs.lemmas.List.Sums.{count_by-le-length}
 use Rattle.crack_row.specs.declared.command.Policy.{Policy}
-use Rattle.crack_row.specs.declared.command.Policy.TheVariants.{Complete}
+use Rattle.crack_row.specs.declared.command.Policy.TheVariants.{Complete, Gradual}
 use Rattle.crack_arena.specs.Arena.{Handle}
 use Rattle.crack_index.specs.declared.mark.Mark.{Mark}
 use Rattle.crack_index.specs.Marks.{next_mark, bounds_of}
@@ -72,6 +72,12 @@ length-remove (x ∷ xs) (suc i) h = omega (arith, length-remove xs i (omega ari
 
 MayEvict-trans : (policy : Policy) (s t u : State) → MayEvict policy s t → MayEvict policy t u → MayEvict policy s u
 MayEvict-trans Complete s t u a b = b ∙ a
+MayEvict-trans Gradual s t u a b = b ∙ a
+
+-- where nothing was evicted, no policy is broken
+pub MayEvict-none : (policy : Policy) (s t : State) → t.tally.evicted ≡ s.tally.evicted → MayEvict policy s t
+MayEvict-none Complete s t same = same
+MayEvict-none Gradual s t same = same
 
 -- no counter is at its greatest number, if none is later on
 IsExact-before : (policy : Policy) (s t : State) → Tallies policy s t → IsExact t.tally → IsExact s.tally
@@ -103,18 +109,15 @@ Tallies-trans policy s t u same a b = record {
 }
 
 pub Tallies-room : (policy : Policy) (s t : State) → SameButRoom s t → Tallies policy s t
-Tallies-room policy s t room = rw room.same (by_policy policy)
-  where
-    by_policy : (p : Policy) → Tallies p s (record s { column_room = t.column_room; in_room = t.in_room })
-    by_policy Complete = record {
-      put_in_rises = omega arith;
-      taken_out_rises = omega arith;
-      evicted_rises = omega arith;
-      moved_rises = omega arith;
-      pulled_rises = omega arith;
-      counts = λ _. record { put_in = refl; taken_out = refl; moved = omega arith; pulled = omega arith };
-      evicts = refl;
-    }
+Tallies-room policy s t room = rw room.same (record {
+  put_in_rises = omega arith;
+  taken_out_rises = omega arith;
+  evicted_rises = omega arith;
+  moved_rises = omega arith;
+  pulled_rises = omega arith;
+  counts = λ _. record { put_in = refl; taken_out = refl; moved = omega arith; pulled = omega arith };
+  evicts = MayEvict-none policy s (record s { column_room = t.column_room; in_room = t.in_room }) refl;
+})
 
 -- what the pushes of a carry keep, from a hand that was lifted on: each brings the hand nearer to the column's end
 pub record Pushes (b c : Carried) : Type 0 where
@@ -207,11 +210,8 @@ Tallies-carried policy s i c inside intact pushes =
             moved = more_moved c.store.tally.moved s.tally.moved s.tally.put_in c.store.tally.put_in (length s.marks) one (omega (arith, pushes.moved, few));
             pulled = omega (arith, pushes.pulled, ap (λ n. n * (length s.marks + 1)) pushes.taken_out);
           };
-      evicts = by_policy policy;
+      evicts = MayEvict-none policy s (appended c) pushes.evicted;
     }
   where
-    by_policy : (p : Policy) → MayEvict p s (appended c)
-    by_policy Complete = pushes.evicted
-
     more_moved : (moved before put_in after q : ℕ) → after ≡ put_in + 1 → moved ≤ before + q → moved + put_in * (q + 1) ≤ before + after * (q + 1)
     more_moved moved before put_in after q one few = rw one (grind arith)

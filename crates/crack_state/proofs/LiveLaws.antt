@@ -125,7 +125,7 @@ live_rows-among s hand intact =
     rw split at (IsPermutation-places live s hand owned)
 
 -- what holds of all that is given of the numbers holds of all in the list
-All-filter_map : {X Y : Type 0} (P : Y → Type 0) (f : X → Option Y) (xs : List X) → ((x : X) → IfSome (f x) P) → All P (filter_map f xs)
+pub All-filter_map : {X Y : Type 0} (P : Y → Type 0) (f : X → Option Y) (xs : List X) → ((x : X) → IfSome (f x) P) → All P (filter_map f xs)
 All-filter_map P f [] given = All-nil P
 All-filter_map {X} {Y} P f (x ∷ xs) given = by_value (f x) (given x) (All-filter_map P f xs given)
   where

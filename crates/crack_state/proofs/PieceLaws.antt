@@ -1,18 +1,18 @@
 -- The own piece of a key, and what its bounds are among the marks.
-use Rattle.std.proofs.Common.{◌≡◌, ℕ, zero, suc, ◌+◌, ◌<◌, ◌≤◌, List, [], ◌∷◌, map, length, get_or, cond, ltb, Option, Some, None, refl, sym, ap, ◌∙◌, arith}
+use Rattle.std.proofs.Common.{◌≡◌, ℕ, zero, suc, ◌+◌, ◌<◌, ◌≤◌, List, [], ◌∷◌, map, length, get_or, cond, ltb, leb, Option, Some, None, refl, sym, ap, ◌∙◌, arith}
 use Rattle.std.specs.List.{Contains}
-use Rattle.std.proofs.lemmas.Bool.{lt-ltb, le-ltb}
+use Rattle.std.proofs.lemmas.Bool.{lt-ltb, le-ltb, lt-leb, le-leb}
 use Rattle.std.proofs.lemmas.Bool.Decides.{nat_tests}
 use Rattle.std.proofs.lemmas.List.{length-map}
 use Rattle.std.proofs.lemmas.List.Sums.{sum_by-cons}
 use Rattle.std.proofs.lemmas.List.Elements.{All-map}
 use Rattle.crack_row.specs.Ranges.{Range}
 use Rattle.crack_index.specs.declared.mark.Mark.{Mark}
-use Rattle.crack_index.specs.Marks.{Rising, raised, next_mark, last_mark, start_of, end_of, bounds_of}
+use Rattle.crack_index.specs.Marks.{Rising, raised, lowered, next_mark, last_mark, start_of, end_of, bounds_of}
 use Rattle.crack_index.proofs.MarkLaws.{next_mark-is, next_mark-none, last_mark-is, last_mark-none, bounds_of-raised, Rising-raised}
 use Rattle.crack_arena.specs.Rows.{key_at}
 use Rattle.crack_state.specs.State.{State, Divides, IsObeyed, AreInside, column_keys}
-use Rattle.crack_state.specs.Steps.{piece_start, piece_end, raise_next, bounds_above}
+use Rattle.crack_state.specs.Steps.{piece_start, piece_end, raise_next, bounds_above, bounds_up_to}
 use Rattle.crack_state.proofs.ObeyedLaws.{Divides-order}
 
 -- a mark that is listed divides the keys
@@ -44,6 +44,16 @@ piece_end-le s key rising obeyed = by_next (next_mark key s.marks) refl
     by_next (Some m) found =
         let is_next = next_mark-is key s.marks m rising found in
         omega (arith, (Divides-listed (column_keys s) s.marks m obeyed is_next.listed).within, length-map s.column (key_at s.cells))
+
+-- where a piece begins is a place of the column, or its end
+pub piece_start-le : (s : State) (key : ℕ) → Rising s.marks → IsObeyed s.marks (column_keys s) → piece_start s key ≤ length s.column
+piece_start-le s key rising obeyed = by_last (last_mark key s.marks) refl
+  where
+    by_last : (last : Option Mark) → last_mark key s.marks ≡ last → start_of last ≤ length s.column
+    by_last None found = omega arith
+    by_last (Some m) found =
+        let is_last = last_mark-is key s.marks m rising found in
+        omega (arith, (Divides-listed (column_keys s) s.marks m obeyed is_last.listed).within, length-map s.column (key_at s.cells))
 
 -- where a bound above the key stands, the key's piece has ended
 pub piece_end-before : (s : State) (key k : ℕ) (d : Mark) → Rising s.marks → IsObeyed s.marks (column_keys s) → k < length s.marks → key < (get_or s.marks k d).bound.0 → piece_end s key ≤ (get_or s.marks k d).position
@@ -88,3 +98,27 @@ bounds_above-less low place key next (n ∷ ns) m zero h found more below =
     omega (arith, was, now, bounds_above-cons next (raised low place n) (map (raised low place) ns), bounds_above-cons key n ns, bounds_above-le low place key next ns (omega arith))
 bounds_above-less low place key next (n ∷ ns) m (suc k) h found more below =
     omega (arith, bounds_above-cons next (raised low place n) (map (raised low place) ns), bounds_above-cons key n ns, above_by-le key next n (omega arith), bounds_above-less low place key next ns m k (omega arith) found more below)
+
+-- 1 for a bound at or below the key
+abbrev up_to_by : ℕ → Mark → ℕ
+up_to_by key m = cond (leb m.bound.0 key) 1 0
+
+up_to_by-le : (key next : ℕ) (m : Mark) → next ≤ key → up_to_by next m ≤ up_to_by key m
+up_to_by-le key next m h = grind (arith, nat_tests)
+
+bounds_up_to-cons : (key : ℕ) (m : Mark) (ms : List Mark) → bounds_up_to key (m ∷ ms) ≡ up_to_by key m + bounds_up_to key ms
+bounds_up_to-cons key m ms = sum_by-cons (up_to_by key) m ms
+
+bounds_up_to-le : (high place key next : ℕ) (marks : List Mark) → next ≤ key → bounds_up_to next (map (lowered high place) marks) ≤ bounds_up_to key marks
+bounds_up_to-le high place key next [] h = omega arith
+bounds_up_to-le high place key next (n ∷ ns) h = omega (arith, bounds_up_to-cons next (lowered high place n) (map (lowered high place) ns), bounds_up_to-cons key n ns, up_to_by-le key next n h, bounds_up_to-le high place key next ns h)
+
+-- fewer bounds are at or below a key that is below the last of them
+pub bounds_up_to-less : (high place key next : ℕ) (marks : List Mark) (m : Mark) (k : ℕ) → k < length marks → get_or marks k m ≡ m → m.bound.0 ≤ key → next < m.bound.0 → bounds_up_to next (map (lowered high place) marks) < bounds_up_to key marks
+bounds_up_to-less high place key next [] m k h found below more = absurd (omega arith)
+bounds_up_to-less high place key next (n ∷ ns) m zero h found below more =
+    let was : up_to_by key n ≡ 1 = rw (found, le-leb m.bound.0 key below) refl in
+    let now : up_to_by next n ≡ 0 = rw (found, lt-leb m.bound.0 next more) refl in
+    omega (arith, was, now, bounds_up_to-cons next (lowered high place n) (map (lowered high place) ns), bounds_up_to-cons key n ns, bounds_up_to-le high place key next ns (omega arith))
+bounds_up_to-less high place key next (n ∷ ns) m (suc k) h found below more =
+    omega (arith, bounds_up_to-cons next (lowered high place n) (map (lowered high place) ns), bounds_up_to-cons key n ns, up_to_by-le key next n (omega arith), bounds_up_to-less high place key next ns m k (omega arith) found below more)

@@ -1,10 +1,10 @@
--- The steps of a pull and the step back to the pending insertions keep a store intact; their calls are still to come.
+-- The steps of a pull, and the step back to the pending insertions, whose call is still to come, keep a store intact.
 use Rattle.std.proofs.Common.{◌≡◌, ◌⊎◌, ℕ, ◌+◌, ◌-◌, ◌<◌, ◌≤◌, List, [], ◌∷◌, ◌++◌, map, length, get_or, set, take, Option, Some, None, refl, sym, ap, ◌∙◌, inl, inr, arith}
 use Rattle.std.specs.List.{All}
 use Rattle.std.proofs.Math.Nat.{min-le_right}
 use Rattle.std.proofs.lemmas.Bool.{cases_eq, cases_lt}
 use Rattle.std.proofs.lemmas.Bool.Decides.{nat_tests}
-use Rattle.std.proofs.lemmas.List.{length-map, get_or_default, take-map, take_all, take_more, get_or-take, length-take-le}
+use Rattle.std.proofs.lemmas.List.{length-map, get_or-map, get_or_default, take-map, take_all, take_more, get_or-take, length-take-le}
 use Rattle.std.proofs.lemmas.List.Elements.{All-map, All-push, All-cons, All-nil, All-get_or, All-head, All-take}
 use Rattle.crack_row.specs.Ranges.{Range}
 use Rattle.crack_row.specs.declared.Row.{Row}
@@ -15,15 +15,14 @@ use Rattle.crack_index.specs.declared.mark.Mark.{Mark}
 use Rattle.crack_index.specs.Marks.{Rising, last_mark, start_of, lowered, lowered_at, bounds_of}
 use Rattle.crack_index.proofs.MarkLaws.{last_mark-is, bounds_of-lowered, bounds_of-lowered_at, Rising-lowered, Rising-lowered_at}
 use Rattle.crack_column.proofs.Divisions.{IsDividedAt-set_below, IsDividedAt-set_above, IsDividedAt-lowered, IsDividedAt-take}
-use Rattle.crack_column.proofs.Remembering.{Remembers-take}
 use Rattle.crack_state.specs.declared.MergeReport.{MergeReport}
 use Rattle.crack_state.specs.State.{State, Carried, Reads, IsOwned, Divides, IsObeyed, AreInside, IsCounted, IsIntact, column_keys, greatest}
-use Rattle.crack_state.specs.Steps.{hand_key, piece_start, piece_end, more}
-use Rattle.crack_state.specs.StepsToCome.{lower_last, lifted_last, returned, pulled_back, exchanged}
+use Rattle.crack_state.specs.Steps.{hand_key, piece_start, piece_end, lower_last, more, lifted_last, pulled_back, exchanged, bounds_up_to}
+use Rattle.crack_state.specs.StepsToCome.{returned}
 use Rattle.crack_state.specs.Merge.{Follows}
 use Rattle.crack_state.proofs.OwnedLaws.{times-places}
 use Rattle.crack_state.proofs.ObeyedLaws.{Divides-order}
-use Rattle.crack_state.proofs.PieceLaws.{Divides-listed, piece_end-le, piece_end-before, piece_start-behind}
+use Rattle.crack_state.proofs.PieceLaws.{Divides-listed, piece_end-le, piece_end-before, piece_start-behind, bounds_up_to-less}
 use Rattle.crack_state.proofs.StepLaws.{IsIntact-put_at}
 
 -- a counter that is raised still fits
@@ -147,7 +146,6 @@ IsIntact-returned c kept intact =
       keyed = intact.keyed;
       empty = intact.empty;
       within = intact.within;
-      remembers = intact.remembers;
       few_cells = intact.few_cells;
       few_freed = intact.few_freed;
       counted = IsCounted-evicted s.tally intact.counted;
@@ -166,7 +164,6 @@ IsIntact-lifted_last s some intact =
       keyed = intact.keyed;
       empty = intact.empty;
       within = intact.within;
-      remembers = Remembers-take s.cells s.column s.remembered (length s.column - 1) (omega arith) intact.remembers;
       few_cells = intact.few_cells;
       few_freed = intact.few_freed;
       counted = intact.counted;
@@ -192,6 +189,29 @@ IsIntact-pulled_back c some intact =
         let is_last = last_mark-is (hand_key c) s.marks m intact.rising found in
         let divides = Divides-listed (column_keys s) s.marks m intact.obeyed is_last.listed in
         (omega (arith, divides.within, length-map s.column (key_at s.cells)), Obeyed-lowered (column_keys s) s.marks (hand_key c) m inside intact.obeyed is_last.greatest is_last.below divides)
+
+-- the row that stood before a piece is below the bound there
+pub met_below : (s : State) (key : ℕ) (m : Mark) (met : Handle) → Rising s.marks → IsObeyed s.marks (column_keys s) → last_mark key s.marks ≡ Some m → 0 < m.position → met ≡ get_or s.column (m.position - 1) met → key_at s.cells met < m.bound.0
+met_below s key m met rising obeyed found some read =
+    let is_last = last_mark-is key s.marks m rising found in
+    let divides = Divides-listed (column_keys s) s.marks m obeyed is_last.listed in
+    let within : m.position - 1 < length s.column = omega (arith, divides.within, length-map s.column (key_at s.cells)) in
+    let at : get_or (column_keys s) (m.position - 1) 0 ≡ key_at s.cells met = get_or-map (key_at s.cells) s.column (m.position - 1) met 0 within ∙ ap (key_at s.cells) (sym read) in
+    rw (← at) (divides.below (m.position - 1) (omega arith))
+
+-- after a pull_back fewer bounds are at or below the key in hand
+pub bounds_up_to-pulled_back : (c : Carried) → 0 < piece_start c.store (hand_key c) → IsIntact c.store (c.hand ∷ []) → bounds_up_to (hand_key (pulled_back c)) (pulled_back c).store.marks < bounds_up_to (hand_key c) c.store.marks
+bounds_up_to-pulled_back c some intact = by_last (last_mark (hand_key c) c.store.marks) refl some
+  where
+    by_last : (last : Option Mark) → last_mark (hand_key c) c.store.marks ≡ last → 0 < start_of last → bounds_up_to (key_at c.store.cells (get_or c.store.column (start_of last - 1) c.hand)) (lower_last last c.store.marks) < bounds_up_to (hand_key c) c.store.marks
+    by_last None found inside = absurd (omega arith)
+    by_last (Some m) found inside =
+        let s = c.store in
+        let is_last = last_mark-is (hand_key c) s.marks m intact.rising found in
+        let divides = Divides-listed (column_keys s) s.marks m intact.obeyed is_last.listed in
+        let within : m.position - 1 < length s.column = omega (arith, divides.within, length-map s.column (key_at s.cells)) in
+        let met = get_or s.column (m.position - 1) c.hand in
+        bounds_up_to-less m.bound.0 m.position (hand_key c) (key_at s.cells met) s.marks m is_last.listed.0 is_last.listed.1 is_last.listed.2 is_last.below (met_below s (hand_key c) m met intact.rising intact.obeyed found inside (get_or_default s.column (m.position - 1) c.hand met within))
 
 -- the hand and a row of its own piece change places
 pub IsIntact-exchanged : (place : ℕ) (c : Carried) → piece_start c.store (hand_key c) ≤ place → place < piece_end c.store (hand_key c) → IsIntact c.store (c.hand ∷ []) → IsIntact (exchanged place c).store ((exchanged place c).hand ∷ [])

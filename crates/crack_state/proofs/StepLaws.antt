@@ -13,7 +13,6 @@ use Rattle.crack_state.specs.Steps.{hand_key, piece_end, raise_next, more, put_a
 use Rattle.crack_state.proofs.ObeyedLaws.{Obeyed-raised, Obeyed-push, Obeyed-push_raised}
 use Rattle.crack_state.proofs.PieceLaws.{Divides-listed, Rising-raise_next, AreInside-raise_next, bounds_above-less}
 use Rattle.crack_state.proofs.OwnedLaws.{IsOwned-exchange, IsOwned-appended, IsOwned-lifted}
-use Rattle.crack_column.proofs.Remembering.{Remembers-set, Remembers-append}
 
 -- a counter that is raised still fits
 pub IsCounted-put_in : (tally : MergeReport) → IsCounted tally → IsCounted (record tally { put_in = more tally.put_in })
@@ -32,7 +31,6 @@ IsIntact-room s t hand room intact = rw room.same (record {
   keyed = intact.keyed;
   empty = intact.empty;
   within = intact.within;
-  remembers = intact.remembers;
   few_cells = intact.few_cells;
   few_freed = intact.few_freed;
   counted = intact.counted;
@@ -50,7 +48,6 @@ IsIntact-lifted i s inside intact =
       keyed = intact.keyed;
       empty = intact.empty;
       within = intact.within;
-      remembers = intact.remembers;
       few_cells = intact.few_cells;
       few_freed = intact.few_freed;
       counted = IsCounted-put_in s.tally intact.counted;
@@ -69,7 +66,6 @@ IsIntact-put_at place marks tally c within obeyed rising inside counted intact =
       keyed = intact.keyed;
       empty = intact.empty;
       within = intact.within;
-      remembers = Remembers-set s.cells s.column s.remembered place c.hand intact.remembers;
       few_cells = intact.few_cells;
       few_freed = intact.few_freed;
       counted = counted;
@@ -105,7 +101,6 @@ IsIntact-appended c ends intact =
       keyed = intact.keyed;
       empty = intact.empty;
       within = intact.within;
-      remembers = Remembers-append s.cells s.column s.remembered c.hand intact.remembers;
       few_cells = intact.few_cells;
       few_freed = intact.few_freed;
       counted = intact.counted;

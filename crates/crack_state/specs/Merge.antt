@@ -1,11 +1,11 @@
 -- What a refinement and a merge may change of a store, and what they leave.
-use Rattle.std.specs.Prelude.{◌≡◌, ◌⊎◌, ℕ, Bool, ◌+◌, ◌-◌, ◌*◌, ◌<◌, ◌≤◌, ◌||◌, nat_le, if◌then◌else◌, List, [], ◌∷◌, ◌++◌, length, map, filter, Contains}
+use Rattle.std.specs.Prelude.{◌≡◌, ◌⊎◌, ℕ, Bool, ◌+◌, ◌-◌, ◌*◌, ◌<◌, ◌≤◌, ◌||◌, not, nat_le, if◌then◌else◌, List, [], ◌∷◌, ◌++◌, length, take, drop, map, filter, count_by, Contains}
 use Rattle.std.specs.List.{All, filter_map, between, list_any}
 use Rattle.std.specs.List.Sorted.{IsPermutation}
 use Rattle.crack_row.specs.Ranges.{Range, is_in, in_range}
 use Rattle.crack_row.specs.declared.Row.{Row}
 use Rattle.crack_row.specs.declared.command.Policy.{Policy}
-use Rattle.crack_row.specs.declared.command.Policy.TheVariants.{Complete}
+use Rattle.crack_row.specs.declared.command.Policy.TheVariants.{Complete, Gradual}
 use Rattle.crack_arena.specs.Arena.{Cell, Handle, read}
 use Rattle.crack_index.specs.declared.mark.Mark.{Mark}
 use Rattle.crack_index.specs.Marks.{HasBound, bounds_of, place_of}
@@ -20,6 +20,27 @@ IsOutside r key = (key < r.low) ⊎ (r.high ≤ key)
 -- what the handle reads has its key outside the range
 abbrev pub ReadsOutside : List (Cell Row) → Range → Handle → Type 0
 ReadsOutside cells r h = IsOutside r (key_at cells h)
+
+-- those of the handles whose key is outside the range, in their order
+abbrev pub outside_of : List (Cell Row) → Range → List Handle → List Handle
+outside_of cells r hs = filter (λ h. not (is_in r (key_at cells h))) hs
+
+-- the handles without those of the first `passed` whose key is in the range
+abbrev pub without_first : List (Cell Row) → Range → ℕ → List Handle → List Handle
+without_first cells r passed hs = outside_of cells r (take passed hs) ++ drop passed hs
+
+-- how many of the handles have their key in the range
+abbrev pub count_inside : List (Cell Row) → Range → List Handle → ℕ
+count_inside cells r hs = count_by (λ h. is_in r (key_at cells h)) hs
+
+-- the first list is some of the second's handles, in their order
+pub data SomeOf : List Handle → List Handle → Type 0 where
+  -- none of none
+  nothing : SomeOf [] []
+  -- the first handle is left out
+  left_out : (h : Handle) (some all : List Handle) → SomeOf some all → SomeOf some (h ∷ all)
+  -- the first handle is one of them
+  kept : (h : Handle) (some all : List Handle) → SomeOf some all → SomeOf (h ∷ some) (h ∷ all)
 
 -- an end of the range that isn't the partition's own
 abbrev pub IsInner : Range → Range → ℕ → Type 0
@@ -47,9 +68,9 @@ abbrev pub cuts : State → List ℕ
 cuts s = 0 ∷ map (λ (m : Mark). m.position) s.marks ++ length s.column ∷ []
 
 -- between any two bounds, the ends counted, the column has the same handles, in some order; the marks stay, and the bounds of
--- which `IsNew` holds are added where they were missing, and no other; all else but what is remembered of keys, and room, is the same
+-- which `IsNew` holds are added where they were missing, and no other; all else but room is the same
 pub record RefinesBy (IsNew : ℕ → Type 0) (s u : State) : Type 0 where
-  pub same : u ≡ record s { column = u.column; remembered = u.remembered; marks = u.marks; column_room = u.column_room; in_room = u.in_room }
+  pub same : u ≡ record s { column = u.column; marks = u.marks; column_room = u.column_room; in_room = u.in_room }
   pub long : length u.column ≡ length s.column
   pub pieces : (from to : ℕ) → Contains (cuts s) from → Contains (cuts s) to → IsPermutation (between from to s.column) (between from to u.column)
   pub kept : (m : Mark) → Contains s.marks m → Contains u.marks m
@@ -84,13 +105,24 @@ pub record Follows (s t : State) : Type 0 where
   pub cells : length t.cells ≡ length s.cells
   pub freed : freed_of t.cells + length t.pending_out ≡ freed_of s.cells + length s.pending_out
 
+-- each handle that still reads a row reads what it read before
+abbrev pub StillReads : List (Cell Row) → List (Cell Row) → Type 0
+StillReads before after = (h : Handle) → Reads after h → read after h ≡ read before h
+
 -- whether a row of either pending column has its key in the range
 abbrev pub is_touched : State → Range → Bool
 is_touched s r = list_any (λ h. is_in r (key_at s.cells h)) s.pending_in || list_any (λ h. is_in r (key_at s.cells h)) s.pending_out
 
--- which pending rows are left by a merge of this policy
+-- which pending deletions are left by a merge that takes those of its range: some of those outside it, in their order; the others
+-- were met by carries, and so are at most as many as the pending insertions in the range were
+pub record LeavesOutside (s t : State) (r : Range) : Type 0 where
+  pub some : SomeOf t.pending_out (outside_of s.cells r s.pending_out)
+  pub few : length (outside_of s.cells r s.pending_out) ≤ length t.pending_out + count_inside s.cells r s.pending_in
+
+-- which pending rows are left by a merge of this policy: complete takes all or none of both, gradual those of the range
 abbrev pub Leaves : Policy → State → State → Range → Type 0
 Leaves Complete s t r = (t.pending_in ≡ (if is_touched s r then [] else s.pending_in)) × (t.pending_out ≡ (if is_touched s r then [] else s.pending_out))
+Leaves Gradual s t r = (t.pending_in ≡ outside_of s.cells r s.pending_in) × LeavesOutside s t r
 
 -- merged: the range is settled, the pending rows that the policy takes are gone, and commands see the same rows as before
 pub record Merges (policy : Policy) (s t : State) (r : Range) : Type 0 where
@@ -126,9 +158,10 @@ pub record Counts (s t : State) (q : ℕ) : Type 0 where
   pub moved : t.tally.moved + s.tally.put_in * q ≤ s.tally.moved + t.tally.put_in * q
   pub pulled : t.tally.pulled + s.tally.taken_out * q ≤ s.tally.pulled + t.tally.taken_out * q
 
--- what a policy may have evicted: complete nothing
+-- what a policy may have evicted: complete and gradual nothing
 abbrev pub MayEvict : Policy → State → State → Type 0
 MayEvict Complete s t = t.tally.evicted ≡ s.tally.evicted
+MayEvict Gradual s t = t.tally.evicted ≡ s.tally.evicted
 
 -- what a merge of this policy counts: no counter falls, and the report is right unless one is at its greatest number
 pub record Tallies (policy : Policy) (s t : State) : Type 0 where
@@ -139,3 +172,10 @@ pub record Tallies (policy : Policy) (s t : State) : Type 0 where
   pub pulled_rises : s.tally.pulled ≤ t.tally.pulled
   pub counts : IsExact t.tally → Counts s t (length s.marks + 1)
   pub evicts : MayEvict policy s t
+
+-- what every carry and every pull of a merge of this policy keeps, and so each list of them: pending deletions only go
+pub record Advances (policy : Policy) (s t : State) : Type 0 where
+  pub follows : Follows s t
+  pub tallies : Tallies policy s t
+  pub reads : StillReads s.cells t.cells
+  pub pending_out : SomeOf t.pending_out s.pending_out

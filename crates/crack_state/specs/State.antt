@@ -8,18 +8,16 @@ use Rattle.crack_arena.specs.Arena.{Cell, Handle, read, cell_at, times, slots}
 use Rattle.crack_index.specs.declared.mark.Mark.{Mark}
 use Rattle.crack_index.specs.Marks.{Rising}
 use Rattle.crack_arena.specs.Rows.{key_at}
-use Rattle.crack_column.specs.Column.{Remembers, IsDividedAt}
+use Rattle.crack_column.specs.Column.{IsDividedAt}
 use Rattle.crack_state.specs.declared.MergeReport.{MergeReport}
 
--- the partition's keys; the cells of the arena and its free numbers; the column, with what is remembered of its keys; the
--- pending columns; the marks of the index; the handle of each live serial; the tally; and how many handles more fit in
--- column and pending insertions without memory
+-- the partition's keys; the cells of the arena and its free numbers; the column; the pending columns; the marks of the index;
+-- the handle of each live serial; the tally; and how many handles more are sure to fit in column and pending insertions without memory
 pub record State : Type 0 where
   pub keys : Range
   pub cells : List (Cell Row)
   pub free : List ℕ
   pub column : List Handle
-  pub remembered : List ℕ
   pub pending_in : List Handle
   pub pending_out : List Handle
   pub marks : List Mark
@@ -135,7 +133,6 @@ pub record IsIntact (s : State) (hand : List Handle) : Type 0 where
   pub keyed : IsKeyed s.cells (slots s.pending_out) s.serials
   pub empty : AreEmpty s.cells s.free
   pub within : HaveKeysIn s.keys s.cells
-  pub remembers : Remembers s.cells s.column s.remembered
   pub few_cells : length s.cells < 2 ^ 32
   pub few_freed : freed_of s.cells + length s.pending_out ≤ greatest
   pub counted : IsCounted s.tally

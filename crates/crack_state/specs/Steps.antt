@@ -1,13 +1,12 @@
 -- What each step does to a store: the row that moves, the bounds that move with it, and the counter that rises.
-use Rattle.std.specs.Prelude.{◌≡◌, ℕ, ◌+◌, ◌-◌, ◌<◌, ◌^◌, nat_lt, min, map, drop, length, count_by, List, [], ◌∷◌, ◌++◌, Option, Some, None, slice_index_or, slice_set}
+use Rattle.std.specs.Prelude.{◌≡◌, ℕ, ◌+◌, ◌-◌, ◌<◌, ◌^◌, nat_lt, nat_le, min, map, take, drop, length, count_by, List, [], ◌∷◌, ◌++◌, Option, Some, None, slice_index_or, slice_set}
 use Rattle.std.specs.List.{remove}
 use Rattle.crack_row.specs.Ranges.{IsIn}
 use Rattle.crack_row.specs.declared.Row.{Row}
-use Rattle.crack_arena.specs.Arena.{Handle, no_handle, handle_for, cells_with}
+use Rattle.crack_arena.specs.Arena.{Handle, no_handle, times, slots, place_in, handle_for, cells_with}
 use Rattle.crack_index.specs.declared.mark.Mark.{Mark}
-use Rattle.crack_index.specs.Marks.{next_mark, last_mark, start_of, end_of, raised}
+use Rattle.crack_index.specs.Marks.{next_mark, last_mark, start_of, end_of, raised, lowered, lowered_at}
 use Rattle.crack_arena.specs.Rows.{key_at}
-use Rattle.crack_column.specs.Column.{unknown}
 use Rattle.crack_state.specs.declared.MergeReport.{MergeReport}
 use Rattle.crack_state.specs.State.{State, Carried, handle_of, greatest}
 
@@ -28,17 +27,25 @@ abbrev pub raise_next : Option Mark → List Mark → List Mark
 raise_next None marks = marks
 raise_next (Some m) marks = map (raised m.bound.0 m.position) marks
 
+-- the bounds at or below a key that stand where its own piece begins move down by one, and no other
+abbrev pub lower_last : Option Mark → List Mark → List Mark
+lower_last None marks = marks
+lower_last (Some m) marks = map (lowered m.bound.0 m.position) marks
+
+-- the hand is a pending deletion
+abbrev pub IsDoomed : Carried → Type 0
+IsDoomed c = 0 < times c.hand.slot (slots c.store.pending_out)
+
 -- one more, up to the greatest number of a counter
 abbrev pub more : ℕ → ℕ
 more n = min (n + 1) greatest
 
--- a handle is put at a place of the column, where its key isn't remembered, and the one that stood there is in hand
+-- a handle is put at a place of the column, and the one that stood there is in hand
 abbrev pub put_at : ℕ → List Mark → MergeReport → Carried → Carried
 put_at place marks tally c =
     record {
       store = record c.store {
         column = slice_set c.store.column place c.hand;
-        remembered = slice_set c.store.remembered place unknown;
         marks = marks;
         tally = tally;
       };
@@ -52,9 +59,20 @@ lifted i s =
       store = record s {
         pending_in = remove s.pending_in i;
         tally = record s.tally { put_in = more s.tally.put_in };
-        in_room = s.in_room + 1;
       };
       hand = slice_index_or s.pending_in i no_handle;
+    }
+
+-- lift_last: the column's last handle is taken into the hand, and the bounds behind it move down
+abbrev pub lifted_last : State → Carried
+lifted_last s =
+    record {
+      store = record s {
+        column = take (length s.column - 1) s.column;
+        marks = map (lowered_at (length s.column)) s.marks;
+        column_room = s.column_room + 1;
+      };
+      hand = slice_index_or s.column (length s.column - 1) no_handle;
     }
 
 -- push_on: the hand is put where its own piece ends, and the row that stood there is in hand
@@ -62,14 +80,32 @@ abbrev pub pushed_on : Carried → Carried
 pushed_on c =
     put_at (piece_end c.store (hand_key c)) (raise_next (next_mark (hand_key c) c.store.marks) c.store.marks) (record c.store.tally { moved = more c.store.tally.moved }) c
 
+-- pull_back: the hand is put at the last place before its own piece, and the row that stood there is in hand
+abbrev pub pulled_back : Carried → Carried
+pulled_back c =
+    put_at (piece_start c.store (hand_key c) - 1) (lower_last (last_mark (hand_key c) c.store.marks) c.store.marks) (record c.store.tally { pulled = more c.store.tally.pulled }) c
+
+-- exchange: the hand is put at a place, and the row that stood there is in hand
+abbrev pub exchanged : ℕ → Carried → Carried
+exchanged place c = put_at place c.store.marks (record c.store.tally { pulled = more c.store.tally.pulled }) c
+
 -- append: the hand becomes the column's last row
 abbrev pub appended : Carried → State
 appended c =
     record c.store {
       column = c.store.column ++ c.hand ∷ [];
-      remembered = c.store.remembered ++ unknown ∷ [];
       marks = raise_next (next_mark (hand_key c) c.store.marks) c.store.marks;
       column_room = c.store.column_room - 1;
+    }
+
+-- bury: the hand, which is doomed, is struck from the pending deletions, and its cell is freed
+abbrev pub buried : Carried → State
+buried c =
+    record c.store {
+      cells = slice_set c.store.cells c.hand.slot (record { generation = c.hand.generation + 1; value = None });
+      free = c.hand.slot ∷ c.store.free;
+      pending_out = remove c.store.pending_out (place_in c.store.pending_out c.hand.slot);
+      tally = record c.store.tally { taken_out = more c.store.tally.taken_out };
     }
 
 -- the handle of the cell that the next row gets
@@ -100,3 +136,7 @@ pub record SameButRoom (s t : State) : Type 0 where
 -- how many bounds are above a key
 abbrev pub bounds_above : ℕ → List Mark → ℕ
 bounds_above key marks = count_by (λ (m : Mark). nat_lt key m.bound.0) marks
+
+-- how many bounds are at or below a key
+abbrev pub bounds_up_to : ℕ → List Mark → ℕ
+bounds_up_to key marks = count_by (λ (m : Mark). nat_le m.bound.0 key) marks

@@ -2,8 +2,8 @@
 //! between the pending columns, a hand and the cracked column, and what a refinement and a merge may change.
 //! The definitions stand in `specs/`, over one record of plain lists, and the laws that the crates above cite in `proofs/`.
 //!
-//! The calls of some steps are still to come, with deletions and with merges that take a part of the pending rows: their
-//! definitions stand in `specs/StepsToCome.antt`, their laws in `proofs/PullLaws.antt` and `proofs/BuryLaws.antt`.
+//! The call of one step is still to come, with merges that take rows out of the way: its definition stands in
+//! `specs/StepsToCome.antt`, its laws in `proofs/PullLaws.antt`.
 #![tactic(auto)]
 
 /// What merges have counted; each number stays at its greatest value once it is there.

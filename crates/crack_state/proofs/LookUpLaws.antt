@@ -1,0 +1,132 @@
+-- What a look-up of a serial tells of the live rows, and of any list of them; and how such a list changes.
+use Rattle.std.proofs.Common.{◌≡◌, ◌≢◌, ℕ, Bool, true, false, List, [], ◌∷◌, map, filter, length, get_or, cond, Option, Some, None, IsSome, refl, sym, ap, ◌∙◌, inl, inr, arith}
+use Rattle.std.specs.Prelude.{◌==◌, IfSome, unwrap_or, is_some}
+use Rattle.std.specs.List.{All, Contains, find, range_with_len}
+use Rattle.std.specs.List.Sorted.{IsPermutation}
+use Rattle.std.specs.Option.{option_and_then}
+use Rattle.std.proofs.lemmas.List.Elements.{All-head, All-tail}
+use Rattle.std.proofs.lemmas.List.Sorted.{All-permutation, Contains-permutation, IsPermutation-sym, IsPermutation-trans, IsPermutation-map}
+use Rattle.std.proofs.lemmas.Bool.{ne_eqb, eq-eqb, eqb-true, true≢false}
+use Rattle.crack_row.specs.declared.Row.{Row}
+use Rattle.crack_arena.specs.Arena.{Handle, times, read, cell_at, slots}
+use Rattle.crack_state.specs.State.{State, IsIntact, IsLiveAt, handle_of, live_at, live_rows}
+use Rattle.crack_state.specs.Points.{row_by, pending_by, handle_by, is_other, replaced, Cancels, Dooms}
+use Rattle.crack_state.proofs.LiveLaws.{All-filter_map}
+use Rattle.crack_state.proofs.KeyedLaws.{Contains-live}
+use Rattle.crack_state.proofs.PointLaws.{found_by, reads_by, others_live}
+use Rattle.crack_state.proofs.RowLists.{Contains-either, IsPermutation-filter}
+
+-- the row that a serial leads to is a live one, and of this serial
+pub record IsRowBy (s : State) (serial : ℕ) (row : Row) : Type 0 where
+  pub handle : Handle
+  pub leads : handle_of s.serials serial ≡ Some handle
+  pub reads : read s.cells handle ≡ Some row
+  pub same : row.serial.0 ≡ serial
+  pub live : Contains (live_rows s) row
+
+pub row_by-is : (s : State) (serial : ℕ) (row : Row) → row_by s serial ≡ Some row → IsIntact s [] → IsRowBy s serial row
+row_by-is s serial row is intact = by_handle (handle_of s.serials serial) refl is
+  where
+    by_handle : (o : Option Handle) → handle_of s.serials serial ≡ o → option_and_then (read s.cells) o ≡ Some row → IsRowBy s serial row
+    by_handle None found e = absurd (true≢false (sym (ap is_some e)))
+    by_handle (Some h) found e =
+        let live : IsLiveAt s.cells (slots s.pending_out) serial h = intact.keyed.leads serial h found in
+        let rows : live.row ≡ row = ap (λ (o : Option Row). unwrap_or o row) (sym live.reads ∙ e) in
+        record { handle = h; leads = found; reads = e; same = ap (λ (r : Row). r.serial.0) (sym rows) ∙ live.same; live = Contains-live s h row e live.kept }
+
+-- a row is there just where the map has its serial, and just where it is known whether it is pending
+pub row_by-handle : (s : State) (serial : ℕ) (h : Handle) → handle_of s.serials serial ≡ Some h → row_by s serial ≡ read s.cells h
+row_by-handle s serial h found = ap (option_and_then (read s.cells)) found
+
+pub row_by-pending : (s : State) (serial : ℕ) (pending : Bool) → pending_by s serial ≡ Some pending → IsIntact s [] → IsSome (row_by s serial)
+row_by-pending s serial pending is intact =
+    let found = found_by s serial pending is in
+    rw (row_by-handle s serial (handle_by s serial) found.leads) (reads_by s serial (handle_by s serial) found.leads intact)
+
+-- where there is none, no live row has the serial
+pub row_by-none : (s : State) (serial : ℕ) → handle_of s.serials serial ≡ None → IsIntact s [] → All (λ (r : Row). r.serial.0 ≢ serial) (live_rows s)
+row_by-none s serial none intact = others_live s.cells (slots s.pending_out) s.serials serial (range_with_len 0 (length s.cells)) none intact.keyed
+
+-- no other live row has its serial
+pub row_by-only : (s : State) (serial : ℕ) (row : Row) → row_by s serial ≡ Some row → IsIntact s [] → All (λ (r : Row). r.serial.0 ≡ serial → r ≡ row) (live_rows s)
+row_by-only s serial row is intact =
+    All-filter_map Same (live_at s.cells (slots s.pending_out)) (range_with_len 0 (length s.cells)) (λ n. by_value n (times n (slots s.pending_out) == 0) (cell_at s.cells n).value refl refl)
+  where
+    Same : Row → Type 0
+    Same r = r.serial.0 ≡ serial → r ≡ row
+
+    by_value : (n : ℕ) (b : Bool) (o : Option Row) → (times n (slots s.pending_out) == 0) ≡ b → (cell_at s.cells n).value ≡ o → IfSome (cond b o None) Same
+    by_value n false o kept value = tt
+    by_value n true None kept value = tt
+    by_value n true (Some r) kept value = λ e.
+        let h : Handle = record { slot = n; generation = (cell_at s.cells n).generation } in
+        let reads : read s.cells h ≡ Some r = rw (eq-eqb h.generation h.generation refl) value in
+        let leads = intact.keyed.lists h r reads (eqb-true (times n (slots s.pending_out)) 0 kept) in
+        let at : handle_of s.serials serial ≡ Some h = ap (handle_of s.serials) (sym e) ∙ leads in
+        let found : Some r ≡ Some row = sym reads ∙ sym (row_by-handle s serial h at) ∙ is in
+        ap (λ (o : Option Row). unwrap_or o row) found
+
+-- a list in which one element alone passes has it found
+find_only : (test : Row → Bool) (row : Row) (rows : List Row) → Contains rows row → test row ≡ true → All (λ (r : Row). test r ≡ true → r ≡ row) rows → find test rows ≡ Some row
+find_only test row [] there passes only = absurd (omega (arith, there.1))
+find_only test row (r ∷ rows) there passes only =
+    by_test (test r) refl (λ later. find_only test row rows later passes (All-tail (λ (r : Row). test r ≡ true → r ≡ row) r rows only))
+  where
+    by_test : (b : Bool) → test r ≡ b → (Contains rows row → find test rows ≡ Some row) → cond b (Some r) (find test rows) ≡ Some row
+    by_test true is rest = ap Some (All-head (λ (r : Row). test r ≡ true → r ≡ row) r rows only is)
+    by_test false is rest = elim (Contains-either r rows row there) [
+      | inl e ↦ absurd (true≢false (sym passes ∙ ap test e ∙ is))
+      | inr later ↦ rest later
+    ]
+
+find_none : (test : Row → Bool) (rows : List Row) → All (λ (r : Row). test r ≡ false) rows → find test rows ≡ None
+find_none test [] all = refl
+find_none test (r ∷ rows) all = rw (All-head (λ (r : Row). test r ≡ false) r rows all) (find_none test rows (All-tail (λ (r : Row). test r ≡ false) r rows all))
+
+-- so a look-up finds what a search of any list of the live rows finds
+pub row_by-find : (s : State) (serial : ℕ) (plain : List Row) → IsIntact s [] → IsPermutation (live_rows s) plain → row_by s serial ≡ find (λ (r : Row). r.serial.0 == serial) plain
+row_by-find s serial plain intact same = by_handle (handle_of s.serials serial) refl
+  where
+    has : Row → Bool
+    has r = r.serial.0 == serial
+
+    by_row : (o : Option Row) → row_by s serial ≡ o → IsSome o → o ≡ find has plain
+    by_row None is some = absurd (true≢false (sym some))
+    by_row (Some row) is some =
+        let known = row_by-is s serial row is intact in
+        let only = All-permutation (λ (r : Row). r.serial.0 ≡ serial → r ≡ row) (live_rows s) plain same (row_by-only s serial row is intact) in
+        sym (find_only has row plain (Contains-permutation (live_rows s) plain row same known.live) (eq-eqb row.serial.0 serial known.same) (λ k d h e. only k d h (eqb-true (get_or plain k d).serial.0 serial e)))
+
+    by_handle : (o : Option Handle) → handle_of s.serials serial ≡ o → row_by s serial ≡ find has plain
+    by_handle None found =
+        let apart = All-permutation (λ (r : Row). r.serial.0 ≢ serial) (live_rows s) plain same (row_by-none s serial found intact) in
+        ap (option_and_then (read s.cells)) found ∙ sym (find_none has plain (λ k d h. ne_eqb (get_or plain k d).serial.0 serial (apart k d h)))
+    by_handle (Some h) found =
+        let reads : IsSome (row_by s serial) = rw (row_by-handle s serial h found) (reads_by s serial h found intact) in
+        by_row (row_by s serial) refl reads
+
+-- the serial of a row that was cancelled or doomed is in the map no more
+pub gone-cancels : (serial : ℕ) (s t : State) → Cancels serial s t → handle_of t.serials serial ≡ None
+gone-cancels serial s t cancels = cancels.map serial ∙ rw (eq-eqb serial serial refl) refl
+
+pub gone-dooms : (serial : ℕ) (s t : State) → Dooms serial s t → handle_of t.serials serial ≡ None
+gone-dooms serial s t dooms = dooms.map serial ∙ rw (eq-eqb serial serial refl) refl
+
+filter-others : (serial : ℕ) (rows : List Row) → All (λ (r : Row). r.serial.0 ≢ serial) rows → filter (is_other serial) rows ≡ rows
+filter-others serial [] apart = refl
+filter-others serial (r ∷ rows) apart =
+    let rest = filter-others serial rows (All-tail (λ (r : Row). r.serial.0 ≢ serial) r rows apart) in
+    rw (ne_eqb r.serial.0 serial (All-head (λ (r : Row). r.serial.0 ≢ serial) r rows apart)) (ap (λ rs. r ∷ rs) rest)
+
+-- a list of the live rows, without the one that went
+pub live-without : (s t : State) (serial : ℕ) (row : Row) (plain : List Row) → row.serial.0 ≡ serial → handle_of t.serials serial ≡ None → IsIntact t [] → IsPermutation (row ∷ live_rows t) (live_rows s) → IsPermutation (live_rows s) plain → IsPermutation (live_rows t) (filter (is_other serial) plain)
+live-without s t serial row plain is gone intact went same =
+    let whole = IsPermutation-trans (row ∷ live_rows t) (live_rows s) plain went same in
+    let kept = IsPermutation-filter (is_other serial) (row ∷ live_rows t) plain whole in
+    let rest : filter (is_other serial) (row ∷ live_rows t) ≡ live_rows t = rw (eq-eqb row.serial.0 serial is) (filter-others serial (live_rows t) (row_by-none t serial gone intact)) in
+    rw rest at kept
+
+-- a list of the live rows, with the one that was rewritten
+pub live-replaced : (s t : State) (row : Row) (plain : List Row) → IsPermutation (map (replaced row) (live_rows s)) (live_rows t) → IsPermutation (live_rows s) plain → IsPermutation (live_rows t) (map (replaced row) plain)
+live-replaced s t row plain changed same =
+    IsPermutation-trans (live_rows t) (map (replaced row) (live_rows s)) (map (replaced row) plain) (IsPermutation-sym (map (replaced row) (live_rows s)) (live_rows t) changed) (IsPermutation-map (replaced row) (live_rows s) plain same)

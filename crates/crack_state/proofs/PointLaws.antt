@@ -1,0 +1,542 @@
+-- What the commands on one row do to a store: it stays intact, one live row goes or is replaced, and no other changes.
+use Rattle.std.proofs.Common.{◌≡◌, ◌≢◌, ℕ, ◌+◌, ◌<◌, ◌≤◌, Bool, true, false, eqb, ltb, List, [], ◌∷◌, ◌++◌, map, filter, length, get_or, set, cond, Option, Some, None, refl, sym, ap, ◌∙◌, inl, inr, arith, length-set}
+use Rattle.std.specs.Prelude.{◌==◌, IfSome, unwrap_or, is_some, not}
+use Rattle.std.specs.List.{All, remove, filter_map, range_with_len}
+use Rattle.std.specs.List.Sorted.{IsPermutation}
+use Rattle.std.specs.Option.{option_map}
+use Rattle.std.proofs.lemmas.List.{get_or-set_same, get_or-set_other, get_or_default, length_push}
+use Rattle.std.proofs.lemmas.List.Elements.{All-nil, All-head, All-tail, All-push, All-set, All-get_or}
+use Rattle.std.proofs.lemmas.List.Sorted.{IsPermutation-sym, IsPermutation-trans, IsPermutation-map}
+use Rattle.std.proofs.lemmas.List.Sums.{sum_by-set}
+use Rattle.std.proofs.lemmas.Bool.{cases_eq, cases_lt, ne_eqb, eq-eqb, eqb-true, lt-ltb, true≢false}
+use Rattle.crack_row.specs.Ranges.{IsIn}
+use Rattle.crack_row.specs.declared.Row.{Row}
+use Rattle.crack_arena.specs.Arena.{Cell, Handle, StandsAt, times, read, cell_at, empty_cell, slots, no_handle, place_in}
+use Rattle.crack_arena.proofs.Times.{times-nil, times-cons, times_one, times_other, times_head, times-append, times-map-append}
+use Rattle.crack_state.specs.State.{State, places, Reads, IsOwned, IsIntact, IsKeyed, IsLiveAt, AreEmpty, handle_of, freed_of, live_at, live_rows}
+use Rattle.crack_state.specs.Steps.{next_handle, admitted, SameButRoom}
+use Rattle.crack_state.specs.Points.{pending_by, handle_by, Maps, replaced, MayFree, struck, doomed_too, rewritten, renewed, Cancels, Dooms, Renews, Rewrites, IsRenewable, IsRewritable}
+use Rattle.crack_state.proofs.OwnedLaws.{times-taken, times-places, All-removed}
+use Rattle.crack_state.proofs.CellLaws.{AgreeOff-set, read-off, Reads-off, keys-off, generation_of_read, read-value, cell_within}
+use Rattle.crack_state.proofs.LiveLaws.{filter_map-less, times-range, none_either, All-filter_map}
+use Rattle.crack_state.proofs.AdmitLaws.{Filled, handle_of-push, handle_same, read-new, read_same, IsIntact-admitted, live_rows-admitted, freed-admitted, cells-admitted}
+use Rattle.crack_state.proofs.BuryLaws.{place_in-within, place_in-found, read-set_none, AreEmpty-freed}
+
+-- the handle that a serial leads to, and whether it is a pending insertion
+pub record FoundBy (s : State) (serial : ℕ) (pending : Bool) : Type 0 where
+  pub leads : handle_of s.serials serial ≡ Some (handle_by s serial)
+  pub test : ltb 0 (times (handle_by s serial).slot (slots s.pending_in)) ≡ pending
+
+pub found_by : (s : State) (serial : ℕ) (pending : Bool) → pending_by s serial ≡ Some pending → FoundBy s serial pending
+found_by s serial pending is = by_handle (handle_of s.serials serial) refl is
+  where
+    test : Handle → Bool
+    test h = ltb 0 (times h.slot (slots s.pending_in))
+
+    by_handle : (o : Option Handle) → handle_of s.serials serial ≡ o → option_map test o ≡ Some pending → FoundBy s serial pending
+    by_handle None found e = absurd (true≢false (sym (ap is_some e)))
+    by_handle (Some h) found e =
+        let same : handle_by s serial ≡ h = ap (λ (o : Option Handle). unwrap_or o no_handle) found in
+        record { leads = found ∙ ap Some (sym same); test = ap test same ∙ ap (λ (o : Option Bool). unwrap_or o false) e }
+
+pub handle_by-is : (s : State) (serial : ℕ) (h : Handle) → handle_of s.serials serial ≡ Some h → handle_by s serial ≡ h
+handle_by-is s serial h found = ap (λ (o : Option Handle). unwrap_or o no_handle) found
+
+-- a row's handle stands in the column or among the pending insertions, in one place
+pub record Stands1 (s : State) (serial : ℕ) (h : Handle) : Type 0 where
+  pub live : IsLiveAt s.cells (slots s.pending_out) serial h
+  pub within : h.slot < length s.cells
+  pub off_free : times h.slot s.free ≡ 0
+  pub once : times h.slot (slots s.column) + times h.slot (slots s.pending_in) ≡ 1
+
+-- the number of a cell with a value is none of the free ones
+full-off_free : (cells : List (Cell Row)) (n : ℕ) (r : Row) (free : List ℕ) → (cell_at cells n).value ≡ Some r → AreEmpty cells free → times n free ≡ 0
+full-off_free cells n r [] full empty = times-nil n
+full-off_free cells n r (m ∷ ms) full empty = elim (cases_eq m n) [
+  | inl e ↦
+      let none : (cell_at cells m).value ≡ None = All-head (λ k. (cell_at cells k).value ≡ None) m ms empty in
+      let same : (cell_at cells m).value ≡ (cell_at cells n).value = ap (λ (k : ℕ). (cell_at cells k).value) e in
+      absurd (cc)
+  | inr ne ↦
+      let rest = full-off_free cells n r ms full (All-tail (λ k. (cell_at cells k).value ≡ None) m ms empty) in
+      omega (arith, times-cons n m ms, times_one n m, times_other n m ne, rest)
+]
+
+pub stands1 : (s : State) (serial : ℕ) (h : Handle) → handle_of s.serials serial ≡ Some h → IsIntact s [] → Stands1 s serial h
+stands1 s serial h found intact =
+    let live : IsLiveAt s.cells (slots s.pending_out) serial h = intact.keyed.leads serial h found in
+    let within = cell_within s.cells h live.row live.reads in
+    let off = full-off_free s.cells h.slot live.row s.free (read-value s.cells h live.row live.reads) intact.empty in
+    let total : times h.slot (places s []) ≡ 1 = intact.owned.once h.slot ∙ rw (lt-ltb h.slot (length s.cells) within) refl in
+    record { live = live; within = within; off_free = off; once = omega (arith, total, times-places h.slot s.column s.pending_in s.free [], times-nil h.slot, off) }
+
+-- handles that read the same cell are one
+one_handle : (cells : List (Cell Row)) (g h : Handle) → Reads cells g → Reads cells h → g.slot ≡ h.slot → g ≡ h
+one_handle cells g h g_reads h_reads same =
+    let generations : g.generation ≡ h.generation = sym (generation_of_read cells g g_reads) ∙ ap (λ (n : ℕ). (cell_at cells n).generation) same ∙ generation_of_read cells h h_reads in
+    handle_same g h same generations
+
+reads_some : (cells : List (Cell Row)) (h : Handle) (r : Row) → read cells h ≡ Some r → Reads cells h
+reads_some cells h r is = rw is refl
+
+-- the handle of a serial reads its row
+pub reads_by : (s : State) (serial : ℕ) (h : Handle) → handle_of s.serials serial ≡ Some h → IsIntact s [] → Reads s.cells h
+reads_by s serial h found intact =
+    let live : IsLiveAt s.cells (slots s.pending_out) serial h = intact.keyed.leads serial h found in
+    reads_some s.cells h live.row live.reads
+
+-- a row that is no pending insertion isn't listed there
+pub unlisted_by : (s : State) (serial : ℕ) → FoundBy s serial false → times (handle_by s serial).slot (slots s.pending_in) ≡ 0
+unlisted_by s serial found = by_number (times (handle_by s serial).slot (slots s.pending_in)) found.test
+  where
+    by_number : (n : ℕ) → ltb 0 n ≡ false → n ≡ 0
+    by_number n is = elim (cases_lt 0 n) [
+      | inl l ↦ absurd (true≢false (sym (lt-ltb 0 n l) ∙ is))
+      | inr l ↦ omega arith
+    ]
+
+-- a pending insertion stands at the first place of its cell
+pub listed_at : (s : State) (serial : ℕ) (h : Handle) → handle_of s.serials serial ≡ Some h → 0 < times h.slot (slots s.pending_in) → IsIntact s [] → StandsAt s.pending_in (place_in s.pending_in h.slot) h
+listed_at s serial h found listed intact =
+    let live : IsLiveAt s.cells (slots s.pending_out) serial h = intact.keyed.leads serial h found in
+    let place = place_in s.pending_in h.slot in
+    let within = place_in-within s.pending_in h.slot listed in
+    let met = get_or s.pending_in place h in
+    let at : met ≡ get_or s.pending_in place met = get_or_default s.pending_in place h met within in
+    let slot : met.slot ≡ h.slot = place_in-found s.pending_in h.slot met within at in
+    let reads : Reads s.cells met = All-get_or (Reads s.cells) s.pending_in place h within intact.owned.pending_reads in
+    record { within = within; is = sym (one_handle s.cells met h reads (reads_some s.cells h live.row live.reads) slot) }
+
+-- another serial leads to another cell
+apart_handle : (s : State) (serial n : ℕ) (h g : Handle) → serial ≢ n → handle_of s.serials serial ≡ Some h → handle_of s.serials n ≡ Some g → IsKeyed s.cells (slots s.pending_out) s.serials → g.slot ≢ h.slot
+apart_handle s serial n h g ne found other keyed = λ e.
+    let mine : IsLiveAt s.cells (slots s.pending_out) serial h = keyed.leads serial h found in
+    let theirs : IsLiveAt s.cells (slots s.pending_out) n g = keyed.leads n g other in
+    let same : g ≡ h = one_handle s.cells g h (reads_some s.cells g theirs.row theirs.reads) (reads_some s.cells h mine.row mine.reads) e in
+    let rows : Some theirs.row ≡ Some mine.row = sym theirs.reads ∙ ap (read s.cells) same ∙ mine.reads in
+    let row : theirs.row ≡ mine.row = ap (λ (o : Option Row). unwrap_or o mine.row) rows in
+    ne (sym mine.same ∙ ap (λ (r : Row). r.serial.0) (sym row) ∙ theirs.same)
+
+-- what the map has then for another serial, and for this one
+maps_other : (serial n : ℕ) (o : Option Handle) (serials after : List (ℕ × Handle)) → Maps serial o serials after → serial ≢ n → handle_of after n ≡ handle_of serials n
+maps_other serial n o serials after maps ne = maps n ∙ rw (ne_eqb serial n ne) refl
+
+maps_this : (serial n : ℕ) (o : Option Handle) (serials after : List (ℕ × Handle)) → Maps serial o serials after → serial ≡ n → handle_of after n ≡ o
+maps_this serial n o serials after maps e = maps n ∙ rw (eq-eqb serial n e) refl
+
+-- maps that answer alike lead alike
+IsKeyed-alike : (cells : List (Cell Row)) (doomed : List ℕ) (serials after : List (ℕ × Handle)) → ((n : ℕ) → handle_of after n ≡ handle_of serials n) → IsKeyed cells doomed serials → IsKeyed cells doomed after
+IsKeyed-alike cells doomed serials after alike keyed = record {
+  leads = λ n g found. keyed.leads n g (sym (alike n) ∙ found);
+  lists = λ g r found kept. alike r.serial.0 ∙ keyed.lists g r found kept;
+}
+
+-- the row of a serial leaves cells and map
+IsKeyed-struck : (s : State) (serial : ℕ) (h : Handle) (after : List (ℕ × Handle)) → handle_of s.serials serial ≡ Some h → Maps serial None s.serials after → IsIntact s [] → IsKeyed (struck h s).cells (slots s.pending_out) after
+IsKeyed-struck s serial h after found maps intact =
+    let keyed = intact.keyed in
+    let known = stands1 s serial h found intact in
+    let c : Cell Row = record { generation = h.generation + 1; value = None } in
+    let agree = AgreeOff-set s.cells h.slot c in
+    record {
+      leads = λ n g is. elim (cases_eq serial n) [
+        | inl e ↦ let none = maps_this serial n None s.serials after maps e in absurd (cc)
+        | inr ne ↦
+            let old : handle_of s.serials n ≡ Some g = sym (maps_other serial n None s.serials after maps ne) ∙ is in
+            let live : IsLiveAt s.cells (slots s.pending_out) n g = keyed.leads n g old in
+            let apart = apart_handle s serial n h g ne found old keyed in
+            record { row = live.row; reads = read-off h.slot s.cells (set s.cells h.slot c) g agree apart ∙ live.reads; same = live.same; kept = live.kept }
+      ];
+      lists = λ g r reads kept. elim (cases_eq g.slot h.slot) [
+        | inl e ↦ absurd (let none = read-set_none s.cells h.slot (h.generation + 1) g known.within e in cc)
+        | inr ne ↦
+            let old = keyed.lists g r (sym (read-off h.slot s.cells (set s.cells h.slot c) g agree ne) ∙ reads) kept in
+            let differs : serial ≢ r.serial.0 = λ e. let same = ap (handle_of s.serials) e in ne (ap (λ (o : Option Handle). (unwrap_or o h).slot) (sym old ∙ sym same ∙ found)) in
+            maps_other serial r.serial.0 None s.serials after maps differs ∙ old
+      ];
+    }
+
+IsOwned-struck : (s : State) (h : Handle) → StandsAt s.pending_in (place_in s.pending_in h.slot) h → times h.slot (slots s.column) ≡ 0 → times h.slot (slots s.pending_in) ≡ 1 → times h.slot (slots s.pending_out) ≡ 0 → IsOwned s.cells s.free s.column s.pending_in s.pending_out [] → IsOwned (struck h s).cells (h.slot ∷ s.free) s.column (remove s.pending_in (place_in s.pending_in h.slot)) s.pending_out []
+IsOwned-struck s h at off_column once kept owned =
+    let c : Cell Row = record { generation = h.generation + 1; value = None } in
+    let cells = set s.cells h.slot c in
+    let agree = AgreeOff-set s.cells h.slot c in
+    let place = place_in s.pending_in h.slot in
+    let left = remove s.pending_in place in
+    let taken : (n : ℕ) → times n (slots left) + times n (slots (h ∷ [])) ≡ times n (slots s.pending_in) = λ n. times-taken n s.pending_in place h at.within at.is in
+    let off_left : times h.slot (slots left) ≡ 0 = omega (arith, taken h.slot, once, times_head h.slot [], times-nil h.slot) in
+    record {
+      once = λ n. rw (length-set s.cells h.slot c) (omega (arith, owned.once n, taken n, times-places n s.column s.pending_in s.free [], times-places n s.column left (h.slot ∷ s.free) [], times-cons n h.slot s.free, times_one n h.slot));
+      column_reads = Reads-off h.slot s.cells cells s.column agree off_column owned.column_reads;
+      pending_reads = Reads-off h.slot s.cells cells left agree off_left (All-removed (Reads s.cells) s.pending_in place owned.pending_reads);
+      hand_reads = All-nil (Reads cells);
+      doomed_reads = Reads-off h.slot s.cells cells s.pending_out agree kept owned.doomed_reads;
+      doomed_once = owned.doomed_once;
+    }
+
+-- a cell is freed once more
+freed-struck : (s : State) (h : Handle) → h.slot < length s.cells → Reads s.cells h → freed_of (struck h s).cells ≡ freed_of s.cells + 1
+freed-struck s h within reads =
+    let c : Cell Row = record { generation = h.generation + 1; value = None } in
+    omega (arith, sum_by-set (λ (x : Cell Row). x.generation) s.cells h.slot c empty_cell within, generation_of_read s.cells h reads)
+
+-- the store that a cancel leaves, whatever its map looks like
+pub IsIntact-struck : (s : State) (serial : ℕ) (h : Handle) (after : List (ℕ × Handle)) → handle_of s.serials serial ≡ Some h → 0 < times h.slot (slots s.pending_in) → Maps serial None s.serials after → MayFree s → IsIntact s [] → IsIntact (record (struck h s) { serials = after }) []
+IsIntact-struck s serial h after found listed maps few intact =
+    let known = stands1 s serial h found intact in
+    let live = known.live in
+    let reads = reads_some s.cells h live.row live.reads in
+    let c : Cell Row = record { generation = h.generation + 1; value = None } in
+    let cells = set s.cells h.slot c in
+    let agree = AgreeOff-set s.cells h.slot c in
+    let off_column : times h.slot (slots s.column) ≡ 0 = omega (arith, known.once, listed) in
+    record {
+      owned = IsOwned-struck s h (listed_at s serial h found listed intact) off_column (omega (arith, known.once, listed)) live.kept intact.owned;
+      obeyed = rw (keys-off h.slot s.cells cells s.column agree off_column) intact.obeyed;
+      rising = intact.rising;
+      inside = intact.inside;
+      keyed = IsKeyed-struck s serial h after found maps intact;
+      empty = AreEmpty-freed s.cells h.slot (h.generation + 1) s.free known.within intact.empty;
+      within = All-set (λ (x : Cell Row). IfSome x.value (λ r. IsIn s.keys r.key.0)) s.cells h.slot c tt intact.within;
+      few_cells = omega (arith, intact.few_cells, length-set s.cells h.slot c);
+      few_freed = omega (arith, few, freed-struck s h known.within reads);
+      counted = intact.counted;
+    }
+
+-- its row is the difference
+pub live_rows-struck : (s : State) (serial : ℕ) (h : Handle) (row : Row) → handle_of s.serials serial ≡ Some h → read s.cells h ≡ Some row → IsIntact s [] → IsPermutation (row ∷ live_rows (struck h s)) (live_rows s)
+live_rows-struck s serial h row found reads intact =
+    let known = stands1 s serial h found intact in
+    let c : Cell Row = record { generation = h.generation + 1; value = None } in
+    let cells = set s.cells h.slot c in
+    let doomed = slots s.pending_out in
+    let numbers = range_with_len 0 (length s.cells) in
+    let had : live_at s.cells doomed h.slot ≡ Some row = rw known.live.kept (read-value s.cells h row reads) in
+    let lacks : live_at cells doomed h.slot ≡ None = rw (get_or-set_same s.cells h.slot c empty_cell known.within) (none_either (times h.slot doomed == 0)) in
+    let once : times h.slot numbers ≡ 1 = times-range h.slot (length s.cells) ∙ rw (lt-ltb h.slot (length s.cells) known.within) refl in
+    let less = filter_map-less (live_at s.cells doomed) (live_at cells doomed) h.slot row numbers had lacks (λ k ne. rw (get_or-set_other s.cells h.slot k c empty_cell ne) refl) once in
+    rw (length-set s.cells h.slot c) (IsPermutation-sym (live_rows s) _ less)
+
+-- the row of a serial is doomed, and leaves the map
+IsKeyed-doomed : (s : State) (serial : ℕ) (h : Handle) (after : List (ℕ × Handle)) → handle_of s.serials serial ≡ Some h → Maps serial None s.serials after → IsIntact s [] → IsKeyed s.cells (slots (s.pending_out ++ h ∷ [])) after
+IsKeyed-doomed s serial h after found maps intact =
+    let keyed = intact.keyed in
+    let more : (n : ℕ) → times n (slots (s.pending_out ++ h ∷ [])) ≡ times n (slots s.pending_out) + times n (h.slot ∷ []) = λ n. times-map-append n (λ (x : Handle). x.slot) s.pending_out (h ∷ []) in
+    record {
+      leads = λ n g is. elim (cases_eq serial n) [
+        | inl e ↦ let none = maps_this serial n None s.serials after maps e in absurd (cc)
+        | inr ne ↦
+            let old : handle_of s.serials n ≡ Some g = sym (maps_other serial n None s.serials after maps ne) ∙ is in
+            let live : IsLiveAt s.cells (slots s.pending_out) n g = keyed.leads n g old in
+            let apart = apart_handle s serial n h g ne found old keyed in
+            record { row = live.row; reads = live.reads; same = live.same; kept = omega (arith, more g.slot, live.kept, times_other g.slot h.slot (λ e. apart (sym e))) }
+      ];
+      lists = λ g r reads kept.
+          let ne : g.slot ≢ h.slot = λ e.
+          let one : times g.slot (h.slot ∷ []) ≡ 1 = rw e (times_head h.slot [] ∙ omega (arith, times-nil h.slot)) in
+          absurd (omega (arith, more g.slot, kept, one)) in
+          let old = keyed.lists g r reads (omega (arith, more g.slot, kept)) in
+          let differs : serial ≢ r.serial.0 = λ e. let same = ap (handle_of s.serials) e in ne (ap (λ (o : Option Handle). (unwrap_or o h).slot) (sym old ∙ sym same ∙ found)) in
+          maps_other serial r.serial.0 None s.serials after maps differs ∙ old;
+    }
+
+-- the store that a doom leaves, whatever its map looks like
+pub IsIntact-doomed : (s : State) (serial : ℕ) (h : Handle) (after : List (ℕ × Handle)) → handle_of s.serials serial ≡ Some h → times h.slot (slots s.pending_in) ≡ 0 → Maps serial None s.serials after → MayFree s → IsIntact s [] → IsIntact (record (doomed_too h s) { serials = after }) []
+IsIntact-doomed s serial h after found unlisted maps few intact =
+    let known = stands1 s serial h found intact in
+    let live = known.live in
+    let owned = intact.owned in
+    let in_column : times h.slot (slots s.column) ≡ 1 = omega (arith, known.once, unlisted) in
+    let more : (n : ℕ) → times n (slots (s.pending_out ++ h ∷ [])) ≡ times n (slots s.pending_out) + times n (h.slot ∷ []) = λ n. times-map-append n (λ (x : Handle). x.slot) s.pending_out (h ∷ []) in
+    record {
+      owned = record {
+        once = owned.once;
+        column_reads = owned.column_reads;
+        pending_reads = owned.pending_reads;
+        hand_reads = owned.hand_reads;
+        doomed_reads = All-push (Reads s.cells) s.pending_out h owned.doomed_reads (reads_some s.cells h live.row live.reads);
+        doomed_once = λ n. elim (cases_eq h.slot n) [
+          | inl e ↦ rw (← e) (omega (arith, more h.slot, live.kept, times_head h.slot [], times-nil h.slot, in_column, times-append h.slot (slots s.column) []))
+          | inr ne ↦ omega (arith, more n, owned.doomed_once n, times_other n h.slot ne)
+        ];
+      };
+      obeyed = intact.obeyed;
+      rising = intact.rising;
+      inside = intact.inside;
+      keyed = IsKeyed-doomed s serial h after found maps intact;
+      empty = intact.empty;
+      within = intact.within;
+      few_cells = intact.few_cells;
+      few_freed = omega (arith, few, length_push s.pending_out h);
+      counted = intact.counted;
+    }
+
+-- its row is the difference
+pub live_rows-doomed : (s : State) (serial : ℕ) (h : Handle) (row : Row) → handle_of s.serials serial ≡ Some h → read s.cells h ≡ Some row → IsIntact s [] → IsPermutation (row ∷ live_rows (doomed_too h s)) (live_rows s)
+live_rows-doomed s serial h row found reads intact =
+    let known = stands1 s serial h found intact in
+    let doomed = slots s.pending_out in
+    let after = slots (s.pending_out ++ h ∷ []) in
+    let more : (n : ℕ) → times n after ≡ times n doomed + times n (h.slot ∷ []) = λ n. times-map-append n (λ (x : Handle). x.slot) s.pending_out (h ∷ []) in
+    let numbers = range_with_len 0 (length s.cells) in
+    let had : live_at s.cells doomed h.slot ≡ Some row = rw known.live.kept (read-value s.cells h row reads) in
+    let one : times h.slot after ≡ 1 = omega (arith, more h.slot, known.live.kept, times_head h.slot [], times-nil h.slot) in
+    let lacks : live_at s.cells after h.slot ≡ None = rw one refl in
+    let once : times h.slot numbers ≡ 1 = times-range h.slot (length s.cells) ∙ rw (lt-ltb h.slot (length s.cells) known.within) refl in
+    let others : (k : ℕ) → k ≢ h.slot → live_at s.cells doomed k ≡ live_at s.cells after k = λ k ne.
+    let same : times k after ≡ times k doomed = omega (arith, more k, times_other k h.slot (λ e. ne (sym e))) in
+    rw same refl in
+    IsPermutation-sym (live_rows s) _ (filter_map-less (live_at s.cells doomed) (live_at s.cells after) h.slot row numbers had lacks others once)
+
+-- a cell that was written anew reads through every handle of it
+reads_over : (cells : List (Cell Row)) (h g : Handle) (row : Row) → h.slot < length cells → Reads cells h → Reads cells g → g.slot ≡ h.slot → Reads (set cells h.slot (record { generation = h.generation; value = Some row })) g
+reads_over cells h g row within h_reads g_reads same =
+    let one : g ≡ h = one_handle cells g h g_reads h_reads same in
+    let c : Cell Row = record { generation = h.generation; value = Some row } in
+    let new : read (set cells h.slot c) h ≡ Some row = rw (get_or-set_same cells h.slot c empty_cell within, eq-eqb h.generation h.generation refl) refl in
+    rw one (reads_some (set cells h.slot c) h row new)
+
+-- every handle that read a row reads one, and the column's read the same
+Reads_over : (cells : List (Cell Row)) (h : Handle) (row : Row) (hs : List Handle) → h.slot < length cells → Reads cells h → All (Reads cells) hs → All (Reads (set cells h.slot (record { generation = h.generation; value = Some row }))) hs
+Reads_over cells h row hs within h_reads reads =
+    let c : Cell Row = record { generation = h.generation; value = Some row } in
+    λ k d j. elim (cases_eq (get_or hs k d).slot h.slot) [
+      | inl e ↦ reads_over cells h (get_or hs k d) row within h_reads (reads k d j) e
+      | inr ne ↦ rw (read-off h.slot cells (set cells h.slot c) (get_or hs k d) (AgreeOff-set cells h.slot c) ne) (reads k d j)
+    ]
+
+IsKeyed-rewritten : (s : State) (h : Handle) (row : Row) → handle_of s.serials row.serial.0 ≡ Some h → IsIntact s [] → IsKeyed (rewritten row h s).cells (slots s.pending_out) s.serials
+IsKeyed-rewritten s h row found intact =
+    let keyed = intact.keyed in
+    let known = stands1 s row.serial.0 h found intact in
+    let c : Cell Row = record { generation = h.generation; value = Some row } in
+    let cells = set s.cells h.slot c in
+    let agree = AgreeOff-set s.cells h.slot c in
+    let fill : Filled s.cells cells h row = record { cell = get_or-set_same s.cells h.slot c empty_cell known.within; others = agree } in
+    record {
+      leads = λ n g is. elim (cases_eq row.serial.0 n) [
+        | inl e ↦
+            let same : g ≡ h = ap (λ (o : Option Handle). unwrap_or o h) (sym is ∙ ap (handle_of s.serials) (sym e) ∙ found) in
+            record { row = row; reads = rw same (read-new s.cells cells h row fill); same = e; kept = rw same known.live.kept }
+        | inr ne ↦
+            let live : IsLiveAt s.cells (slots s.pending_out) n g = keyed.leads n g is in
+            let apart = apart_handle s row.serial.0 n h g ne found is keyed in
+            record { row = live.row; reads = read-off h.slot s.cells cells g agree apart ∙ live.reads; same = live.same; kept = live.kept }
+      ];
+      lists = λ g r reads kept. elim (cases_eq g.slot h.slot) [
+        | inl e ↦ let same = read_same s.cells cells h g row r fill e reads in rw (same.handle, same.row) found
+        | inr ne ↦ keyed.lists g r (sym (read-off h.slot s.cells cells g agree ne) ∙ reads) kept
+      ];
+    }
+
+-- the store that a write in place leaves
+pub IsIntact-rewritten : (s : State) (h : Handle) (row : Row) → handle_of s.serials row.serial.0 ≡ Some h → 0 < times h.slot (slots s.pending_in) → IsIn s.keys row.key.0 → IsIntact s [] → IsIntact (rewritten row h s) []
+IsIntact-rewritten s h row found listed inside intact =
+    let owned = intact.owned in
+    let known = stands1 s row.serial.0 h found intact in
+    let reads = reads_some s.cells h known.live.row known.live.reads in
+    let c : Cell Row = record { generation = h.generation; value = Some row } in
+    let cells = set s.cells h.slot c in
+    let agree = AgreeOff-set s.cells h.slot c in
+    let off_column : times h.slot (slots s.column) ≡ 0 = omega (arith, known.once, listed) in
+    record {
+      owned = record {
+        once = λ n. rw (length-set s.cells h.slot c) (owned.once n);
+        column_reads = Reads_over s.cells h row s.column known.within reads owned.column_reads;
+        pending_reads = Reads_over s.cells h row s.pending_in known.within reads owned.pending_reads;
+        hand_reads = All-nil (Reads cells);
+        doomed_reads = Reads_over s.cells h row s.pending_out known.within reads owned.doomed_reads;
+        doomed_once = owned.doomed_once;
+      };
+      obeyed = rw (keys-off h.slot s.cells cells s.column agree off_column) intact.obeyed;
+      rising = intact.rising;
+      inside = intact.inside;
+      keyed = IsKeyed-rewritten s h row found intact;
+      empty = λ k d j. let free = get_or s.free k d in elim (cases_eq free h.slot) [
+        | inl e ↦ absurd (let value = read-value s.cells h known.live.row known.live.reads in let none : (cell_at s.cells free).value ≡ None = intact.empty k d j in let same : (cell_at s.cells free).value ≡ (cell_at s.cells h.slot).value = ap (λ (n : ℕ). (cell_at s.cells n).value) e in cc)
+        | inr ne ↦ rw (agree free ne) (intact.empty k d j)
+      ];
+      within = All-set (λ (x : Cell Row). IfSome x.value (λ r. IsIn s.keys r.key.0)) s.cells h.slot c inside intact.within;
+      few_cells = omega (arith, intact.few_cells, length-set s.cells h.slot c);
+      few_freed = omega (arith, intact.few_freed, sum_by-set (λ (x : Cell Row). x.generation) s.cells h.slot c empty_cell known.within, generation_of_read s.cells h reads);
+      counted = intact.counted;
+    }
+
+-- the map without a serial
+abbrev pub forgotten : ℕ → List (ℕ × Handle) → List (ℕ × Handle)
+forgotten serial serials = filter (λ (e : ℕ × Handle). not (eqb serial e.0)) serials
+
+pub Maps-forgotten : (serial : ℕ) (serials : List (ℕ × Handle)) → Maps serial None serials (forgotten serial serials)
+Maps-forgotten serial [] n = by_test (eqb serial n)
+  where
+    by_test : (b : Bool) → None ≡ cond {A = Option Handle} b None None
+    by_test true = refl
+    by_test false = refl
+Maps-forgotten serial (e ∷ es) n =
+    let rest = Maps-forgotten serial es n in
+    elim (cases_eq serial e.0) [
+      | inl same ↦ elim (cases_eq n e.0) [
+        | inl here ↦ rw (eq-eqb serial e.0 same) (rest ∙ rw (eq-eqb serial n (same ∙ sym here)) refl)
+        | inr away ↦ rw (eq-eqb serial e.0 same, ne_eqb n e.0 away) rest
+      ]
+      | inr other ↦ elim (cases_eq n e.0) [
+        | inl here ↦ rw (ne_eqb serial e.0 other, eq-eqb n e.0 here, ne_eqb serial n (λ same. other (same ∙ here))) refl
+        | inr away ↦ rw (ne_eqb serial e.0 other, ne_eqb n e.0 away) rest
+      ]
+    ]
+
+-- the store that a doom leaves, with such a map
+abbrev between_doomed : Row → Handle → State → State
+between_doomed row h s = record (doomed_too h s) { serials = forgotten row.serial.0 s.serials }
+
+IsIntact-between : (s : State) (h : Handle) (row : Row) → handle_of s.serials row.serial.0 ≡ Some h → times h.slot (slots s.pending_in) ≡ 0 → MayFree s → IsIntact s [] → IsIntact (between_doomed row h s) []
+IsIntact-between s h row found unlisted few intact =
+    IsIntact-doomed s row.serial.0 h (forgotten row.serial.0 s.serials) found unlisted (Maps-forgotten row.serial.0 s.serials) few intact
+
+-- the store that a renewal leaves, whatever its map looks like
+pub IsIntact-renewed : (s : State) (h : Handle) (row : Row) (after : List (ℕ × Handle)) → handle_of s.serials row.serial.0 ≡ Some h → times h.slot (slots s.pending_in) ≡ 0 → Maps row.serial.0 (Some (next_handle s)) s.serials after → IsIn s.keys row.key.0 → IsRenewable s → IsIntact s [] → IsIntact (record (renewed row h s) { serials = after }) []
+IsIntact-renewed s h row after found unlisted maps inside may intact =
+    let serial = row.serial.0 in
+    let d = between_doomed row h s in
+    let gone = Maps-forgotten serial s.serials in
+    let fresh : handle_of d.serials serial ≡ None = maps_this serial serial None s.serials (forgotten serial s.serials) gone refl in
+    let new = IsIntact-admitted row d (record { fresh = fresh; within = inside; cell = may.cell }) (IsIntact-between s h row found unlisted may.few intact) in
+    let alike : (n : ℕ) → handle_of after n ≡ handle_of (admitted row d).serials n = λ n. elim (cases_eq serial n) [
+      | inl e ↦ maps_this serial n (Some (next_handle s)) s.serials after maps e ∙ sym (handle_of-push d.serials serial (next_handle s) fresh n ∙ rw (eq-eqb serial n e) refl)
+      | inr ne ↦ maps_other serial n (Some (next_handle s)) s.serials after maps ne ∙ sym (handle_of-push d.serials serial (next_handle s) fresh n ∙ rw (ne_eqb serial n ne) (maps_other serial n None s.serials d.serials gone ne))
+    ] in
+    record {
+      owned = new.owned;
+      obeyed = new.obeyed;
+      rising = new.rising;
+      inside = new.inside;
+      keyed = IsKeyed-alike (admitted row d).cells (slots d.pending_out) (admitted row d).serials after alike new.keyed;
+      empty = new.empty;
+      within = new.within;
+      few_cells = new.few_cells;
+      few_freed = new.few_freed;
+      counted = new.counted;
+    }
+
+-- where a serial isn't in the map, no live row has it
+pub others_live : (cells : List (Cell Row)) (doomed : List ℕ) (serials : List (ℕ × Handle)) (serial : ℕ) (numbers : List ℕ) → handle_of serials serial ≡ None → IsKeyed cells doomed serials → All (λ (r : Row). r.serial.0 ≢ serial) (filter_map (live_at cells doomed) numbers)
+others_live cells doomed serials serial numbers none keyed = All-filter_map Other (live_at cells doomed) numbers (λ n. by_value n (times n doomed == 0) (cell_at cells n).value refl refl)
+  where
+    Other : Row → Type 0
+    Other r = r.serial.0 ≢ serial
+
+    by_value : (n : ℕ) (b : Bool) (o : Option Row) → (times n doomed == 0) ≡ b → (cell_at cells n).value ≡ o → IfSome (cond b o None) Other
+    by_value n false o kept is = tt
+    by_value n true None kept is = tt
+    by_value n true (Some r) kept is = λ e.
+        let h : Handle = record { slot = n; generation = (cell_at cells n).generation } in
+        let reads : read cells h ≡ Some r = rw (eq-eqb h.generation h.generation refl) is in
+        let leads = keyed.lists h r reads (eqb-true (times n doomed) 0 kept) in
+        let same = ap (handle_of serials) e in
+        true≢false (ap is_some (sym leads ∙ same ∙ none))
+
+-- a list without the serial of a row stays where that row is put in its place
+map-replaced : (row : Row) (rows : List Row) → All (λ (r : Row). r.serial.0 ≢ row.serial.0) rows → map (replaced row) rows ≡ rows
+map-replaced row [] apart = refl
+map-replaced row (r ∷ rows) apart =
+    let first : replaced row r ≡ r = rw (ne_eqb r.serial.0 row.serial.0 (All-head (λ (r : Row). r.serial.0 ≢ row.serial.0) r rows apart)) refl in
+    let rest = map-replaced row rows (All-tail (λ (r : Row). r.serial.0 ≢ row.serial.0) r rows apart) in
+    cc
+
+-- one row goes and another of its serial comes
+pub replaced_in : (row old : Row) (before rest after : List Row) → old.serial.0 ≡ row.serial.0 → All (λ (r : Row). r.serial.0 ≢ row.serial.0) rest → IsPermutation (old ∷ rest) before → IsPermutation (row ∷ rest) after → IsPermutation (map (replaced row) before) after
+replaced_in row old before rest after same apart gone come =
+    let first : replaced row old ≡ row = rw (eq-eqb old.serial.0 row.serial.0 same) refl in
+    let moved : IsPermutation (replaced row old ∷ map (replaced row) rest) (map (replaced row) before) = IsPermutation-map (replaced row) (old ∷ rest) before gone in
+    let put : IsPermutation (row ∷ rest) (map (replaced row) before) = rw (first, map-replaced row rest apart) at moved in
+    IsPermutation-trans (map (replaced row) before) (row ∷ rest) after (IsPermutation-sym (row ∷ rest) (map (replaced row) before) put) come
+
+-- a write in place replaces the row
+pub live_rows-rewritten : (s : State) (h : Handle) (row : Row) → handle_of s.serials row.serial.0 ≡ Some h → IsIntact s [] → IsPermutation (map (replaced row) (live_rows s)) (live_rows (rewritten row h s))
+live_rows-rewritten s h row found intact =
+    let serial = row.serial.0 in
+    let known = stands1 s serial h found intact in
+    let live = known.live in
+    let doomed = slots s.pending_out in
+    let numbers = range_with_len 0 (length s.cells) in
+    let none : Cell Row = record { generation = h.generation + 1; value = None } in
+    let full : Cell Row = record { generation = h.generation; value = Some row } in
+    let less = set s.cells h.slot none in
+    let cells = set s.cells h.slot full in
+    let gone = live_rows-struck s serial h live.row found live.reads intact in
+    let keyed = IsKeyed-struck s serial h (forgotten serial s.serials) found (Maps-forgotten serial s.serials) intact in
+    let fresh = maps_this serial serial None s.serials (forgotten serial s.serials) (Maps-forgotten serial s.serials) refl in
+    let apart = others_live less doomed (forgotten serial s.serials) serial (range_with_len 0 (length less)) fresh keyed in
+    let had : live_at cells doomed h.slot ≡ Some row = rw (live.kept, get_or-set_same s.cells h.slot full empty_cell known.within) refl in
+    let lacks : live_at less doomed h.slot ≡ None = rw (get_or-set_same s.cells h.slot none empty_cell known.within) (none_either (times h.slot doomed == 0)) in
+    let once : times h.slot numbers ≡ 1 = times-range h.slot (length s.cells) ∙ rw (lt-ltb h.slot (length s.cells) known.within) refl in
+    let come = filter_map-less (live_at cells doomed) (live_at less doomed) h.slot row numbers had lacks (λ k ne. rw (get_or-set_other s.cells h.slot k full empty_cell ne, get_or-set_other s.cells h.slot k none empty_cell ne) refl) once in
+    let put : IsPermutation (row ∷ live_rows (struck h s)) (live_rows (rewritten row h s)) = rw (length-set s.cells h.slot none, length-set s.cells h.slot full) (IsPermutation-sym (filter_map (live_at cells doomed) numbers) _ come) in
+    replaced_in row live.row (live_rows s) (live_rows (struck h s)) (live_rows (rewritten row h s)) live.same apart gone put
+
+-- so does a renewal
+pub live_rows-renewed : (s : State) (h : Handle) (row : Row) → handle_of s.serials row.serial.0 ≡ Some h → times h.slot (slots s.pending_in) ≡ 0 → MayFree s → IsIntact s [] → IsPermutation (map (replaced row) (live_rows s)) (live_rows (renewed row h s))
+live_rows-renewed s h row found unlisted few intact =
+    let serial = row.serial.0 in
+    let d = between_doomed row h s in
+    let live = (stands1 s serial h found intact).live in
+    let between = IsIntact-between s h row found unlisted few intact in
+    let gone = live_rows-doomed s serial h live.row found live.reads intact in
+    let fresh = maps_this serial serial None s.serials d.serials (Maps-forgotten serial s.serials) refl in
+    let apart = others_live d.cells (slots d.pending_out) d.serials serial (range_with_len 0 (length d.cells)) fresh between.keyed in
+    replaced_in row live.row (live_rows s) (live_rows d) (live_rows (renewed row h s)) live.same apart gone (live_rows-admitted row d between)
+
+-- how many cells are new at most, and how often one is freed, now or later
+pub record Spends (made spent : ℕ) (s t : State) : Type 0 where
+  pub keys : t.keys ≡ s.keys
+  pub cells : length t.cells ≤ length s.cells + made
+  pub freed : freed_of t.cells + length t.pending_out ≤ freed_of s.cells + length s.pending_out + spent
+
+-- room is no matter of it
+Spends-room : (made spent : ℕ) (s u t : State) → SameButRoom u t → Spends made spent s u → Spends made spent s t
+Spends-room made spent s u t room spends = rw room.same (record { keys = spends.keys; cells = spends.cells; freed = spends.freed })
+
+pub Spends-cancels : (serial : ℕ) (s t : State) → pending_by s serial ≡ Some true → IsIntact s [] → Cancels serial s t → Spends 0 1 s t
+Spends-cancels serial s t pending intact cancels =
+    let h = handle_by s serial in
+    let known = stands1 s serial h (found_by s serial true pending).leads intact in
+    let c : Cell Row = record { generation = h.generation + 1; value = None } in
+    Spends-room 0 1 s (record (struck h s) { serials = t.serials }) t cancels.after (record {
+      keys = refl;
+      cells = omega (arith, length-set s.cells h.slot c);
+      freed = omega (arith, freed-struck s h known.within (reads_some s.cells h known.live.row known.live.reads));
+    })
+
+pub Spends-dooms : (serial : ℕ) (s t : State) → Dooms serial s t → Spends 0 1 s t
+Spends-dooms serial s t dooms =
+    let h = handle_by s serial in
+    Spends-room 0 1 s (record (doomed_too h s) { serials = t.serials }) t dooms.after (record {
+      keys = refl;
+      cells = omega arith;
+      freed = omega (arith, length_push s.pending_out h);
+    })
+
+Spends-renews : (row : Row) (s t : State) → pending_by s row.serial.0 ≡ Some false → MayFree s → IsIntact s [] → Renews row s t → Spends 1 1 s t
+Spends-renews row s t column few intact renews =
+    let h = handle_by s row.serial.0 in
+    let found = found_by s row.serial.0 false column in
+    let unlisted = unlisted_by s row.serial.0 found in
+    let between = IsIntact-between s h row found.leads unlisted few intact in
+    Spends-room 1 1 s (record (renewed row h s) { serials = t.serials }) t renews.after (record {
+      keys = refl;
+      cells = cells-admitted row (between_doomed row h s);
+      freed = omega (arith, freed-admitted row (between_doomed row h s) between, length_push s.pending_out h);
+    })
+
+pub Spends-rewrites : (o : Option Bool) (row : Row) (s t : State) → pending_by s row.serial.0 ≡ o → IsRewritable row s → IsIntact s [] → Rewrites o row s t → Spends 1 1 s t
+Spends-rewrites None row s t is may intact rewrites = absurd rewrites
+Spends-rewrites (Some false) row s t is may intact rewrites = Spends-renews row s t is (may.anew is).few intact rewrites
+Spends-rewrites (Some true) row s t is may intact rewrites =
+    let h = handle_by s row.serial.0 in
+    let known = stands1 s row.serial.0 h (found_by s row.serial.0 true is).leads intact in
+    let c : Cell Row = record { generation = h.generation; value = Some row } in
+    rw rewrites (record {
+      keys = refl;
+      cells = omega (arith, length-set s.cells h.slot c);
+      freed = omega (arith, sum_by-set (λ (x : Cell Row). x.generation) s.cells h.slot c empty_cell known.within, generation_of_read s.cells h (reads_some s.cells h known.live.row known.live.reads));
+    })

@@ -1,0 +1,103 @@
+-- What the commands on one row do to a store. The row is found by its serial, and taken out, or replaced by another of its serial.
+use Rattle.std.specs.Prelude.{◌≡◌, ℕ, ◌+◌, ◌-◌, ◌<◌, ◌==◌, ◌^◌, Bool, true, false, not, nat_lt, nat_eq, if◌then◌else◌, drop, length, List, [], ◌∷◌, ◌++◌, Option, Some, None, IsSome, slice_set}
+use Rattle.std.specs.List.{remove}
+use Rattle.std.specs.Option.{option_map, option_and_then, unwrap_or}
+use Rattle.crack_row.specs.Ranges.{IsIn}
+use Rattle.crack_row.specs.declared.Key.{Key}
+use Rattle.crack_row.specs.declared.Payload.{Payload}
+use Rattle.crack_row.specs.declared.Row.{Row}
+use Rattle.crack_row.specs.declared.Serial.{Serial}
+use Rattle.crack_arena.specs.Arena.{Handle, no_handle, read, cells_with, times, slots, place_in}
+use Rattle.crack_state.specs.State.{State, handle_of, freed_of, greatest}
+use Rattle.crack_state.specs.Steps.{next_handle, SameButRoom}
+
+-- the row that a serial leads to, if any
+abbrev pub row_by : State → ℕ → Option Row
+row_by s serial = option_and_then (read s.cells) (handle_of s.serials serial)
+
+-- whether the row of a serial is a pending insertion; nothing where there is no such row
+abbrev pub pending_by : State → ℕ → Option Bool
+pending_by s serial = option_map (λ (h : Handle). nat_lt 0 (times h.slot (slots s.pending_in))) (handle_of s.serials serial)
+
+-- the handle that a serial leads to
+abbrev pub handle_by : State → ℕ → Handle
+handle_by s serial = unwrap_or (handle_of s.serials serial) no_handle
+
+-- the second map has this handle, or none, for the serial, and for each other serial what the first has
+abbrev pub Maps : ℕ → Option Handle → List (ℕ × Handle) → List (ℕ × Handle) → Type 0
+Maps serial o serials after = (n : ℕ) → handle_of after n ≡ (if nat_eq serial n then o else handle_of serials n)
+
+-- whether a row has another serial
+abbrev pub is_other : ℕ → Row → Bool
+is_other serial row = not (row.serial.0 == serial)
+
+-- the row of this serial, key and payload
+abbrev pub row_with : Serial → Key → Payload → Row
+row_with serial key payload = record { serial = serial; key = key; payload = payload }
+
+-- a row, unless it has the serial of the first: that stands in its place
+abbrev pub replaced : Row → Row → Row
+replaced new row = if row.serial.0 == new.serial.0 then new else row
+
+-- a cell may be freed once more, now or later
+abbrev pub MayFree : State → Type 0
+MayFree s = freed_of s.cells + length s.pending_out < greatest
+
+-- a cell of a pending insertion is freed, the next to be used, and its handle leaves the pending insertions: the later ones close up
+abbrev pub struck : Handle → State → State
+struck h s =
+    record s {
+      cells = slice_set s.cells h.slot (record { generation = h.generation + 1; value = None });
+      free = h.slot ∷ s.free;
+      pending_in = remove s.pending_in (place_in s.pending_in h.slot);
+    }
+
+-- a handle of the column goes behind the last pending deletion
+abbrev pub doomed_too : Handle → State → State
+doomed_too h s = record s { pending_out = s.pending_out ++ h ∷ [] }
+
+-- a cell gets another row
+abbrev pub rewritten : Row → Handle → State → State
+rewritten row h s = record s { cells = slice_set s.cells h.slot (record { generation = h.generation; value = Some row }) }
+
+-- a handle of the column goes behind the last pending deletion, and a row in a new cell behind the last pending insertion
+abbrev pub renewed : Row → Handle → State → State
+renewed row h s =
+    record s {
+      cells = cells_with row s.cells s.free;
+      free = drop 1 s.free;
+      pending_in = s.pending_in ++ next_handle s ∷ [];
+      pending_out = s.pending_out ++ h ∷ [];
+    }
+
+-- cancel: the pending insertion of a serial is struck, and the serial leaves the map
+pub record Cancels (serial : ℕ) (s t : State) : Type 0 where
+  pub after : SameButRoom (record (struck (handle_by s serial) s) { serials = t.serials }) t
+  pub map : Maps serial None s.serials t.serials
+
+-- doom: the column's row of a serial becomes a pending deletion, and the serial leaves the map
+pub record Dooms (serial : ℕ) (s t : State) : Type 0 where
+  pub after : SameButRoom (record (doomed_too (handle_by s serial) s) { serials = t.serials }) t
+  pub map : Maps serial None s.serials t.serials
+
+-- renew: the column's row of a serial becomes a pending deletion, and the map leads to the new row of that serial
+pub record Renews (row : Row) (s t : State) : Type 0 where
+  pub after : SameButRoom (record (renewed row (handle_by s row.serial.0) s) { serials = t.serials }) t
+  pub map : Maps row.serial.0 (Some (next_handle s)) s.serials t.serials
+
+-- rewrite, by whether the row is a pending insertion: it is written in place, or renewed
+abbrev pub Rewrites : Option Bool → Row → State → State → Type 0
+Rewrites None row s t = ⊥
+Rewrites (Some true) row s t = t ≡ rewritten row (handle_by s row.serial.0) s
+Rewrites (Some false) row s t = Renews row s t
+
+-- when a row may be renewed: a cell is free or one more may be made, and one may be freed later
+pub record IsRenewable (s : State) : Type 0 where
+  pub cell : length s.cells < 2 ^ 32 - 1 + length s.free
+  pub few : MayFree s
+
+-- when a row may be rewritten: there is one of its serial, its key is the partition's, and one of the column may be renewed
+pub record IsRewritable (row : Row) (s : State) : Type 0 where
+  pub there : IsSome (handle_of s.serials row.serial.0)
+  pub within : IsIn s.keys row.key.0
+  pub anew : pending_by s row.serial.0 ≡ Some false → IsRenewable s

@@ -1,0 +1,24 @@
+-- What a range command reads off the column.
+use Rattle.std.specs.Prelude.{ℕ, List, sum_by}
+use Rattle.std.specs.List.{filter_map, between}
+use Rattle.crack_row.specs.Ranges.{Range}
+use Rattle.crack_row.specs.declared.Row.{Row}
+use Rattle.crack_arena.specs.Arena.{read}
+use Rattle.crack_state.specs.State.{State}
+use Rattle.crack_state.specs.Merge.{edge}
+
+-- the rows from one place of the column up to another, in their order
+abbrev pub rows_within : State → ℕ → ℕ → List Row
+rows_within s from to = filter_map (read s.cells) (between from to s.column)
+
+-- the rows between the places of a range's ends
+abbrev pub stretch_rows : State → Range → List Row
+stretch_rows s r = rows_within s (edge s r.low) (edge s r.high)
+
+-- a row's serial, as a number
+abbrev pub serial_of : Row → ℕ
+serial_of row = row.serial.0
+
+-- the sum of the payloads of rows
+abbrev pub sum_of : List Row → ℕ
+sum_of rows = sum_by (λ (row : Row). row.payload.0) rows
