@@ -1,5 +1,5 @@
 -- The cell of a row that is admitted.
-use Rattle.std.proofs.Common.{◌≡◌, ℕ, ◌+◌, ◌<◌, List, [], ◌∷◌, length, Some, false, max, refl, sym, ◌∙◌, inl, inr, arith, length-set}
+use Rattle.std.proofs.Common.{◌≡◌, ℕ, ◌+◌, ◌<◌, ◌≤◌, List, [], ◌∷◌, length, Some, false, refl, sym, ◌∙◌, inl, inr, arith, length-set}
 use Rattle.std.specs.Prelude.{nat_eq}
 use Rattle.std.proofs.lemmas.Bool.{cases_lt, le-ltb, ne_eqb}
 use Rattle.std.proofs.lemmas.List.{length_push}
@@ -29,14 +29,9 @@ next_within row s (n ∷ ns) is intact = elim (cases_lt n (length s.cells)) [
       absurd (omega (arith, times-places n s.column s.pending_in s.free []))
 ]
 
--- where as many flags were made as there will be cells, the row's cell has one
-pub record AreReady (row : Row) (s : State) (h : Handle) (flags : ℕ) : Type 0 where
-  pub covered : flags ≡ length (cells_with row s.cells s.free)
-  pub known : h.slot < flags
-
-pub are_ready : (row : Row) (s : State) (h : Handle) (cells free old flags : ℕ) → h ≡ next_handle s → cells ≡ length s.cells → free ≡ length s.free → old ≡ length s.cells → flags ≡ max old (cells + bool_byte (nat_eq free 0)) → IsIntact s [] → AreReady row s h flags
-are_ready row s h cells free old flags is cells_is free_is old_is made intact =
+-- where as many cells are covered as there will be, the row's cell is
+pub is_covered : (row : Row) (s : State) (h : Handle) (cells free covered : ℕ) → h ≡ next_handle s → cells ≡ length s.cells → free ≡ length s.free → cells + bool_byte (nat_eq free 0) ≤ covered → IsIntact s [] → h.slot < covered
+is_covered row s h cells free covered is cells_is free_is enough intact =
     let more = rw (← free_is) at (length_cells_with row s.cells s.free) in
     let within : h.slot < length (cells_with row s.cells s.free) = rw is (next_within row s s.free refl intact) in
-    let covered : flags ≡ length (cells_with row s.cells s.free) = omega arith in
-    record { covered = covered; known = omega arith }
+    omega arith

@@ -1,5 +1,7 @@
 mod NextLemmas
 mod EdgeLemmas
 mod AdmitLemmas
-mod FlagLemmas
 mod MissingLemmas
+mod HandLemmas
+mod RememberLemmas
+mod PointLemmas

@@ -1,39 +1,76 @@
--- What a look-up of the next bound tells.
-use Rattle.std.proofs.Common.{◌≡◌, ℕ, List, map, Option, Some, None, sym, ap, ◌∙◌}
-use Rattle.std.specs.Prelude.{All, unwrap_or, is_some}
-use Rattle.std.specs.Option.{option_map}
-use Rattle.std.proofs.lemmas.Bool.{true≢false}
+-- What a look-up of a bound next to a key tells.
+use Rattle.std.proofs.Common.{◌≡◌, ℕ, ◌<◌, ◌^◌, ◌-◌, ◌∷◌, [], List, length, Option, Some, None, refl, sym, ap, ◌∙◌, arith}
+use Rattle.std.specs.Prelude.{Contains, IfSome}
 use Rattle.std.proofs.lemmas.List.Elements.{All-contains}
-use Rattle.crack_row.specs.declared.Bound.{Bound}
 use Rattle.crack_index.specs.declared.mark.Mark.{Mark}
-use Rattle.crack_index.specs.Marks.{Rising, HasBound, place_of, next_mark, pair_of, raised}
-use Rattle.crack_index.proofs.MarkLaws.{next_mark-is, HasBound-mark, place_of-mark}
-use Rattle.crack_state.specs.Steps.{raise_next}
+use Rattle.crack_index.specs.declared.near.NearBound.{NearBound}
+use Rattle.crack_index.specs.Marks.{near_mark, next_mark, last_mark}
+use Rattle.crack_index.proofs.MarkLaws.{next_mark-is, last_mark-is}
+use Rattle.crack_arena.specs.Arena.{Handle}
+use Rattle.crack_state.specs.State.{State, Carried, IsIntact}
+use Rattle.crack_state.specs.Steps.{hand_key, piece_start, piece_end}
+use Rattle.crack_state.proofs.PieceLaws.{piece_start-le}
+use Rattle.crack_store.specs.declared.carrying.Near.{Near}
+use Rattle.crack_store.specs.declared.carrying.Near.TheVariants.{Above, Below}
+use Rattle.crack_store.specs.Hand.{IsNear}
+use Rattle.crack_store.proofs.EdgeLemmas.{positions_small}
 
--- the mark of a bound with its place
-abbrev pub mark_of : Bound × ℕ → Mark
-mark_of p = record { bound = p.0; position = p.1 }
+-- the mark that was found
+pub near_found : (found : Option NearBound) (n : NearBound) (o : Option Mark) → near_mark found ≡ o → found ≡ Some n → o ≡ Some n.mark
+near_found found n o value is = sym value ∙ ap near_mark is
 
-pub next_found : (o : Option Mark) (p : Bound × ℕ) → option_map pair_of o ≡ Some p → o ≡ Some (mark_of p)
-next_found None p e = absurd (true≢false (sym (ap is_some e)))
-next_found (Some m) p e = let same : pair_of m ≡ p = ap (λ o. unwrap_or o (pair_of m)) e in ap (λ q. Some (mark_of q)) same
+pub near_none : (found : Option NearBound) (o : Option Mark) → near_mark found ≡ o → found ≡ None → o ≡ None
+near_none found o value is = sym value ∙ ap near_mark is
 
--- what holds of all marks holds of the one that is found
-pub of_found : (P : Mark → Type 0) (key : ℕ) (marks : List Mark) (p : Bound × ℕ) → Rising marks → option_map pair_of (next_mark key marks) ≡ Some p → All P marks → P (mark_of p)
-of_found P key marks p rising e all =
-    let next = next_mark-is key marks (mark_of p) rising (next_found (next_mark key marks) p e) in
-    All-contains P marks (mark_of p) all next.listed
+-- the bound where the own piece of the hand ends, before the column does
+pub record IsUp (c : Carried) (m : Mark) : Type 0 where
+  pub found : next_mark (hand_key c) c.store.marks ≡ Some m
+  pub listed : Contains c.store.marks m
+  pub small : m.position < 2 ^ 64 - 1
+  pub place : piece_end c.store (hand_key c) ≡ m.position
+  pub within : m.position < length c.store.column
 
--- it stands in the index, at that place
-pub found_there : (key : ℕ) (marks : List Mark) (p : Bound × ℕ) → Rising marks → option_map pair_of (next_mark key marks) ≡ Some p → HasBound marks p.0.0
-found_there key marks p rising e = HasBound-mark marks (mark_of p) (next_mark-is key marks (mark_of p) rising (next_found (next_mark key marks) p e)).listed
+pub is_up : (c : Carried) (found : Option NearBound) (n : NearBound) → near_mark found ≡ next_mark (hand_key c) c.store.marks → found ≡ Some n → piece_end c.store (hand_key c) < length c.store.column → IsIntact c.store (c.hand ∷ []) → IsUp c n.mark
+is_up c found n value is room intact =
+    let s = c.store in
+    let at = near_found found n (next_mark (hand_key c) s.marks) value is in
+    let next = next_mark-is (hand_key c) s.marks n.mark intact.rising at in
+    record {
+      found = at;
+      listed = next.listed;
+      small = All-contains (λ (x : Mark). x.position < 2 ^ 64 - 1) s.marks n.mark (positions_small s (c.hand ∷ []) intact) next.listed;
+      place = rw at refl;
+      within = rw at at room;
+    }
 
-pub found_place : (key : ℕ) (marks : List Mark) (p : Bound × ℕ) → Rising marks → option_map pair_of (next_mark key marks) ≡ Some p → place_of p.0.0 marks ≡ p.1
-found_place key marks p rising e = place_of-mark marks (mark_of p) rising (next_mark-is key marks (mark_of p) rising (next_found (next_mark key marks) p e)).listed
+-- the bound where the own piece of the hand begins, behind the column's front
+pub record IsDown (c : Carried) (m : Mark) : Type 0 where
+  pub found : last_mark (hand_key c) c.store.marks ≡ Some m
+  pub listed : Contains c.store.marks m
+  pub place : piece_start c.store (hand_key c) ≡ m.position
+  pub above : 0 < m.position
+  pub within : m.position - 1 < length c.store.column
 
--- raising from it is raising what is next
-pub raised_found : (key : ℕ) (marks : List Mark) (p : Bound × ℕ) → Rising marks → option_map pair_of (next_mark key marks) ≡ Some p → map (raised p.0.0 (place_of p.0.0 marks)) marks ≡ raise_next (next_mark key marks) marks
-raised_found key marks p rising e =
-    let found = next_found (next_mark key marks) p e in
-    let place = found_place key marks p rising e in
-    ap (λ at. map (raised p.0.0 at) marks) place ∙ ap (λ o. raise_next o marks) (sym found)
+pub is_down : (c : Carried) (found : Option NearBound) (n : NearBound) → near_mark found ≡ last_mark (hand_key c) c.store.marks → found ≡ Some n → 0 < piece_start c.store (hand_key c) → IsIntact c.store (c.hand ∷ []) → IsDown c n.mark
+is_down c found n value is some intact =
+    let s = c.store in
+    let at = near_found found n (last_mark (hand_key c) s.marks) value is in
+    let last = last_mark-is (hand_key c) s.marks n.mark intact.rising at in
+    let above : 0 < n.mark.position = rw at at some in
+    let place : piece_start s (hand_key c) ≡ n.mark.position = rw at refl in
+    record {
+      found = at;
+      listed = last.listed;
+      place = place;
+      above = above;
+      within = omega (arith, above, place, piece_start-le s (hand_key c) intact.rising intact.obeyed);
+    }
+
+pub next_listed : (s : State) (hand : List Handle) (key : ℕ) (found : Option NearBound) → IsIntact s hand → near_mark found ≡ next_mark key s.marks → IfSome found (λ n. Contains s.marks n.mark)
+next_listed s hand key None intact value = tt
+next_listed s hand key (Some n) intact value = (next_mark-is key s.marks n.mark intact.rising (sym value)).listed
+
+-- the bound that is kept stays the one next to a key that has the same neighbours
+pub IsNear-same : (marks : List Mark) (key other : ℕ) (near : Near) → next_mark other marks ≡ next_mark key marks → last_mark other marks ≡ last_mark key marks → IsNear marks key near → IsNear marks other near
+IsNear-same marks key other (Above bound) next last is = is ∙ sym next
+IsNear-same marks key other (Below bound) next last is = is ∙ sym last

@@ -1,15 +1,15 @@
 -- What a contract sees of the inside of a store.
-use Rattle.std.specs.Prelude.{◌≡◌, ◌<◌, ◌+◌, ◌-◌, ℕ, Bool, nat_lt, List, [], length, Option, Some, None}
-use Rattle.std.specs.Option.{option_map}
+use Rattle.std.specs.Prelude.{◌≡◌, ◌<◌, ◌≤◌, ◌+◌, ◌-◌, ℕ, List, [], length, Option, Some, None}
 use Rattle.crack_row.specs.Ranges.{Range}
 use Rattle.crack_row.specs.declared.layout.Layout.{Layout}
 use Rattle.crack_index.specs.declared.mark.Mark.{Mark}
 use Rattle.crack_index.specs.Marks.{HasBound, next_mark, pieces_from}
-use Rattle.crack_arena.specs.Arena.{Handle, times, slots}
+use Rattle.crack_arena.specs.Arena.{Handle}
+use Rattle.crack_arena.specs.Rows.{RemembersKeys}
+use Rattle.crack_column.specs.Column.{Remembers}
 use Rattle.crack_state.specs.declared.MergeReport.{MergeReport}
-use Rattle.crack_state.specs.State.{State, IsIntact, handle_of}
+use Rattle.crack_state.specs.State.{State, IsIntact}
 use Rattle.crack_store.specs.declared.inside.Inside.{Inside}
-use Rattle.crack_store.specs.Flags.{AreFlagsOf}
 
 -- the inside as lists
 abbrev pub lists_of : Inside → State
@@ -18,20 +18,23 @@ lists_of p = record {
   cells = p.arena.cells;
   free = p.arena.free;
   column = p.column.handles;
-  remembered = p.column.keys;
   pending_in = p.pending_in.handles;
   pending_out = p.pending_out.handles;
   marks = p.index.marks;
   serials = p.serials.entries;
   tally = p.tally;
   column_room = p.column.room;
-  in_room = p.pending_in.room;
+  in_room = p.in_room;
 }
 
--- what the inside keeps, with no hand or one; each cell has one flag, which says whether it is a pending insertion
+-- what the inside keeps, with no hand or one: what the column and the pending lists remember is right, and there is room for as many
+-- pending insertions as are said to be sure to fit
 pub record KeepsIntact (p : Inside) (hand : List Handle) : Type 0 where
   pub intact : IsIntact (lists_of p) hand
-  pub flags : AreFlagsOf p.flags (length p.arena.cells) p.pending_in.handles
+  pub remembers : Remembers p.arena.cells p.column.handles p.column.remembered
+  pub keys_in : RemembersKeys p.arena.cells p.pending_in.handles p.pending_in.keys
+  pub keys_out : RemembersKeys p.arena.cells p.pending_out.handles p.pending_out.keys
+  pub room : p.in_room ≤ p.pending_in.room
 
 -- the bound lies strictly between the partition's ends, and doesn't stand in the index
 pub record IsMissing (s : State) (bound : ℕ) : Type 0 where
@@ -50,7 +53,6 @@ no_cells keys column_room in_room = record {
   cells = [];
   free = [];
   column = [];
-  remembered = [];
   pending_in = [];
   pending_out = [];
   marks = [];
@@ -59,10 +61,6 @@ no_cells keys column_room in_room = record {
   column_room = column_room;
   in_room = in_room;
 }
-
--- whether the row of a serial is a pending insertion; nothing where there is no such row
-abbrev pub pending_by : State → ℕ → Option Bool
-pending_by s serial = option_map (λ (h : Handle). nat_lt 0 (times h.slot (slots s.pending_in))) (handle_of s.serials serial)
 
 -- the bound of a mark, or another where there is none
 abbrev pub bound_or : ℕ → Option Mark → ℕ

@@ -1,34 +1,49 @@
 //! A store with one cell in hand.
-ghost use Rattle.std.specs.Prelude.{◌≡◌, ◌-◌, ◌<◌, ◌≤◌, ◌∷◌, [], length, All, Some};
-ghost use Rattle.crack_arena.specs.Arena.{read, times, slots};
-ghost use Rattle.crack_index.specs.Marks.{piece_at, next_mark, Rising};
+ghost use Rattle.std.specs.Prelude.{◌≡◌, ◌-◌, ◌<◌, ◌≤◌, ◌∷◌, [], length, All, Some, IsTrue, IsFalse, IfSome, Contains, MatchOption};
+ghost use Rattle.crack_arena.specs.Arena.{read, times, slots, IsFirstAt, IsAbsent, same_handle};
+ghost use Rattle.crack_index.specs.Marks.{piece_at, next_mark, last_mark, near_mark};
 ghost use Rattle.crack_state.specs.State.{IsIntact, live_rows};
-ghost use Rattle.crack_state.specs.Steps.{hand_key, piece_end, pushed_on, appended, bounds_above, raise_next as next_raised};
+ghost use Rattle.crack_state.specs.Steps.{hand_key, piece_start, piece_end, IsDoomed, pushed_on, pulled_back, exchanged, appended, buried, bounds_above, bounds_up_to, raise_next as next_raised};
 
 use crate::Store;
 use crate::inside::Inside;
+use crate::search::note_if_doomed;
 use crack_arena::Handle;
-use crack_index::{CrackerIndex, Piece};
-use crack_row::{Bound, Key, Row};
+use crack_column::Remembered;
+use crack_index::{CrackerIndex, NearBound, Piece};
+use crack_row::{Key, Row};
 use crack_state::MergeReport;
 use std::marker::Model;
+
+/// The bound next to the row in hand on its way, as the search told it with which the way began; each step goes on from there.
+#[derive(Clone, Copy)]
+pub(crate) enum Near {
+    /// On the way up: the least bound above the row's key.
+    Above(Option<NearBound>),
+    /// On the way down: the greatest bound at or below the row's key.
+    Below(Option<NearBound>),
+}
 
 /// A store with one cell in hand, which stands in no list. It can't be let go: a step ends it and gives the store back.
 pub struct Carrying {
     pub(crate) inside: Inside,
     pub(crate) hand: Handle<Row>,
+    /// What the column remembers of the row in hand, or is to.
+    pub(crate) known: Remembered,
+    pub(crate) near: Near,
 }
 
 impl Model for Carrying {
     ghost use Rattle.std.specs.Prelude.{[], ◌∷◌};
     ghost use Rattle.crack_state.specs.State.{Carried};
-    ghost use Rattle.crack_store.specs.Inside.{lists_of, KeepsIntact};
+    ghost use Rattle.crack_store.specs.Inside.{lists_of};
+    ghost use Rattle.crack_store.specs.Hand.{KeepsHand};
 
     ghost Value = { Carried };
 
     ghost view = { λ c. record { store = lists_of c.inside; hand = c.hand } };
 
-    ghost invariant = { λ c. KeepsIntact c.inside (c.hand ∷ []) };
+    ghost invariant = { λ c. KeepsHand c.inside c.hand c.known c.near };
 }
 
 impl Carrying {
@@ -50,6 +65,13 @@ impl Carrying {
         }
     }
 
+    /// Whether this handle is in hand. O(1), without a look at its row.
+    pub fn holds(&self, handle: Handle<Row>) -> bool
+        ensures { result ≡ same_handle self.now.hand handle }
+    {
+        self.hand == handle
+    }
+
     /// The number of rows in the column.
     pub fn column_len(&self) -> usize
         ensures { result ≡ length self.now.store.column }
@@ -64,6 +86,21 @@ impl Carrying {
         self.inside.tally
     }
 
+    /// Whether the row in hand is a pending deletion. O(1).
+    pub fn is_doomed(&self) -> bool
+        ensures doomed { IsTrue result → IsDoomed self.now }
+        ensures kept { IsFalse result → times self.now.hand.slot (slots self.now.store.pending_out) ≡ 0 }
+    {
+        self.inside.pending_out.contains(self.hand.slot())
+    }
+
+    /// The place of the column where the handle stands; none where it stands nowhere. O(rows of the column).
+    pub fn place_of(&self, handle: Handle<Row>) -> Option<usize>
+        ensures { MatchOption result (IsAbsent self.now.store.column handle) (IsFirstAt self.now.store.column handle) }
+    {
+        self.inside.column.place_of(handle)
+    }
+
     /// The key of the row in hand.
     fn hand_key(&self) -> Key
         ensures { result.0 ≡ hand_key self.now }
@@ -76,6 +113,7 @@ impl Carrying {
     pub fn own_piece(&self) -> Piece
         ensures value { result ≡ piece_at (hand_key self.now) (length self.now.store.column) self.now.store.marks }
         ensures order { result.from ≤ result.to }
+        ensures start { result.from ≡ piece_start self.now.store (hand_key self.now) }
         ensures end { result.to ≡ piece_end self.now.store (hand_key self.now) }
         ensures within { result.to ≤ length self.now.store.column }
     {
@@ -84,23 +122,147 @@ impl Carrying {
             .piece_of(self.hand_key(), self.inside.column.len())
     }
 
+    /// The least bound above the key in hand. O(1) on the way up, else O(log bounds).
+    fn bound_above(&self) -> Option<NearBound>
+        ensures { near_mark result ≡ next_mark (hand_key self.now) self.now.store.marks }
+    {
+        match self.near {
+            Near::Above(bound) => bound,
+            Near::Below(_) => self.inside.index.bound_above(self.hand_key()),
+        }
+    }
+
+    /// The greatest bound at or below the key in hand. O(1) on the way down, else O(log bounds).
+    fn bound_below(&self) -> Option<NearBound>
+        ensures { near_mark result ≡ last_mark (hand_key self.now) self.now.store.marks }
+    {
+        match self.near {
+            Near::Below(bound) => bound,
+            Near::Above(_) => self.inside.index.bound_below(self.hand_key()),
+        }
+    }
+
+    /// Where the own piece ends. O(1) on the way up, else O(log bounds).
+    pub fn piece_ends_at(&self) -> usize
+        ensures value { result ≡ piece_end self.now.store (hand_key self.now) }
+        ensures within { result ≤ length self.now.store.column }
+    {
+        let _ = &self.inside;
+        match self.bound_above() {
+            Some(bound) => bound.position(),
+            None => self.inside.column.len(),
+        }
+    }
+
+    /// Where the own piece begins. O(1) on the way down, else O(log bounds).
+    pub fn piece_begins_at(&self) -> usize
+        ensures value { result ≡ piece_start self.now.store (hand_key self.now) }
+        ensures within { result ≤ length self.now.store.column }
+    {
+        let _ = &self.inside;
+        match self.bound_below() {
+            Some(bound) => bound.position(),
+            None => 0,
+        }
+    }
+
     /// Puts the hand where its own piece ends; each bound above its key that stands there moves up by one, and the row that
-    /// stood there is in hand. O(log bounds) and the bounds at that place.
+    /// stood there is in hand. O(1) on the way up and the bounds at that place; else O(log bounds) more, once.
     pub fn push_on(&mut self)
         requires { piece_end self.old.store (hand_key self.old) < length self.old.store.column }
         ensures after { self.new ≡ pushed_on self.old }
         ensures live { live_rows self.new.store ≡ live_rows self.old.store }
         ensures nearer { bounds_above (hand_key self.new) self.new.store.marks < bounds_above (hand_key self.old) self.old.store.marks }
     {
-        let key = self.hand_key();
-        let place = self.own_piece().to;
-        raise_next(&mut self.inside.index, key);
-        self.hand = self.inside.column.swap_in(place, self.hand);
+        let Some(bound) = self.bound_above() else {
+            unreachable!();
+        };
+        let next = self.inside.index.raise_past(bound);
+        let (met, known) = self
+            .inside
+            .column
+            .swap_in_remembered(bound.position(), self.hand, self.known);
+        self.hand = met;
+        self.known = known;
+        self.near = Near::Above(next);
         self.inside.tally.moved = self.inside.tally.moved.saturating_add(1);
     }
 
+    /// Puts the hand at the last place before its own piece; each bound at or below its key that stands where that piece begins
+    /// moves down by one, and the row that stood there is in hand. O(1) on the way down and the bounds at that place; else
+    /// O(log bounds) more, once.
+    pub fn pull_back(&mut self)
+        requires { 0 < piece_start self.old.store (hand_key self.old) }
+        ensures after { self.new ≡ pulled_back self.old }
+        ensures live { live_rows self.new.store ≡ live_rows self.old.store }
+        ensures nearer { bounds_up_to (hand_key self.new) self.new.store.marks < bounds_up_to (hand_key self.old) self.old.store.marks }
+    {
+        let Some(bound) = self.bound_below() else {
+            unreachable!();
+        };
+        let last = bound.position() - 1;
+        let next = self.inside.index.lower_past(bound);
+        note_if_doomed(
+            &mut self.inside.notes,
+            &self.inside.pending_out,
+            self.hand,
+            last,
+        );
+        let (drawn, known) = self
+            .inside
+            .column
+            .swap_in_remembered(last, self.hand, self.known);
+        self.hand = drawn;
+        self.known = known;
+        self.near = Near::Below(next);
+        self.inside.tally.pulled = self.inside.tally.pulled.saturating_add(1);
+    }
+
+    /// Puts the hand at a place of its own piece, and the row that stood there is in hand. No bound moves. O(1).
+    pub fn exchange(&mut self, place: usize)
+        requires from { piece_start self.old.store (hand_key self.old) ≤ place }
+        requires to { place < piece_end self.old.store (hand_key self.old) }
+        ensures after { self.new ≡ exchanged place self.old }
+        ensures live { live_rows self.new.store ≡ live_rows self.old.store }
+    {
+        note_if_doomed(
+            &mut self.inside.notes,
+            &self.inside.pending_out,
+            self.hand,
+            place,
+        );
+        let (there, known) = self
+            .inside
+            .column
+            .swap_in_remembered(place, self.hand, self.known);
+        self.hand = there;
+        self.known = known;
+        self.inside.tally.pulled = self.inside.tally.pulled.saturating_add(1);
+    }
+
+    /// Frees the cell of the row in hand, which is doomed, and strikes it from the pending deletions.
+    /// Amortised O(1).
+    #[inline(always)]
+    pub fn bury(self) -> Store
+        requires { IsDoomed self }
+        ensures after { result ≡ buried self }
+        ensures live { live_rows result ≡ live_rows self.store }
+    {
+        let Carrying {
+            mut inside,
+            hand,
+            known: _,
+            near: _,
+        } = self;
+        inside.pending_out.strike(hand);
+        let _ = inside.arena.free(hand);
+        inside.tally.taken_out = inside.tally.taken_out.saturating_add(1);
+        Store { inside }
+    }
+
     /// Puts the hand behind the column's last row, where its own piece ends there; each bound above its key that stands there
-    /// moves up by one. O(log bounds) and the bounds at that place.
+    /// moves up by one. O(1) on the way up and the bounds at that place, else O(log bounds) more.
+    #[inline(always)]
     pub fn append(self) -> Store
         requires ends { piece_end self.store (hand_key self) ≡ length self.store.column }
         requires room { 0 < self.store.column_room }
@@ -108,23 +270,27 @@ impl Carrying {
         ensures after { result ≡ appended self }
         ensures live { live_rows result ≡ live_rows self.store }
     {
-        let key = self.hand_key();
-        let Carrying { mut inside, hand } = self;
-        raise_next(&mut inside.index, key);
-        inside.column.append(hand);
+        let above = self.bound_above();
+        let Carrying {
+            mut inside,
+            hand,
+            known,
+            near: _,
+        } = self;
+        raise_next(&mut inside.index, above);
+        inside.column.append_remembered(hand, known);
         Store { inside }
     }
 }
 
-/// Each bound above the key that stands where the key's piece ends moves up by one.
-fn raise_next(index: &mut CrackerIndex, key: Key)
-    requires { All (λ m. m.position < usize.MAX) index.old.marks }
-    ensures marks { index.new.marks ≡ next_raised (next_mark key.0 index.old.marks) index.old.marks }
+/// Each bound above a key that stands where the key's piece ends moves up by one, from the least such bound on.
+fn raise_next(index: &mut CrackerIndex, above: Option<NearBound>)
+    requires there { IfSome above (λ n. Contains index.old.marks n.mark) }
+    requires small { All (λ m. m.position < usize.MAX) index.old.marks }
+    ensures marks { index.new.marks ≡ next_raised (near_mark above) index.old.marks }
     ensures room { index.new.room ≡ index.old.room }
-    ensures rising { Rising index.new.marks }
 {
-    let _ = index.len();
-    if let Some((bound, _)) = index.next_after(Bound(key.0 as u64)) {
-        index.raise_from(bound);
+    if let Some(bound) = above {
+        let _ = index.raise_past(bound);
     }
 }

@@ -3,7 +3,7 @@ ghost use Rattle.std.specs.Prelude.{◌≡◌, ◌+◌, ◌<◌, ◌≤◌, [], 
 ghost use Rattle.crack_state.specs.Merge.{RefinesAt, Stands};
 ghost use Rattle.crack_store.specs.Inside.{lists_of, KeepsIntact, IsMissing};
 
-use crate::flags::Flags;
+use crate::notes::Notes;
 use crack_arena::{Arena, Handle};
 use crack_column::CrackerColumn;
 use crack_index::CrackerIndex;
@@ -21,8 +21,10 @@ pub(crate) struct Inside {
     pub(crate) index: CrackerIndex,
     pub(crate) pending_in: PendingIn,
     pub(crate) pending_out: PendingOut,
-    /// Which cells the pending insertions name.
-    pub(crate) flags: Flags,
+    /// How many more pending insertions are sure to need no memory.
+    pub(crate) in_room: usize,
+    /// Where doomed rows were seen last.
+    pub(crate) notes: Notes,
     /// The handle of each live row, by its serial.
     pub(crate) serials: IndexMap<u64, Handle<Row>>,
     pub(crate) tally: MergeReport,

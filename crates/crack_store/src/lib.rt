@@ -5,8 +5,11 @@
 #![tactic(auto)]
 
 pub mod carrying;
-mod flags;
 mod inside;
+mod notes;
+pub mod points;
+pub mod reads;
+mod search;
 pub mod store;
 
 pub use carrying::Carrying;

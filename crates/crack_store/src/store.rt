@@ -6,15 +6,18 @@ ghost use Rattle.crack_arena.specs.Rows.{keys_at};
 ghost use Rattle.crack_arena.specs.Arena.{StandsAt};
 ghost use Rattle.crack_pending.specs.Pending.{Finds};
 ghost use Rattle.crack_state.specs.State.{State, IsIntact, live_rows, handle_of};
-ghost use Rattle.crack_state.specs.Steps.{lifted, admitted, IsAdmissible, SameButRoom};
+ghost use Rattle.crack_state.specs.Steps.{lifted, lifted_last, admitted, IsAdmissible, SameButRoom};
 ghost use Rattle.crack_state.specs.Merge.{Refines, Stands, IsCracked, edge};
-ghost use Rattle.crack_store.specs.Inside.{no_cells, pending_by, bound_above, IsLayoutOf};
+ghost use Rattle.crack_state.specs.Points.{pending_by};
+ghost use Rattle.crack_store.specs.Inside.{no_cells, bound_above, IsLayoutOf};
 
 use crate::Carrying;
-use crate::flags::Flags;
+use crate::carrying::Near;
 use crate::inside::{Inside, crack_at, is_missing};
+use crate::notes::Notes;
+use crate::points::row_at;
 use crack_arena::{Arena, Handle};
-use crack_column::CrackerColumn;
+use crack_column::{CrackerColumn, Remembered};
 use crack_index::CrackerIndex;
 use crack_pending::{PendingIn, PendingOut};
 use crack_row::{Bound, KeyRange, Layout, PieceList, Refusal, Row, Serial};
@@ -55,7 +58,8 @@ impl Store {
                 index: CrackerIndex::new(alloc),
                 pending_in: PendingIn::new(alloc),
                 pending_out: PendingOut::new(alloc),
-                flags: Flags::new(alloc),
+                in_room: 0,
+                notes: Notes::new(alloc),
                 serials: IndexMap::new(alloc),
                 tally: MergeReport {
                     put_in: 0,
@@ -89,12 +93,12 @@ impl Store {
         self.inside.serials.reserve(1)?;
         let new_cells = (self.inside.arena.free_cells() == 0) as usize;
         self.inside
-            .flags
+            .pending_in
             .cover(self.inside.arena.cells() + new_cells)?;
         let handle = self.inside.arena.put_reserved(row);
         let _ = self.inside.serials.insert(row.serial.0, handle);
-        self.inside.pending_in.push(handle);
-        self.inside.flags.set(handle.slot());
+        self.inside.pending_in.push_keyed(handle, row.key);
+        self.inside.in_room = 0;
         Ok(())
     }
 
@@ -104,7 +108,7 @@ impl Store {
         ensures none { IfNone result (handle_of self.now.serials serial.0 ≡ None) }
     {
         match self.inside.serials.get(&serial.0) {
-            Some(handle) => Some(self.inside.flags.contains(handle.slot())),
+            Some(handle) => Some(self.inside.pending_in.contains(handle.slot())),
             None => None,
         }
     }
@@ -139,21 +143,55 @@ impl Store {
         ensures err { IfErr result (λ e. e ≡ Refusal.OutOfMemory) }
     {
         self.inside.column.reserve(1)?;
-        self.inside.pending_in.reserve(1)
+        self.inside.pending_in.reserve(1)?;
+        self.inside.in_room = 1;
+        Ok(())
     }
 
     /// Takes the pending insertion at this place of the order of arrival into the hand.
-    /// O(1) at the first place or behind the one that was taken last; takes no memory.
-    pub fn lift(self, place: usize) -> Carrying
+    /// O(log bounds) at the first place or behind the one that was taken last; takes no memory.
+    #[inline(always)]
+    pub fn lift(mut self, place: usize) -> Carrying
         requires { place < length self.pending_in }
         ensures after { result ≡ lifted place self }
         ensures live { live_rows result.store ≡ live_rows self }
     {
+        let hand = self.inside.pending_in.take(place);
+        self.inside.tally.put_in = self.inside.tally.put_in.saturating_add(1);
+        let row = row_at(&self.inside.arena, hand);
+        let known = Remembered::of(row);
+        let near = Near::Above(self.inside.index.bound_above(row.key));
+        Carrying {
+            inside: self.inside,
+            hand,
+            known,
+            near,
+        }
+    }
+
+    /// Takes the column's last row into the hand; each bound that stands behind it moves down by one.
+    /// O(log bounds) and the bounds at that place; takes no memory.
+    #[inline(always)]
+    pub fn lift_last(self) -> Carrying
+        requires { 0 < length self.column }
+        ensures after { result ≡ lifted_last self }
+        ensures live { live_rows result.store ≡ live_rows self }
+    {
         let Store { mut inside } = self;
-        let hand = inside.pending_in.take(place);
-        inside.flags.clear(hand.slot());
-        inside.tally.put_in = inside.tally.put_in.saturating_add(1);
-        Carrying { inside, hand }
+        let len = inside.column.len();
+        inside.index.lower_at(len);
+        let Some(hand) = inside.column.pop() else {
+            unreachable!();
+        };
+        let row = row_at(&inside.arena, hand);
+        let known = Remembered::of(row);
+        let near = Near::Below(inside.index.bound_below(row.key));
+        Carrying {
+            inside,
+            hand,
+            known,
+            near,
+        }
     }
 
     /// How many rows stand in the column between the ends of a range by which it was cracked. O(log bounds).
@@ -167,7 +205,7 @@ impl Store {
     }
 
     /// The place at which the rows at or above the bound begin. O(log bounds).
-    fn edge(&self, bound: Bound) -> usize
+    pub(crate) fn edge(&self, bound: Bound) -> usize
         requires { Stands self.now bound.0 }
         ensures { result ≡ edge self.now bound.0 }
     {
@@ -275,7 +313,32 @@ impl Store {
         self.inside.pending_out.first_in(range, &self.inside.arena)
     }
 
-    /// The pending deletion at this place of the order of arrival. O(1).
+    /// The first pending insertion at or behind the place with its key in the range; O(1) for each that it passes.
+    pub fn next_in(&self, range: KeyRange, from: usize) -> Option<usize>
+        ensures { Finds range (keys_at self.now.cells self.now.pending_in) from result }
+    {
+        let arena = &self.inside.arena;
+        self.inside.pending_in.next_in(range, from, arena)
+    }
+
+    /// The first pending deletion at or behind the place with its key in the range; O(1) for each that it passes.
+    pub fn next_out(&self, range: KeyRange, from: usize) -> Option<usize>
+        ensures { Finds range (keys_at self.now.cells self.now.pending_out) from result }
+    {
+        let arena = &self.inside.arena;
+        self.inside.pending_out.next_in(range, from, arena)
+    }
+
+    /// Goes on from this place when a pending deletion is looked for next, so that those which are taken out at rising places are
+    /// passed over once. Contracts see no change.
+    pub fn seek_out(&mut self, place: usize)
+        requires { place < length self.old.pending_out }
+        ensures { self.new ≡ self.old }
+    {
+        self.inside.pending_out.seek(place);
+    }
+
+    /// The pending deletion at this place of the order of arrival. O(1) at the place that was sought last.
     pub fn doomed(&self, place: usize) -> Handle<Row>
         requires { place < length self.now.pending_out }
         ensures { StandsAt self.now.pending_out place result }

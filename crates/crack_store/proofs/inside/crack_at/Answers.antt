@@ -21,6 +21,8 @@ cracked c =
       missing = missing.apart;
       low = missing.low;
       high = missing.high;
+      known = c.args.inside.now.column.remembered;
+      known' = c.crack_two-place.new.self.remembered;
       cracks = rw (c.piece_of-piece.ensures.value, c.len.ensures.value) at c.crack_two-place.ensures.cracked;
       after = rw (c.crack_two-place.ensures.room, c.add.ensures.marks) refl;
     }
@@ -31,7 +33,10 @@ returns-clause-intact c =
     let new = record old { column = c.crack_two-place.new.self; index = c.add.new.self } in
     record {
       intact = IsIntact-cracked (lists_of old) (lists_of new) [] c.args.bound (cracked c) c.requires.intact.intact;
-      flags = c.requires.intact.flags;
+      remembers = c.crack_two-place.ensures.remembered;
+      keys_in = c.requires.intact.keys_in;
+      keys_out = c.requires.intact.keys_out;
+      room = c.requires.intact.room;
     }
 
 pub returns-clause-refined : goal.returns-clause-refined

@@ -1,43 +1,86 @@
-use Rattle.std.proofs.Common.{◌≡◌, ◌<◌, ◌∷◌, [], length, get_or, refl, sym}
+use Rattle.std.proofs.Common.{◌≡◌, ◌<◌, None, length, get_or, refl, sym, ◌∙◌, arith}
 use Rattle.std.proofs.lemmas.Option.{get_or_from_slice_get}
+use Rattle.crack_column.proofs.Remembering.{Agrees-at}
 use Rattle.crack_index.specs.Marks.{next_mark}
 use Rattle.crack_state.specs.State.{Carried}
 use Rattle.crack_state.specs.Steps.{hand_key, piece_end, raise_next}
 use Rattle.crack_state.proofs.StepLaws.{IsIntact-pushed_on, bounds_above-pushed_on}
+use Rattle.crack_state.proofs.NearLaws.{next-pushed_on}
 use Rattle.crack_store.specs.Inside.{lists_of}
-use Rattle.crack_store.proofs.EdgeLemmas.{positions_small}
+use Rattle.crack_store.proofs.NextLemmas.{near_none, IsUp, is_up}
 use Rattle.crack_store.proofs.carrying.Carrying.push_on.Goals as goal
 
--- the store with its hand as it was
-abbrev before : goal.After-self-2-1 → Carried
-before c = record { store = lists_of c.self.inside.inside; hand = c.self.inside.hand }
+pub unreachable-unreachable : goal.unreachable-unreachable
+unreachable-unreachable c =
+    let carried : Carried = record { store = lists_of c.self.inside.inside; hand = c.self.inside.hand } in
+    let none : next_mark (hand_key carried) carried.store.marks ≡ None = near_none c.bound_above.result (next_mark (hand_key carried) carried.store.marks) (rw (← c.self.view_is) at c.bound_above.ensures) c.in_default.is in
+    let room : piece_end carried.store (hand_key carried) < length carried.store.column = rw (← c.self.view_is) at c.requires in
+    let within : length carried.store.column < length carried.store.column = rw none at room in
+    absurd (omega arith)
 
-room : (c : goal.After-self-2-1) → piece_end (before c).store (hand_key (before c)) < length (before c).store.column
-room c = rw (← c.self.view_is) at c.requires
+pub raise_past-next-requires-clause-there : goal.raise_past-next-requires-clause-there
+raise_past-next-requires-clause-there c =
+    let carried : Carried = record { store = lists_of c.self.inside.inside; hand = c.self.inside.hand } in
+    let room : piece_end carried.store (hand_key carried) < length carried.store.column = rw (← c.self.view_is) at c.requires in
+    let intact = c.self.invariant.kept.intact in
+    let up : IsUp carried c.in-Some.bound.mark = is_up carried c.bound_above.result c.in-Some.bound (rw (← c.self.view_is) at c.bound_above.ensures) c.in-Some.is room intact in
+    up.listed
 
-place : (c : goal.After-self-2-1) → c.own_piece-place.result.to ≡ piece_end (before c).store (hand_key (before c))
-place c = rw (← c.self.view_is) at c.own_piece-place.ensures.end
+pub raise_past-next-requires-clause-small : goal.raise_past-next-requires-clause-small
+raise_past-next-requires-clause-small c =
+    let carried : Carried = record { store = lists_of c.self.inside.inside; hand = c.self.inside.hand } in
+    let room : piece_end carried.store (hand_key carried) < length carried.store.column = rw (← c.self.view_is) at c.requires in
+    let intact = c.self.invariant.kept.intact in
+    let up : IsUp carried c.in-Some.bound.mark = is_up carried c.bound_above.result c.in-Some.bound (rw (← c.self.view_is) at c.bound_above.ensures) c.in-Some.is room intact in
+    up.small
 
-marks : (c : goal.After-self-2-1) → c.raise_next.new.index.marks ≡ raise_next (next_mark (hand_key (before c)) (before c).store.marks) (before c).store.marks
-marks c =
-    let key : c.hand_key-key.result.0 ≡ hand_key (before c) = rw (← c.self.view_is) at c.hand_key-key.ensures in
-    rw key at c.raise_next.ensures.marks
-
-hand : (c : goal.After-self-2-1) → c.swap_in-self-inside.result ≡ get_or (before c).store.column (piece_end (before c).store (hand_key (before c))) (before c).hand
-hand c = sym (rw (place c) at (get_or_from_slice_get (before c).store.column c.own_piece-place.result.to c.swap_in-self-inside.result (before c).hand c.swap_in-self-inside.ensures.result))
-
-pub raise_next-requires : goal.raise_next-requires
-raise_next-requires c = positions_small (lists_of c.self.inside.inside) (c.self.inside.hand ∷ []) c.self.invariant.intact
+pub swap_in_remembered-met-requires : goal.swap_in_remembered-met-requires
+swap_in_remembered-met-requires c =
+    let carried : Carried = record { store = lists_of c.self.inside.inside; hand = c.self.inside.hand } in
+    let room : piece_end carried.store (hand_key carried) < length carried.store.column = rw (← c.self.view_is) at c.requires in
+    let intact = c.self.invariant.kept.intact in
+    let up : IsUp carried c.in-Some.bound.mark = is_up carried c.bound_above.result c.in-Some.bound (rw (← c.self.view_is) at c.bound_above.ensures) c.in-Some.is room intact in
+    rw c.position.ensures up.within
 
 pub invariant_of-self : goal.invariant_of-self
 invariant_of-self c =
+    let carried : Carried = record { store = lists_of c.self.inside.inside; hand = c.self.inside.hand } in
+    let room : piece_end carried.store (hand_key carried) < length carried.store.column = rw (← c.self.view_is) at c.requires in
+    let intact = c.self.invariant.kept.intact in
+    let up : IsUp carried c.in-Some.bound.mark = is_up carried c.bound_above.result c.in-Some.bound (rw (← c.self.view_is) at c.bound_above.ensures) c.in-Some.is room intact in
+    let marks : c.raise_past-next.new.self.marks ≡ raise_next (next_mark (hand_key carried) carried.store.marks) carried.store.marks = rw up.found c.raise_past-next.ensures.marks in
+    let met : c.swap_in_remembered-met.result.0 ≡ get_or carried.store.column (piece_end carried.store (hand_key carried)) carried.hand = rw up.place (sym (get_or_from_slice_get carried.store.column c.in-Some.bound.mark.position c.swap_in_remembered-met.result.0 carried.hand (rw c.position.ensures at c.swap_in_remembered-met.ensures.handle))) in
+    let place : c.position.result ≡ piece_end carried.store (hand_key carried) = c.position.ensures ∙ sym up.place in
     record {
-      intact = rw (c.swap_in-self-inside.ensures.after, marks c, c.saturating_add-self-inside.ensures, hand c, place c) (IsIntact-pushed_on (before c) (room c) c.self.invariant.intact);
-      flags = c.self.invariant.flags;
+      kept = record {
+        intact = rw (c.swap_in_remembered-met.ensures.after, c.saturating_add-self-inside.ensures, place, marks, met) (IsIntact-pushed_on carried room intact);
+        remembers = c.swap_in_remembered-met.ensures.remembered carried.store.cells c.self.invariant.kept.remembers c.self.invariant.agrees;
+        keys_in = c.self.invariant.kept.keys_in;
+        keys_out = c.self.invariant.kept.keys_out;
+        room = c.self.invariant.kept.room;
+      };
+      agrees = Agrees-at carried.store.cells carried.store.column c.self.inside.inside.column.remembered c.position.result c.swap_in_remembered-met.result.0 c.swap_in_remembered-met.result.1 c.swap_in_remembered-met.ensures.handle c.swap_in_remembered-met.ensures.known c.self.invariant.kept.remembers;
+      is_near = rw (marks, met) (c.raise_past-next.ensures.next ∙ sym (next-pushed_on carried c.in-Some.bound.mark up.found up.within intact));
     }
 
 pub returns-clause-after : goal.returns-clause-after
-returns-clause-after c = rw (← c.self.view_is, c.swap_in-self-inside.ensures.after, marks c, c.saturating_add-self-inside.ensures, hand c, place c) refl
+returns-clause-after c =
+    let carried : Carried = record { store = lists_of c.self.inside.inside; hand = c.self.inside.hand } in
+    let room : piece_end carried.store (hand_key carried) < length carried.store.column = rw (← c.self.view_is) at c.requires in
+    let intact = c.self.invariant.kept.intact in
+    let up : IsUp carried c.in-Some.bound.mark = is_up carried c.bound_above.result c.in-Some.bound (rw (← c.self.view_is) at c.bound_above.ensures) c.in-Some.is room intact in
+    let marks : c.raise_past-next.new.self.marks ≡ raise_next (next_mark (hand_key carried) carried.store.marks) carried.store.marks = rw up.found c.raise_past-next.ensures.marks in
+    let met : c.swap_in_remembered-met.result.0 ≡ get_or carried.store.column (piece_end carried.store (hand_key carried)) carried.hand = rw up.place (sym (get_or_from_slice_get carried.store.column c.in-Some.bound.mark.position c.swap_in_remembered-met.result.0 carried.hand (rw c.position.ensures at c.swap_in_remembered-met.ensures.handle))) in
+    let place : c.position.result ≡ piece_end carried.store (hand_key carried) = c.position.ensures ∙ sym up.place in
+    rw (← c.self.view_is, c.swap_in_remembered-met.ensures.after, c.saturating_add-self-inside.ensures, place, marks, met) refl
 
 pub returns-clause-nearer : goal.returns-clause-nearer
-returns-clause-nearer c = rw (← c.self.view_is, marks c, hand c) (bounds_above-pushed_on (before c) (room c) c.self.invariant.intact)
+returns-clause-nearer c =
+    let carried : Carried = record { store = lists_of c.self.inside.inside; hand = c.self.inside.hand } in
+    let room : piece_end carried.store (hand_key carried) < length carried.store.column = rw (← c.self.view_is) at c.requires in
+    let intact = c.self.invariant.kept.intact in
+    let up : IsUp carried c.in-Some.bound.mark = is_up carried c.bound_above.result c.in-Some.bound (rw (← c.self.view_is) at c.bound_above.ensures) c.in-Some.is room intact in
+    let marks : c.raise_past-next.new.self.marks ≡ raise_next (next_mark (hand_key carried) carried.store.marks) carried.store.marks = rw up.found c.raise_past-next.ensures.marks in
+    let met : c.swap_in_remembered-met.result.0 ≡ get_or carried.store.column (piece_end carried.store (hand_key carried)) carried.hand = rw up.place (sym (get_or_from_slice_get carried.store.column c.in-Some.bound.mark.position c.swap_in_remembered-met.result.0 carried.hand (rw c.position.ensures at c.swap_in_remembered-met.ensures.handle))) in
+    let place : c.position.result ≡ piece_end carried.store (hand_key carried) = c.position.ensures ∙ sym up.place in
+    rw (← c.self.view_is, marks, met) (bounds_above-pushed_on carried room intact)

@@ -7,3 +7,8 @@ pub reserve-requires : goal.reserve-requires
 reserve-requires c =
     let intact = c.self.invariant.intact in
     omega (arith, cells-intact (lists_of c.self.inside.inside) [] intact, intact.few_cells)
+
+pub reserve-requires-2 : goal.reserve-requires-2
+reserve-requires-2 c =
+    let intact = c.self.invariant.intact in
+    omega (arith, cells-intact (lists_of c.self.inside.inside) [] intact, intact.few_cells)

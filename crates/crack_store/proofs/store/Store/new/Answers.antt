@@ -1,6 +1,5 @@
-use Rattle.std.proofs.Common.{rules, refl}
+use Rattle.std.proofs.Common.{rules, arith}
 use Rattle.crack_arena.specs.Arena.{times}
-use Rattle.crack_store.proofs.FlagLemmas.{AreMarked-none}
 use Rattle.crack_store.proofs.store.Store.new.Goals as goal
 
 pub invariant_of-result : goal.invariant_of-result
@@ -8,8 +7,8 @@ unfolding times
 invariant_of-result c =
     record {
       intact = search rules;
-      flags = record {
-        right = rw (c.new-4.ensures, c.new-6.ensures) AreMarked-none;
-        covered = rw (c.new.ensures.cells, c.new-6.ensures) refl;
-      };
+      remembers = c.new-2.ensures.right c.new.result.cells;
+      keys_in = c.new-4.ensures.remembered c.new.result.cells;
+      keys_out = c.new-5.ensures.remembered c.new.result.cells;
+      room = omega arith;
     }

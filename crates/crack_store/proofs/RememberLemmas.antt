@@ -1,0 +1,57 @@
+-- What the column and the pending lists remember stays right where a cell changes of which they have no row.
+use Rattle.std.proofs.Common.{◌≡◌, ℕ, ◌+◌, List, [], ◌∷◌, get_or, None, refl}
+use Rattle.crack_row.specs.declared.Row.{Row}
+use Rattle.crack_arena.specs.Arena.{Cell, Handle, times, slots, cells_with}
+use Rattle.crack_arena.specs.Rows.{key_at, RemembersKeys}
+use Rattle.crack_column.specs.Column.{Memory, Remembers}
+use Rattle.crack_state.specs.State.{State, Carried, IsIntact}
+use Rattle.crack_state.specs.Steps.{next_handle, buried}
+use Rattle.crack_state.proofs.OwnedLaws.{apart_from_times, hand_apart}
+use Rattle.crack_state.proofs.CellLaws.{AgreeOff, AgreeOff-set, read-off, key_at-off}
+use Rattle.crack_state.proofs.AdmitLaws.{filled, unused, read-new}
+
+pub Remembers-off : (n : ℕ) (cells after : List (Cell Row)) (hs : List Handle) (remembered : List Memory) → AgreeOff n cells after → times n (slots hs) ≡ 0 → Remembers cells hs remembered → Remembers after hs remembered
+Remembers-off n cells after hs remembered agree none remembers = record {
+  beside = remembers.beside;
+  right = λ k d h. rw (read-off n cells after (get_or hs k d) agree (apart_from_times hs n none k d h)) (remembers.right k d h);
+}
+
+-- a row is admitted
+pub Remembers-admitted : (row : Row) (s : State) (remembered : List Memory) → IsIntact s [] → Remembers s.cells s.column remembered → Remembers (cells_with row s.cells s.free) s.column remembered
+Remembers-admitted row s remembered intact remembers =
+    let fill = filled s row s.free refl intact.owned in
+    let off = unused s s.free refl intact.owned in
+    Remembers-off (next_handle s).slot s.cells (cells_with row s.cells s.free) s.column remembered fill.others off.column remembers
+
+-- the cell of the hand is freed
+pub Remembers-buried : (c : Carried) (remembered : List Memory) → IsIntact c.store (c.hand ∷ []) → Remembers c.store.cells c.store.column remembered → Remembers (buried c).cells c.store.column remembered
+Remembers-buried c remembered intact remembers =
+    let s = c.store in
+    let apart = hand_apart s.cells s.free s.column s.pending_in s.pending_out c.hand intact.owned in
+    Remembers-off c.hand.slot s.cells (buried c).cells s.column remembered (AgreeOff-set s.cells c.hand.slot (record { generation = c.hand.generation + 1; value = None })) apart.off_column remembers
+
+-- what a pending list remembers stays right likewise
+pub RemembersKeys-off : (n : ℕ) (cells after : List (Cell Row)) (hs : List Handle) (keys : List ℕ) → AgreeOff n cells after → times n (slots hs) ≡ 0 → RemembersKeys cells hs keys → RemembersKeys after hs keys
+RemembersKeys-off n cells after hs keys agree none remembers = record {
+  beside = remembers.beside;
+  right = λ k d h. rw (key_at-off n cells after (get_or hs k d) agree (apart_from_times hs n none k d h)) (remembers.right k d h);
+}
+
+-- what is known of the cell of a row that is admitted
+pub record Added (row : Row) (s : State) (h : Handle) : Type 0 where
+  pub agree : AgreeOff h.slot s.cells (cells_with row s.cells s.free)
+  pub key : row.key.0 ≡ key_at (cells_with row s.cells s.free) h
+  pub off_in : times h.slot (slots s.pending_in) ≡ 0
+  pub off_out : times h.slot (slots s.pending_out) ≡ 0
+
+-- a row is admitted, whose cell neither list names
+pub added : (row : Row) (s : State) → IsIntact s [] → (h : Handle) → h ≡ next_handle s → Added row s h
+added row s intact h is =
+    let fill = filled s row s.free refl intact.owned in
+    let off = unused s s.free refl intact.owned in
+    record {
+      agree = rw is fill.others;
+      key = rw (is, read-new s.cells (cells_with row s.cells s.free) (next_handle s) row fill) refl;
+      off_in = rw is off.pending;
+      off_out = rw is off.doomed;
+    }

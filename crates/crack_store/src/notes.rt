@@ -1,0 +1,55 @@
+//! Where doomed rows were seen in the column.
+ghost use Rattle.std.specs.Prelude.{◌≡◌, ◌≤◌, vec_capacity, IfErr};
+
+use crack_row::Refusal;
+use std::alloc::Global;
+
+/// For each cell, the place of the column where its row was seen last while it was doomed. Rows move, so a note is checked before it
+/// is used, and nothing hangs on it but time.
+#[derive(Drop)]
+pub(crate) struct Notes {
+    places: Vec<u32>,
+}
+
+impl Notes {
+    /// No cell has a note. Takes no memory.
+    pub(crate) fn new(alloc: Global) -> Notes {
+        Notes {
+            places: Vec::new(alloc),
+        }
+    }
+
+    /// Makes room for a note of each of the first `cells` cells. Amortised O(1) for each that has none. Refused with 8 alone.
+    pub(crate) fn cover(&mut self, cells: usize) -> Result<(), Refusal>
+        ensures err { IfErr result (λ e. e ≡ Refusal.OutOfMemory) }
+    {
+        let missing = cells.saturating_sub(self.places.len());
+        self.places.reserve(missing)?;
+        fill_up_to(&mut self.places, cells);
+        Ok(())
+    }
+
+    /// Notes a place for the cell, if there is room for its note. O(1).
+    pub(crate) fn put(&mut self, slot: u32, place: usize) {
+        if let Some(note) = self.places.get_mut(slot as usize) {
+            *note = place.min(u32::MAX as usize) as u32;
+        }
+    }
+
+    /// The place that is noted for the cell, which is no place of the column where nothing was noted. O(1).
+    pub(crate) fn get(&self, slot: u32) -> usize {
+        match self.places.get(slot as usize) {
+            Some(place) => *place as usize,
+            None => usize::MAX,
+        }
+    }
+}
+
+/// Puts notes of no place behind the others until there are as many as cells.
+fn fill_up_to(places: &mut Vec<u32>, cells: usize)
+    requires { cells ≤ vec_capacity places.old }
+{
+    'cells: while places.len() < cells {
+        places.push_reserved(u32::MAX);
+    }
+}

@@ -1,0 +1,194 @@
+//! What a serial leads to, and rows that are taken out of a store or replaced.
+ghost use Rattle.std.specs.Prelude.{◌≡◌, ◌+◌, ◌-◌, ◌<◌, ◌∷◌, map, Some, None, IsSome, IfOk, IfErr, OnOk, OnErr, IsOk, IfNone, true, false};
+ghost use Rattle.std.specs.List.Sorted.{IsPermutation};
+ghost use Rattle.crack_row.specs.Ranges.{IsIn};
+ghost use Rattle.crack_arena.specs.Arena.{read, freed, freed_at};
+ghost use Rattle.crack_state.specs.State.{live_rows, handle_of, freed_of};
+ghost use Rattle.crack_state.specs.Steps.{SameButRoom};
+ghost use Rattle.crack_state.specs.Points.{row_by, pending_by, handle_by, row_with, replaced, Maps, MayFree, IsRenewable, IsRewritable, Cancels, Dooms, Renews, Rewrites, rewritten};
+
+use crate::Store;
+use crack_arena::{Arena, Handle, key_of};
+use crack_row::{Key, Payload, Refusal, Row, Serial};
+use indexmap::IndexMap;
+
+impl Store {
+    /// The row of this serial; none where there is no such row. O(1).
+    pub fn row_of(&self, serial: Serial) -> Option<Row>
+        ensures value { result ≡ row_by self.now serial.0 }
+        ensures none { IfNone result (handle_of self.now.serials serial.0 ≡ None) }
+    {
+        match self.inside.serials.get(&serial.0) {
+            Some(handle) => Some(row_at(&self.inside.arena, *handle)),
+            None => None,
+        }
+    }
+
+    /// How often cells were freed.
+    pub fn freed(&self) -> u64
+        ensures { result ≡ freed_of self.now.cells }
+    {
+        self.inside.arena.freed()
+    }
+
+    /// Takes out the row of this serial, a pending insertion: its cell is free at once, and the row comes back.
+    /// Takes no memory. Amortised O(1).
+    pub fn cancel(&mut self, serial: Serial) -> Row
+        requires pending { pending_by self.old serial.0 ≡ Some true }
+        requires few { MayFree self.old }
+        ensures row { row_by self.old serial.0 ≡ Some result }
+        ensures after { Cancels serial.0 self.old self.new }
+        ensures live { IsPermutation (result ∷ live_rows self.new) (live_rows self.old) }
+    {
+        let handle = forget(&mut self.inside.serials, serial);
+        self.inside.pending_in.strike(handle);
+        free(&mut self.inside.arena, handle)
+    }
+
+    /// Takes out the row of this serial, which stands in the column: it stays there as a pending deletion, and comes back.
+    /// O(1), but for a growth. Refused with 8 where it finds no memory; all is then as it was.
+    pub fn doom(&mut self, serial: Serial) -> Result<Row, Refusal>
+        requires column { pending_by self.old serial.0 ≡ Some false }
+        requires few { MayFree self.old }
+        ensures row { IfOk result (λ row. row_by self.old serial.0 ≡ Some row) }
+        ensures after { OnOk result (Dooms serial.0 self.old self.new) }
+        ensures live { IfOk result (λ row. IsPermutation (row ∷ live_rows self.new) (live_rows self.old)) }
+        ensures same { OnErr result (SameButRoom self.old self.new) }
+        ensures err { IfErr result (λ e. e ≡ Refusal.OutOfMemory) }
+    {
+        self.inside.pending_out.reserve(1)?;
+        self.inside.pending_out.cover(self.inside.arena.cells())?;
+        self.inside.notes.cover(self.inside.arena.cells())?;
+        let handle = forget(&mut self.inside.serials, serial);
+        let row = row_at(&self.inside.arena, handle);
+        self.inside.pending_out.push_keyed(handle, row.key);
+        Ok(row)
+    }
+
+    /// Gives the row of this serial another key and another payload. A pending insertion is written in place, which takes no
+    /// memory and always succeeds. A row of the column becomes a pending deletion, and a new one of its serial stands behind
+    /// the last pending insertion. O(1), but for a growth.
+    /// Refused with 8 where it finds no memory; all is then as it was.
+    pub fn rewrite(&mut self, serial: Serial, key: Key, payload: Payload) -> Result<(), Refusal>
+        requires { IsRewritable (row_with serial key payload) self.old }
+        ensures after { OnOk result (Rewrites (pending_by self.old serial.0) (row_with serial key payload) self.old self.new) }
+        ensures live { OnOk result (IsPermutation (map (replaced (row_with serial key payload)) (live_rows self.old)) (live_rows self.new)) }
+        ensures spare { pending_by self.old serial.0 ≡ Some true → IsOk result }
+        ensures same { OnErr result (SameButRoom self.old self.new) }
+        ensures err { IfErr result (λ e. e ≡ Refusal.OutOfMemory) }
+    {
+        let row = Row {
+            serial,
+            key,
+            payload,
+        };
+        if self.is_pending(serial) == Some(true) {
+            self.write_over(row);
+            return Ok(());
+        }
+        self.renew(row)
+    }
+
+    /// Writes the row into the cell of the pending insertion of its serial. O(1).
+    fn write_over(&mut self, row: Row)
+        requires pending { pending_by self.old row.serial.0 ≡ Some true }
+        requires within { IsIn self.old.keys row.key.0 }
+        ensures after { self.new ≡ rewritten row (handle_by self.old row.serial.0) self.old }
+        ensures live { IsPermutation (map (replaced row) (live_rows self.old)) (live_rows self.new) }
+    {
+        let handle = handle_in(&self.inside.serials, row.serial);
+        let _ = self.inside.arena.set(handle, row);
+        self.inside.pending_in.remember(handle, row.key);
+    }
+
+    /// Dooms the row of this serial, which stands in the column, and keeps this one in a new cell. O(1), but for a growth.
+    fn renew(&mut self, row: Row) -> Result<(), Refusal>
+        requires column { pending_by self.old row.serial.0 ≡ Some false }
+        requires within { IsIn self.old.keys row.key.0 }
+        requires few { IsRenewable self.old }
+        ensures after { OnOk result (Renews row self.old self.new) }
+        ensures live { OnOk result (IsPermutation (map (replaced row) (live_rows self.old)) (live_rows self.new)) }
+        ensures same { OnErr result (SameButRoom self.old self.new) }
+        ensures err { IfErr result (λ e. e ≡ Refusal.OutOfMemory) }
+    {
+        self.inside.pending_out.reserve(1)?;
+        self.inside.pending_in.reserve(1)?;
+        self.inside.arena.reserve(1)?;
+        self.inside.pending_out.cover(self.inside.arena.cells())?;
+        self.inside.notes.cover(self.inside.arena.cells())?;
+        let new_cells = (self.inside.arena.free_cells() == 0) as usize;
+        self.inside
+            .pending_in
+            .cover(self.inside.arena.cells() + new_cells)?;
+        let handle = self.inside.arena.put_reserved(row);
+        let doomed = lead_to(&mut self.inside.serials, row.serial, handle);
+        let doomed_key = key_of(&self.inside.arena, doomed);
+        self.inside.pending_out.push_keyed(doomed, doomed_key);
+        self.inside.pending_in.push_keyed(handle, row.key);
+        self.inside.in_room = 0;
+        Ok(())
+    }
+}
+
+/// The row that the handle reads. O(1).
+pub(crate) fn row_at(arena: &Arena<Row>, handle: Handle<Row>) -> Row
+    requires { IsSome (read arena.now.cells handle) }
+    ensures { read arena.now.cells handle ≡ Some result }
+{
+    match arena.get(handle) {
+        Some(row) => *row,
+        None => unreachable!(),
+    }
+}
+
+/// Frees the cell that the handle reads; its row. O(1).
+fn free(arena: &mut Arena<Row>, handle: Handle<Row>) -> Row
+    requires reads { IsSome (read arena.old.cells handle) }
+    requires few { freed arena.old < 18446744073709551615 }
+    ensures row { read arena.old.cells handle ≡ Some result }
+    ensures after { arena.new ≡ freed_at handle arena.old }
+{
+    match arena.free(handle) {
+        Some(row) => row,
+        None => unreachable!(),
+    }
+}
+
+/// The handle of a serial that is in the map. O(1).
+fn handle_in(serials: &IndexMap<u64, Handle<Row>>, serial: Serial) -> Handle<Row>
+    requires { IsSome (handle_of serials.now.entries serial.0) }
+    ensures { handle_of serials.now.entries serial.0 ≡ Some result }
+{
+    match serials.get(&serial.0) {
+        Some(handle) => *handle,
+        None => unreachable!(),
+    }
+}
+
+/// Takes a serial that is in the map out of it; its handle. O(1).
+fn forget(serials: &mut IndexMap<u64, Handle<Row>>, serial: Serial) -> Handle<Row>
+    requires { IsSome (handle_of serials.old.entries serial.0) }
+    ensures handle { handle_of serials.old.entries serial.0 ≡ Some result }
+    ensures map { Maps serial.0 None serials.old.entries serials.new.entries }
+{
+    match serials.swap_remove(&serial.0) {
+        Some(handle) => handle,
+        None => unreachable!(),
+    }
+}
+
+/// Lets a serial that is in the map lead to another handle; the one before. Takes no memory. O(1).
+fn lead_to(
+    serials: &mut IndexMap<u64, Handle<Row>>,
+    serial: Serial,
+    handle: Handle<Row>,
+) -> Handle<Row>
+    requires { IsSome (handle_of serials.old.entries serial.0) }
+    ensures before { handle_of serials.old.entries serial.0 ≡ Some result }
+    ensures map { Maps serial.0 (Some handle) serials.old.entries serials.new.entries }
+{
+    match serials.insert(serial.0, handle) {
+        Ok(Some(before)) => before,
+        _ => unreachable!(),
+    }
+}

@@ -1,0 +1,70 @@
+//! What a range command reads off the column.
+ghost use Rattle.std.specs.Prelude.{◌≡◌, ◌<◌, ◌≤◌, Some, length, IfOk, IfErr, slice_index_or};
+ghost use Rattle.std.specs.List.Sorted.{IsPermutation, IsNonDecreasingBy};
+ghost use Rattle.crack_arena.specs.Arena.{read, no_handle};
+ghost use Rattle.crack_state.specs.Merge.{IsCracked, edge};
+ghost use Rattle.crack_state.specs.Stretch.{rows_within, stretch_rows, serial_of, sum_of};
+
+use crate::Store;
+use crate::points::row_at;
+use crack_row::{KeyRange, Refusal, Row};
+
+impl Store {
+    /// The sum of the payloads of the rows that stand in the column between the ends of a range by which it was cracked.
+    /// Takes no memory. O(rows there + log bounds); it reads no cell of a row that the column knows.
+    pub fn sum_between(&self, range: KeyRange) -> u128
+        requires { IsCracked self.now range }
+        ensures { result ≡ sum_of (stretch_rows self.now range) }
+    {
+        let (from, to) = self.places_of(range);
+        self.inside.column.sum_between(from, to, &self.inside.arena) as u128
+    }
+
+    /// The rows that stand in the column between the ends of a range by which it was cracked, in rising serial.
+    /// O(m log m + log bounds) for m rows. Refused with 8 where it finds no memory.
+    pub fn rows_between(&self, range: KeyRange) -> Result<Vec<Row>, Refusal>
+        requires { IsCracked self.now range }
+        ensures rows { IfOk result (λ rows. IsPermutation (stretch_rows self.now range) rows.items) }
+        ensures rising { IfOk result (λ rows. IsNonDecreasingBy serial_of rows.items) }
+        ensures err { IfErr result (λ e. e ≡ Refusal.OutOfMemory) }
+    {
+        let (from, to) = self.places_of(range);
+        let mut rows = self.rows_in_places(from, to)?;
+        rows.sort_unstable_by_key(|row| row.serial.0);
+        Ok(rows)
+    }
+
+    /// The places from which and up to which the rows of a range stand by which the column was cracked. O(log bounds).
+    fn places_of(&self, range: KeyRange) -> (usize, usize)
+        requires { IsCracked self.now range }
+        ensures from { result.0 ≡ edge self.now range.low }
+        ensures to { result.1 ≡ edge self.now range.high }
+        ensures order { result.0 ≤ result.1 }
+        ensures within { result.1 ≤ length self.now.column }
+    {
+        let _ = &self.inside;
+        (self.edge(range.low()), self.edge(range.high()))
+    }
+
+    /// The row at a place of the column. O(1).
+    fn row_in_place(&self, place: usize) -> Row
+        requires { place < length self.now.column }
+        ensures { read self.now.cells (slice_index_or self.now.column place no_handle) ≡ Some result }
+    {
+        row_at(&self.inside.arena, self.inside.column.at(place))
+    }
+
+    /// The rows from the one place of the column up to the other, in their order. O(places).
+    fn rows_in_places(&self, from: usize, to: usize) -> Result<Vec<Row>, Refusal>
+        requires order { from ≤ to }
+        requires within { to ≤ length self.now.column }
+        ensures rows { IfOk result (λ rows. rows.items ≡ rows_within self.now from to) }
+        ensures err { IfErr result (λ e. e ≡ Refusal.OutOfMemory) }
+    {
+        let mut rows = Vec::with_capacity(*self.inside.serials.allocator(), to - from)?;
+        'places: for place in from..to {
+            rows.push_reserved(self.row_in_place(place));
+        }
+        Ok(rows)
+    }
+}
