@@ -1,21 +1,26 @@
 //! The carry.
-ghost use Rattle.std.specs.Prelude.{◌≡◌, ◌<◌, []};
+ghost use Rattle.std.specs.Prelude.{◌<◌};
 ghost use Rattle.crack_merge.specs.Merges.{Carries};
 
 use crack_store::{Carrying, Store};
 
 /// Carries the hand up through the pieces: where its own piece ends before the column does, it takes the place of the row
-/// there, which is then in hand; in the end the hand becomes the column's last row.
-/// O(pieces · log pieces); takes no memory.
+/// there, which is then in hand; in the end the hand becomes the column's last row. A doomed row that comes into hand is buried,
+/// whatever its key, and that ends the carry.
+/// O(1) for each piece, and the bounds at its place; takes no memory.
+#[inline(always)]
 pub fn carry(mut carrying: Carrying) -> Store
     requires room { 0 < carrying.store.column_room }
-    // deletions lift this: a doomed row that a carry meets ends it
-    requires none_doomed { carrying.store.pending_out ≡ [] }
     ensures { Carries carrying result }
 {
-    'pieces: while carrying.own_piece().to < carrying.column_len() {
+    'pieces: loop {
+        if carrying.is_doomed() {
+            return carrying.bury();
+        }
+        if carrying.piece_ends_at() == carrying.column_len() {
+            return carrying.append();
+        }
         carrying.facts();
         carrying.push_on();
     }
-    carrying.append()
 }

@@ -1,16 +1,19 @@
 //! The complete merge.
-ghost use Rattle.std.specs.Prelude.{◌≡◌, ◌<◌, ◌≤◌, [], length, IfOk, IfErr};
+ghost use Rattle.std.specs.Prelude.{◌≡◌, ◌<◌, ◌≤◌, [], IfOk, IfErr};
+ghost use Rattle.crack_row.specs.Ranges.{Range};
 ghost use Rattle.crack_row.specs.declared.command.Policy.TheVariants.{Complete};
 ghost use Rattle.crack_state.specs.Merge.{IsCracked, Merges, Tallies, counted_between, is_touched};
-ghost use Rattle.crack_merge.specs.Merges.{PutsIn, Stops};
+ghost use Rattle.crack_merge.specs.Merges.{Stops};
+ghost use Rattle.crack_merge.specs.Loops.{PutsIn, TakesOut};
 
 use crate::carries::carry;
+use crate::pulls::pull;
 use crate::report::counted_between;
 use crack_row::{KeyRange, Refusal};
 use crack_store::{MergeReport, Store};
 
 /// Merges every pending row, if one of them has its key in the range, else none; the range was cracked before.
-/// O(pending rows · pieces · log pieces), each row O(1) to take, from the front.
+/// O(pieces) for each pending row, which takes O(1) to take, and one search for the place of each doomed row.
 /// Refused with 8 where it finds no memory; the rows that it had merged stay merged.
 pub fn merge_complete(
     store: Store,
@@ -20,15 +23,11 @@ pub fn merge_complete(
     requires low { store.keys.low ≤ range.low }
     requires high { range.high ≤ store.keys.high }
     requires cracked { IsCracked store range }
-    // deletions lift this
-    requires none_doomed { store.pending_out ≡ [] }
     ensures merges { IfOk result (λ r. Merges Complete store r.0 range) }
     ensures tallies { IfOk result (λ r. Tallies Complete store r.0) }
     ensures report { IfOk result (λ r. r.1 ≡ counted_between store.tally r.0.tally) }
-    ensures none_doomed { IfOk result (λ r. r.0.pending_out ≡ []) }
-    ensures stops { IfErr result (λ e. Stops Complete store e.0) }
+    ensures stops { IfErr result (λ e. Stops Complete store e.0 range) }
     ensures still_cracked { IfErr result (λ e. IsCracked e.0 range) }
-    ensures still_none_doomed { IfErr result (λ e. e.0.pending_out ≡ []) }
     ensures err { IfErr result (λ e. e.1 ≡ Refusal.OutOfMemory) }
 {
     let before = store.tally();
@@ -37,7 +36,8 @@ pub fn merge_complete(
         return Ok((store, counted_between(before, before)));
     }
     match put_in_all(store) {
-        Ok(merged) => {
+        Ok(filled) => {
+            let merged = take_out_all(filled);
             merged.facts();
             let after = merged.tally();
             Ok((merged, counted_between(before, after)))
@@ -55,10 +55,9 @@ fn is_touched(store: &Store, range: KeyRange) -> bool
 
 /// Puts in every pending insertion, in the order of arrival.
 fn put_in_all(mut store: Store) -> Result<Store, (Store, Refusal)>
-    requires none_doomed { store.pending_out ≡ [] }
-    ensures ok { IfOk result (λ t. PutsIn store t (length store.pending_in)) }
-    ensures stops { IfErr result (λ e. Stops Complete store e.0) }
-    ensures none_doomed { IfErr result (λ e. e.0.pending_out ≡ []) }
+    ensures ok { IfOk result (λ t. PutsIn Complete store t) }
+    ensures all { IfOk result (λ t. t.pending_in ≡ []) }
+    ensures stops { IfErr result (λ e. (range : Range) → Stops Complete store e.0 range) }
     ensures err { IfErr result (λ e. e.1 ≡ Refusal.OutOfMemory) }
 {
     let count = store.pending_in();
@@ -71,4 +70,18 @@ fn put_in_all(mut store: Store) -> Result<Store, (Store, Refusal)>
         store = carry(store.lift(0));
     }
     Ok(store)
+}
+
+/// Takes out every pending deletion, in the order of arrival.
+fn take_out_all(mut store: Store) -> Store
+    ensures takes { TakesOut Complete store result }
+    ensures all { result.pending_out ≡ [] }
+{
+    'deletions: while store.pending_out() > 0 {
+        store.facts();
+        store.seek_out(0);
+        let doomed = store.doomed(0);
+        store = pull(store.lift_last(), doomed);
+    }
+    store
 }

@@ -1,11 +1,13 @@
-//! Merges of pending rows into the cracker column, each row by a carry ("Updating a Cracked Database", SIGMOD 2007).
-//!
-//! Rows can't be deleted yet, so no row is doomed; deletions lift the conditions that say so.
+//! Merges of pending rows into the cracker column, each row by a carry or a pull ("Updating a Cracked Database", SIGMOD 2007).
 #![tactic(auto)]
 
 pub mod carries;
 pub mod complete;
+pub mod gradual;
+pub mod pulls;
 mod report;
 
 pub use carries::carry;
 pub use complete::merge_complete;
+pub use gradual::merge_gradual;
+pub use pulls::pull;

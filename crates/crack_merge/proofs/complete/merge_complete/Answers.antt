@@ -1,6 +1,7 @@
 use Rattle.std.proofs.Common.{sym, ◌∙◌, arith}
+use Rattle.crack_row.specs.declared.command.Policy.TheVariants.{Complete}
 use Rattle.crack_state.proofs.MergeLaws.{IsCracked-follows, Merges-untouched}
-use Rattle.crack_merge.proofs.Merging.{Merges-PutsIn}
+use Rattle.crack_merge.proofs.Merging.{Merges-all, Tallies-both}
 use Rattle.crack_merge.proofs.complete.merge_complete.Goals as goal
 
 pub returns-then-not-is_touched-clause-merges : goal.returns-then-not-is_touched-clause-merges
@@ -9,7 +10,13 @@ returns-then-not-is_touched-clause-merges c =
 
 pub returns-in-Ok-clause-merges : goal.returns-in-Ok-clause-merges
 returns-in-Ok-clause-merges c =
-    Merges-PutsIn c.args.store c.in-Ok.merged c.args.range c.requires.some c.requires.low c.requires.high c.requires.cracked c.requires.none_doomed (sym c.is_touched.ensures ∙ c.if-not-is_touched.false) c.in-Ok.ensures.ok c.facts-in-Ok.ensures
+    Merges-all c.args.store c.in-Ok.filled c.take_out_all-merged.result c.args.range c.requires.some c.requires.low c.requires.high c.requires.cracked (sym c.is_touched.ensures ∙ c.if-not-is_touched.false) c.in-Ok.ensures.ok c.in-Ok.ensures.all c.take_out_all-merged.ensures.takes c.take_out_all-merged.ensures.all c.facts-in-Ok.ensures
+
+pub returns-in-Ok-clause-tallies : goal.returns-in-Ok-clause-tallies
+returns-in-Ok-clause-tallies c = Tallies-both Complete c.args.store c.in-Ok.filled c.take_out_all-merged.result c.in-Ok.ensures.ok c.take_out_all-merged.ensures.takes
+
+pub returns-in-Err-clause-stops : goal.returns-in-Err-clause-stops
+returns-in-Err-clause-stops c = c.in-Err.ensures.stops c.args.range
 
 pub returns-in-Err-clause-still_cracked : goal.returns-in-Err-clause-still_cracked
-returns-in-Err-clause-still_cracked c = IsCracked-follows c.args.store c.in-Err.stopped.0 c.args.range c.in-Err.ensures.stops.follows c.requires.cracked
+returns-in-Err-clause-still_cracked c = IsCracked-follows c.args.store c.in-Err.stopped.0 c.args.range (c.in-Err.ensures.stops c.args.range).follows c.requires.cracked

@@ -1,0 +1,108 @@
+-- What the carries of a merge keep.
+use Rattle.std.proofs.Common.{◌≡◌, ℕ, ◌+◌, ◌<◌, ◌≤◌, [], length, drop, Some, None, ap, ◌∙◌, arith}
+use Rattle.std.specs.List.{remove}
+use Rattle.std.proofs.lemmas.List.{drop-drop, length-drop}
+use Rattle.crack_row.specs.Ranges.{Range}
+use Rattle.crack_row.specs.declared.command.Policy.{Policy}
+use Rattle.crack_row.specs.declared.command.Policy.TheVariants.{Complete, Gradual}
+use Rattle.crack_state.specs.State.{State, IsIntact}
+use Rattle.crack_state.specs.Steps.{lifted, SameButRoom}
+use Rattle.crack_arena.specs.Rows.{keys_at}
+use Rattle.crack_pending.specs.Pending.{Finds}
+use Rattle.crack_state.specs.Merge.{outside_of}
+use Rattle.crack_state.proofs.StepLaws.{IsIntact-room}
+use Rattle.crack_state.proofs.FollowLaws.{length-remove}
+use Rattle.crack_state.proofs.AdvanceLaws.{Advances-refl, Advances-room, Advances-trans}
+use Rattle.crack_state.proofs.OutsideLaws.{LacksFirst, LacksFirst-none}
+use Rattle.crack_merge.specs.Merges.{Carries, Stops}
+use Rattle.crack_merge.specs.Loops.{PutsIn}
+use Rattle.crack_merge.proofs.CarryLaws.{CarriedIn-Carries}
+use Rattle.crack_merge.proofs.Finding.{LacksFirst-found, LacksFirst-missed}
+
+pub PutsIn-none : (policy : Policy) (s : State) → PutsIn policy s s
+PutsIn-none policy s = record { advances = Advances-refl policy s; few = omega arith }
+
+-- one more was put in
+pub record PutsMore (policy : Policy) (s t u : State) (i : ℕ) : Type 0 where
+  pub puts : PutsIn policy s u
+  pub pending_in : u.pending_in ≡ remove t.pending_in i
+
+-- room is made, and the i-th pending insertion is lifted and carried
+pub PutsIn-next : (policy : Policy) (s t v u : State) (i : ℕ) → PutsIn policy s t → SameButRoom t v → i < length t.pending_in → IsIntact t [] → Carries (lifted i v) u → PutsMore policy s t u i
+PutsIn-next policy s t v u i was room inside intact carries =
+    let same_in : v.pending_in ≡ t.pending_in = ap (λ (x : State). x.pending_in) room.same in
+    let same_out : v.pending_out ≡ t.pending_out = ap (λ (x : State). x.pending_out) room.same in
+    let carried = CarriedIn-Carries v u i (rw same_in inside) (IsIntact-room t v [] room intact) carries in
+    let pending_in : u.pending_in ≡ remove t.pending_in i = carried.pending_in ∙ ap (λ hs. remove hs i) same_in in
+    record {
+      puts = record {
+        advances = Advances-trans policy s t u was.advances (Advances-trans policy t v u (Advances-room policy t v room) (carried.advances policy));
+        few = omega (arith, was.few, carried.few, ap length same_out, ap length pending_in, length-remove t.pending_in i inside);
+      };
+      pending_in = pending_in;
+    }
+
+-- complete: the first k, and no more, were put in
+pub record PutsFirst (s t : State) (k : ℕ) : Type 0 where
+  pub puts : PutsIn Complete s t
+  pub pending_in : t.pending_in ≡ drop k s.pending_in
+
+pub PutsFirst-left : (s t : State) (k : ℕ) → PutsFirst s t k → k < length s.pending_in → 0 < length t.pending_in
+PutsFirst-left s t k was less = omega (arith, ap length was.pending_in, length-drop k s.pending_in)
+
+pub PutsFirst-next : (s t u : State) (k : ℕ) → PutsFirst s t k → PutsMore Complete s t u 0 → PutsFirst s u (k + 1)
+PutsFirst-next s t u k was more = record {
+  puts = more.puts;
+  pending_in = more.pending_in ∙ ap (λ hs. remove hs 0) was.pending_in ∙ drop-drop 1 k s.pending_in;
+}
+
+-- gradual: those of the range up to some place were put in, and the search goes on from `from`
+pub record PutsInside (s t : State) (r : Range) (from : ℕ) : Type 0 where
+  pub puts : PutsIn Gradual s t
+  pub lacks : LacksFirst s.cells r s.pending_in t.pending_in from
+
+-- no memory was found for the next one
+pub Stops-complete : (s t : State) (r : Range) (k : ℕ) → PutsFirst s t k → k ≤ length s.pending_in → IsIntact t [] → Stops Complete s t r
+Stops-complete s t r k was within intact = record {
+  follows = was.puts.advances.follows;
+  intact = intact;
+  tallies = was.puts.advances.tallies;
+  taken = (k, within, was.pending_in);
+  pending_out = was.puts.advances.pending_out;
+}
+
+pub Stops-gradual : (s t : State) (r : Range) (from : ℕ) → PutsInside s t r from → IsIntact t [] → Stops Gradual s t r
+Stops-gradual s t r from was intact = record {
+  follows = was.puts.advances.follows;
+  intact = intact;
+  tallies = was.puts.advances.tallies;
+  taken = (was.lacks.passed, was.lacks.within, was.lacks.left_are);
+  pending_out = was.puts.advances.pending_out;
+}
+
+pub PutsInside-none : (s : State) (r : Range) → PutsInside s s r 0
+PutsInside-none s r = record { puts = PutsIn-none Gradual s; lacks = LacksFirst-none s.cells r s.pending_in }
+
+-- the search found a row of the range, and it was put in
+pub PutsInside-next : (s t v u : State) (r : Range) (from place : ℕ) → PutsInside s t r from → IsIntact t [] → Finds r (keys_at t.cells t.pending_in) from (Some place) → SameButRoom t v → Carries (lifted place v) u → PutsInside s u r place × (length u.pending_in < length t.pending_in)
+PutsInside-next s t v u r from place was intact finds room carries =
+    let found = LacksFirst-found s.cells t.cells r s.pending_in t.pending_in from was.puts.advances.reads intact.owned.pending_reads place was.lacks finds in
+    let more = PutsIn-next Gradual s t v u place was.puts room found.0 intact carries in
+    (record { puts = more.puts; lacks = rw more.pending_in found.1 }, omega (arith, ap length more.pending_in, length-remove t.pending_in place found.0))
+
+-- it found none
+pub PutsInside-all : (s t : State) (r : Range) (from : ℕ) → PutsInside s t r from → IsIntact t [] → Finds r (keys_at t.cells t.pending_in) from None → t.pending_in ≡ outside_of s.cells r s.pending_in
+PutsInside-all s t r from was intact finds = LacksFirst-missed s.cells t.cells r s.pending_in t.pending_in from was.puts.advances.reads intact.owned.pending_reads was.lacks finds
+
+-- no memory was found to make room
+pub PutsInside-room : (s t v : State) (r : Range) (from : ℕ) → PutsInside s t r from → SameButRoom t v → PutsInside s v r from
+PutsInside-room s t v r from was room =
+    let same_in : v.pending_in ≡ t.pending_in = ap (λ (x : State). x.pending_in) room.same in
+    let same_out : v.pending_out ≡ t.pending_out = ap (λ (x : State). x.pending_out) room.same in
+    record {
+      puts = record {
+        advances = Advances-trans Gradual s t v was.puts.advances (Advances-room Gradual t v room);
+        few = rw (same_in, same_out) was.puts.few;
+      };
+      lacks = rw same_in was.lacks;
+    }

@@ -1,0 +1,35 @@
+//! The pull.
+ghost use Rattle.std.specs.Prelude.{◌<◌, ℕ, Contains};
+ghost use Rattle.crack_arena.specs.Arena.{StandsAt};
+ghost use Rattle.crack_state.specs.Steps.{hand_key, piece_end};
+ghost use Rattle.crack_merge.specs.Merges.{Pulls};
+
+use crack_arena::Handle;
+use crack_row::Row;
+use crack_store::{Carrying, Store};
+
+/// Takes a doomed row out of the column, by the cell in hand, which goes down through the pieces to fill its place: the hand takes
+/// the last place before its own piece, and the row that stood there is in hand. Another doomed row that comes into hand is drawn
+/// on like any other. The cell in hand may come from anywhere behind the doomed row.
+/// O(1) for each piece, and the bounds at its place; one search for the doomed row's place. Takes no memory.
+pub fn pull(mut carrying: Carrying, doomed: Handle<Row>) -> Store
+    requires pending { Contains carrying.store.pending_out doomed }
+    requires ahead { (place : ℕ) → StandsAt carrying.store.column place doomed → place < piece_end carrying.store (hand_key carrying) }
+    ensures { Pulls doomed carrying result }
+{
+    carrying.facts();
+    // its place can't change before a step reaches it
+    let Some(place) = carrying.find(doomed) else {
+        return carrying.bury();
+    };
+    'pieces: while place < carrying.piece_begins_at() {
+        carrying.facts();
+        carrying.pull_back();
+    }
+    carrying.facts();
+    if carrying.holds(doomed) {
+        return carrying.bury();
+    }
+    carrying.exchange(place);
+    carrying.bury()
+}
