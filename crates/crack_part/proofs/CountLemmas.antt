@@ -1,16 +1,20 @@
--- What a count of a range within a partition's keys says of the plain rows.
-use Rattle.std.proofs.Common.{◌≡◌, ℕ, ◌≤◌, ◌-◌, List, [], ◌∷◌, Bool, false, cond, arith, refl, sym, ap, ◌∙◌}
+-- What a read of a range within a partition's keys says of the plain rows.
+use Rattle.std.proofs.Common.{◌≡◌, ℕ, ◌≤◌, ◌-◌, List, [], ◌∷◌, Bool, false, cond, Result, Ok, Err, IfOk, arith, refl, sym, ap, ◌∙◌}
 use Rattle.std.specs.List.{All, count_by}
-use Rattle.std.specs.List.Sorted.{IsPermutation}
+use Rattle.std.specs.List.Sorted.{IsPermutation, IsNonDecreasingBy}
 use Rattle.std.proofs.lemmas.Bool.Decides.{nat_tests}
 use Rattle.std.proofs.lemmas.List.Elements.{All-head, All-tail}
 use Rattle.std.proofs.lemmas.List.Sorted.{All-permutation}
 use Rattle.std.proofs.lemmas.List.Sums.{sum_by-cons}
 use Rattle.crack_row.specs.Ranges.{Range, IsIn, is_in, in_range, clipped}
+use Rattle.crack_row.specs.Rows.{sum_of}
 use Rattle.crack_row.specs.declared.Row.{Row}
+use Rattle.crack_plain.specs.Plain.{PlainState, IsNumbered, rows_in}
 use Rattle.crack_state.specs.State.{State, live_rows, IsIntact}
 use Rattle.crack_state.specs.Merge.{IsSettled, edge}
+use Rattle.crack_state.specs.Stretch.{stretch_rows, serial_of}
 use Rattle.crack_state.proofs.SettledLaws.{count-settled}
+use Rattle.crack_state.proofs.StretchLaws.{sum-settled, rows-settled}
 use Rattle.crack_state.proofs.LiveLaws.{live_rows-within}
 
 -- of these keys the same are in a range and in what it has in common with them
@@ -49,3 +53,39 @@ pub count-places : (s : State) (keys r : Range) (plain : List Row) → s.keys �
 count-places s keys r plain ends intact settled same =
     let within = rw ends at (plain-within s plain intact same) in
     count-settled s (clipped r keys) plain settled same ∙ count-clipped r keys plain within
+
+-- the rows of a range are those of what it has in common with the keys
+step : (row : Row) (b c : Bool) (xs ys : List Row) → b ≡ c → xs ≡ ys → cond b (row ∷ xs) xs ≡ cond c (row ∷ ys) ys
+step row b c xs ys e f = rw (e, f) refl
+
+rows-clipped : (r keys : Range) (rows : List Row) → All (λ (row : Row). IsIn keys row.key.0) rows → rows_in (clipped r keys) rows ≡ rows_in r rows
+rows-clipped r keys [] within = refl
+rows-clipped r keys (row ∷ rows) within =
+    let now = is_in-clipped r keys row.key.0 (All-head (λ (row : Row). IsIn keys row.key.0) row rows within) in
+    step row (in_range (clipped r keys) row) (in_range r row) (rows_in (clipped r keys) rows) (rows_in r rows) now (rows-clipped r keys rows (All-tail (λ (row : Row). IsIn keys row.key.0) row rows within))
+
+rows-empty : (r : Range) (rows : List Row) → r.high ≤ r.low → rows_in r rows ≡ []
+rows-empty r [] empty = refl
+rows-empty r (row ∷ rows) empty = step row (in_range r row) false (rows_in r rows) [] (is_in-empty r row.key.0 empty) (rows-empty r rows empty)
+
+-- where no key is in the range, no row is listed
+pub rows-none : (s : State) (keys r : Range) (plain : List Row) → s.keys ≡ keys → IsIntact s [] → (clipped r keys).high ≤ (clipped r keys).low → IsPermutation (live_rows s) plain → rows_in r plain ≡ []
+rows-none s keys r plain ends intact empty same =
+    let within = rw ends at (plain-within s plain intact same) in
+    sym (rows-clipped r keys plain within) ∙ rows-empty (clipped r keys) plain empty
+
+-- in a settled store the rows between the places of the range's ends have the plain rows' sum
+pub sum-places : (s : State) (keys r : Range) (plain : List Row) → s.keys ≡ keys → IsIntact s [] → IsSettled s (clipped r keys) → IsPermutation (live_rows s) plain → sum_of (stretch_rows s (clipped r keys)) ≡ sum_of (rows_in r plain)
+sum-places s keys r plain ends intact settled same =
+    let within = rw ends at (plain-within s plain intact same) in
+    sum-settled s (clipped r keys) plain settled same ∙ ap sum_of (rows-clipped r keys plain within)
+
+-- and, in rising serial, they are the plain rows
+rows-places : (s : State) (keys r : Range) (plain : PlainState) (listed : List Row) → s.keys ≡ keys → IsIntact s [] → IsSettled s (clipped r keys) → IsNumbered plain → IsPermutation (live_rows s) plain.rows → IsPermutation (stretch_rows s (clipped r keys)) listed → IsNonDecreasingBy serial_of listed → listed ≡ rows_in r plain.rows
+rows-places s keys r plain listed ends intact settled numbered same holds rising =
+    let within = rw ends at (plain-within s plain.rows intact same) in
+    rows-settled s (clipped r keys) plain.rows listed settled same numbered.rising holds rising ∙ rows-clipped r keys plain.rows within
+
+pub rows-answered : {V E : Type 0} (items : V → List Row) (told : Result V E) (s : State) (keys r : Range) → s.keys ≡ keys → IsIntact s [] → IsSettled s (clipped r keys) → IfOk told (λ v. IsPermutation (stretch_rows s (clipped r keys)) (items v)) → IfOk told (λ v. IsNonDecreasingBy serial_of (items v)) → IfOk told (λ v. (plain : PlainState) → IsNumbered plain → IsPermutation (live_rows s) plain.rows → items v ≡ rows_in r plain.rows)
+rows-answered items (Ok v) s keys r ends intact settled holds rising = λ plain numbered same. rows-places s keys r plain (items v) ends intact settled numbered same holds rising
+rows-answered items (Err e) s keys r ends intact settled holds rising = tt

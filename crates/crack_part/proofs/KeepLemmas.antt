@@ -1,13 +1,17 @@
 -- What cracks and merges keep of a store, and how it stands where they found no memory.
-use Rattle.std.proofs.Common.{◌≡◌, ◌+◌, ◌<◌, ◌≤◌, Bool, true, false, cond, [], length, Option, Some, None, IfSome, refl, sym, ap, subst, ◌∙◌, inl, inr, arith}
+use Rattle.std.proofs.Common.{◌≡◌, ℕ, ◌+◌, ◌<◌, ◌≤◌, Bool, true, false, cond, not, List, [], ◌∷◌, filter, length, Option, Some, None, IfSome, refl, ap, subst, ◌∙◌, inl, inr, arith}
 use Rattle.std.proofs.lemmas.Bool.{cases_lt}
-use Rattle.std.proofs.lemmas.List.{drop_all}
-use Rattle.crack_row.specs.Ranges.{Range, clipped}
+use Rattle.std.proofs.lemmas.List.{take_all, drop_all, append-nil}
+use Rattle.crack_row.specs.Ranges.{Range, is_in, clipped}
 use Rattle.crack_row.specs.declared.command.Policy.{Policy}
-use Rattle.crack_row.specs.declared.command.Policy.TheVariants.{Complete}
+use Rattle.crack_row.specs.declared.command.Policy.TheVariants.{Complete, Gradual}
+use Rattle.crack_arena.specs.Arena.{Handle}
+use Rattle.crack_arena.specs.Rows.{key_at}
 use Rattle.crack_state.specs.State.{State, IsIntact, live_rows, freed_of}
 use Rattle.crack_state.specs.Steps.{SameButRoom}
-use Rattle.crack_state.specs.Merge.{Refines, Follows, Merges, IsSettled, Tallies, Leaves, is_touched}
+use Rattle.crack_state.specs.Merge.{Refines, Follows, Merges, IsSettled, Tallies, Leaves, SomeOf, is_touched, outside_of}
+use Rattle.crack_state.specs.Merge.SomeOf.{nothing, left_out, kept}
+use Rattle.crack_state.proofs.OutsideLaws.{SomeOf-refl, SomeOf-trans}
 use Rattle.crack_state.proofs.StepLaws.{IsIntact-room}
 use Rattle.crack_state.proofs.CrackLaws.{keys-refined, live_rows-refined, cells-refined, pending_out-refined}
 use Rattle.crack_state.proofs.FollowLaws.{Follows-trans, Follows-room, Tallies-trans, Tallies-room, length_marks-Follows}
@@ -99,48 +103,67 @@ pub IsSettled-prepared : (policy : Policy) (keys : Range) (range : Option Range)
 IsSettled-prepared policy keys None s t prepared = tt
 IsSettled-prepared policy keys (Some range) s t prepared = λ filled. (prepared.settled filled).merges.settled
 
+-- none of the handles, and those that pass a test
+SomeOf-none : (hs : List Handle) → SomeOf [] hs
+SomeOf-none [] = nothing
+SomeOf-none (h ∷ hs) = left_out h [] hs (SomeOf-none hs)
+
+SomeOf-filter : (test : Handle → Bool) (hs : List Handle) → SomeOf (filter test hs) hs
+SomeOf-filter test [] = nothing
+SomeOf-filter test (h ∷ hs) = by_test (test h) (SomeOf-filter test hs)
+  where
+    by_test : (b : Bool) → SomeOf (filter test hs) hs → SomeOf (cond b (h ∷ filter test hs) (filter test hs)) (h ∷ hs)
+    by_test true some = kept h (filter test hs) hs some
+    by_test false some = left_out h (filter test hs) hs some
+
 -- a whole merge is one that stopped at its end
-Leaves-rest : (policy : Policy) (s t : State) (r : Range) → Leaves policy s t r → LeavesRest policy s t
+Leaves-rest : (policy : Policy) (s t : State) (r : Range) → Leaves policy s t r → LeavesRest policy s t r
 Leaves-rest Complete s t r leaves = by_test (is_touched s r) leaves.0
   where
-    by_test : (b : Bool) → t.pending_in ≡ cond b [] s.pending_in → LeavesRest Complete s t
+    by_test : (b : Bool) → t.pending_in ≡ cond b [] s.pending_in → LeavesRest Complete s t r
     by_test true none = (length s.pending_in, omega arith, rw (drop_all (length s.pending_in) s.pending_in (omega arith)) none)
     by_test false all = (0, omega arith, all)
+Leaves-rest Gradual s t r leaves =
+    let k : ℕ = length s.pending_in in
+    let ahead = ap (outside_of s.cells r) (take_all k s.pending_in (omega arith)) in
+    let behind = drop_all k s.pending_in (omega arith) in
+    (k, omega arith, rw (ahead, behind, append-nil (outside_of s.cells r s.pending_in)) leaves.0)
 
-Leaves-none : (policy : Policy) (s t : State) (r : Range) → s.pending_out ≡ [] → Leaves policy s t r → t.pending_out ≡ s.pending_out
-Leaves-none Complete s t r none leaves = by_test (is_touched s r) leaves.1
+Leaves-some : (policy : Policy) (s t : State) (r : Range) → Leaves policy s t r → SomeOf t.pending_out s.pending_out
+Leaves-some Complete s t r leaves = by_test (is_touched s r) leaves.1
   where
-    by_test : (b : Bool) → t.pending_out ≡ cond b [] s.pending_out → t.pending_out ≡ s.pending_out
-    by_test true gone = gone ∙ sym none
-    by_test false same = same
+    by_test : (b : Bool) → t.pending_out ≡ cond b [] s.pending_out → SomeOf t.pending_out s.pending_out
+    by_test true gone = rw gone (SomeOf-none s.pending_out)
+    by_test false same = rw same (SomeOf-refl s.pending_out)
+Leaves-some Gradual s t r leaves =
+    SomeOf-trans t.pending_out (outside_of s.cells r s.pending_out) s.pending_out leaves.1.some (SomeOf-filter (λ h. not (is_in r (key_at s.cells h))) s.pending_out)
 
-Stops-merged : (policy : Policy) (s t u : State) (r : Range) → s.pending_out ≡ [] → Merges policy s t r → Tallies policy s t → SameButRoom t u → Stops policy s u
-Stops-merged policy s t u r none merges tallies room =
-    let rest = Leaves-rest policy s t r merges.leaves in
+Stops-merged : (policy : Policy) (s t u : State) (r : Range) → Merges policy s t r → Tallies policy s t → SameButRoom t u → Stops policy s u r
+Stops-merged policy s t u r merges tallies room =
     let same_in : u.pending_in ≡ t.pending_in = ap (λ (x : State). x.pending_in) room.same in
     let same_out : u.pending_out ≡ t.pending_out = ap (λ (x : State). x.pending_out) room.same in
     record {
       follows = Follows-trans s t u merges.follows (Follows-room t u room);
       intact = IsIntact-room t u [] room merges.intact;
       tallies = Tallies-trans policy s t u (length_marks-Follows s t merges.follows) tallies (Tallies-room policy t u room);
-      taken = by_policy policy rest same_in;
-      pending_out = same_out ∙ Leaves-none policy s t r none merges.leaves;
+      taken = by_policy policy (Leaves-rest policy s t r merges.leaves) same_in;
+      pending_out = rw same_out (Leaves-some policy s t r merges.leaves);
     }
   where
-    by_policy : (p : Policy) → LeavesRest p s t → u.pending_in ≡ t.pending_in → LeavesRest p s u
+    by_policy : (p : Policy) → LeavesRest p s t r → u.pending_in ≡ t.pending_in → LeavesRest p s u r
     by_policy Complete rest same = (rest.0, rest.1, same ∙ rest.2)
+    by_policy Gradual rest same = (rest.0, rest.1, same ∙ rest.2)
 
 -- a range was read, and no memory was found afterwards
-StopsRead-read : (policy : Policy) (s u t : State) (r : Range) → s.pending_out ≡ [] → ReadsRange policy s u r → SameButRoom u t → StopsRead policy s t r
-StopsRead-read policy s u t r none reads room = elim (cases_lt r.low r.high) [
+StopsRead-read : (policy : Policy) (s u t : State) (r : Range) → ReadsRange policy s u r → SameButRoom u t → StopsRead policy s t r
+StopsRead-read policy s u t r reads room = elim (cases_lt r.low r.high) [
   | inl filled ↦
       let done = reads.settled filled in
-      let still : done.cracked.pending_out ≡ [] = pending_out-refined _ s done.cracked done.refines ∙ none in
-      inr (record { filled = filled; cracked = done.cracked; refines = done.refines; intact = done.intact; stops = Stops-merged policy done.cracked u t r still done.merges done.tallies room })
+      inr (record { filled = filled; cracked = done.cracked; refines = done.refines; intact = done.intact; stops = Stops-merged policy done.cracked u t r done.merges done.tallies room })
   | inr empty ↦ inl (subst (λ (x : State). SameButRoom x t) (reads.empty empty) room)
 ]
 
 -- prepared, and then not performed
-pub Spares-prepared : (policy : Policy) (keys : Range) (range : Option Range) (s u t : State) → s.pending_out ≡ [] → Prepares policy keys range s u → SameButRoom u t → Spares policy keys range s t
-Spares-prepared policy keys None s u t none prepared same = subst (λ (x : State). SameButRoom x t) prepared same
-Spares-prepared policy keys (Some range) s u t none prepared same = StopsRead-read policy s u t (clipped range keys) none prepared same
+pub Spares-prepared : (policy : Policy) (keys : Range) (range : Option Range) (s u t : State) → Prepares policy keys range s u → SameButRoom u t → Spares policy keys range s t
+Spares-prepared policy keys None s u t prepared same = subst (λ (x : State). SameButRoom x t) prepared same
+Spares-prepared policy keys (Some range) s u t prepared same = StopsRead-read policy s u t (clipped range keys) prepared same

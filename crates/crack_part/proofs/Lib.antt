@@ -1,3 +1,4 @@
 pub mod CountLemmas
 pub mod KeepLemmas
+pub mod PointLemmas
 pub mod SoundLemmas

@@ -1,38 +1,39 @@
 -- A partition's fact, and what follows from it.
-use Rattle.std.proofs.Common.{◌≡◌, ℕ, ◌+◌, ◌<◌, ◌≤◌, List, [], ◌∷◌, ◌++◌, length, Bool, cond, Option, Some, None, IfSome, option_and_then, arith, refl, sym, ap, ◌∙◌}
+use Rattle.std.proofs.Common.{◌≡◌, ℕ, ◌+◌, ◌-◌, ◌^◌, ◌<◌, ◌≤◌, List, [], ◌∷◌, ◌++◌, length, Bool, true, false, if◌then◌else◌, Option, Some, None, IfSome, IsSome, option_and_then, arith, refl, sym, ap, subst, ◌∙◌}
 use Rattle.std.specs.List.{All}
+use Rattle.std.proofs.lemmas.List.Elements.{All-nil}
 use Rattle.std.specs.List.Sorted.{IsPermutation}
-use Rattle.std.proofs.lemmas.List.Sorted.{IsPermutation-sym, IsPermutation-trans, IsPermutation-cons, IsPermutation-to_front, All-permutation}
+use Rattle.std.proofs.lemmas.List.Sorted.{IsPermutation-refl, IsPermutation-sym, IsPermutation-trans, IsPermutation-cons, IsPermutation-to_front, All-permutation}
+use Rattle.std.proofs.lemmas.Bool.{false≢true}
 use Rattle.crack_row.specs.Commands.{change_of, range_of, brought_key}
 use Rattle.crack_row.specs.Ranges.{Range, IsIn}
+use Rattle.crack_row.specs.Rows.{row_with}
 use Rattle.crack_row.specs.declared.TheConstants.{GREATEST_LIMIT}
 use Rattle.crack_row.specs.declared.Key.{Key}
 use Rattle.crack_row.specs.declared.Payload.{Payload}
 use Rattle.crack_row.specs.declared.Row.{Row}
+use Rattle.crack_row.specs.declared.Serial.{Serial}
 use Rattle.crack_row.specs.declared.command.Change.{Change}
-use Rattle.crack_row.specs.declared.command.Change.TheVariants.{Place}
+use Rattle.crack_row.specs.declared.command.Change.TheVariants.{Place, Remove, Rewrite}
 use Rattle.crack_row.specs.declared.command.Command.{Command}
+use Rattle.crack_row.specs.declared.command.Command.TheVariants.{Insert, Delete, Update, Count, Sum, Select}
 use Rattle.crack_row.specs.declared.command.Policy.{Policy}
+use Rattle.crack_row.specs.declared.command.Reply.{Reply}
 use Rattle.crack_row.specs.declared.command.Entry.{Entry}
-use Rattle.crack_plain.specs.Plain.{PlainState, changed, after, reply_to, places_row, IsWithin}
-use Rattle.crack_plain.specs.Totals.{is_placed}
-use Rattle.crack_plain.proofs.Laws.{IsLegal-push, replay-push, next-le-accepted, IsNumbered-replay, is_placed-reply_to}
-use Rattle.crack_plain.proofs.TotalLaws.{deleted-none, inserted-push, deleted-push, inserted-le-accepted}
+use Rattle.crack_plain.specs.Plain.{PlainState, changed, after, reply_to, row_in, gone, rewritten, IsWithin}
+use Rattle.crack_plain.specs.Totals.{is_placed, is_gone, is_changed}
+use Rattle.crack_plain.proofs.Laws.{IsLegal-push, replay-push, next-le-accepted, IsNumbered-replay}
+use Rattle.crack_plain.proofs.TotalLaws.{inserted-push, deleted-push, updated-push, inserted-le-accepted, deleted-le-accepted, updated-le-accepted}
 use Rattle.crack_state.specs.State.{State, live_rows, freed_of, IsIntact}
-use Rattle.crack_state.specs.Steps.{IsAdmissible, admitted}
-use Rattle.crack_state.proofs.StepLaws.{IsIntact-room}
+use Rattle.crack_state.specs.Steps.{IsAdmissible, SameButRoom, admitted}
+use Rattle.crack_state.specs.Points.{pending_by, MayFree, IsRenewable, IsRewritable}
 use Rattle.crack_state.proofs.KeyedLaws.{handle_of-fresh}
-use Rattle.crack_state.proofs.AdmitLaws.{IsIntact-admitted, live_rows-admitted, freed-admitted, cells-admitted}
-use Rattle.crack_part.specs.Parts.{Part, IsSound, Serves, Prepares, Performs, MayPerform, state_of, placed}
+use Rattle.crack_state.proofs.AdmitLaws.{live_rows-admitted, freed-admitted, cells-admitted}
+use Rattle.crack_state.proofs.PointLaws.{Spends, Spends-cancels, Spends-dooms, Spends-rewrites, found_by}
+use Rattle.crack_state.proofs.LookUpLaws.{row_by-find, row_by-pending}
+use Rattle.crack_store.specs.Inside.{no_cells}
+use Rattle.crack_part.specs.Parts.{Part, IsLimit, IsSound, IsFaithful, Serves, Prepares, Performs, Removes, Replaces, MayPerform, state_of, placed}
 use Rattle.crack_part.proofs.KeepLemmas.{Keeps, Keeps-room, Keeps-prepared, IsIntact-prepared}
-
-no_length : {X : Type 0} (xs : List X) → length xs ≡ 0 → xs ≡ []
-no_length [] e = refl
-no_length (x ∷ xs) e = absurd (omega arith)
-
--- nothing is doomed
-pub none_doomed : (p : Part) → IsSound p → p.store.pending_out ≡ []
-none_doomed p sound = no_length p.store.pending_out (omega (arith, sound.few_freed, deleted-none p.history))
 
 -- the next serial stays far below the greatest number
 pub next-le-limit : (p : Part) → IsSound p → p.next ≤ GREATEST_LIMIT
@@ -45,12 +46,19 @@ next-above p sound =
     let at_next : All (λ (r : Row). r.serial.0 < p.next) (state_of p).rows = rw sound.faithful.serial below in
     All-permutation (λ (r : Row). r.serial.0 < p.next) (state_of p).rows (live_rows p.store) (IsPermutation-sym (live_rows p.store) (state_of p).rows sound.faithful.rows) at_next
 
+-- there are far fewer cells than there may be, and far fewer were freed
+few_cells : (p : Part) → IsSound p → length p.store.cells < 2 ^ 32 - 1 + length p.store.free
+few_cells p sound = omega (arith, sound.few_cells, inserted-le-accepted p.history, updated-le-accepted p.history, sound.legal.limited, sound.limited.1)
+
+few_freed : (p : Part) → IsSound p → MayFree p.store
+few_freed p sound = omega (arith, sound.few_freed, deleted-le-accepted p.history, updated-le-accepted p.history, sound.legal.limited, sound.limited.1)
+
 -- a row that is placed may be admitted
 IsAdmissible-placed : (p : Part) (key : Key) (payload : Payload) → IsSound p → IsIn p.keys key.0 → IsAdmissible (placed p.next key payload) p.store
 IsAdmissible-placed p key payload sound within = record {
   fresh = handle_of-fresh p.store [] p.next sound.intact (next-above p sound);
   within = rw sound.ends within;
-  cell = omega (arith, sound.few_cells, inserted-le-accepted p.history, sound.legal.limited, sound.limited.1);
+  cell = few_cells p sound;
 }
 
 -- the key that a change brings, if any, is one of these
@@ -61,6 +69,8 @@ BringsWithin keys change = IfSome (option_and_then brought_key change) (λ (key 
 MayPerform-within : (p : Part) (change : Option Change) → IsSound p → BringsWithin p.keys change → MayPerform p.next change p.store
 MayPerform-within p None sound within = tt
 MayPerform-within p (Some (Place key payload)) sound within = IsAdmissible-placed p key payload sound within
+MayPerform-within p (Some (Remove serial)) sound within = few_freed p sound
+MayPerform-within p (Some (Rewrite serial key payload)) sound within = (rw sound.ends within, record { cell = few_cells p sound; few = few_freed p sound })
 
 -- the live rows, and what the history bounds, are as they were
 pub IsSound-kept : (p : Part) (t : State) → IsSound p → Keeps p.store t → IsIntact t [] → IsSound (record p { store = t })
@@ -86,55 +96,107 @@ IsPermutation-placed live now plain row faithful one =
     let back = IsPermutation-sym (plain ++ row ∷ []) (row ∷ plain) (IsPermutation-to_front plain row) in
     IsPermutation-trans now (row ∷ live) (plain ++ row ∷ []) (IsPermutation-sym (row ∷ live) now one) (IsPermutation-trans (row ∷ live) (row ∷ plain) (plain ++ row ∷ []) front back)
 
--- what a change that was made leaves of a partition's store
-record Grows (p : Part) (change : Option Change) (t : State) : Type 0 where
-  ends : t.keys ≡ p.keys
-  intact : IsIntact t []
-  rows : IsPermutation (live_rows t) (changed (state_of p) change).rows
-  cells : length t.cells ≤ length p.store.cells + cond (places_row change) 1 0
-  freed : freed_of t.cells + length t.pending_out ≡ freed_of p.store.cells + length p.store.pending_out
-
-Grows-performed : (p : Part) (change : Option Change) (t : State) → IsSound p → BringsWithin p.keys change → Performs p.next change p.store t → Grows p change t
-Grows-performed p None t sound within same = record {
-  ends = rw same sound.ends;
-  intact = rw same sound.intact;
-  rows = rw same sound.faithful.rows;
-  cells = rw same (omega arith);
-  freed = rw same refl;
-}
-Grows-performed p (Some (Place key payload)) t sound within admits =
-    let row = placed p.next key payload in
-    let keeps = Keeps-room (admitted row p.store) t admits in
-    let renamed = ap (λ (n : ℕ). placed n key payload) sound.faithful.serial in
-    let rows = IsPermutation-placed (live_rows p.store) (live_rows (admitted row p.store)) (state_of p).rows row sound.faithful.rows (live_rows-admitted row p.store sound.intact) in
-    record {
-      ends = keeps.ends ∙ sound.ends;
-      intact = IsIntact-room (admitted row p.store) t [] admits (IsIntact-admitted row p.store (IsAdmissible-placed p key payload sound within) sound.intact);
-      rows = rw (keeps.live, ← renamed) rows;
-      cells = omega (arith, keeps.cells, cells-admitted row p.store);
-      freed = omega (arith, keeps.freed, freed-admitted row p.store sound.intact);
-    }
-
 -- a command whose key is the partition's may be performed, however its store was prepared
 pub MayPerform-prepared : (policy : Policy) (p : Part) (command : Command) (u : State) → IsSound p → IsWithin p.keys command → Prepares policy p.keys (range_of command) p.store u → MayPerform p.next (change_of command) u
 MayPerform-prepared policy p command u sound within prepared =
     MayPerform-within (record p { store = u }) (change_of command) (IsSound-prepared policy p (range_of command) u sound prepared) within
 
+-- the live rows are as they were
+pub IsFaithful-kept : (s t : State) (next : ℕ) (plain : PlainState) → Keeps s t → IsFaithful s next plain → IsFaithful t next plain
+IsFaithful-kept s t next plain keeps faithful = record { rows = rw keeps.live faithful.rows; serial = faithful.serial }
+
+-- a row that is placed is one more of the plain rows
+pub IsFaithful-placed : (s t : State) (next : ℕ) (key : Key) (payload : Payload) (plain : PlainState) → IsIntact s [] → SameButRoom (admitted (placed next key payload) s) t → IsFaithful s next plain → IsFaithful t (next + 1) (changed plain (Some (Place key payload)))
+IsFaithful-placed s t next key payload plain intact admits faithful =
+    let row = placed next key payload in
+    let keeps = Keeps-room (admitted row s) t admits in
+    let renamed = ap (λ (n : ℕ). placed n key payload) faithful.serial in
+    let rows = IsPermutation-placed (live_rows s) (live_rows (admitted row s)) plain.rows row faithful.rows (live_rows-admitted row s intact) in
+    record { rows = rw (keeps.live, ← renamed) rows; serial = omega (arith, faithful.serial) }
+
+-- how many cells a reply says are new at most, and how often it says that one is freed, now or later
+abbrev made : Reply → ℕ
+made reply = (if is_placed reply then 1 else 0) + (if is_changed reply then 1 else 0)
+
+abbrev spent : Reply → ℕ
+spent reply = (if is_gone reply then 1 else 0) + (if is_changed reply then 1 else 0)
+
+Spends-same : (m n : ℕ) (s t : State) → t ≡ s → Spends m n s t
+Spends-same m n s t same = rw same (record { keys = refl; cells = omega arith; freed = omega arith })
+
+-- a row of this serial stands in the plain rows where the store finds one
+is_some-row_in : (s : State) (plain : List Row) (serial : Serial) (pending : Bool) → IsIntact s [] → IsPermutation (live_rows s) plain → pending_by s serial.0 ≡ Some pending → IsSome (row_in plain serial)
+is_some-row_in s plain serial pending intact faithful is = subst (λ (o : Option Row). IsSome o) (row_by-find s serial.0 plain intact faithful) (row_by-pending s serial.0 pending is intact)
+
+Spends-removed : (s t : State) (plain : List Row) (serial : Serial) (o : Option Bool) → pending_by s serial.0 ≡ o → IsIntact s [] → IsPermutation (live_rows s) plain → Removes o serial.0 s t → Spends (made (gone (row_in plain serial))) (spent (gone (row_in plain serial))) s t
+Spends-removed s t plain serial None is intact faithful same = Spends-same _ _ s t same
+Spends-removed s t plain serial (Some pending) is intact faithful removes = by_row (row_in plain serial) (is_some-row_in s plain serial pending intact faithful is) (by_pending pending is removes)
+  where
+    by_pending : (b : Bool) → pending_by s serial.0 ≡ Some b → Removes (Some b) serial.0 s t → Spends 0 1 s t
+    by_pending true pends cancels = Spends-cancels serial.0 s t pends intact cancels
+    by_pending false stands dooms = Spends-dooms serial.0 s t dooms
+
+    by_row : (row : Option Row) → IsSome row → Spends 0 1 s t → Spends (made (gone row)) (spent (gone row)) s t
+    by_row None none spends = absurd (false≢true none)
+    by_row (Some row) some spends = spends
+
+-- a row that the store finds may be rewritten
+pub IsRewritable-found : (s : State) (row : Row) (pending : Bool) → pending_by s row.serial.0 ≡ Some pending → IsIn s.keys row.key.0 → IsRenewable s → IsRewritable row s
+IsRewritable-found s row pending is within renewable = record { there = rw (found_by s row.serial.0 pending is).leads refl; within = within; anew = λ stands. renewable }
+
+Spends-replaced : (s t : State) (plain : List Row) (row : Row) (o : Option Bool) → pending_by s row.serial.0 ≡ o → IsIntact s [] → IsPermutation (live_rows s) plain → IsIn s.keys row.key.0 → IsRenewable s → Replaces o row s t → Spends (made (rewritten (row_in plain row.serial))) (spent (rewritten (row_in plain row.serial))) s t
+Spends-replaced s t plain row None is intact faithful within renewable same = Spends-same _ _ s t same
+Spends-replaced s t plain row (Some pending) is intact faithful within renewable rewrites =
+    let may = IsRewritable-found s row pending is within renewable in
+    by_row (row_in plain row.serial) (is_some-row_in s plain row.serial pending intact faithful is) (Spends-rewrites (Some pending) row s t is may intact rewrites)
+  where
+    by_row : (o : Option Row) → IsSome o → Spends 1 1 s t → Spends (made (rewritten o)) (spent (rewritten o)) s t
+    by_row None none spends = absurd (false≢true none)
+    by_row (Some old) some spends = spends
+
+-- what a command spends, as its reply tells it
+Spends-performed : (next : ℕ) (plain : PlainState) (command : Command) (s t : State) → IsIntact s [] → IsPermutation (live_rows s) plain.rows → MayPerform next (change_of command) s → Performs next (change_of command) s t → Spends (made (reply_to plain command)) (spent (reply_to plain command)) s t
+Spends-performed next plain (Insert key payload) s t intact faithful may admits =
+    let row = placed next key payload in
+    let keeps = Keeps-room (admitted row s) t admits in
+    record { keys = keeps.ends; cells = omega (arith, keeps.cells, cells-admitted row s); freed = omega (arith, keeps.freed, freed-admitted row s intact) }
+Spends-performed next plain (Delete serial) s t intact faithful may removes = Spends-removed s t plain.rows serial (pending_by s serial.0) refl intact faithful removes
+Spends-performed next plain (Update serial key payload) s t intact faithful may replaces =
+    Spends-replaced s t plain.rows (row_with serial key payload) (pending_by s serial.0) refl intact faithful may.0 may.1 replaces
+Spends-performed next plain (Count range) s t intact faithful may same = Spends-same _ _ s t same
+Spends-performed next plain (Sum range) s t intact faithful may same = Spends-same _ _ s t same
+Spends-performed next plain (Select range) s t intact faithful may same = Spends-same _ _ s t same
+
+pub Spends-served : (policy : Policy) (p : Part) (command : Command) (t : State) → IsSound p → IsWithin p.keys command → Serves policy p.keys p.next command p.store t → Spends (made (reply_to (state_of p) command)) (spent (reply_to (state_of p) command)) p.store t
+Spends-served policy p command t sound within served =
+    let before = IsSound-prepared policy p (range_of command) served.ready sound served.prepared in
+    let keeps = Keeps-prepared policy p.keys (range_of command) p.store served.ready served.prepared in
+    let may = MayPerform-prepared policy p command served.ready sound within served.prepared in
+    let spends = Spends-performed p.next (state_of p) command served.ready t before.intact before.faithful.rows may served.performed in
+    record { keys = spends.keys ∙ keeps.ends; cells = omega (arith, spends.cells, keeps.cells); freed = omega (arith, spends.freed, keeps.freed) }
+
+-- the start
+pub IsSound-opened : (keys : Range) (limit : ℕ) (store : State) → store ≡ no_cells keys store.column_room store.in_room → IsLimit limit → IsIntact store [] → IsSound (record { keys = keys; limit = limit; history = []; next = 0; store = store })
+IsSound-opened keys limit store is limited intact = record {
+  limited = limited;
+  legal = record { replies = tt; within = All-nil _; limited = omega arith };
+  ends = ap (λ (s : State). s.keys) is;
+  intact = intact;
+  faithful = record { rows = subst (λ (rows : List Row). IsPermutation rows []) (sym (ap live_rows is)) (IsPermutation-refl []); serial = refl };
+  few_cells = omega (arith, ap (λ (s : State). length s.cells) is);
+  few_freed = omega (arith, ap (λ (s : State). freed_of s.cells + length s.pending_out) is);
+}
+
 -- one more entry
-pub IsSound-served : (policy : Policy) (p : Part) (e : Entry) (next : ℕ) (t : State) → IsSound p → length p.history < p.limit → IsWithin p.keys e.command → e.reply ≡ reply_to (state_of p) e.command → next ≡ (after (state_of p) e.command).next → Serves policy p.keys p.next e.command p.store t → IsSound (record p { history = p.history ++ e ∷ []; next = next; store = t })
-IsSound-served policy p e next t sound room within said raised served =
-    let ready : Part = record p { store = served.ready } in
-    let before = IsSound-prepared policy p (range_of e.command) served.ready sound served.prepared in
-    let grows = Grows-performed ready (change_of e.command) t before within served.performed in
-    let replayed = replay-push p.history e in
-    let counted : Bool → ℕ = λ b. cond b 1 0 in
-    let one : counted (is_placed e.reply) ≡ counted (places_row (change_of e.command)) = ap (λ r. counted (is_placed r)) said ∙ ap counted (is_placed-reply_to (state_of p) e.command) in
+pub IsSound-served : (p : Part) (e : Entry) (next : ℕ) (t : State) → IsSound p → length p.history < p.limit → IsWithin p.keys e.command → e.reply ≡ reply_to (state_of p) e.command → IsIntact t [] → IsFaithful t next (after (state_of p) e.command) → Spends (made (reply_to (state_of p) e.command)) (spent (reply_to (state_of p) e.command)) p.store t → IsSound (record p { history = p.history ++ e ∷ []; next = next; store = t })
+IsSound-served p e next t sound room within said intact faithful spends =
+    let tells = rw (← said) at spends in
     record {
       limited = sound.limited;
       legal = IsLegal-push p.keys p.limit p.history e sound.legal room within said;
-      ends = grows.ends;
-      intact = grows.intact;
-      faithful = record { rows = rw replayed grows.rows; serial = raised ∙ sym (ap (λ (s : PlainState). s.next) replayed) };
-      few_cells = omega (arith, grows.cells, before.few_cells, inserted-push p.history e, one);
-      few_freed = omega (arith, grows.freed, before.few_freed, deleted-push p.history e);
+      ends = spends.keys ∙ sound.ends;
+      intact = intact;
+      faithful = subst (λ (s : PlainState). IsFaithful t next s) (sym (replay-push p.history e)) faithful;
+      few_cells = omega (arith, tells.cells, sound.few_cells, inserted-push p.history e, updated-push p.history e);
+      few_freed = omega (arith, tells.freed, sound.few_freed, deleted-push p.history e, updated-push p.history e);
     }

@@ -1,21 +1,23 @@
 -- What contracts see of a partition, and what holds of each.
-use Rattle.std.specs.Prelude.{◌≡◌, ◌⊎◌, ℕ, ◌+◌, ◌<◌, ◌≤◌, List, [], length, Option, Some, None}
+use Rattle.std.specs.Prelude.{◌≡◌, ◌⊎◌, ℕ, ◌+◌, ◌<◌, ◌≤◌, Bool, true, false, List, [], length, Option, Some, None}
 use Rattle.std.specs.List.Sorted.{IsPermutation}
 use Rattle.crack_row.specs.Commands.{change_of, range_of}
-use Rattle.crack_row.specs.Ranges.{Range, clipped}
+use Rattle.crack_row.specs.Ranges.{Range, IsIn, clipped}
+use Rattle.crack_row.specs.Rows.{row_with}
 use Rattle.crack_row.specs.declared.TheConstants.{GREATEST_LIMIT}
 use Rattle.crack_row.specs.declared.Key.{Key}
 use Rattle.crack_row.specs.declared.Payload.{Payload}
 use Rattle.crack_row.specs.declared.Row.{Row}
 use Rattle.crack_row.specs.declared.command.Change.{Change}
-use Rattle.crack_row.specs.declared.command.Change.TheVariants.{Place}
+use Rattle.crack_row.specs.declared.command.Change.TheVariants.{Place, Remove, Rewrite}
 use Rattle.crack_row.specs.declared.command.Command.{Command}
 use Rattle.crack_row.specs.declared.command.Policy.{Policy}
 use Rattle.crack_row.specs.declared.command.Entry.{Entry}
 use Rattle.crack_plain.specs.Plain.{PlainState, replay, IsLegal}
-use Rattle.crack_plain.specs.Totals.{inserted, deleted}
+use Rattle.crack_plain.specs.Totals.{inserted, deleted, updated}
 use Rattle.crack_state.specs.State.{State, IsIntact, live_rows, freed_of}
 use Rattle.crack_state.specs.Steps.{admitted, IsAdmissible, SameButRoom}
+use Rattle.crack_state.specs.Points.{pending_by, MayFree, IsRenewable, Cancels, Dooms, Rewrites}
 use Rattle.crack_state.specs.Merge.{Refines, Merges, Tallies}
 use Rattle.crack_merge.specs.Merges.{Stops}
 
@@ -41,19 +43,20 @@ pub record IsFaithful (store : State) (next : ℕ) (plain : PlainState) : Type 0
   pub serial : next ≡ plain.next
 
 -- the partition's fact: each kept reply is that of the plain rows, every cell stands in one place and every bound is obeyed,
--- the live rows are the plain rows, and there are no more cells than rows placed, nor more freed or doomed than rows gone
+-- the live rows are the plain rows, and there are no more cells than rows placed and changed, nor more freed or doomed than rows gone
+-- and changed
 pub record IsSound (part : Part) : Type 0 where
   pub limited : IsLimit part.limit
   pub legal : IsLegal part.keys part.limit part.history
   pub ends : part.store.keys ≡ part.keys
   pub intact : IsIntact part.store []
   pub faithful : IsFaithful part.store part.next (state_of part)
-  pub few_cells : length part.store.cells ≤ inserted part.history
-  pub few_freed : freed_of part.store.cells + length part.store.pending_out ≤ deleted part.history
+  pub few_cells : length part.store.cells ≤ inserted part.history + updated part.history
+  pub few_freed : freed_of part.store.cells + length part.store.pending_out ≤ deleted part.history + updated part.history
 
 -- a row as a change places it
 abbrev pub placed : ℕ → Key → Payload → Row
-placed serial key payload = record { serial = record { 0 = serial }; key = key; payload = payload }
+placed serial key payload = row_with (record { 0 = serial }) key payload
 
 -- a store is cracked at the ends of a range, where it is intact, and then merged
 pub record CracksAndMerges (policy : Policy) (s t : State) (r : Range) : Type 0 where
@@ -74,7 +77,7 @@ pub record CracksAndStops (policy : Policy) (s t : State) (r : Range) : Type 0 w
   pub cracked : State
   pub refines : Refines s cracked r
   pub intact : IsIntact cracked []
-  pub stops : Stops policy cracked t
+  pub stops : Stops policy cracked t r
 
 -- what a read of a range that found no memory did to a store: nothing, or the store is cracked at the ends of the range, no bound
 -- else is new, and the merge went as far as it came
@@ -95,11 +98,26 @@ Spares policy keys (Some range) s t = StopsRead policy s t (clipped range keys)
 abbrev pub MayPerform : ℕ → Option Change → State → Type 0
 MayPerform next None s = Unit {0}
 MayPerform next (Some (Place key payload)) s = IsAdmissible (placed next key payload) s
+MayPerform next (Some (Remove serial)) s = MayFree s
+MayPerform next (Some (Rewrite serial key payload)) s = IsIn s.keys key.0 × IsRenewable s
+
+-- what a delete does to a store, by whether the row of its serial is a pending insertion; nothing where there is no such row
+abbrev pub Removes : Option Bool → ℕ → State → State → Type 0
+Removes None serial s t = t ≡ s
+Removes (Some true) serial s t = Cancels serial s t
+Removes (Some false) serial s t = Dooms serial s t
+
+-- what an update does to a store, by whether the row of its serial is a pending insertion; nothing where there is no such row
+abbrev pub Replaces : Option Bool → Row → State → State → Type 0
+Replaces None row s t = t ≡ s
+Replaces (Some pending) row s t = Rewrites (Some pending) row s t
 
 -- what is done to a store once a command is replied: the change that it makes, if any, is made
 abbrev pub Performs : ℕ → Option Change → State → State → Type 0
 Performs next None s t = t ≡ s
 Performs next (Some (Place key payload)) s t = SameButRoom (admitted (placed next key payload) s) t
+Performs next (Some (Remove serial)) s t = Removes (pending_by s serial.0) serial.0 s t
+Performs next (Some (Rewrite serial key payload)) s t = Replaces (pending_by s serial.0) (row_with serial key payload) s t
 
 -- what an answered command does to a store of these keys: the store is prepared, and then the change is made
 pub record Serves (policy : Policy) (keys : Range) (next : ℕ) (command : Command) (s t : State) : Type 0 where

@@ -1,20 +1,23 @@
 //! Commands and their history.
-ghost use Rattle.std.specs.Prelude.{◌≡◌, ◌⊎◌, ◌+◌, ◌<◌, ◌≤◌, ◌↔◌, ◌^◌, List, [], ◌∷◌, ◌++◌, length, count_by, IsTrue, IsOk, IfOk, IfErr, IfSome, OnErr, OnOk, Err, vec_len, vec_capacity};
+ghost use Rattle.std.specs.Prelude.{◌≡◌, ◌⊎◌, ◌+◌, ◌<◌, ◌≤◌, ◌↔◌, ◌^◌, List, [], ◌∷◌, ◌++◌, length, map, filter, count_by, IsTrue, IsOk, IfOk, IfErr, IfSome, OnErr, OnOk, Err, vec_len, vec_capacity};
 ghost use Rattle.std.specs.List.Sorted.{IsPermutation};
 ghost use Rattle.crack_row.specs.Commands.{change_of, range_of};
-ghost use Rattle.crack_row.specs.Ranges.{clipped, in_range};
+ghost use Rattle.crack_row.specs.Ranges.{IsIn, clipped, in_range};
+ghost use Rattle.crack_row.specs.Rows.{is_other, replaced, sum_of};
 ghost use Rattle.crack_row.specs.Layouts.{IsLayout};
-ghost use Rattle.crack_plain.specs.Plain.{PlainState, reply_to, after, changed, IsWithin, IsLegal};
+ghost use Rattle.crack_plain.specs.Plain.{PlainState, IsNumbered, reply_to, row_in, rows_in, gone, rewritten, after, changed, IsWithin, IsLegal};
 ghost use Rattle.crack_state.specs.State.{State, IsIntact, live_rows};
 ghost use Rattle.crack_state.specs.Steps.{SameButRoom};
+ghost use Rattle.crack_state.specs.Points.{pending_by, MayFree, IsRenewable};
 ghost use Rattle.crack_state.specs.Merge.{IsCracked, IsSettled, Merges, Tallies};
 ghost use Rattle.crack_merge.specs.Merges.{Stops};
 ghost use Rattle.crack_store.specs.Inside.{no_cells, IsLayoutOf};
-ghost use Rattle.crack_part.specs.Parts.{state_of, IsLimit, IsSound, IsFaithful, CracksAndMerges, StopsRead, Serves, Spares, Prepares, MayPerform, Performs};
+ghost use Rattle.crack_part.specs.Parts.{state_of, IsLimit, IsSound, IsFaithful, CracksAndMerges, StopsRead, Serves, Spares, Prepares, MayPerform, Performs, Removes, Replaces};
 
-use crack_merge::merge_complete;
+use crack_merge::{merge_complete, merge_gradual};
 use crack_row::{
-    Change, Command, Entry, GREATEST_LIMIT, KeyRange, Layout, Policy, Refusal, Reply, Row, Serial,
+    Change, Command, Entry, GREATEST_LIMIT, KeyRange, Layout, Policy, Refusal, Reply, Row, RowList,
+    Serial,
 };
 use crack_store::{MergeReport, Store};
 use std::alloc::Global;
@@ -112,8 +115,9 @@ impl Partition {
     /// Refused, in this order: with 4 where the command brings a key that isn't the partition's, with 6 where the history
     /// is full, with 8 where no memory is found. After 4 and 6 nothing has changed. After 8 a command that reads no range has
     /// changed nothing, and one that reads a range has at most cracked the column at its ends and merged in part, or in whole.
-    /// An insert is O(1). A count cracks the pieces in which its ends fall, merges by the policy what its range needs, and
-    /// is then O(log pieces).
+    /// An insert, a delete and an update are O(1), amortised. A command that reads a range cracks the pieces in which its ends fall
+    /// and merges by the policy what its range needs; a count is then O(log pieces), a sum O(m), and a select O(m log m) for m rows
+    /// in the range.
     pub fn apply(
         &mut self,
         worker: u32,
@@ -201,18 +205,19 @@ fn serve(
 ) -> Result<Copies, Refusal>
     requires ends { store.old.keys ≡ keys }
     requires intact { IsIntact store.old [] }
-    requires none_doomed { store.old.pending_out ≡ [] }
     requires admissible { (ready : State) → Prepares policy keys (range_of command.now) store.old ready → MayPerform next.old (change_of command.now) ready }
     requires small { next.old + 1 < 2 ^ 64 }
-    ensures replies { IfOk result (λ copies. (plain : PlainState) → IsFaithful store.old next.old plain → copies.reply ≡ reply_to plain command.now) }
+    ensures replies { IfOk result (λ copies. (plain : PlainState) → IsNumbered plain → IsFaithful store.old next.old plain → copies.reply ≡ reply_to plain command.now) }
     ensures copied { IfOk result (λ copies. (copies.receipt ≡ copies.reply) × (copies.kept ≡ copies.reply)) }
     ensures served { OnOk result (Serves policy keys next.old command.now store.old store.new) }
-    ensures next { OnOk result ((plain : PlainState) → next.old ≡ plain.next → next.new ≡ (after plain command.now).next) }
+    ensures faithful { OnOk result ((plain : PlainState) → IsFaithful store.old next.old plain → IsFaithful store.new next.new (after plain command.now)) }
+    ensures intact { OnOk result (IsIntact store.new []) }
     ensures spared { OnErr result (Spares policy keys (range_of command.now) store.old store.new × (next.new ≡ next.old)) }
     ensures err { IfErr result (λ e. e ≡ Refusal.OutOfMemory) }
 {
     prepare(store, alloc, keys, command.range(), policy)?;
-    let copies = copied(reply_of(store, *next, keys, command), alloc)?;
+    let reply = reply_of(store, *next, alloc, keys, command)?;
+    let copies = copied(reply, alloc)?;
     perform(store, next, command.change())?;
     Ok(copies)
 }
@@ -226,7 +231,6 @@ fn prepare(
     policy: Policy,
 ) -> Result<(), Refusal>
     requires ends { store.old.keys ≡ keys }
-    requires none_doomed { store.old.pending_out ≡ [] }
     ensures prepared { OnOk result (Prepares policy keys range store.old store.new) }
     ensures spared { OnErr result (Spares policy keys range store.old store.new) }
     ensures err { IfErr result (λ e. e ≡ Refusal.OutOfMemory) }
@@ -243,15 +247,57 @@ fn prepare(
     }
 }
 
-/// What is replied to a command where the store is settled for its range.
-fn reply_of(store: &Store, next: u64, keys: KeyRange, command: &Command) -> Reply
+/// What is replied to a command where the store is settled for its range. Refused with 8 where a list finds no memory.
+fn reply_of(
+    store: &Store,
+    next: u64,
+    alloc: Global,
+    keys: KeyRange,
+    command: &Command,
+) -> Result<Reply, Refusal>
     requires ends { store.now.keys ≡ keys }
     requires settled { IfSome (range_of command.now) (λ range. (clipped range keys).low < (clipped range keys).high → IsSettled store.now (clipped range keys)) }
-    ensures { (plain : PlainState) → IsFaithful store.now next plain → result ≡ reply_to plain command.now }
+    ensures reply { IfOk result (λ reply. (plain : PlainState) → IsNumbered plain → IsFaithful store.now next plain → reply ≡ reply_to plain command.now) }
+    ensures err { IfErr result (λ e. e ≡ Refusal.OutOfMemory) }
 {
-    match command {
-        Command::Insert { key: _, payload: _ } => Reply::Placed(Serial(next)),
-        Command::Count(range) => Reply::Counted(count(store, keys, *range)),
+    match *command {
+        Command::Insert { .. } => Ok(Reply::Placed(Serial(next))),
+        Command::Delete { serial } => Ok(gone(row_of(store, serial))),
+        Command::Update { serial, .. } => Ok(rewritten(row_of(store, serial))),
+        Command::Count(range) => Ok(Reply::Counted(count(store, keys, range))),
+        Command::Sum(range) => Ok(Reply::Summed(sum(store, keys, range))),
+        Command::Select(range) => {
+            let rows = select(store, alloc, keys, range)?;
+            Ok(Reply::Rows(RowList::from_vec(rows)))
+        }
+    }
+}
+
+/// The row of a serial, if there is one: O(1).
+fn row_of(store: &Store, serial: Serial) -> Option<Row>
+    ensures { (plain : List Row) → IsPermutation (live_rows store.now) plain → result ≡ row_in plain serial }
+{
+    store.facts();
+    store.row_of(serial)
+}
+
+/// What a delete is replied where this is the row of its serial.
+fn gone(row: Option<Row>) -> Reply
+    ensures { result ≡ gone row }
+{
+    match row {
+        Some(row) => Reply::Gone(row),
+        None => Reply::NoRow,
+    }
+}
+
+/// What an update is replied where this is the row of its serial.
+fn rewritten(row: Option<Row>) -> Reply
+    ensures { result ≡ rewritten row }
+{
+    match row {
+        Some(_) => Reply::Changed,
+        None => Reply::NoRow,
     }
 }
 
@@ -267,6 +313,41 @@ fn count(store: &Store, keys: KeyRange, range: KeyRange) -> u64
         return 0;
     }
     store.count_between(within)
+}
+
+/// The sum of the payloads of the rows whose key is in the range: of those between two places of the column, which is settled for it.
+fn sum(store: &Store, keys: KeyRange, range: KeyRange) -> u128
+    requires ends { store.now.keys ≡ keys }
+    requires settled { (clipped range keys).low < (clipped range keys).high → IsSettled store.now (clipped range keys) }
+    ensures { (plain : List Row) → IsPermutation (live_rows store.now) plain → result ≡ sum_of (rows_in range plain) }
+{
+    store.facts();
+    let within = range.clip(keys);
+    if within.is_empty() {
+        return 0;
+    }
+    store.sum_between(within)
+}
+
+/// The rows whose key is in the range, in rising serial: those between two places of the column, which is settled for it.
+/// Refused with 8 where it finds no memory.
+fn select(
+    store: &Store,
+    alloc: Global,
+    keys: KeyRange,
+    range: KeyRange,
+) -> Result<Vec<Row>, Refusal>
+    requires ends { store.now.keys ≡ keys }
+    requires settled { (clipped range keys).low < (clipped range keys).high → IsSettled store.now (clipped range keys) }
+    ensures rows { IfOk result (λ rows. (plain : PlainState) → IsNumbered plain → IsPermutation (live_rows store.now) plain.rows → rows.items ≡ rows_in range plain.rows) }
+    ensures err { IfErr result (λ e. e ≡ Refusal.OutOfMemory) }
+{
+    store.facts();
+    let within = range.clip(keys);
+    if within.is_empty() {
+        return Ok(Vec::new(alloc));
+    }
+    store.rows_between(within)
 }
 
 /// A reply with its copies.
@@ -294,7 +375,6 @@ fn settle(
     requires filled { range.low < range.high }
     requires low { store.old.keys.low ≤ range.low }
     requires high { range.high ≤ store.old.keys.high }
-    requires none_doomed { store.old.pending_out ≡ [] }
     ensures settled { OnOk result (CracksAndMerges policy store.old store.new range) }
     ensures stopped { OnErr result (StopsRead policy store.old store.new range) }
     ensures err { IfErr result (λ e. e ≡ Refusal.OutOfMemory) }
@@ -326,36 +406,95 @@ fn merge(
     requires low { store.keys.low ≤ range.low }
     requires high { range.high ≤ store.keys.high }
     requires cracked { IsCracked store range }
-    requires none_doomed { store.pending_out ≡ [] }
     ensures merged { IfOk result (λ r. Merges policy store r.0 range) }
     ensures tallied { IfOk result (λ r. Tallies policy store r.0) }
-    ensures stopped { IfErr result (λ e. Stops policy store e.0) }
+    ensures stopped { IfErr result (λ e. Stops policy store e.0 range) }
     ensures err { IfErr result (λ e. e.1 ≡ Refusal.OutOfMemory) }
 {
     match policy {
         Policy::Complete => merge_complete(store, range),
+        Policy::Gradual => merge_gradual(store, range),
     }
 }
 
 /// Makes a change, if there is one, where the next row gets this serial.
 fn perform(store: &mut Store, next: &mut u64, change: Option<Change>) -> Result<(), Refusal>
+    requires intact { IsIntact store.old [] }
     requires admissible { MayPerform next.old change store.old }
     requires small { next.old + 1 < 2 ^ 64 }
     ensures performed { OnOk result (Performs next.old change store.old store.new) }
-    ensures next { OnOk result ((plain : PlainState) → next.old ≡ plain.next → next.new ≡ (changed plain change).next) }
+    ensures faithful { OnOk result ((plain : PlainState) → IsFaithful store.old next.old plain → IsFaithful store.new next.new (changed plain change)) }
+    ensures intact { OnOk result (IsIntact store.new []) }
     ensures same { OnErr result (SameButRoom store.old store.new × (next.new ≡ next.old)) }
     ensures err { IfErr result (λ e. e ≡ Refusal.OutOfMemory) }
 {
-    if let Some(Change::Place { key, payload }) = change {
-        let row = Row {
-            serial: Serial(*next),
+    let Some(change) = change else {
+        return Ok(());
+    };
+    match change {
+        Change::Place { key, payload } => {
+            let row = Row {
+                serial: Serial(*next),
+                key,
+                payload,
+            };
+            store.admit(row)?;
+            *next += 1;
+        }
+        Change::Remove { serial } => remove(store, serial)?,
+        Change::Rewrite {
+            serial,
             key,
             payload,
-        };
-        store.admit(row)?;
-        *next += 1;
+        } => rewrite(
+            store,
+            Row {
+                serial,
+                key,
+                payload,
+            },
+        )?,
     }
+    store.facts();
     Ok(())
+}
+
+/// Takes out the row of a serial, if there is one: O(1), amortised.
+fn remove(store: &mut Store, serial: Serial) -> Result<(), Refusal>
+    requires few { MayFree store.old }
+    ensures removed { OnOk result (Removes (pending_by store.old serial.0) serial.0 store.old store.new) }
+    ensures live { OnOk result ((plain : List Row) → IsPermutation (live_rows store.old) plain → IsPermutation (live_rows store.new) (filter (is_other serial.0) plain)) }
+    ensures same { OnErr result (SameButRoom store.old store.new) }
+    ensures err { IfErr result (λ e. e ≡ Refusal.OutOfMemory) }
+{
+    store.facts();
+    match store.is_pending(serial) {
+        Some(true) => {
+            store.cancel(serial);
+        }
+        Some(false) => {
+            store.doom(serial)?;
+        }
+        None => {}
+    }
+    store.facts();
+    Ok(())
+}
+
+/// Puts a row in the place of the one of its serial, if there is one: O(1), amortised.
+fn rewrite(store: &mut Store, row: Row) -> Result<(), Refusal>
+    requires within { IsIn store.old.keys row.key.0 }
+    requires renewable { IsRenewable store.old }
+    ensures replaced { OnOk result (Replaces (pending_by store.old row.serial.0) row store.old store.new) }
+    ensures live { OnOk result ((plain : List Row) → IsPermutation (live_rows store.old) plain → IsPermutation (live_rows store.new) (map (replaced row) plain)) }
+    ensures same { OnErr result (SameButRoom store.old store.new) }
+    ensures err { IfErr result (λ e. e ≡ Refusal.OutOfMemory) }
+{
+    store.facts();
+    match store.is_pending(row.serial) {
+        Some(_) => store.rewrite(row.serial, row.key, row.payload),
+        None => Ok(()),
+    }
 }
 
 /// Adds an element where there is room.

@@ -1,21 +1,27 @@
 use Rattle.std.proofs.Common.{Result, Ok, Err, OnErr, refl}
-use Rattle.crack_part.proofs.KeepLemmas.{Spares-prepared}
+use Rattle.crack_part.proofs.KeepLemmas.{Keeps-prepared, Spares-prepared}
+use Rattle.crack_part.proofs.SoundLemmas.{IsFaithful-kept}
 use Rattle.crack_part.proofs.partition.serve.Goals as goal
 
 on_err : {T E P : Type 0} (r : Result T E) → P → OnErr r P
 on_err (Ok x) p = tt
 on_err (Err e) p = p
 
+pub returns-in_err-reply-clause-spared : goal.returns-in_err-reply-clause-spared
+returns-in_err-reply-clause-spared c =
+    let prepared = rw c.range.ensures at c.in_ok-prepare.ensures.prepared in
+    on_err c.from_residual-in_err-reply.result (Spares-prepared c.args.policy c.args.keys _ c.args.store.now c.prepare.new.store c.prepare.new.store prepared (record { same = refl }), refl)
+
 pub returns-in_err-copies-clause-spared : goal.returns-in_err-copies-clause-spared
 returns-in_err-copies-clause-spared c =
     let prepared = rw c.range.ensures at c.in_ok-prepare.ensures.prepared in
-    on_err c.from_residual-in_err-copies.result (Spares-prepared c.args.policy c.args.keys _ c.args.store.now c.prepare.new.store c.prepare.new.store c.requires.none_doomed prepared (record { same = refl }), refl)
+    on_err c.from_residual-in_err-copies.result (Spares-prepared c.args.policy c.args.keys _ c.args.store.now c.prepare.new.store c.prepare.new.store prepared (record { same = refl }), refl)
 
 pub returns-in_err-perform-clause-spared : goal.returns-in_err-perform-clause-spared
 returns-in_err-perform-clause-spared c =
     let prepared = rw c.range.ensures at c.in_ok-prepare.ensures.prepared in
     let same = c.in_err-perform.ensures.same in
-    on_err c.from_residual-in_err-perform.result (Spares-prepared c.args.policy c.args.keys _ c.args.store.now c.prepare.new.store c.perform.new.store c.requires.none_doomed prepared same.0, same.1)
+    on_err c.from_residual-in_err-perform.result (Spares-prepared c.args.policy c.args.keys _ c.args.store.now c.prepare.new.store c.perform.new.store prepared same.0, same.1)
 
 pub returns-clause-served : goal.returns-clause-served
 returns-clause-served c = record {
@@ -23,3 +29,9 @@ returns-clause-served c = record {
   prepared = rw c.range.ensures at c.in_ok-prepare.ensures.prepared;
   performed = rw c.change.ensures at c.in_ok-perform.ensures.performed;
 }
+
+pub returns-clause-faithful : goal.returns-clause-faithful
+returns-clause-faithful c = λ plain faithful.
+    let prepared = rw c.range.ensures at c.in_ok-prepare.ensures.prepared in
+    let keeps = Keeps-prepared c.args.policy c.args.keys _ c.args.store.now c.prepare.new.store prepared in
+    rw c.change.ensures at (c.in_ok-perform.ensures.faithful plain (IsFaithful-kept c.args.store.now c.prepare.new.store c.args.next.now plain keeps faithful))

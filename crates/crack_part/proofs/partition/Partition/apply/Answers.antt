@@ -3,13 +3,10 @@ use Rattle.crack_row.specs.Commands.{range_of}
 use Rattle.crack_row.specs.declared.command.Entry.{Entry}
 use Rattle.crack_row.specs.declared.command.Reply.{Reply}
 use Rattle.crack_plain.specs.Plain.{replay}
-use Rattle.crack_plain.proofs.Laws.{replay-push}
+use Rattle.crack_plain.proofs.Laws.{replay-push, IsNumbered-replay}
 use Rattle.crack_part.proofs.KeepLemmas.{Keeps-spared, IsIntact-spared}
-use Rattle.crack_part.proofs.SoundLemmas.{none_doomed, next-le-limit, MayPerform-prepared, IsSound-kept, IsSound-served}
+use Rattle.crack_part.proofs.SoundLemmas.{next-le-limit, MayPerform-prepared, IsSound-kept, IsSound-served, Spends-served}
 use Rattle.crack_part.proofs.partition.Partition.apply.Goals as goal
-
-pub serve-requires-clause-none_doomed : goal.serve-requires-clause-none_doomed
-serve-requires-clause-none_doomed c = none_doomed _ c.self.invariant
 
 pub serve-requires-clause-admissible : goal.serve-requires-clause-admissible
 serve-requires-clause-admissible c =
@@ -30,10 +27,12 @@ pub invariant_of-self-2 : goal.invariant_of-self-2
 invariant_of-self-2 c =
     let e : Entry = record { worker = c.args.worker; command = c.args.command; reply = c.in_ok-copies.copies.kept } in
     let kept = rw (← c.self.view_is) at c.in_ok-may_keep.ensures.ok in
-    let raised = c.in_ok-copies.ensures.next (replay c.self.inside.history.items) c.self.invariant.faithful.serial in
-    let said = c.in_ok-copies.ensures.replies (replay c.self.inside.history.items) c.self.invariant.faithful in
+    let plain = replay c.self.inside.history.items in
+    let said = c.in_ok-copies.ensures.replies plain (IsNumbered-replay c.self.inside.history.items) c.self.invariant.faithful in
+    let faithful = c.in_ok-copies.ensures.faithful plain c.self.invariant.faithful in
+    let spends = Spends-served c.args.policy _ c.args.command c.serve.new.store c.self.invariant kept.0 c.in_ok-copies.ensures.served in
     let grown = c.push_reserved.ensures ∙ ap (λ (h : List Entry). h ++ e ∷ []) c.reserve.ensures.items in
-    rw grown (IsSound-served c.args.policy _ e c.serve.new.next c.serve.new.store c.self.invariant kept.1 kept.0 (c.in_ok-copies.ensures.copied.1 ∙ said) raised c.in_ok-copies.ensures.served)
+    rw grown (IsSound-served _ e c.serve.new.next c.serve.new.store c.self.invariant kept.1 kept.0 (c.in_ok-copies.ensures.copied.1 ∙ said) c.in_ok-copies.ensures.intact faithful spends)
 
 pub returns-clause-state : goal.returns-clause-state
 returns-clause-state c =
@@ -43,7 +42,7 @@ returns-clause-state c =
 
 pub returns-clause-replies : goal.returns-clause-replies
 returns-clause-replies c =
-    let said = c.in_ok-copies.ensures.replies (replay c.self.inside.history.items) c.self.invariant.faithful in
+    let said = c.in_ok-copies.ensures.replies (replay c.self.inside.history.items) (IsNumbered-replay c.self.inside.history.items) c.self.invariant.faithful in
     rw (← c.self.view_is) (said, c.in_ok-copies.ensures.copied.0)
 
 pub returns-clause-kept : goal.returns-clause-kept
