@@ -1,0 +1,12 @@
+//! The statement language and its texts: a line to a statement, a reply or a layout to lines.
+#![tactic(auto)]
+
+mod output;
+pub mod statement;
+pub mod text;
+mod words;
+
+pub use statement::{Statement, parse_statement};
+pub use text::{
+    policy_line, write_head, write_layout, write_refusal, write_reply, write_row, write_text,
+};

@@ -1,0 +1,224 @@
+//! The statement language.
+ghost use Rattle.std.specs.Prelude.{◌≡◌, ◌∷◌, codes, Some, IfSome};
+ghost use Rattle.crack_commands.specs.Grammar.{statement_of, words, named, insert_of, delete_of, update_of, update_from, range_from, two_numbers, over, layout_of, policy_of, policy_named, quit_of, is_row};
+ghost use Rattle.crack_commands.specs.declared.statement.Statement.TheVariants.{Count, Sum, Select};
+
+use crate::words::{next_word, only_word, read_part, read_row_number, two_numbers};
+use crack_row::{GREATEST_KEY, GREATEST_PAYLOAD, Key, KeyRange, Payload, Policy, Refusal, RowNo};
+
+/// What a line asks.
+#[derive(Clone, Copy, Debug)]
+pub enum Statement {
+    /// A row more.
+    Insert {
+        key: Key,
+        payload: Payload,
+    },
+    /// A row less.
+    Delete(RowNo),
+    /// Another key and payload for a row.
+    Update {
+        row: RowNo,
+        key: Key,
+        payload: Payload,
+    },
+    /// How many rows have their key in a range.
+    Count(KeyRange),
+    /// What the payloads of these rows add up to.
+    Sum(KeyRange),
+    /// These rows.
+    Select(KeyRange),
+    /// What stands where in a partition.
+    Layout(u32),
+    /// How pending rows are merged from now on.
+    Policy(Policy),
+    /// The end of the session.
+    Quit,
+}
+
+/// What a line says: a statement, or why it is none. Refused with 2 where the ends of a range
+/// are out of order or too great, else with 1; so is a line without a word. O(its bytes), no memory.
+pub fn parse_statement(line: &[u8]) -> Result<Statement, Refusal>
+    ensures { result ≡ statement_of line.now }
+{
+    if let Some(rest) = behind_insert(line) {
+        return parse_insert(rest);
+    }
+    let (name, rest) = next_word(line);
+    parse_named(name, rest)
+}
+
+/// What stands behind the name of an insert and a space. Most lines are inserts,
+/// and begin so: the end of their first word isn't looked for.
+fn behind_insert(line: &[u8]) -> Option<&[u8]>
+    ensures { IfSome result (λ rest. words line.now ≡ codes "insert" ∷ words rest.now) }
+{
+    line.strip_prefix(b"insert ".as_slice())
+}
+
+/// The statement of a name and of what stands behind it.
+fn parse_named(name: &[u8], rest: &[u8]) -> Result<Statement, Refusal>
+    ensures { result ≡ named name.now (words rest.now) }
+{
+    if name == b"insert".as_slice() {
+        parse_insert(rest)
+    } else if name == b"delete".as_slice() {
+        parse_delete(rest)
+    } else if name == b"update".as_slice() {
+        parse_update(rest)
+    } else if name == b"count".as_slice() {
+        parse_count(rest)
+    } else if name == b"sum".as_slice() {
+        parse_sum(rest)
+    } else if name == b"select".as_slice() {
+        parse_select(rest)
+    } else if name == b"layout".as_slice() {
+        parse_layout(rest)
+    } else if name == b"policy".as_slice() {
+        parse_policy(rest)
+    } else if name == b"quit".as_slice() {
+        parse_quit(rest)
+    } else {
+        Err(Refusal::BadStatement)
+    }
+}
+
+/// An insert of the words behind its name.
+fn parse_insert(rest: &[u8]) -> Result<Statement, Refusal>
+    ensures { result ≡ insert_of (words rest.now) }
+{
+    match two_numbers(rest) {
+        Some((key, payload)) if is_row(key, payload) => Ok(Statement::Insert {
+            key: Key(key as u32),
+            payload: Payload(payload as u32),
+        }),
+        _ => Err(Refusal::BadStatement),
+    }
+}
+
+/// Whether a key and a payload are small enough.
+fn is_row(key: u128, payload: u128) -> bool
+    ensures { result ≡ is_row key payload }
+{
+    key <= GREATEST_KEY as u128 && payload <= GREATEST_PAYLOAD as u128
+}
+
+/// A delete of the one word behind its name.
+fn parse_delete(rest: &[u8]) -> Result<Statement, Refusal>
+    ensures { result ≡ delete_of (words rest.now) }
+{
+    match read_row_number(only_word(rest)) {
+        Some(row) => Ok(Statement::Delete(row)),
+        None => Err(Refusal::BadStatement),
+    }
+}
+
+/// An update of the words behind its name.
+fn parse_update(rest: &[u8]) -> Result<Statement, Refusal>
+    ensures { result ≡ update_of (words rest.now) }
+{
+    let (word, rest) = next_word(rest);
+    match read_row_number(word) {
+        Some(row) => update_from(row, two_numbers(rest)),
+        None => Err(Refusal::BadStatement),
+    }
+}
+
+/// An update of a row to a key and a payload, where these are small enough.
+fn update_from(row: RowNo, pair: Option<(u128, u128)>) -> Result<Statement, Refusal>
+    ensures { result ≡ update_from (Some row) pair }
+{
+    match pair {
+        Some((key, payload)) if is_row(key, payload) => Ok(Statement::Update {
+            row,
+            key: Key(key as u32),
+            payload: Payload(payload as u32),
+        }),
+        _ => Err(Refusal::BadStatement),
+    }
+}
+
+/// A count of the words behind its name.
+fn parse_count(rest: &[u8]) -> Result<Statement, Refusal>
+    ensures { result ≡ over Count (range_from (two_numbers (words rest.now))) }
+{
+    match parse_range(rest) {
+        Ok(range) => Ok(Statement::Count(range)),
+        Err(refusal) => Err(refusal),
+    }
+}
+
+/// A sum of the words behind its name.
+fn parse_sum(rest: &[u8]) -> Result<Statement, Refusal>
+    ensures { result ≡ over Sum (range_from (two_numbers (words rest.now))) }
+{
+    match parse_range(rest) {
+        Ok(range) => Ok(Statement::Sum(range)),
+        Err(refusal) => Err(refusal),
+    }
+}
+
+/// A select of the words behind its name.
+fn parse_select(rest: &[u8]) -> Result<Statement, Refusal>
+    ensures { result ≡ over Select (range_from (two_numbers (words rest.now))) }
+{
+    match parse_range(rest) {
+        Ok(range) => Ok(Statement::Select(range)),
+        Err(refusal) => Err(refusal),
+    }
+}
+
+/// The range between two numbers.
+fn parse_range(rest: &[u8]) -> Result<KeyRange, Refusal>
+    ensures { result ≡ range_from (two_numbers (words rest.now)) }
+{
+    match two_numbers(rest) {
+        Some((low, high)) => KeyRange::new(low, high),
+        None => Err(Refusal::BadStatement),
+    }
+}
+
+/// A layout of the one word behind its name.
+fn parse_layout(rest: &[u8]) -> Result<Statement, Refusal>
+    ensures { result ≡ layout_of (words rest.now) }
+{
+    match read_part(only_word(rest)) {
+        Some(part) => Ok(Statement::Layout(part)),
+        None => Err(Refusal::BadStatement),
+    }
+}
+
+/// A policy of the one word behind its name.
+fn parse_policy(rest: &[u8]) -> Result<Statement, Refusal>
+    ensures { result ≡ policy_of (words rest.now) }
+{
+    match policy_named(only_word(rest)) {
+        Some(policy) => Ok(Statement::Policy(policy)),
+        None => Err(Refusal::BadStatement),
+    }
+}
+
+/// The policy of a name.
+fn policy_named(name: &[u8]) -> Option<Policy>
+    ensures { result ≡ policy_named name.now }
+{
+    if name == b"complete".as_slice() {
+        Some(Policy::Complete)
+    } else if name == b"gradual".as_slice() {
+        Some(Policy::Gradual)
+    } else {
+        None
+    }
+}
+
+/// A quit, where no word stands behind its name.
+fn parse_quit(rest: &[u8]) -> Result<Statement, Refusal>
+    ensures { result ≡ quit_of (words rest.now) }
+{
+    let (word, _) = next_word(rest);
+    if word.is_empty() {
+        Ok(Statement::Quit)
+    } else {
+        Err(Refusal::BadStatement)
+    }
+}

@@ -1,0 +1,330 @@
+//! The texts of replies, layouts and refusals, to a writer.
+ghost use Rattle.std.specs.Prelude.{◌≡◌, ◌+◌, ◌≤◌, ◌++◌, true, length, decimal, codes, IfErr, OnOk};
+ghost use Rattle.std.specs.Io.KnownBytes.{Appends};
+ghost use Rattle.crack_row.specs.Devices.{device, has_failed};
+ghost use Rattle.std.specs.List.{flat_map};
+ghost use Rattle.crack_commands.specs.Texts.{reply_text, placed_text, gone_text, count_text, sum_text, rows_text, head_text, row_text, layout_text, layout_head, two_fields, piece_text, policy_text, refusal_text, carried_text, AppendsFront};
+
+use crate::output::send;
+use arrayvec::ArrayVec;
+use crack_row::{Layout, PieceSize, Policy, Refusal, Reply, Row, Serial, Watched};
+use std::io::Write;
+
+/// Room for a line of text, or a part of one: words, up to four numbers of 20 digits, and a line feed.
+const TEXT_BYTES: usize = 96;
+
+/// A line of text in the making.
+type Text = ArrayVec<u8, TEXT_BYTES>;
+
+/// Writes a partition's reply: a line, and for rows a line for each of them, a row at a time.
+pub fn write_reply<W: Write>(
+    part: u32,
+    reply: &Reply,
+    writer: &mut Watched<W>,
+) -> Result<(), Refusal>
+    ensures ok { OnOk result (Appends (W.contents (device writer.old)) (W.contents (device writer.new)) (reply_text part reply.now)) }
+    ensures unfailed { OnOk result (has_failed writer.new ≡ has_failed writer.old) }
+    ensures err { IfErr result (λ e. (e ≡ Refusal.WriteFault) × (has_failed writer.new ≡ true)) }
+    ensures front { IfErr result (λ _. AppendsFront (W.contents (device writer.old)) (W.contents (device writer.new)) (reply_text part reply.now)) }
+{
+    match reply {
+        Reply::Placed(serial) => write_placed(part, *serial, writer),
+        Reply::Gone(row) => write_gone(row, writer),
+        Reply::Changed => send(writer, b"changed\n"),
+        Reply::NoRow => send(writer, b"none\n"),
+        Reply::Counted(count) => write_count(*count, writer),
+        Reply::Summed(sum) => write_sum(*sum, writer),
+        Reply::Rows(rows) => write_rows(part, rows.as_slice(), writer),
+    }
+}
+
+/// Writes the line of a row that was placed.
+fn write_placed<W: Write>(part: u32, serial: Serial, writer: &mut Watched<W>) -> Result<(), Refusal>
+    ensures ok { OnOk result (Appends (W.contents (device writer.old)) (W.contents (device writer.new)) (placed_text part serial)) }
+    ensures unfailed { OnOk result (has_failed writer.new ≡ has_failed writer.old) }
+    ensures err { IfErr result (λ e. (e ≡ Refusal.WriteFault) × (has_failed writer.new ≡ true)) }
+    ensures front { IfErr result (λ _. AppendsFront (W.contents (device writer.old)) (W.contents (device writer.new)) (placed_text part serial)) }
+{
+    let mut text = Text::new();
+    push(&mut text, b"row ");
+    push_number(&mut text, part as u64);
+    push(&mut text, b".");
+    push_number(&mut text, serial.0);
+    push(&mut text, b"\n");
+    send(writer, text.as_slice())
+}
+
+/// Writes the line of a row that was taken out.
+fn write_gone<W: Write>(row: &Row, writer: &mut Watched<W>) -> Result<(), Refusal>
+    ensures ok { OnOk result (Appends (W.contents (device writer.old)) (W.contents (device writer.new)) (gone_text row.now)) }
+    ensures unfailed { OnOk result (has_failed writer.new ≡ has_failed writer.old) }
+    ensures err { IfErr result (λ e. (e ≡ Refusal.WriteFault) × (has_failed writer.new ≡ true)) }
+    ensures front { IfErr result (λ _. AppendsFront (W.contents (device writer.old)) (W.contents (device writer.new)) (gone_text row.now)) }
+{
+    let mut text = Text::new();
+    push(&mut text, b"gone ");
+    push_number(&mut text, row.key.0 as u64);
+    push(&mut text, b" ");
+    push_number(&mut text, row.payload.0 as u64);
+    push(&mut text, b"\n");
+    send(writer, text.as_slice())
+}
+
+/// Writes the line of a count.
+fn write_count<W: Write>(count: u64, writer: &mut Watched<W>) -> Result<(), Refusal>
+    ensures ok { OnOk result (Appends (W.contents (device writer.old)) (W.contents (device writer.new)) (count_text count)) }
+    ensures unfailed { OnOk result (has_failed writer.new ≡ has_failed writer.old) }
+    ensures err { IfErr result (λ e. (e ≡ Refusal.WriteFault) × (has_failed writer.new ≡ true)) }
+    ensures front { IfErr result (λ _. AppendsFront (W.contents (device writer.old)) (W.contents (device writer.new)) (count_text count)) }
+{
+    let mut text = Text::new();
+    push(&mut text, b"count ");
+    push_number(&mut text, count);
+    push(&mut text, b"\n");
+    send(writer, text.as_slice())
+}
+
+/// Writes the line of a sum.
+fn write_sum<W: Write>(sum: u128, writer: &mut Watched<W>) -> Result<(), Refusal>
+    ensures ok { OnOk result (Appends (W.contents (device writer.old)) (W.contents (device writer.new)) (sum_text sum)) }
+    ensures unfailed { OnOk result (has_failed writer.new ≡ has_failed writer.old) }
+    ensures err { IfErr result (λ e. (e ≡ Refusal.WriteFault) × (has_failed writer.new ≡ true)) }
+    ensures front { IfErr result (λ _. AppendsFront (W.contents (device writer.old)) (W.contents (device writer.new)) (sum_text sum)) }
+{
+    let mut text = Text::new();
+    push(&mut text, b"sum ");
+    push_wide_number(&mut text, sum);
+    push(&mut text, b"\n");
+    send(writer, text.as_slice())
+}
+
+/// Writes the lines of rows: how many there are, and then each.
+fn write_rows<W: Write>(part: u32, rows: &[Row], writer: &mut Watched<W>) -> Result<(), Refusal>
+    ensures ok { OnOk result (Appends (W.contents (device writer.old)) (W.contents (device writer.new)) (rows_text part rows.now)) }
+    ensures unfailed { OnOk result (has_failed writer.new ≡ has_failed writer.old) }
+    ensures err { IfErr result (λ e. (e ≡ Refusal.WriteFault) × (has_failed writer.new ≡ true)) }
+    ensures front { IfErr result (λ _. AppendsFront (W.contents (device writer.old)) (W.contents (device writer.new)) (rows_text part rows.now)) }
+{
+    write_head(rows.len() as u64, writer)?;
+    write_each_row(part, rows, writer)
+}
+
+/// Writes a line for each of the rows.
+fn write_each_row<W: Write>(part: u32, rows: &[Row], writer: &mut Watched<W>) -> Result<(), Refusal>
+    ensures ok { OnOk result (Appends (W.contents (device writer.old)) (W.contents (device writer.new)) (flat_map (row_text part) rows.now)) }
+    ensures unfailed { OnOk result (has_failed writer.new ≡ has_failed writer.old) }
+    ensures err { IfErr result (λ e. (e ≡ Refusal.WriteFault) × (has_failed writer.new ≡ true)) }
+    ensures front { IfErr result (λ _. AppendsFront (W.contents (device writer.old)) (W.contents (device writer.new)) (flat_map (row_text part) rows.now)) }
+{
+    'rows: for row in rows {
+        write_row(part, row, writer)?;
+    }
+    Ok(())
+}
+
+/// Writes the line above rows, which says how many there are.
+pub fn write_head<W: Write>(total: u64, writer: &mut Watched<W>) -> Result<(), Refusal>
+    ensures ok { OnOk result (Appends (W.contents (device writer.old)) (W.contents (device writer.new)) (head_text total)) }
+    ensures unfailed { OnOk result (has_failed writer.new ≡ has_failed writer.old) }
+    ensures err { IfErr result (λ e. (e ≡ Refusal.WriteFault) × (has_failed writer.new ≡ true)) }
+    ensures front { IfErr result (λ _. AppendsFront (W.contents (device writer.old)) (W.contents (device writer.new)) (head_text total)) }
+{
+    let mut text = Text::new();
+    push(&mut text, b"rows ");
+    push_number(&mut text, total);
+    push(&mut text, b"\n");
+    send(writer, text.as_slice())
+}
+
+/// Writes the line of a partition's row.
+pub fn write_row<W: Write>(part: u32, row: &Row, writer: &mut Watched<W>) -> Result<(), Refusal>
+    ensures ok { OnOk result (Appends (W.contents (device writer.old)) (W.contents (device writer.new)) (row_text part row.now)) }
+    ensures unfailed { OnOk result (has_failed writer.new ≡ has_failed writer.old) }
+    ensures err { IfErr result (λ e. (e ≡ Refusal.WriteFault) × (has_failed writer.new ≡ true)) }
+    ensures front { IfErr result (λ _. AppendsFront (W.contents (device writer.old)) (W.contents (device writer.new)) (row_text part row.now)) }
+{
+    let mut text = Text::new();
+    push_number(&mut text, part as u64);
+    push(&mut text, b".");
+    push_number(&mut text, row.serial.0);
+    push(&mut text, b" ");
+    push_number(&mut text, row.key.0 as u64);
+    push(&mut text, b" ");
+    push_number(&mut text, row.payload.0 as u64);
+    push(&mut text, b"\n");
+    send(writer, text.as_slice())
+}
+
+/// Writes the lines of a partition's layout, a piece at a time.
+pub fn write_layout<W: Write>(
+    part: u32,
+    layout: &Layout,
+    writer: &mut Watched<W>,
+) -> Result<(), Refusal>
+    ensures ok { OnOk result (Appends (W.contents (device writer.old)) (W.contents (device writer.new)) (layout_text part layout.now)) }
+    ensures unfailed { OnOk result (has_failed writer.new ≡ has_failed writer.old) }
+    ensures err { IfErr result (λ e. (e ≡ Refusal.WriteFault) × (has_failed writer.new ≡ true)) }
+    ensures front { IfErr result (λ _. AppendsFront (W.contents (device writer.old)) (W.contents (device writer.new)) (layout_text part layout.now)) }
+{
+    write_layout_head(part, layout, writer)?;
+    write_pieces(layout.pieces.as_slice(), writer)
+}
+
+/// Writes the first line of a layout.
+fn write_layout_head<W: Write>(
+    part: u32,
+    layout: &Layout,
+    writer: &mut Watched<W>,
+) -> Result<(), Refusal>
+    ensures ok { OnOk result (Appends (W.contents (device writer.old)) (W.contents (device writer.new)) (layout_head part layout.now)) }
+    ensures unfailed { OnOk result (has_failed writer.new ≡ has_failed writer.old) }
+    ensures err { IfErr result (λ e. (e ≡ Refusal.WriteFault) × (has_failed writer.new ≡ true)) }
+    ensures front { IfErr result (λ _. AppendsFront (W.contents (device writer.old)) (W.contents (device writer.new)) (layout_head part layout.now)) }
+{
+    write_fields(b"layout ", part as u64, b" rows ", layout.rows, writer)?;
+    write_fields(
+        b" column ",
+        layout.column,
+        b" out ",
+        layout.pending_out,
+        writer,
+    )?;
+    write_fields(b" in ", layout.pending_in, b" cells ", layout.cells, writer)?;
+    let pieces = layout.pieces.as_slice().len() as u64;
+    write_fields(b" free ", layout.free, b" pieces ", pieces, writer)?;
+    send(writer, b"\n")
+}
+
+/// Writes two names of at most 10 bytes, each with its number behind it.
+fn write_fields<W: Write>(
+    first: &[u8],
+    number: u64,
+    second: &[u8],
+    other: u64,
+    writer: &mut Watched<W>,
+) -> Result<(), Refusal>
+    requires { (length first.now ≤ 10) × (length second.now ≤ 10) }
+    ensures ok { OnOk result (Appends (W.contents (device writer.old)) (W.contents (device writer.new)) (two_fields first.now number second.now other)) }
+    ensures unfailed { OnOk result (has_failed writer.new ≡ has_failed writer.old) }
+    ensures err { IfErr result (λ e. (e ≡ Refusal.WriteFault) × (has_failed writer.new ≡ true)) }
+    ensures front { IfErr result (λ _. AppendsFront (W.contents (device writer.old)) (W.contents (device writer.new)) (two_fields first.now number second.now other)) }
+{
+    let mut text = Text::new();
+    push(&mut text, first);
+    push_number(&mut text, number);
+    push(&mut text, second);
+    push_number(&mut text, other);
+    send(writer, text.as_slice())
+}
+
+/// Writes the lines of pieces.
+fn write_pieces<W: Write>(pieces: &[PieceSize], writer: &mut Watched<W>) -> Result<(), Refusal>
+    ensures ok { OnOk result (Appends (W.contents (device writer.old)) (W.contents (device writer.new)) (flat_map piece_text pieces.now)) }
+    ensures unfailed { OnOk result (has_failed writer.new ≡ has_failed writer.old) }
+    ensures err { IfErr result (λ e. (e ≡ Refusal.WriteFault) × (has_failed writer.new ≡ true)) }
+    ensures front { IfErr result (λ _. AppendsFront (W.contents (device writer.old)) (W.contents (device writer.new)) (flat_map piece_text pieces.now)) }
+{
+    'pieces: for piece in pieces {
+        write_piece(piece, writer)?;
+    }
+    Ok(())
+}
+
+/// Writes the line of a piece.
+fn write_piece<W: Write>(piece: &PieceSize, writer: &mut Watched<W>) -> Result<(), Refusal>
+    ensures ok { OnOk result (Appends (W.contents (device writer.old)) (W.contents (device writer.new)) (piece_text piece.now)) }
+    ensures unfailed { OnOk result (has_failed writer.new ≡ has_failed writer.old) }
+    ensures err { IfErr result (λ e. (e ≡ Refusal.WriteFault) × (has_failed writer.new ≡ true)) }
+    ensures front { IfErr result (λ _. AppendsFront (W.contents (device writer.old)) (W.contents (device writer.new)) (piece_text piece.now)) }
+{
+    let mut text = Text::new();
+    push(&mut text, b"piece ");
+    push_number(&mut text, piece.low.0);
+    push(&mut text, b" ");
+    push_number(&mut text, piece.high.0);
+    push(&mut text, b" ");
+    push_number(&mut text, piece.size);
+    push(&mut text, b"\n");
+    send(writer, text.as_slice())
+}
+
+/// Writes the line of a refusal.
+pub fn write_refusal<W: Write>(refusal: &Refusal, writer: &mut Watched<W>) -> Result<(), Refusal>
+    ensures ok { OnOk result (Appends (W.contents (device writer.old)) (W.contents (device writer.new)) (refusal_text refusal.now)) }
+    ensures unfailed { OnOk result (has_failed writer.new ≡ has_failed writer.old) }
+    ensures err { IfErr result (λ e. (e ≡ Refusal.WriteFault) × (has_failed writer.new ≡ true)) }
+    ensures front { IfErr result (λ _. AppendsFront (W.contents (device writer.old)) (W.contents (device writer.new)) (refusal_text refusal.now)) }
+{
+    let mut text = Text::new();
+    push(&mut text, b"refused ");
+    push_number(&mut text, refusal.code() as u64);
+    push_carried(&mut text, refusal);
+    push(&mut text, b"\n");
+    send(writer, text.as_slice())
+}
+
+/// Writes bytes and a line feed.
+pub fn write_text<W: Write>(bytes: &[u8], writer: &mut Watched<W>) -> Result<(), Refusal>
+    ensures ok { OnOk result (Appends (W.contents (device writer.old)) (W.contents (device writer.new)) (bytes.now ++ codes "\n")) }
+    ensures unfailed { OnOk result (has_failed writer.new ≡ has_failed writer.old) }
+    ensures err { IfErr result (λ e. (e ≡ Refusal.WriteFault) × (has_failed writer.new ≡ true)) }
+    ensures front { IfErr result (λ _. AppendsFront (W.contents (device writer.old)) (W.contents (device writer.new)) (bytes.now ++ codes "\n")) }
+{
+    send(writer, bytes)?;
+    send(writer, b"\n")
+}
+
+/// The answer to a change of policy, without its line feed.
+pub fn policy_line(policy: Policy) -> &'static [u8]
+    ensures { result.now ++ codes "\n" ≡ policy_text policy }
+{
+    match policy {
+        Policy::Complete => b"policy complete",
+        Policy::Gradual => b"policy gradual",
+    }
+}
+
+/// Adds what a refusal carries, behind a space.
+fn push_carried(text: &mut Text, refusal: &Refusal)
+    requires { length text.old.items + 21 ≤ TEXT_BYTES }
+    ensures value { text.new.items ≡ text.old.items ++ carried_text refusal.now }
+    ensures few { length text.new.items ≤ length text.old.items + 21 }
+{
+    if let Refusal::HistoryFull { length } = refusal {
+        push(text, b" ");
+        push_number(text, *length);
+    }
+}
+
+/// Adds a number in decimal: 20 digits at most.
+#[tactic(auto, using(std::proofs::lemmas::Fmt::decimal_digit))]
+fn push_number(text: &mut Text, number: u64)
+    requires { length text.old.items + 20 ≤ TEXT_BYTES }
+    ensures digits { text.new.items ≡ text.old.items ++ decimal number }
+    ensures few { length text.new.items ≤ length text.old.items + 20 }
+{
+    if number < 10 {
+        push(text, &[b'0' + number as u8]);
+    } else {
+        let mut digits = itoa::Buffer::new();
+        push(text, digits.format(number).as_bytes());
+    }
+}
+
+/// Adds a number of up to 128 bits in decimal: 40 digits at most.
+fn push_wide_number(text: &mut Text, number: u128)
+    requires { length text.old.items + 40 ≤ TEXT_BYTES }
+    ensures digits { text.new.items ≡ text.old.items ++ decimal number }
+    ensures few { length text.new.items ≤ length text.old.items + 40 }
+{
+    let mut digits = itoa::Buffer::new();
+    push(text, digits.format(number).as_bytes());
+}
+
+/// Adds bytes, for which there is room.
+fn push(text: &mut Text, bytes: &[u8])
+    requires { length text.old.items + length bytes.now ≤ TEXT_BYTES }
+    ensures { text.new.items ≡ text.old.items ++ bytes.now }
+{
+    let _room = text.try_extend_from_slice(bytes);
+}
