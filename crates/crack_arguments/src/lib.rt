@@ -3,7 +3,7 @@
 
 use clap::error::ErrorKind;
 use clap::{Arg, ArgMatches, Command, value_parser};
-use crack_row::{GREATEST_LIMIT, Refusal};
+use crack_row::{GREATEST_LIMIT, Policy, Refusal};
 use std::alloc::{AllocError, Global};
 use thiserror::Error;
 
@@ -21,12 +21,18 @@ pub enum Request {
 pub struct Opening {
     /// How many entries a partition's history may have: `GREATEST_LIMIT` where the command line doesn't say.
     pub limit: u64,
+    /// How pending rows are merged: `Policy::Gradual` where the command line doesn't say.
+    pub policy: Policy,
 }
+
+/// The names that a policy goes by.
+static POLICIES: [&str; 2] = ["complete", "gradual"];
 
 /// Why a command line makes no request. Its text is what standard error gets.
 #[derive(Drop, Debug, Error)]
 pub enum ArgumentsError {
-    /// An unknown word or option, an option that is missing or stands twice, or a value that is no number of 64 bits.
+    /// An unknown word or option, an option that is missing or stands twice, a value that is no number of 64 bits, or an
+    /// unknown policy.
     #[error("bad arguments")]
     Bad,
     /// There was no memory to read it.
@@ -48,6 +54,16 @@ fn limit_option<'a>(alloc: Global) -> Arg<'a> {
         .help("How many commands a partition keeps, 1 to 1000000 [default: 1000000]")
 }
 
+fn policy_option<'a>(alloc: Global) -> Arg<'a> {
+    Arg::new(alloc, "policy")
+        .long("policy")
+        .value_name("NAME")
+        .value_parser(POLICIES.as_slice())
+        .help(
+            "Which pending rows a query merges, until a statement says otherwise [default: gradual]",
+        )
+}
+
 /// A subcommand with the options of every opening.
 fn opening_command<'a>(
     alloc: Global,
@@ -56,7 +72,8 @@ fn opening_command<'a>(
 ) -> Result<Command<'a>, AllocError> {
     Command::new(alloc, name)
         .about(about)
-        .arg(limit_option(alloc))
+        .arg(limit_option(alloc))?
+        .arg(policy_option(alloc))
 }
 
 /// `all` with one more subcommand.
@@ -82,9 +99,17 @@ fn command_line<'a>(alloc: Global) -> Result<Command<'a>, AllocError> {
     )
 }
 
+fn policy_of(matches: &ArgMatches<'_>) -> Policy {
+    match matches.get_str("policy") {
+        Some("complete") => Policy::Complete,
+        _ => Policy::Gradual,
+    }
+}
+
 fn opening_of(matches: &ArgMatches<'_>) -> Opening {
     Opening {
         limit: matches.get_one::<u64>("limit").unwrap_or(GREATEST_LIMIT),
+        policy: policy_of(matches),
     }
 }
 

@@ -8,7 +8,7 @@ use Rattle.crack_session.specs.declared.session.End.{End}
 use Rattle.crack_session.specs.declared.session.Fault.{Fault}
 use Rattle.crack_session.specs.declared.session.How.{How}
 use Rattle.crack_session.specs.declared.session.Progress.{Progress}
-use Rattle.crack_session.specs.Grammar.{statements}
+use Rattle.crack_session.specs.Readings.{statements}
 use Rattle.crack_session.specs.Served.{IsCounted, IsServed, IsDone, IsCutOff}
 use Rattle.crack_session.proofs.Going.{Going, Going-counted, Going-served, Going-done, Going-cut}
 

@@ -14,7 +14,8 @@ use Rattle.crack_session.specs.declared.session.End.{End}
 use Rattle.crack_session.specs.declared.session.Fault.{Fault}
 use Rattle.crack_session.specs.declared.session.How.{How}
 use Rattle.crack_session.specs.declared.session.How.TheVariants.{Quit, InputEnded}
-use Rattle.crack_session.specs.Grammar.{Reading, statements, is_quit, reading_of}
+use Rattle.crack_commands.specs.Grammar.{Reading}
+use Rattle.crack_session.specs.Readings.{statements, is_quit, reading_of}
 use Rattle.crack_session.specs.Lines.{first_line, after_line, kept_of}
 use Rattle.crack_session.specs.Answers.{IsAnswer, is_short_answer, answer_text}
 use Rattle.crack_session.specs.Sessions.{AreAnswers, first_short, ending}

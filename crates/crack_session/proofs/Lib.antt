@@ -2,11 +2,8 @@ pub mod Feeds
 pub mod Finishing
 pub mod Following
 pub mod Going
-pub mod Numbers
 pub mod Ranges
 pub mod Reading
 pub mod Replying
 pub mod Responding
-pub mod Sending
 pub mod WholeLines
-pub mod Words

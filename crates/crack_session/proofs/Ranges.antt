@@ -7,7 +7,7 @@ use Rattle.std.proofs.lemmas.Slice.{between_is, between-put_mid, take-put_mid_be
 use borrow.Rule.Slice.PartMut.{put_mid}
 use Rattle.std.specs.List.{slice_range, copy_within}
 use Rattle.crack_session.specs.Lines.{kept_of}
-use Rattle.crack_session.proofs.Sending.{take_on}
+use Rattle.crack_commands.proofs.Sending.{take_on}
 
 -- two ranges, one behind the other
 pub range_joined : (xs : List ℕ) (s l e : ℕ) → s ≤ l → l ≤ e → slice_range xs s e ≡ slice_range xs s l ++ slice_range xs l e

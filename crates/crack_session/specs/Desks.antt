@@ -1,13 +1,15 @@
 -- What a desk is to answer, where its partitions are known.
-use Rattle.std.specs.Prelude.{◌≡◌, ℕ, ◌+◌, ◌<◌, ◌^◌, Bool, true, false, List, [], ◌∷◌, ◌++◌, map, Option, None, Some, Result, Ok, Err, IsOk, nat_le, slice_get, slice_set, slice_index_or, if◌then◌else◌, ◌⊎◌, ⊤}
+use Rattle.std.specs.Prelude.{◌≡◌, ℕ, ◌+◌, ◌<◌, ◌^◌, Bool, true, false, List, [], ◌∷◌, ◌++◌, length, map, Option, None, Some, Result, Ok, Err, IsOk, nat_le, slice_get, slice_set, slice_index_or, if◌then◌else◌, ◌⊎◌, ⊤}
 use Rattle.crack_row.specs.Ranges.{Range, is_in}
 use Rattle.crack_row.specs.Commands.{key_of}
+use Rattle.crack_row.specs.Layouts.{IsLayout}
 use Rattle.crack_row.specs.declared.TheConstants.{GREATEST_BOUND}
 use Rattle.crack_row.specs.declared.Bound.{Bound}
 use Rattle.crack_row.specs.declared.Key.{Key}
 use Rattle.crack_row.specs.declared.command.Command.{Command}
 use Rattle.crack_row.specs.declared.command.Reply.{Reply}
-use Rattle.crack_row.specs.declared.command.Reply.TheVariants.{Placed, Counted}
+use Rattle.crack_row.specs.declared.command.Reply.TheVariants.{Counted}
+use Rattle.crack_row.specs.declared.layout.Layout.{Layout}
 use Rattle.crack_row.specs.declared.refusal.Refusal.{Refusal}
 use Rattle.crack_row.specs.declared.refusal.Refusal.TheVariants.{KeyOutside, NoSuchPartition, HistoryFull, OutOfMemory}
 use Rattle.crack_plain.specs.Plain.{Table, no_rows, reply_to, after}
@@ -53,7 +55,14 @@ is_short (HistoryFull entries) = true
 is_short OutOfMemory = true
 is_short _ = false
 
+-- what comes out of asking for a layout: 5 where there is no such partition, else any layout between the partition's ends
+-- that has as many rows as there are plain rows, or a want of memory
+abbrev pub IsLayoutOutcome : Range → Option Table → Result Layout Refusal → Type 0
+IsLayoutOutcome keys None outcome = outcome ≡ Err NoSuchPartition
+IsLayoutOutcome keys (Some table) (Ok layout) = IsLayout keys layout × (layout.rows ≡ length table.state.rows)
+IsLayoutOutcome keys (Some table) (Err e) = e ≡ OutOfMemory
+
 -- a count is below 2^32
 abbrev pub IsSmall : Reply → Type 0
-IsSmall (Placed serial) = ⊤
 IsSmall (Counted count) = count < 2 ^ 32
+IsSmall _ = ⊤

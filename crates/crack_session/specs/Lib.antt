@@ -1,8 +1,7 @@
 pub mod Answers
 pub mod Desks
-pub mod Grammar
 pub mod Lines
+pub mod Readings
 pub mod Responses
 pub mod Served
 pub mod Sessions
-pub mod Texts

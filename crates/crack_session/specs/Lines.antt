@@ -1,12 +1,8 @@
 -- The lines of a session's bytes.
 use Rattle.std.specs.Prelude.{◌≡◌, ℕ, ◌+◌, ◌*◌, ◌-◌, ◌<◌, ◌≤◌, Bool, true, false, List, [], ◌∷◌, ◌++◌, length, take, slice_index, Option, Some, ◌==◌, ◌||◌, if◌then◌else◌}
 use Rattle.std.specs.Io.KnownBytes.{prepend_known}
+use Rattle.crack_commands.specs.Grammar.{onto_first}
 use Rattle.crack_session.specs.declared.input.TheConstants.{READ_BYTES, KEPT_BYTES}
-
--- b goes onto the first of the lines
-abbrev pub onto_first : ℕ → List (List ℕ) → List (List ℕ)
-onto_first b [] = (b ∷ []) ∷ []
-onto_first b (line ∷ lines) = (b ∷ line) ∷ lines
 
 -- a line ends at a line feed, or at the end where bytes are left
 abbrev pub lines : List ℕ → List (List ℕ)

@@ -7,7 +7,8 @@ use Rattle.crack_plain.specs.Plain.{Table}
 use Rattle.crack_session.specs.declared.answer.Answer.{Answer}
 use Rattle.crack_session.specs.declared.session.End.{End}
 use Rattle.crack_session.specs.declared.session.Fault.{Fault}
-use Rattle.crack_session.specs.Grammar.{Reading, statements}
+use Rattle.crack_commands.specs.Grammar.{Reading}
+use Rattle.crack_session.specs.Readings.{statements}
 use Rattle.crack_session.specs.Answers.{answer_text}
 use Rattle.crack_session.specs.Sessions.{AreAnswers, first_short, ending, whole_lines}
 

@@ -6,7 +6,8 @@ use Rattle.crack_session.specs.declared.answer.Answer.{Answer}
 use Rattle.crack_session.specs.declared.session.How.{How}
 use Rattle.crack_session.specs.declared.session.How.TheVariants.{Quit, InputEnded}
 use Rattle.crack_session.specs.Lines.{has_feed}
-use Rattle.crack_session.specs.Grammar.{Reading, is_quit}
+use Rattle.crack_commands.specs.Grammar.{Reading}
+use Rattle.crack_session.specs.Readings.{is_quit}
 use Rattle.crack_session.specs.Answers.{IsAnswer, is_short_answer}
 
 -- answers to these statements, one after the other, and the partitions afterwards

@@ -1,15 +1,15 @@
 //! Answers to statements.
-ghost use Rattle.std.specs.Prelude.{◌≡◌, ℕ, ◌<◌, List, Some, true, length, take, IfErr, OnErr, OnOk};
-ghost use Rattle.std.specs.Io.KnownBytes.{Appends};
+ghost use Rattle.std.specs.Prelude.{◌≡◌, ◌<◌, List, Some, true, length, IfErr, OnOk};
 ghost use Rattle.crack_row.specs.Devices.{device, has_failed};
 ghost use Rattle.crack_plain.specs.Plain.{Table};
-ghost use Rattle.crack_session.specs.Answers.{IsAnswer, IsAsked, command_of, is_short_answer, answer_text};
+ghost use Rattle.crack_session.specs.Answers.{IsAnswer, IsAnswerTo, IsAsked, IsLaidOut, is_short_answer, answer_text};
 ghost use Rattle.crack_session.specs.Responses.{Sends};
 
 use crate::desk::Desk;
-use crate::statement::Statement;
-use crate::text::{write_refusal, write_reply, write_text};
-use crack_row::{Command, Policy, Refusal, Reply, Watched};
+use crack_commands::{
+    Statement, policy_line, write_layout, write_refusal, write_reply, write_text,
+};
+use crack_row::{Command, Layout, Policy, Refusal, Reply, Watched};
 use std::io::Write;
 
 /// What a statement is answered.
@@ -17,6 +17,10 @@ use std::io::Write;
 pub enum Answer {
     /// A partition replied.
     Replied { part: u32, reply: Reply },
+    /// What stands where in a partition.
+    Laid { part: u32, layout: Layout },
+    /// The session's policy from now on.
+    Set(Policy),
     /// The line or its command was refused.
     Refused(Refusal),
     /// The session ends.
@@ -43,13 +47,15 @@ impl Answer {
     {
         match self {
             Answer::Replied { part, reply } => write_reply(*part, reply, writer),
+            Answer::Laid { part, layout } => write_layout(*part, layout, writer),
+            Answer::Set(policy) => write_text(policy_line(*policy), writer),
             Answer::Refused(refusal) => write_refusal(refusal, writer),
             Answer::Bye => write_text(b"bye", writer),
         }
     }
 }
 
-/// Answers what a line says; a statement's command goes to partition 0.
+/// Answers what a line says.
 pub fn answer_reading<D: Desk>(
     desk: &mut D,
     policy: Policy,
@@ -60,25 +66,43 @@ pub fn answer_reading<D: Desk>(
     ensures splits { D.splits desk.new ≡ D.splits desk.old }
     ensures limit { D.limit desk.new ≡ D.limit desk.old }
 {
-    let statement = match reading {
-        Ok(statement) => statement,
-        Err(refusal) => return Answer::Refused(refusal),
-    };
-    match command_of(statement) {
-        Some(command) => ask_part(desk, policy, 0, command),
-        None => Answer::Bye,
+    match reading {
+        Ok(statement) => answer_statement(desk, policy, statement),
+        Err(refusal) => Answer::Refused(refusal),
     }
 }
 
-/// The command that a statement asks, if any.
-fn command_of(statement: Statement) -> Option<Command>
-    ensures { result ≡ command_of statement }
+/// Answers a statement: a delete and an update by the partition that their row number names, all else that asks a
+/// partition by partition 0.
+fn answer_statement<D: Desk>(desk: &mut D, policy: Policy, statement: Statement) -> Answer
+    ensures is { (tables : List Table) → D.tables desk.old ≡ Some tables → (new : List Table)
+        × IsAnswerTo (D.limit desk.old) (D.splits desk.old) tables statement result new × (D.tables desk.new ≡ Some new) }
+    ensures splits { D.splits desk.new ≡ D.splits desk.old }
+    ensures limit { D.limit desk.new ≡ D.limit desk.old }
 {
-    match statement {
-        Statement::Insert { key, payload } => Some(Command::Insert { key, payload }),
-        Statement::Count(range) => Some(Command::Count(range)),
-        Statement::Quit => None,
-    }
+    let (part, command) = match statement {
+        Statement::Insert { key, payload } => (0, Command::Insert { key, payload }),
+        Statement::Delete(row) => {
+            let serial = row.serial;
+            (row.part, Command::Delete { serial })
+        }
+        Statement::Update { row, key, payload } => {
+            let serial = row.serial;
+            let command = Command::Update {
+                serial,
+                key,
+                payload,
+            };
+            (row.part, command)
+        }
+        Statement::Count(range) => (0, Command::Count(range)),
+        Statement::Sum(range) => (0, Command::Sum(range)),
+        Statement::Select(range) => (0, Command::Select(range)),
+        Statement::Layout(part) => return lay_out(desk, part),
+        Statement::Policy(next) => return Answer::Set(next),
+        Statement::Quit => return Answer::Bye,
+    };
+    ask_part(desk, policy, part, command)
 }
 
 /// Asks one partition.
@@ -90,6 +114,16 @@ fn ask_part<D: Desk>(desk: &mut D, policy: Policy, part: u32, command: Command) 
 {
     match desk.ask(part, command, policy) {
         Ok(reply) => Answer::Replied { part, reply },
+        Err(refusal) => Answer::Refused(refusal),
+    }
+}
+
+/// Says what stands where in one partition.
+fn lay_out<D: Desk>(desk: &D, part: u32) -> Answer
+    ensures { (tables : List Table) → D.tables desk.now ≡ Some tables → IsLaidOut (D.splits desk.now) tables part result }
+{
+    match desk.layout(part) {
+        Ok(layout) => Answer::Laid { part, layout },
         Err(refusal) => Answer::Refused(refusal),
     }
 }

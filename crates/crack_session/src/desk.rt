@@ -1,9 +1,9 @@
 //! Who answers commands.
-ghost use Rattle.std.specs.Prelude.{◌≡◌, ℕ, ◌+◌, List, length, All, is_ok, Some, IfOk, if◌then◌else◌};
+ghost use Rattle.std.specs.Prelude.{◌≡◌, ℕ, ◌+◌, List, length, All, is_ok, Some, IfOk, slice_get, if◌then◌else◌};
 ghost use Rattle.crack_plain.specs.Plain.{Table, IsNumbered};
-ghost use Rattle.crack_session.specs.Desks.{expected_at, IsOutcome, tables_after, IsSmall};
+ghost use Rattle.crack_session.specs.Desks.{keys_at, expected_at, IsOutcome, IsLayoutOutcome, tables_after, IsSmall};
 
-use crack_row::{Bound, Command, Policy, Refusal, Reply};
+use crack_row::{Bound, Command, Layout, Policy, Refusal, Reply};
 
 /// A table that is asked one command after another. Its keys are cut into partitions, numbered from 0.
 pub trait Desk {
@@ -38,6 +38,13 @@ pub trait Desk {
         ensures splits { splits self.new ≡ splits self.old }
         ensures limit { limit self.new ≡ limit self.old }
         ensures receipts { receipts self.new ≡ (if is_ok result then receipts self.old + 1 else receipts self.old) };
+
+    /// What stands where in one partition. It cracks and merges nothing, and isn't kept. Refused with 5 where there is no
+    /// such partition, and with 8 where no memory is found.
+    fn layout(&self, part: u32) -> Result<Layout, Refusal>
+        // Its pieces lead from the partition's one end to the other, its numbers fit, and its rows are as many as the plain rows.
+        ensures { (known : List Table) → tables self.now ≡ Some known →
+            IsLayoutOutcome (keys_at (splits self.now) part) (slice_get known part) result };
 
     /// Where one partition ends and the next begins. Takes no memory.
     fn splits(&self) -> &[Bound]

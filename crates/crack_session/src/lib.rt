@@ -4,12 +4,11 @@
 mod answer;
 pub mod desk;
 mod input;
+mod line;
 pub mod one_desk;
 mod output;
 mod plain_desk;
 pub mod session;
-mod statement;
-mod text;
 
 pub use desk::Desk;
 pub use one_desk::OneDesk;

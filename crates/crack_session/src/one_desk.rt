@@ -1,10 +1,10 @@
 //! A desk of one partition of all keys.
-ghost use Rattle.std.specs.Prelude.{◌≡◌, ◌≤◌, [], length, IsOk, IfOk, Err};
+ghost use Rattle.std.specs.Prelude.{◌≡◌, [], length, IsOk, IfOk, Err};
 ghost use Rattle.crack_part.specs.Parts.{IsLimit};
 
 use crate::desk::Desk;
 use crack_part::Partition;
-use crack_row::{Bound, Command, KeyRange, Policy, Refusal, Reply};
+use crack_row::{Bound, Command, KeyRange, Layout, Policy, Refusal, Reply};
 use std::alloc::Global;
 use std::marker::Model;
 
@@ -61,8 +61,15 @@ impl Desk for OneDesk {
         // A count is at most the number of entries, and that at most the limit.
         self.partition.facts();
         match self.partition.apply(0, command, policy) {
-            Ok((reply, _receipt)) => Ok(reply),
+            Ok(replies) => Ok(without_receipt(replies)),
             Err(refusal) => Err(refusal),
+        }
+    }
+
+    fn layout(&self, part: u32) -> Result<Layout, Refusal> {
+        match part {
+            0 => self.partition.layout(),
+            _ => Err(Refusal::NoSuchPartition),
         }
     }
 
@@ -73,4 +80,12 @@ impl Desk for OneDesk {
     fn receipts(&self) -> u64 {
         self.partition.history().len() as u64
     }
+}
+
+/// The reply alone; its copy is let go.
+fn without_receipt(replies: (Reply, Reply)) -> Reply
+    ensures { result ≡ replies.0 }
+{
+    let (reply, _receipt) = replies;
+    reply
 }

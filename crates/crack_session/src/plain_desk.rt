@@ -1,9 +1,8 @@
 //! A plain table as a desk: partition 0, and no other.
-ghost use Rattle.std.specs.Prelude.{◌≡◌, ◌≤◌};
 
 use crate::desk::Desk;
 use crack_plain::PlainTable;
-use crack_row::{Bound, Command, Policy, Refusal, Reply};
+use crack_row::{Bound, Command, Layout, Policy, Refusal, Reply};
 
 impl Desk for PlainTable {
     ghost use Rattle.std.specs.Prelude.{Some, [], ◌∷◌};
@@ -24,6 +23,13 @@ impl Desk for PlainTable {
         let _rows = self.rows();
         let _accepted = self.accepted();
         self.apply(&command)
+    }
+
+    fn layout(&self, part: u32) -> Result<Layout, Refusal> {
+        match part {
+            0 => self.whole_layout(),
+            _ => Err(Refusal::NoSuchPartition),
+        }
     }
 
     fn splits(&self) -> &[Bound] {

@@ -4,13 +4,15 @@ ghost use Rattle.std.specs.Io.KnownBytes.{Keeps};
 ghost use Rattle.crack_row.specs.Devices.{device, has_failed, reads_of};
 ghost use Rattle.crack_plain.specs.Plain.{Table};
 ghost use Rattle.crack_session.specs.Served.{IsCounted, IsServed, IsDone, IsCutOff};
-ghost use Rattle.crack_session.specs.Responses.{IsResponse, marked};
+ghost use Rattle.crack_session.specs.Responses.{IsResponse, marked, policy_after};
+ghost use Rattle.crack_session.specs.Answers.{is_short_answer};
 
-use crate::answer::answer_reading;
+use crate::answer::{Answer, answer_reading};
 use crate::desk::Desk;
 use crate::input::{LineReader, next_line};
+use crate::line::{read_line, says_quit};
 use crate::output::flush;
-use crate::statement::{Statement, read_line, says_quit};
+use crack_commands::Statement;
 use crack_row::{Policy, Refusal, Watched};
 use std::io::{Read, Write};
 
@@ -44,11 +46,12 @@ pub struct Fault {
     pub first_short: Option<u64>,
 }
 
-/// How far a session is: the statements answered, and the first that was refused for want of room.
+/// How far a session is: the statements answered, the first that was refused for want of room, and the policy by which it asks.
 #[derive(Clone, Copy, Debug)]
 struct Progress {
     statements: u64,
     first_short: Option<u64>,
+    policy: Policy,
 }
 
 impl Progress {
@@ -74,12 +77,15 @@ impl Progress {
         }
     }
 
-    /// Notes the first want of room, at the statement behind those that are answered.
-    fn mark(&mut self, short: bool)
+    /// Notes another policy, and the first want of room, at the statement behind those that are answered.
+    fn note(&mut self, answer: &Answer)
         requires { self.old.statements + 1 < 2 ^ 64 }
-        ensures { self.new ≡ record self.old { first_short = marked self.old.first_short (self.old.statements + 1) short } }
+        ensures { self.new ≡ record self.old { first_short = marked self.old.first_short (self.old.statements + 1) (is_short_answer answer.now); policy = policy_after self.old.policy answer.now } }
     {
-        if self.first_short.is_none() && short {
+        if let Answer::Set(policy) = answer {
+            self.policy = *policy;
+        }
+        if self.first_short.is_none() && answer.is_short() {
             self.first_short = Some(self.statements + 1);
         }
     }
@@ -88,7 +94,6 @@ impl Progress {
 /// Answers what a line says, and writes the text.
 fn respond<D: Desk, W: Write>(
     desk: &mut D,
-    policy: Policy,
     reading: Result<Statement, Refusal>,
     progress: &mut Progress,
     writer: &mut Watched<W>,
@@ -103,8 +108,8 @@ fn respond<D: Desk, W: Write>(
     ensures unfailed { OnOk result (has_failed writer.new ≡ has_failed writer.old) }
     ensures err { IfErr result (λ e. (e ≡ Refusal.WriteFault) × (has_failed writer.new ≡ true)) }
 {
-    let answer = answer_reading(desk, policy, reading);
-    progress.mark(answer.is_short());
+    let answer = answer_reading(desk, progress.policy, reading);
+    progress.note(&answer);
     match answer.write(writer) {
         Ok(()) => {
             progress.statements += 1;
@@ -129,9 +134,10 @@ fn finish<W: Write>(writer: &mut Watched<W>, progress: Progress, how: How) -> Re
 }
 
 /// Answers the statements of a reader, each whole line before it reads again, until its input ends or a statement
-/// is `quit`; what was read beyond that is dropped. Every statement goes to partition 0 of the desk.
+/// is `quit`; what was read beyond that is dropped. A delete or update goes to the partition that its row number names, a
+/// layout to the one that it names, all else to partition 0 of the desk. The desk is asked by `policy` until a statement names another.
 /// What is written is handed on by a flush before each read and at the end: behind a buffer that holds the replies
-/// to one read there is at most one write more than reads.
+/// to one read there is at most one write more than reads. Rows and pieces are written one at a time.
 /// Takes no memory but what the desk takes, none for a line, so it is never cut off by 8.
 pub fn serve<D: Desk, R: Read, W: Write>(
     desk: &mut D,
@@ -172,6 +178,7 @@ pub fn serve<D: Desk, R: Read, W: Write>(
     let mut progress = Progress {
         statements: 0,
         first_short: None,
+        policy,
     };
     'lines: loop {
         match next_line(&mut input, reader, writer) {
@@ -180,7 +187,7 @@ pub fn serve<D: Desk, R: Read, W: Write>(
             Ok(true) => {}
         }
         if let Some(reading) = read_line(input.line()) {
-            if let Err(refusal) = respond(desk, policy, reading, &mut progress, writer) {
+            if let Err(refusal) = respond(desk, reading, &mut progress, writer) {
                 return Err(progress.fault(refusal));
             }
             if says_quit(&reading) {

@@ -2,15 +2,16 @@
 #![tactic(auto)]
 
 use crack_arguments::{ArgumentsError, Opening, Request};
-use crack_row::{Policy, Refusal, Watched};
+use crack_row::{Refusal, Watched};
 use crack_session::{OneDesk, serve};
 use std::io::{BufWriter, ErrorKind};
 use std::process::ExitCode;
 use std::{env, io};
 
-/// How many bytes of replies are kept before they are written: room for the replies to one whole read. Its 4096 bytes
-/// end at most one line that was begun before, which gets at most 18 bytes, and hold at most 2048 more statements; a line
-/// of 2 bytes gets the most for its length, the 10 of `refused 1`.
+/// How many bytes of replies are kept before they are written: room for the replies to one whole read, where none of them
+/// lists rows or pieces. Its 4096 bytes end at most one line that was begun before, which gets at most 27 bytes, as `gone` with
+/// the greatest numbers, and hold at most 2048 more statements; a line of 2 bytes gets the most for its length, the 10 of
+/// `refused 1`. The rows of a select and the pieces of a layout may be more: then what is kept is written, and the rest kept.
 const REPLY_BYTES: usize = 24576;
 
 /// What the command line asks for.
@@ -38,7 +39,7 @@ fn script(rt: &HostRuntime, opening: Opening) -> Result<(), Refusal> {
     };
     let mut reader = Watched::new(rt.stdin());
     let mut writer = Watched::new(buffered);
-    match serve(&mut desk, Policy::Complete, &mut reader, &mut writer) {
+    match serve(&mut desk, opening.policy, &mut reader, &mut writer) {
         Ok(_) => Ok(()),
         Err(fault) => Err(fault.refusal),
     }

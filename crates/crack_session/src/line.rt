@@ -1,0 +1,51 @@
+//! What a line is read as.
+ghost use Rattle.std.specs.Prelude.{◌≡◌, ◌==◌};
+ghost use Rattle.std.specs.List.{list_all};
+ghost use Rattle.crack_session.specs.Lines.{without_return};
+ghost use Rattle.crack_session.specs.Readings.{reading_of, is_quit};
+
+use crate::LINE_BYTES;
+use crack_commands::{Statement, parse_statement};
+use crack_row::Refusal;
+
+/// What a line says, unless it is blank: a statement, or why it is none. Refused with 2 where the ends of a range
+/// are out of order or too great, else with 1. Takes no memory.
+#[tactic(auto, unfolding(crate::specs::Readings::reading_of))]
+pub fn read_line(line: &[u8]) -> Option<Result<Statement, Refusal>>
+    ensures { result ≡ reading_of line.now }
+{
+    let line = without_return(line);
+    if line.len() > LINE_BYTES {
+        return Some(Err(Refusal::BadStatement));
+    }
+    if is_blank(line) {
+        return None;
+    }
+    Some(parse_statement(line))
+}
+
+/// Whether a line says that the session ends.
+pub fn says_quit(reading: &Result<Statement, Refusal>) -> bool
+    ensures { result ≡ is_quit reading.now }
+{
+    matches!(reading, Ok(Statement::Quit))
+}
+
+/// A line without the carriage return at its end.
+fn without_return(line: &[u8]) -> &[u8]
+    ensures { result.now ≡ without_return line.now }
+{
+    let len = line.len();
+    if len > 0 && line[len - 1] == b'\r' {
+        &line[..len - 1]
+    } else {
+        line
+    }
+}
+
+/// Whether a line has spaces alone, or nothing.
+fn is_blank(line: &[u8]) -> bool
+    ensures { result ≡ list_all (λ b. b == 32) line.now }
+{
+    line.iter().all(|b| *b == b' ')
+}
