@@ -1,6 +1,6 @@
 //! Desks that refuse.
 use crack_plain::PlainTable;
-use crack_row::{Bound, Command, Policy, Refusal, Reply};
+use crack_row::{Bound, Command, Layout, Policy, Refusal, Reply};
 use crack_session::Desk;
 
 /// A plain table that finds no memory for what it is asked first.
@@ -27,6 +27,10 @@ impl Desk for Starved {
             return Err(Refusal::OutOfMemory);
         }
         self.table.ask(part, command, policy)
+    }
+
+    fn layout(&self, part: u32) -> Result<Layout, Refusal> {
+        self.table.layout(part)
     }
 
     fn splits(&self) -> &[Bound] {
@@ -56,6 +60,10 @@ impl Desk for Refusing {
     ghost receipts = { λ d. 0 };
 
     fn ask(&mut self, _part: u32, _command: Command, _policy: Policy) -> Result<Reply, Refusal> {
+        Err(self.refusal)
+    }
+
+    fn layout(&self, _part: u32) -> Result<Layout, Refusal> {
         Err(self.refusal)
     }
 

@@ -1,8 +1,8 @@
 //! A partition: each call once, with ample memory, and each refusal but that for want of memory.
 use crack_part::Partition;
 use crack_row::{
-    Command, Entry, GREATEST_BOUND, GREATEST_LIMIT, Key, KeyRange, Payload, Policy, Refusal, Reply,
-    Serial,
+    Command, Entry, GREATEST_BOUND, GREATEST_LIMIT, Key, KeyRange, Layout, Payload, Policy,
+    Refusal, Reply, Serial,
 };
 use std::process::Abort;
 
@@ -157,6 +157,11 @@ fn assert_count(
     Ok(())
 }
 
+/// A partition's layout. It promises nothing, so that no test carries all that `layout` promises.
+fn layout_of(partition: &Partition) -> Result<Layout, Refusal> {
+    partition.layout()
+}
+
 /// Asserts that so many rows stand in the column, so many wait, and that no other cell is used.
 fn assert_rows(
     rt: &impl Abort,
@@ -164,7 +169,7 @@ fn assert_rows(
     column: u64,
     waiting: u64,
 ) -> Result<(), Refusal> {
-    let layout = partition.layout()?;
+    let layout = layout_of(partition)?;
     assert_eq!(rt; layout.column, column);
     assert_eq!(rt; layout.pending_in, waiting);
     assert_eq!(rt; layout.pending_out, 0);
@@ -179,7 +184,7 @@ fn assert_cells(
     rows: u64,
     cells: u64,
 ) -> Result<(), Refusal> {
-    let layout = partition.layout()?;
+    let layout = layout_of(partition)?;
     assert_eq!(rt; layout.rows, rows);
     assert_eq!(rt; layout.cells, cells);
     Ok(())
@@ -191,11 +196,12 @@ fn assert_pieces(
     partition: &Partition,
     pieces: &[(u64, u64)],
 ) -> Result<(), Refusal> {
-    let layout = partition.layout()?;
-    assert_eq!(rt; layout.pieces.as_slice().len(), pieces.len());
-    for (told, (low, size)) in layout.pieces.as_slice().iter().zip(pieces) {
-        assert_eq!(rt; told.low.0, *low);
-        assert_eq!(rt; told.size, *size);
+    let layout = layout_of(partition)?;
+    let told = layout.pieces.as_slice();
+    assert_eq!(rt; told.len(), pieces.len());
+    for i in 0..told.len() {
+        assert_eq!(rt; told[i].low.0, pieces[i].0);
+        assert_eq!(rt; told[i].size, pieces[i].1);
     }
     Ok(())
 }

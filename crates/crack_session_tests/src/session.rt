@@ -8,17 +8,28 @@ use crack_row::{
 };
 use crack_session::{Desk, End, Fault, How, LINE_BYTES, OneDesk, serve};
 use std::alloc::Global;
-use std::io::BufWriter;
+use std::io::{BufWriter, Read, Write};
 use std::process::Abort;
 use std::test::Fail;
+
+/// How a session ends. It promises nothing, so that no test carries all that `serve` promises.
+fn session<D: Desk, R: Read, W: Write>(
+    desk: &mut D,
+    reader: &mut Watched<R>,
+    writer: &mut Watched<W>,
+) -> Result<End, Fault> {
+    serve(desk, Policy::Complete, reader, writer)
+}
 
 /// A session over memory, which is to end: how, and what it wrote.
 fn run<D: Desk + Drop>(alloc: Global, mut desk: D, input: &[u8]) -> Result<(End, Vec<u8>), Fail> {
     let mut reader = Watched::new(input);
     let mut writer = Watched::new(Vec::new(alloc));
-    let result = serve(&mut desk, Policy::Complete, &mut reader, &mut writer);
+    let result = session(&mut desk, &mut reader, &mut writer);
+    drop(desk);
+    let text = writer.into_inner();
     let end = result.ok().ok_or("a fault")?;
-    Ok((end, writer.into_inner()))
+    Ok((end, text))
 }
 
 /// How a session is to end, with no want of room.
@@ -42,6 +53,7 @@ fn assert_run<D: Desk + Drop>(
     let (told, text) = run(alloc, desk, input)?;
     assert_eq!(rt; text.as_slice(), replies);
     assert_eq!(rt; told, end);
+    drop(text);
     Ok(())
 }
 
@@ -62,9 +74,12 @@ fn assert_dripped<D: Desk + Drop>(
         log: &log,
     });
     let mut writer = Watched::new(Vec::new(alloc));
-    let result = serve(&mut desk, Policy::Complete, &mut reader, &mut writer);
+    let result = session(&mut desk, &mut reader, &mut writer);
+    drop(desk);
     assert_eq!(rt; result.ok(), Some(end));
-    assert_eq!(rt; writer.into_inner().as_slice(), replies);
+    let told = writer.into_inner();
+    assert_eq!(rt; told.as_slice(), replies);
+    drop(told);
     Ok(())
 }
 
@@ -208,6 +223,149 @@ fn spaces_and_zeros_are_passed_over(rt: HostRuntime) -> Result<(), Fail> {
     )
 }
 
+/// Each statement, with its texts; a statement that names another partition is refused, whatever it asks.
+#[test]
+fn each_statement_is_answered(rt: HostRuntime) -> Result<(), Fail> {
+    assert_alike(
+        &rt,
+        rt.alloc(),
+        b"insert 7 70\ninsert 9 90\nupdate 0.0 8 80\nsum 0 100\nselect 0 100\nselect 9 9\ndelete 0.1\ndelete 0.1\n\
+update 0.1 5 5\npolicy gradual\npolicy complete\ncount 0 9\ndelete 1.0\nupdate 1.0 1 1\nlayout 1\nlayout 4294967295\n\
+delete 0.18446744073709551615\nselect 0 4294967296\nquit\n",
+        b"row 0.0\nrow 0.1\nchanged\nsum 170\nrows 2\n0.0 8 80\n0.1 9 90\nrows 0\ngone 9 90\nnone\n\
+none\npolicy gradual\npolicy complete\ncount 1\nrefused 5\nrefused 5\nrefused 5\nrefused 5\n\
+none\nrows 1\n0.0 8 80\nbye\n",
+        ends(How::Quit, 19),
+    )
+}
+
+/// Lines that are no statements, each with its refusal.
+fn assert_refused(
+    rt: &impl Abort,
+    alloc: Global,
+    lines: &[&[u8]],
+    text: &[u8],
+) -> Result<(), Fail> {
+    for line in lines {
+        let (end, told) = run(alloc, PlainTable::new(alloc), line)?;
+        assert_eq!(rt; told.as_slice(), text);
+        assert_eq!(rt; end, ends(How::InputEnded, 1));
+    }
+    Ok(())
+}
+
+#[test]
+fn bad_lines_are_refused(rt: HostRuntime) -> Result<(), Fail> {
+    let lines: [&[u8]; 42] = [
+        b"insert",
+        b"insert 1",
+        b"insert 1 2 3",
+        b"INSERT 1 2",
+        b"insert 1 -2",
+        b"insert 1\t2",
+        b"insert 4294967296 1",
+        b"insert 1 4294967296",
+        b"insert 1 1\r\r\n",
+        b"inserts 1 1",
+        b"quit now",
+        b"delete",
+        b"delete 0",
+        b"delete 0.",
+        b"delete .0",
+        b"delete 0 .1",
+        b"delete 0. 1",
+        b"delete 0.0.0",
+        b"delete 0.0 1",
+        b"delete 4294967296.0",
+        b"delete 0.18446744073709551616",
+        b"delete 0.000000000000000000001",
+        b"update 0.0 1",
+        b"update 0.0 1 2 3",
+        b"update 0 1 2",
+        b"update 0.0 4294967296 1",
+        b"update 0.0 1 4294967296",
+        b"count 1",
+        b"count 000000000000000000000 1",
+        b"sum 1",
+        b"sum 1 2 3",
+        b"select",
+        b"select 1 x",
+        b"layout",
+        b"layout 0 0",
+        b"layout 0.0",
+        b"layout 4294967296",
+        b"policy",
+        b"policy ripple",
+        b"policy Gradual",
+        b"policy gradual complete",
+        b"x",
+    ];
+    assert_refused(&rt, rt.alloc(), lines.as_slice(), b"refused 1\n")?;
+    let ranges: [&[u8]; 5] = [
+        b"count 18446744073709551616 0",
+        b"count 0 99999999999999999999",
+        b"sum 2 1",
+        b"sum 0 4294967297",
+        b"select 6 5",
+    ];
+    assert_refused(&rt, rt.alloc(), ranges.as_slice(), b"refused 2\n")
+}
+
+/// A policy holds for the rest of a session: a merge takes all that is pending, or what its range needs.
+#[test]
+fn a_policy_holds_for_the_rest(rt: HostRuntime) -> Result<(), Fail> {
+    let rows =
+        "insert 10 10\ninsert 20 20\ninsert 30 30\ninsert 40 40\ncount 0 4294967296\ncount 15 25\n";
+    let more = "insert 17 0\ninsert 90 0\ncount 15 25\nlayout 0\n";
+    let replies = "row 0.0\nrow 0.1\nrow 0.2\nrow 0.3\ncount 4\ncount 1\n";
+    let all =
+        "layout 0 rows 6 column 6 out 0 in 0 cells 6 free 0 pieces 3\npiece 0 15 1\npiece 15 25 2\npiece 25 4294967296 3\n";
+    let some =
+        "layout 0 rows 6 column 5 out 0 in 1 cells 6 free 0 pieces 3\npiece 0 15 1\npiece 15 25 2\npiece 25 4294967296 2\n";
+    for (name, layout) in [("complete", all), ("gradual", some)] {
+        let input = format!(in rt.alloc(); "policy {name}\n{rows}{more}")?;
+        let told = format!(in rt.alloc();
+            "policy {name}\n{replies}row 0.4\nrow 0.5\ncount 2\n{layout}"
+        )?;
+        assert_script(
+            &rt,
+            rt.alloc(),
+            GREATEST_LIMIT,
+            input.as_bytes(),
+            told.as_bytes(),
+            ends(How::InputEnded, 11),
+        )?;
+    }
+    Ok(())
+}
+
+/// A plain table lays its rows out as one piece, and a layout that finds no memory is a want of room.
+#[test]
+fn layouts_of_other_desks(rt: HostRuntime) -> Result<(), Fail> {
+    assert_run(
+        &rt,
+        rt.alloc(),
+        PlainTable::new(rt.alloc()),
+        b"insert 7 70\ninsert 9 90\ncount 8 9\nlayout 0",
+        b"row 0.0\nrow 0.1\ncount 0\nlayout 0 rows 2 column 2 out 0 in 0 cells 2 free 0 pieces 1\npiece 0 4294967296 2\n",
+        ends(How::InputEnded, 4),
+    )?;
+    let refusal = Refusal::OutOfMemory;
+    let end = End {
+        how: How::InputEnded,
+        statements: 2,
+        first_short: Some(2),
+    };
+    assert_run(
+        &rt,
+        rt.alloc(),
+        Refusing { refusal },
+        b"policy gradual\nlayout 0",
+        b"policy gradual\nrefused 8\n",
+        end,
+    )
+}
+
 /// A session whose writer fails in the third reply, and what is written before.
 fn fail_the_third_reply<D: Desk + Drop>(
     rt: &impl Abort,
@@ -222,7 +380,8 @@ fn fail_the_third_reply<D: Desk + Drop>(
         fails_at: 2,
         bytes: Vec::new(alloc),
     });
-    let result = serve(&mut desk, Policy::Complete, &mut reader, &mut writer);
+    let result = session(&mut desk, &mut reader, &mut writer);
+    drop(desk);
     let fault = Fault {
         refusal: Refusal::WriteFault,
         done: 2,
@@ -230,7 +389,9 @@ fn fail_the_third_reply<D: Desk + Drop>(
     };
     assert_eq!(rt; result.err(), Some(fault));
     assert!(rt; writer.failed());
-    assert_eq!(rt; writer.into_inner().bytes.as_slice(), replies);
+    let told = writer.into_inner();
+    assert_eq!(rt; told.bytes.as_slice(), replies);
+    drop(told);
     Ok(())
 }
 
@@ -250,16 +411,14 @@ fn writer_fails_behind_a_want_of_room(rt: HostRuntime) -> Result<(), Fail> {
 fn fail_the_flush<D: Desk + Drop>(rt: &impl Abort, mut desk: D) -> Result<(), Fail> {
     let mut reader = Watched::new(b"".as_slice());
     let mut writer = Watched::new(Clogged);
-    let result = serve(&mut desk, Policy::Complete, &mut reader, &mut writer);
-    let fault = result.err().ok_or("no fault")?;
-    assert_eq!(rt;
-        fault,
-        Fault {
-            refusal: Refusal::WriteFault,
-            done: 0,
-            first_short: None
-        }
-    );
+    let result = session(&mut desk, &mut reader, &mut writer);
+    drop(desk);
+    let fault = Fault {
+        refusal: Refusal::WriteFault,
+        done: 0,
+        first_short: None,
+    };
+    assert_eq!(rt; result.err(), Some(fault));
     assert!(rt; writer.failed());
     Ok(())
 }
@@ -284,18 +443,18 @@ fn fail_the_reader<D: Desk + Drop>(
         log: &log,
     });
     let mut writer = Watched::new(Vec::new(alloc));
-    let result = serve(&mut desk, Policy::Complete, &mut reader, &mut writer);
-    let fault = result.err().ok_or("no fault")?;
-    assert_eq!(rt;
-        fault,
-        Fault {
-            refusal: Refusal::ReadFault,
-            done: 1,
-            first_short: None
-        }
-    );
+    let result = session(&mut desk, &mut reader, &mut writer);
+    drop(desk);
+    let fault = Fault {
+        refusal: Refusal::ReadFault,
+        done: 1,
+        first_short: None,
+    };
+    assert_eq!(rt; result.err(), Some(fault));
     assert!(rt; reader.failed());
-    assert_eq!(rt; writer.into_inner().as_slice(), b"row 0.0\n".as_slice());
+    let told = writer.into_inner();
+    assert_eq!(rt; told.as_slice(), b"row 0.0\n".as_slice());
+    drop(told);
     Ok(())
 }
 
@@ -331,19 +490,33 @@ fn assert_orderly(rt: &impl Abort, log: &Log, lines: usize) {
     assert_eq!(rt; log.answered.get(), lines);
 }
 
-/// A session whose reader gives so many bytes at a time, and whose writer keeps so many before it writes.
-fn log_it(alloc: Global, input: &[u8], most: usize, room: usize, log: &Log) -> Result<(), Fail> {
-    let mut desk = OneDesk::open(alloc, GREATEST_LIMIT)?;
+/// A session of a desk and a writer whose reader gives so many bytes at a time, and which is to end.
+fn log_reads<D: Desk, W: Write>(
+    rt: &impl Abort,
+    desk: &mut D,
+    writer: &mut Watched<W>,
+    input: &[u8],
+    most: usize,
+    log: &Log,
+) {
     let mut reader = Watched::new(Source {
         bytes: input,
         most,
         fails: false,
         log,
     });
-    let mut writer = Watched::new(BufWriter::with_capacity(alloc, room, Sink { log })?);
-    let result = serve(&mut desk, Policy::Complete, &mut reader, &mut writer);
-    result.ok().ok_or("a fault")?;
-    Ok(())
+    let result = session(desk, &mut reader, writer);
+    assert!(rt; result.is_ok());
+}
+
+/// A session whose reader gives so many bytes at a time, and whose writer keeps so many before it writes.
+fn log_it(rt: &impl Abort, alloc: Global, input: &[u8], most: usize, room: usize, log: &Log) {
+    let mut desk = OneDesk::open(alloc, GREATEST_LIMIT).expect(rt, "a desk");
+    let buffered = BufWriter::with_capacity(alloc, room, Sink { log });
+    let mut writer = Watched::new(buffered.expect(rt, "a buffer"));
+    log_reads(rt, &mut desk, &mut writer, input, most, log);
+    drop(writer);
+    drop(desk);
 }
 
 /// What is written is handed on before each read and at the end, and so is buffered to at most a write for each read.
@@ -351,7 +524,7 @@ fn log_it(alloc: Global, input: &[u8], most: usize, room: usize, log: &Log) -> R
 fn writes_are_as_few_as_reads(rt: HostRuntime) -> Result<(), Fail> {
     let input = insert_often(rt.alloc())?;
     let log = Log::new();
-    log_it(rt.alloc(), input.as_slice(), 4096, 8192, &log)?;
+    log_it(&rt, rt.alloc(), input.as_slice(), 4096, 8192, &log);
     assert_few_writes(&rt, &log);
     assert_orderly(&rt, &log, 1001);
     Ok(())
@@ -365,7 +538,7 @@ fn short_lines_get_few_writes(rt: HostRuntime) -> Result<(), Fail> {
         input.extend_from_slice(b"x\n")?;
     }
     let log = Log::new();
-    log_it(rt.alloc(), input.as_slice(), 4096, 24576, &log)?;
+    log_it(&rt, rt.alloc(), input.as_slice(), 4096, 24576, &log);
     assert_few_writes(&rt, &log);
     assert_orderly(&rt, &log, 8192);
     Ok(())
@@ -376,7 +549,7 @@ fn short_lines_get_few_writes(rt: HostRuntime) -> Result<(), Fail> {
 fn lines_are_answered_before_the_next_read(rt: HostRuntime) -> Result<(), Fail> {
     let input = insert_often(rt.alloc())?;
     let log = Log::new();
-    log_it(rt.alloc(), input.as_slice(), 29, 8, &log)?;
+    log_it(&rt, rt.alloc(), input.as_slice(), 29, 8, &log);
     assert_orderly(&rt, &log, 1001);
     Ok(())
 }
@@ -410,7 +583,7 @@ fn refusals_are_printed_as_they_are_replied(rt: HostRuntime) -> Result<(), Fail>
 }
 
 /// A desk by itself: what it is asked, how many it accepted, and that there is one partition.
-fn ask_it<D: Desk + Drop>(rt: &impl Abort, mut desk: D) -> Result<(), Fail> {
+fn ask_it<D: Desk>(rt: &impl Abort, desk: &mut D) -> Result<(), Fail> {
     let insert = Command::Insert {
         key: Key(7),
         payload: Payload(70),
@@ -429,12 +602,20 @@ fn ask_it<D: Desk + Drop>(rt: &impl Abort, mut desk: D) -> Result<(), Fail> {
 
 #[test]
 fn desks(rt: HostRuntime) -> Result<(), Fail> {
-    let desk = OneDesk::open(rt.alloc(), GREATEST_LIMIT)?;
-    ask_it(&rt, desk)?;
-    ask_it(&rt, PlainTable::new(rt.alloc()))?;
+    let mut desk = OneDesk::open(rt.alloc(), GREATEST_LIMIT)?;
+    let told = ask_it(&rt, &mut desk);
+    drop(desk);
+    told?;
+    let mut table = PlainTable::new(rt.alloc());
+    let told = ask_it(&rt, &mut table);
+    drop(table);
+    told
+}
+
+#[test]
+fn a_desk_refuses_bad_limits(rt: HostRuntime) {
     for limit in [0, GREATEST_LIMIT + 1] {
         let refused = OneDesk::open(rt.alloc(), limit).err();
         assert!(rt; matches!(refused, Some(Refusal::BadLimit)));
     }
-    Ok(())
 }

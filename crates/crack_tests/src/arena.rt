@@ -2,12 +2,14 @@
 
 use crack_arena::{Arena, Handle};
 use std::process::Abort;
-use std::test::Fail;
 
-fn put(rt: &impl Abort, arena: &mut Arena<char>, value: char) -> Result<Handle<char>, Fail> {
+fn put(rt: &impl Abort, arena: &mut Arena<char>, value: char) -> Handle<char> {
     let cells = arena.cells();
     assert!(rt; cells < 1000);
-    Ok(arena.put(value)?)
+    match arena.put(value) {
+        Ok(handle) => handle,
+        Err(_) => panic!(rt; "no memory"),
+    }
 }
 
 fn free(rt: &impl Abort, arena: &mut Arena<char>, handle: Handle<char>) -> Option<char> {
@@ -32,69 +34,65 @@ fn assert_reads(rt: &impl Abort, arena: &Arena<char>, handle: Handle<char>, valu
 }
 
 /// Asserts how many cells there are, how many of them are free, and how many were ever freed.
-fn assert_cells(rt: &impl Abort, arena: &Arena<char>, cells: (usize, usize, u64)) {
-    assert_eq!(rt; (arena.cells(), arena.free_cells(), arena.freed()), cells);
+fn assert_cells(rt: &impl Abort, arena: &Arena<char>, cells: usize, free_cells: usize, freed: u64) {
+    assert_eq!(rt; arena.cells(), cells);
+    assert_eq!(rt; arena.free_cells(), free_cells);
+    assert_eq!(rt; arena.freed(), freed);
 }
 
 /// Asserts the slot and the generation of a handle.
 fn assert_handle(rt: &impl Abort, handle: Handle<char>, slot: u32, generation: u64) {
-    assert_eq!(rt; (handle.slot(), handle.generation()), (slot, generation));
+    assert_eq!(rt; handle.slot(), slot);
+    assert_eq!(rt; handle.generation(), generation);
 }
 
-fn free_and_put(rt: &impl Abort, arena: &mut Arena<char>) -> Result<(), Fail> {
-    let a = put(rt, arena, 'a')?;
-    let b = put(rt, arena, 'b')?;
+fn free_and_put(rt: &impl Abort, arena: &mut Arena<char>) {
+    let a = put(rt, arena, 'a');
+    let b = put(rt, arena, 'b');
     assert_frees(rt, arena, a, Some('a'));
     assert_reads(rt, arena, a, None);
     assert_frees(rt, arena, a, None);
-    let c = put(rt, arena, 'c')?;
+    let c = put(rt, arena, 'c');
     assert_handle(rt, c, 0, 1);
     assert!(rt; a != c);
     assert_reads(rt, arena, a, None);
     assert_reads(rt, arena, b, Some('b'));
     assert_reads(rt, arena, c, Some('c'));
-    assert_cells(rt, arena, (2, 0, 1));
-    Ok(())
+    assert_cells(rt, arena, 2, 0, 1);
 }
 
 #[test]
-fn freed_cell_is_used_again(rt: HostRuntime) -> Result<(), Fail> {
+fn freed_cell_is_used_again(rt: HostRuntime) {
     let mut arena = Arena::new(rt.alloc());
-    let told = free_and_put(&rt, &mut arena);
+    free_and_put(&rt, &mut arena);
     drop(arena);
-    told
 }
 
 /// Frees the second and the first of three cells.
-fn free_two(rt: &impl Abort, arena: &mut Arena<char>) -> Result<(), Fail> {
-    let a = put(rt, arena, 'a')?;
-    let b = put(rt, arena, 'b')?;
-    put(rt, arena, 'c')?;
+fn free_two(rt: &impl Abort, arena: &mut Arena<char>) {
+    let a = put(rt, arena, 'a');
+    let b = put(rt, arena, 'b');
+    put(rt, arena, 'c');
     assert_frees(rt, arena, b, Some('b'));
     assert_frees(rt, arena, a, Some('a'));
-    assert_cells(rt, arena, (3, 2, 2));
-    Ok(())
+    assert_cells(rt, arena, 3, 2, 2);
 }
 
-fn put_again(rt: &impl Abort, arena: &mut Arena<char>) -> Result<(), Fail> {
-    free_two(rt, arena)?;
-    for (value, slot, generation) in [('d', 0, 1), ('e', 1, 1), ('f', 3, 0)] {
-        let handle = put(rt, arena, value)?;
-        assert_eq!(rt;
-            (handle.slot(), handle.generation()),
-            (slot, generation),
-            "of {value}"
-        );
-    }
-    Ok(())
+fn put_again(rt: &impl Abort, arena: &mut Arena<char>) {
+    free_two(rt, arena);
+    let d = put(rt, arena, 'd');
+    assert_handle(rt, d, 0, 1);
+    let e = put(rt, arena, 'e');
+    assert_handle(rt, e, 1, 1);
+    let f = put(rt, arena, 'f');
+    assert_handle(rt, f, 3, 0);
 }
 
 #[test]
-fn last_freed_is_used_first(rt: HostRuntime) -> Result<(), Fail> {
+fn last_freed_is_used_first(rt: HostRuntime) {
     let mut arena = Arena::new(rt.alloc());
-    let told = put_again(&rt, &mut arena);
+    put_again(&rt, &mut arena);
     drop(arena);
-    told
 }
 
 /// Asserts that setting the handle gives this.
@@ -108,30 +106,29 @@ fn assert_sets(
     assert_eq!(rt; arena.set(handle, value), given);
 }
 
-fn set_and_free(rt: &impl Abort, arena: &mut Arena<char>) -> Result<(), Fail> {
-    let a = put(rt, arena, 'a')?;
+fn set_and_free(rt: &impl Abort, arena: &mut Arena<char>) {
+    let a = put(rt, arena, 'a');
     assert_sets(rt, arena, a, 'x', Ok('a'));
     assert_frees(rt, arena, a, Some('x'));
     assert_sets(rt, arena, a, 'y', Err('y'));
-    let b = put(rt, arena, 'b')?;
+    let b = put(rt, arena, 'b');
     assert_sets(rt, arena, a, 'z', Err('z'));
     assert_reads(rt, arena, b, Some('b'));
-    assert_cells(rt, arena, (1, 0, 1));
-    Ok(())
+    assert_cells(rt, arena, 1, 0, 1);
 }
 
 #[test]
-fn set_on_a_spent_handle_changes_nothing(rt: HostRuntime) -> Result<(), Fail> {
+fn set_on_a_spent_handle_changes_nothing(rt: HostRuntime) {
     let mut arena = Arena::new(rt.alloc());
-    let told = set_and_free(&rt, &mut arena);
+    set_and_free(&rt, &mut arena);
     drop(arena);
-    told
 }
 
 #[test]
-fn reserved_puts_succeed(rt: HostRuntime) -> Result<(), Fail> {
+fn reserved_puts_succeed(rt: HostRuntime) {
     let mut arena = Arena::new(rt.alloc());
-    arena.reserve(3)?;
+    let reserved = arena.reserve(3);
+    assert!(rt; reserved.is_ok());
     let a = arena.put_reserved('a');
     let Ok(b) = arena.put('b') else {
         unreachable!()
@@ -139,7 +136,9 @@ fn reserved_puts_succeed(rt: HostRuntime) -> Result<(), Fail> {
     let Ok(c) = arena.put('c') else {
         unreachable!()
     };
-    assert_eq!(rt; (a.slot(), b.slot(), c.slot()), (0, 1, 2));
-    assert_eq!(rt; arena.get(b).copied(), Some('b'));
-    Ok(())
+    assert_handle(&rt, a, 0, 0);
+    assert_handle(&rt, b, 1, 0);
+    assert_handle(&rt, c, 2, 0);
+    assert_reads(&rt, &arena, b, Some('b'));
+    drop(arena);
 }

@@ -2,10 +2,10 @@
 ghost use Rattle.std.specs.Prelude.{List, OnOk};
 ghost use Rattle.crack_arena.specs.Arena.{Cell};
 ghost use Rattle.crack_row.specs.declared.Row.{Row as RowValue};
-ghost use Rattle.crack_column.specs.Column.{Remembers};
+ghost use Rattle.crack_column.specs.Column.{Agrees, Remembers};
 
 use crack_arena::{Arena, Handle};
-use crack_column::CrackerColumn;
+use crack_column::{CrackerColumn, Remembered};
 use crack_row::{Bound, Key, Payload, Row, Serial};
 use std::process::Abort;
 use std::test::Fail;
@@ -15,13 +15,14 @@ fn put(
     arena: &mut Arena<Row>,
     serial: u64,
     key: u32,
+    payload: u32,
 ) -> Result<Handle<Row>, Fail> {
     let cells = arena.cells();
     assert!(rt; cells < 1000);
     let row = Row {
         serial: Serial(serial),
         key: Key(key),
-        payload: Payload(0),
+        payload: Payload(payload),
     };
     Ok(arena.put(row)?)
 }
@@ -41,13 +42,23 @@ fn crack(
     stretch: (usize, usize),
     bound: u64,
 ) -> usize
-    requires remembered { Remembers arena.now.cells column.old.handles column.old.keys }
-    ensures remembered { Remembers arena.now.cells column.new.handles column.new.keys }
+    requires remembered { Remembers arena.now.cells column.old.handles column.old.remembered }
+    ensures remembered { Remembers arena.now.cells column.new.handles column.new.remembered }
 {
     let len = column.len();
     assert!(rt; stretch.0 <= stretch.1);
     assert!(rt; stretch.1 <= len);
     column.crack_two(stretch.0, stretch.1, Bound(bound), arena)
+}
+
+/// The sum of a stretch of the column.
+fn sum(rt: &impl Abort, arena: &Arena<Row>, column: &CrackerColumn, stretch: (usize, usize)) -> u64
+    requires remembered { Remembers arena.now.cells column.now.handles column.now.remembered }
+{
+    let len = column.len();
+    assert!(rt; stretch.0 <= stretch.1);
+    assert!(rt; stretch.1 <= len);
+    column.sum_between(stretch.0, stretch.1, arena)
 }
 
 fn at(rt: &impl Abort, column: &CrackerColumn, place: usize) -> Handle<Row> {
@@ -70,15 +81,15 @@ fn assert_two(
     assert!(rt; told == keys || told == [keys[1], keys[0]]);
 }
 
-/// Fills a column with rows of the keys 40, 10, 30 and 20.
+/// Fills a column with rows of the keys 40, 10, 30 and 20, and of the payloads 1, 2, 4 and 8.
 fn fill(rt: &impl Abort, arena: &mut Arena<Row>, column: &mut CrackerColumn) -> Result<(), Fail>
-    requires remembered { (cells : List (Cell RowValue)) → Remembers cells column.old.handles column.old.keys }
-    ensures remembered { OnOk result ((cells : List (Cell RowValue)) → Remembers cells column.new.handles column.new.keys) }
+    requires remembered { (cells : List (Cell RowValue)) → Remembers cells column.old.handles column.old.remembered }
+    ensures remembered { OnOk result ((cells : List (Cell RowValue)) → Remembers cells column.new.handles column.new.remembered) }
 {
-    let a = put(rt, arena, 0, 40)?;
-    let b = put(rt, arena, 1, 10)?;
-    let c = put(rt, arena, 2, 30)?;
-    let d = put(rt, arena, 3, 20)?;
+    let a = put(rt, arena, 0, 40, 1)?;
+    let b = put(rt, arena, 1, 10, 2)?;
+    let c = put(rt, arena, 2, 30, 4)?;
+    let d = put(rt, arena, 3, 20, 8)?;
     assert!(rt; column.is_empty());
     let len = column.len();
     assert!(rt; len == 0);
@@ -96,10 +107,13 @@ fn fill_and_crack(
     arena: &mut Arena<Row>,
     column: &mut CrackerColumn,
 ) -> Result<(), Fail>
-    requires remembered { (cells : List (Cell RowValue)) → Remembers cells column.old.handles column.old.keys }
+    requires remembered { (cells : List (Cell RowValue)) → Remembers cells column.old.handles column.old.remembered }
 {
     fill(rt, arena, column)?;
+    assert_eq!(rt; sum(rt, arena, column, (1, 3)), 6);
     assert_eq!(rt; crack(rt, arena, column, (0, 4), 25), 2);
+    assert_eq!(rt; sum(rt, arena, column, (0, 2)), 10);
+    assert_eq!(rt; sum(rt, arena, column, (2, 4)), 5);
     assert_two(rt, arena, column, [0, 1], [10, 20]);
     assert_two(rt, arena, column, [2, 3], [30, 40]);
     assert_eq!(rt; crack(rt, arena, column, (0, 2), 25), 2);
@@ -126,8 +140,8 @@ fn swap_first(
     b: Handle<Row>,
     c: Handle<Row>,
 ) -> Result<(), Fail>
-    requires remembered { (cells : List (Cell RowValue)) → Remembers cells column.old.handles column.old.keys }
-    ensures remembered { OnOk result ((cells : List (Cell RowValue)) → Remembers cells column.new.handles column.new.keys) }
+    requires remembered { (cells : List (Cell RowValue)) → Remembers cells column.old.handles column.old.remembered }
+    ensures remembered { OnOk result ((cells : List (Cell RowValue)) → Remembers cells column.new.handles column.new.remembered) }
 {
     assert!(rt; column.pop().is_none());
     let len = column.len();
@@ -146,11 +160,11 @@ fn swap_and_pop(
     arena: &mut Arena<Row>,
     column: &mut CrackerColumn,
 ) -> Result<(), Fail>
-    requires remembered { (cells : List (Cell RowValue)) → Remembers cells column.old.handles column.old.keys }
+    requires remembered { (cells : List (Cell RowValue)) → Remembers cells column.old.handles column.old.remembered }
 {
-    let a = put(rt, arena, 0, 40)?;
-    let b = put(rt, arena, 1, 10)?;
-    let c = put(rt, arena, 2, 30)?;
+    let a = put(rt, arena, 0, 40, 1)?;
+    let b = put(rt, arena, 1, 10, 2)?;
+    let c = put(rt, arena, 2, 30, 4)?;
     swap_first(rt, column, a, b, c)?;
     assert_eq!(rt; crack(rt, arena, column, (0, 2), 20), 1);
     assert_eq!(rt; column.place_of(c), Some(1));
@@ -166,6 +180,79 @@ fn handles_go_in_and_out(rt: HostRuntime) -> Result<(), Fail> {
     let mut arena = Arena::new(rt.alloc());
     let mut column = CrackerColumn::new(rt.alloc());
     let told = swap_and_pop(&rt, &mut arena, &mut column);
+    drop(column);
+    drop(arena);
+    told
+}
+
+/// What is to be remembered of the row that the handle reads.
+fn memory(arena: &Arena<Row>, handle: Handle<Row>) -> Remembered
+    ensures { Agrees arena.now.cells handle result }
+{
+    match arena.get(handle) {
+        Some(row) => Remembered::of(*row),
+        None => Remembered::nothing(),
+    }
+}
+
+/// Appends a row that is remembered and one with the greatest key, and swaps another in for the first.
+fn append_remembered(
+    rt: &impl Abort,
+    arena: &Arena<Row>,
+    column: &mut CrackerColumn,
+    a: Handle<Row>,
+    b: Handle<Row>,
+    c: Handle<Row>,
+) -> Result<(), Fail>
+    requires remembered { Remembers arena.now.cells column.old.handles column.old.remembered }
+    ensures remembered { OnOk result (Remembers arena.now.cells column.new.handles column.new.remembered) }
+{
+    let len = column.len();
+    assert!(rt; len == 0);
+    column.reserve(2)?;
+    column.append_remembered(a, memory(arena, a));
+    column.append_remembered(b, memory(arena, b));
+    let (out, _) = column.swap_in_remembered(0, c, memory(arena, c));
+    assert!(rt; out == a);
+    Ok(())
+}
+
+fn slot_at(rt: &impl Abort, column: &CrackerColumn, place: usize) -> u32 {
+    let len = column.len();
+    assert!(rt; place < len);
+    column.slot_at(place)
+}
+
+/// Where a handle stands in the second of two places.
+fn place_in_second(rt: &impl Abort, column: &CrackerColumn, handle: Handle<Row>) -> Option<usize> {
+    let len = column.len();
+    assert!(rt; len == 2);
+    column.place_between(1, 2, handle)
+}
+
+fn remember(rt: &impl Abort, arena: &mut Arena<Row>, column: &mut CrackerColumn) -> Result<(), Fail>
+    requires remembered { (cells : List (Cell RowValue)) → Remembers cells column.old.handles column.old.remembered }
+{
+    let a = put(rt, arena, 0, 40, 1)?;
+    let b = put(rt, arena, 1, 4294967295, 4294967295)?;
+    let c = put(rt, arena, 2, 30, 4)?;
+    append_remembered(rt, arena, column, a, b, c)?;
+    assert_eq!(rt; slot_at(rt, column, 1), 1);
+    assert_eq!(rt; place_in_second(rt, column, b), Some(1));
+    assert_eq!(rt; place_in_second(rt, column, c), None);
+    assert_eq!(rt; sum(rt, arena, column, (0, 2)), 4294967299);
+    assert_eq!(rt; crack(rt, arena, column, (0, 2), 31), 1);
+    let popped = column.pop_remembered();
+    assert!(rt; popped.is_some());
+    assert_eq!(rt; sum(rt, arena, column, (0, 1)), 4);
+    Ok(())
+}
+
+#[test]
+fn sums_are_of_remembered_payloads(rt: HostRuntime) -> Result<(), Fail> {
+    let mut arena = Arena::new(rt.alloc());
+    let mut column = CrackerColumn::new(rt.alloc());
+    let told = remember(&rt, &mut arena, &mut column);
     drop(column);
     drop(arena);
     told

@@ -1,19 +1,19 @@
 //! The bounds of a cracked column and their places.
 
-use crack_index::CrackerIndex;
+use crack_index::{CrackerIndex, NearBound, Piece};
 use crack_row::{Bound, GREATEST_BOUND, Key, KeyRange, PieceSize};
 use std::alloc::Global;
 use std::process::Abort;
-use std::test::Fail;
 
 /// The bounds 10, 20 and 30 at the places 0, 1 and 1.
-fn tens(alloc: Global) -> Result<CrackerIndex, Fail> {
+fn tens(rt: &impl Abort, alloc: Global) -> CrackerIndex {
     let mut index = CrackerIndex::new(alloc);
-    index.reserve(3)?;
+    let room = index.reserve(3);
+    assert!(rt; room.is_ok());
     index.add(Bound(10), 0);
     index.add(Bound(30), 1);
     index.add(Bound(20), 1);
-    Ok(index)
+    index
 }
 
 /// Where the bounds 10, 20 and 30 stand.
@@ -25,22 +25,33 @@ fn places(index: &CrackerIndex) -> [Option<usize>; 3] {
     ]
 }
 
-#[test]
-fn neighbours_and_piece_of_a_bound(rt: HostRuntime) -> Result<(), Fail> {
-    let mut index = CrackerIndex::new(rt.alloc());
+/// The bounds 15 and 25 at the places 1 and 2.
+fn fifteen_and_twenty_five(rt: &impl Abort, alloc: Global) -> CrackerIndex {
+    let mut index = CrackerIndex::new(alloc);
     assert!(rt; index.is_empty());
-    index.reserve(2)?;
+    let room = index.reserve(2);
+    assert!(rt; room.is_ok());
     index.add(Bound(25), 2);
     index.add(Bound(15), 1);
-    assert_eq!(rt; index.next_after(Bound(15)), Some((Bound(25), 2)));
-    assert_eq!(rt; index.next_after(Bound(25)), None);
-    let piece = index.piece_of(Key(15), 4);
-    assert_eq!(rt; (piece.low, piece.high), (Some(Bound(15)), Some(Bound(25))));
-    assert_eq!(rt; (piece.from, piece.to), (1, 2));
-    assert_eq!(rt; index.position(Bound(25)), Some(2));
-    assert_eq!(rt; index.position(Bound(20)), None);
+    index
+}
+
+#[test]
+fn neighbours_and_piece_of_a_bound(rt: HostRuntime) {
+    let index = fifteen_and_twenty_five(&rt, rt.alloc());
+    let next = [index.next_after(Bound(15)), index.next_after(Bound(25))];
+    assert_eq!(rt; next, [Some((Bound(25), 2)), None]);
+    let places = [index.position(Bound(25)), index.position(Bound(20))];
+    assert_eq!(rt; places, [Some(2), None]);
+    let between = Piece {
+        low: Some(Bound(15)),
+        high: Some(Bound(25)),
+        from: 1,
+        to: 2,
+    };
+    assert_eq!(rt; index.piece_of(Key(15), 4), between);
     assert_eq!(rt; index.len(), 2);
-    Ok(())
+    drop(index);
 }
 
 fn piece(low: u64, high: u64, size: u64) -> PieceSize {
@@ -52,24 +63,22 @@ fn piece(low: u64, high: u64, size: u64) -> PieceSize {
 }
 
 #[test]
-fn pieces_join_and_make_up_the_column(rt: HostRuntime) -> Result<(), Fail> {
-    let mut index = CrackerIndex::new(rt.alloc());
-    index.reserve(2)?;
-    index.add(Bound(15), 1);
-    index.add(Bound(25), 2);
+fn pieces_join_and_make_up_the_column(rt: HostRuntime) {
+    let index = fifteen_and_twenty_five(&rt, rt.alloc());
     let sizes = [
         piece(0, 15, 1),
         piece(15, 25, 1),
         piece(25, GREATEST_BOUND, 2),
     ];
-    let pieces = index.pieces(KeyRange::all(), 4)?;
+    let pieces = index.pieces(KeyRange::all(), 4).expect(&rt, "the pieces");
     assert_eq!(rt; pieces.as_slice(), sizes.as_slice());
-    Ok(())
+    drop(pieces);
+    drop(index);
 }
 
 /// Where the bounds stand once those from this one on that stand where it stands moved up.
-fn raised(rt: &impl Abort, alloc: Global, bound: Bound) -> Result<[Option<usize>; 3], Fail> {
-    let mut index = tens(alloc)?;
+fn raised(rt: &impl Abort, alloc: Global, bound: Bound) -> [Option<usize>; 3] {
+    let mut index = tens(rt, alloc);
     match index.position(bound) {
         Some(place) => {
             assert!(rt; place < 1000);
@@ -77,12 +86,12 @@ fn raised(rt: &impl Abort, alloc: Global, bound: Bound) -> Result<[Option<usize>
         }
         None => panic!(rt; "the bound is there"),
     }
-    Ok(places(&index))
+    places(&index)
 }
 
 /// Where the bounds stand once those up to this one that stand where it stands moved down.
-fn lowered(rt: &impl Abort, alloc: Global, bound: Bound) -> Result<[Option<usize>; 3], Fail> {
-    let mut index = tens(alloc)?;
+fn lowered(rt: &impl Abort, alloc: Global, bound: Bound) -> [Option<usize>; 3] {
+    let mut index = tens(rt, alloc);
     match index.position(bound) {
         Some(place) => {
             assert!(rt; 0 < place);
@@ -90,25 +99,75 @@ fn lowered(rt: &impl Abort, alloc: Global, bound: Bound) -> Result<[Option<usize
         }
         None => panic!(rt; "the bound is there"),
     }
-    Ok(places(&index))
+    places(&index)
 }
 
 /// Where the bounds stand once those at place 1 moved down.
-fn lowered_at_one(alloc: Global) -> Result<[Option<usize>; 3], Fail> {
-    let mut index = tens(alloc)?;
+fn lowered_at_one(rt: &impl Abort, alloc: Global) -> [Option<usize>; 3] {
+    let mut index = tens(rt, alloc);
     index.lower_at(1);
-    Ok(places(&index))
+    places(&index)
 }
 
 #[test]
-fn bounds_at_one_place_move_together(rt: HostRuntime) -> Result<(), Fail> {
+fn bounds_at_one_place_move_together(rt: HostRuntime) {
     let alloc = rt.alloc();
-    assert_eq!(rt; raised(&rt, alloc, Bound(30))?, [Some(0), Some(1), Some(2)]);
-    assert_eq!(rt; raised(&rt, alloc, Bound(20))?, [Some(0), Some(2), Some(2)]);
-    assert_eq!(rt;
-        lowered(&rt, alloc, Bound(20))?,
-        [Some(0), Some(0), Some(1)]
-    );
-    assert_eq!(rt; lowered_at_one(alloc)?, [Some(0), Some(0), Some(0)]);
-    Ok(())
+    assert_eq!(rt; raised(&rt, alloc, Bound(30)), [Some(0), Some(1), Some(2)]);
+    assert_eq!(rt; raised(&rt, alloc, Bound(20)), [Some(0), Some(2), Some(2)]);
+    assert_eq!(rt; lowered(&rt, alloc, Bound(20)), [Some(0), Some(0), Some(1)]);
+    assert_eq!(rt; lowered_at_one(&rt, alloc), [Some(0), Some(0), Some(0)]);
+}
+
+/// The bound that a search or a step found, and where it stands.
+fn found(near: Option<NearBound>) -> Option<(Bound, usize)> {
+    match near {
+        Some(near) => Some((near.bound(), near.position())),
+        None => None,
+    }
+}
+
+#[test]
+fn bounds_next_to_a_key(rt: HostRuntime) {
+    let index = tens(&rt, rt.alloc());
+    let above = [
+        found(index.bound_above(Key(10))),
+        found(index.bound_above(Key(30))),
+    ];
+    assert_eq!(rt; above, [Some((Bound(20), 1)), None]);
+    let below = [
+        found(index.bound_below(Key(29))),
+        found(index.bound_below(Key(9))),
+    ];
+    assert_eq!(rt; below, [Some((Bound(20), 1)), None]);
+    drop(index);
+}
+
+/// Two steps up: past the place of bound 10, and past that of the other two.
+#[test]
+fn steps_up_go_from_place_to_place(rt: HostRuntime) {
+    let mut index = tens(&rt, rt.alloc());
+    let Some(ten) = index.bound_above(Key(9)) else {
+        panic!(rt; "no bound above 9")
+    };
+    assert!(rt; ten.position() == 0);
+    let Some(twenty) = index.raise_past(ten) else {
+        panic!(rt; "no bound behind place 0")
+    };
+    assert!(rt; twenty.position() == 1);
+    assert_eq!(rt; found(index.raise_past(twenty)), None);
+    assert_eq!(rt; places(&index), [Some(1), Some(2), Some(2)]);
+    drop(index);
+}
+
+/// A step down: past the place of the bounds 20 and 30.
+#[test]
+fn a_step_down_goes_to_the_place_before(rt: HostRuntime) {
+    let mut index = tens(&rt, rt.alloc());
+    let Some(thirty) = index.bound_below(Key(30)) else {
+        panic!(rt; "no bound at or below 30")
+    };
+    assert!(rt; thirty.position() == 1);
+    assert_eq!(rt; found(index.lower_past(thirty)), Some((Bound(10), 0)));
+    assert_eq!(rt; places(&index), [Some(0), Some(0), Some(0)]);
+    drop(index);
 }

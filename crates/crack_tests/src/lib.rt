@@ -15,3 +15,5 @@ mod pending;
 mod row;
 #[cfg(test)]
 mod store;
+#[cfg(test)]
+mod store_points;

@@ -1,6 +1,9 @@
-//! Copies of replies, lists of pieces, common parts of ranges, and a writer that takes nothing.
+//! Copies of replies, the size of an entry, lists of pieces, common parts of ranges, and a writer that takes nothing.
 
-use crack_row::{Bound, KeyRange, PieceList, PieceSize, Reply, Serial, Watched};
+use crack_row::{
+    Bound, Entry, Key, KeyRange, Payload, PieceList, PieceSize, Reply, Row, RowList, Serial,
+    Watched,
+};
 use std::io;
 use std::io::Write;
 use std::test::Fail;
@@ -20,12 +23,53 @@ impl Write for Full {
     }
 }
 
+/// A row.
+fn row(serial: u64, key: u32, payload: u32) -> Row {
+    Row {
+        serial: Serial(serial),
+        key: Key(key),
+        payload: Payload(payload),
+    }
+}
+
 #[test]
-fn replies_are_copied(rt: HostRuntime) -> Result<(), Fail> {
+fn flat_replies_are_copied(rt: HostRuntime) -> Result<(), Fail> {
     let placed = Reply::Placed(Serial(3)).copy(rt.alloc())?;
     assert!(rt; matches!(placed, Reply::Placed(Serial(3))));
-    let counted = Reply::Counted(4).copy(rt.alloc())?;
-    assert!(rt; matches!(counted, Reply::Counted(4)));
+    let gone = Reply::Gone(row(3, 7, 70)).copy(rt.alloc())?;
+    assert!(rt;
+        matches!(
+            gone,
+            Reply::Gone(Row {
+                serial: Serial(3),
+                key: Key(7),
+                payload: Payload(70)
+            })
+        )
+    );
+    let summed = Reply::Summed(79228162514264337593543950335).copy(rt.alloc())?;
+    assert!(rt; matches!(summed, Reply::Summed(79228162514264337593543950335)));
+    Ok(())
+}
+
+#[test]
+fn listed_rows_are_copied(rt: HostRuntime) -> Result<(), Fail> {
+    let mut rows = Vec::new(rt.alloc());
+    rows.push(row(3, 7, 70))?;
+    rows.push(row(4, 6, 60))?;
+    let copied = RowList::from_vec(rows).copy(rt.alloc())?;
+    assert_eq!(rt;
+        copied.as_slice(),
+        [row(3, 7, 70), row(4, 6, 60)].as_slice()
+    );
+    assert_eq!(rt; copied.into_vec().len(), 2);
+    Ok(())
+}
+
+/// What a history takes for each answered command, beside the rows of a select.
+#[test]
+fn an_entry_takes_at_most_64_bytes(rt: HostRuntime) -> Result<(), Fail> {
+    assert!(rt; size_of::<Entry>() <= 64);
     Ok(())
 }
 

@@ -1,54 +1,58 @@
 //! A store: each call with ample memory; and which bounds move where several stand at one place.
-ghost use Rattle.std.specs.Prelude.{◌≡◌, ◌<◌, length, IfOk, OnOk};
+ghost use Rattle.std.specs.Prelude.{◌≡◌, ◌<◌, length};
 
-use crack_row::{Bound, GREATEST_BOUND, Key, KeyRange, Payload, Row, Serial};
+use crack_row::{Bound, GREATEST_BOUND, Key, KeyRange, Payload, PieceSize, Row, Serial};
 use crack_store::{Carrying, Store};
 use std::alloc::Global;
 use std::process::Abort;
-use std::test::Fail;
 
-/// Puts a row among the pending insertions of a store of all keys.
-fn admit(rt: &impl Abort, store: &mut Store, serial: u64, key: u32) -> Result<(), Fail>
+/// Puts a row among the pending insertions of a store of all keys; its payload is half its key.
+pub fn admit(rt: &impl Abort, store: &mut Store, serial: u64, key: u32)
     requires low { store.old.keys.low ≡ 0 }
     requires high { store.old.keys.high ≡ GREATEST_BOUND }
-    ensures low { OnOk result (store.new.keys.low ≡ 0) }
-    ensures high { OnOk result (store.new.keys.high ≡ GREATEST_BOUND) }
+    ensures low { store.new.keys.low ≡ 0 }
+    ensures high { store.new.keys.high ≡ GREATEST_BOUND }
 {
     let there = store.is_pending(Serial(serial)).is_some();
     let cells = store.cells();
     assert!(rt; !there);
     assert!(rt; cells < 1000);
-    store.admit(Row {
+    let admitted = store.admit(Row {
         serial: Serial(serial),
         key: Key(key),
-        payload: Payload(0),
-    })?;
+        payload: Payload(key / 2),
+    });
+    assert!(rt; admitted.is_ok());
     assert_eq!(rt; store.is_pending(Serial(serial)), Some(true));
-    Ok(())
 }
 
 /// A store of all keys with three rows among its pending insertions.
-fn admit_three(rt: &impl Abort, alloc: Global, keys: [u32; 3]) -> Result<Store, Fail> {
+pub fn admit_three(rt: &impl Abort, alloc: Global, keys: [u32; 3]) -> Store
+    ensures low { result.keys.low ≡ 0 }
+    ensures high { result.keys.high ≡ GREATEST_BOUND }
+{
     let mut store = Store::new(alloc, KeyRange::all());
     assert_eq!(rt; store.is_pending(Serial(0)), None);
-    admit(rt, &mut store, 0, keys[0])?;
-    admit(rt, &mut store, 1, keys[1])?;
-    admit(rt, &mut store, 2, keys[2])?;
-    Ok(store)
+    admit(rt, &mut store, 0, keys[0]);
+    admit(rt, &mut store, 1, keys[1]);
+    admit(rt, &mut store, 2, keys[2]);
+    store
 }
 
 /// Makes room, and takes the first pending insertion into the hand.
-fn lift_first(rt: &impl Abort, store: Store) -> Result<Carrying, Fail>
-    ensures room { IfOk result (λ c. 0 < c.store.column_room) }
-    ensures doomed { IfOk result (λ c. length c.store.pending_out ≡ 0) }
+fn lift_first(rt: &impl Abort, store: Store) -> Carrying
+    ensures room { 0 < result.store.column_room }
+    ensures doomed { length result.store.pending_out ≡ 0 }
+    ensures keys { result.store.keys ≡ store.keys }
 {
     let mut store = store;
-    store.make_room()?;
+    let room = store.make_room();
+    assert!(rt; room.is_ok());
     let pending_in = store.pending_in();
     let pending_out = store.pending_out();
     assert!(rt; pending_in > 0);
     assert!(rt; pending_out == 0);
-    Ok(store.lift(0))
+    store.lift(0)
 }
 
 /// Pushes on, before the column's end.
@@ -68,6 +72,7 @@ fn push_on(rt: &impl Abort, carrying: Carrying) -> Carrying
 fn append(rt: &impl Abort, carrying: Carrying) -> Store
     requires room { 0 < carrying.store.column_room }
     requires doomed { length carrying.store.pending_out ≡ 0 }
+    ensures keys { result.keys ≡ carrying.store.keys }
 {
     let end = carrying.own_piece().to;
     let len = carrying.column_len();
@@ -76,83 +81,90 @@ fn append(rt: &impl Abort, carrying: Carrying) -> Store
 }
 
 /// Cracks at the ends of the range, between which so many rows then stand.
-fn crack(rt: &impl Abort, store: &mut Store, low: u128, high: u128, rows: u64) -> Result<(), Fail> {
-    let range = KeyRange::new(low, high)?;
-    store.crack(range)?;
+fn crack(rt: &impl Abort, store: &mut Store, low: u128, high: u128, rows: u64) {
+    let range = KeyRange::new(low, high).expect(rt, "a range");
+    let cracked = store.crack(range);
+    assert!(rt; cracked.is_ok());
     assert_eq!(rt; store.count_between(range), rows);
-    Ok(())
 }
 
-/// Asserts that all rows are counted, and that the pieces have these sizes, in rising order.
-fn assert_sizes(rt: &impl Abort, store: &Store, sizes: &[u64]) -> Result<(), Fail> {
-    let layout = store.layout()?;
+/// Asserts that all rows are counted, and that the pieces have these sizes.
+fn assert_sizes(rt: &impl Abort, store: &Store, sizes: &[u64]) {
+    let layout = store.layout().expect(rt, "a layout");
     assert_eq!(rt; layout.rows, 3);
-    let pieces = layout.pieces.as_slice();
+    assert_piece_sizes(rt, layout.pieces.as_slice(), sizes);
+}
+
+/// Asserts that the pieces have these sizes, in rising order.
+pub fn assert_piece_sizes(rt: &impl Abort, pieces: &[PieceSize], sizes: &[u64]) {
     assert_eq!(rt; pieces.len(), sizes.len());
     for i in 0..pieces.len() {
         assert_eq!(rt; pieces[i].size, sizes[i], "from {}", pieces[i].low.0);
     }
-    Ok(())
 }
 
 /// A store of three rows, the first two of them in its column.
-fn append_two(rt: &impl Abort, alloc: Global, keys: [u32; 3]) -> Result<Store, Fail> {
-    let store = admit_three(rt, alloc, keys)?;
-    let store = append(rt, lift_first(rt, store)?);
-    Ok(append(rt, lift_first(rt, store)?))
+pub fn append_two(rt: &impl Abort, alloc: Global, keys: [u32; 3]) -> Store
+    ensures low { result.keys.low ≡ 0 }
+    ensures high { result.keys.high ≡ GREATEST_BOUND }
+{
+    let store = admit_three(rt, alloc, keys);
+    let store = append(rt, lift_first(rt, store));
+    append(rt, lift_first(rt, store))
 }
 
 /// Asserts that three rows are pending insertions, and nothing else is there.
 fn assert_three_pending(rt: &impl Abort, store: &Store) {
-    assert_eq!(rt; store.pending_in(), 3);
-    assert_eq!(rt; store.pending_out(), 0);
-    assert_eq!(rt; store.column_len(), 0);
-    assert_eq!(rt; store.cells(), 3);
-    assert_eq!(rt; store.free_cells(), 0);
+    let rows = [store.pending_in(), store.pending_out(), store.column_len()];
+    assert_eq!(rt; rows, [3, 0, 0]);
+    let cells = [store.cells(), store.free_cells()];
+    assert_eq!(rt; cells, [3, 0]);
 }
 
 /// Asserts which pending row is found first, and where the bounds go on.
-fn assert_found(rt: &impl Abort, store: &Store) -> Result<(), Fail> {
-    let range = KeyRange::new(20, 50)?;
+fn assert_found(rt: &impl Abort, store: &Store) {
+    let range = KeyRange::new(20, 50).expect(rt, "a range");
     assert_eq!(rt; store.first_in(range), Some(1));
     assert_eq!(rt; store.first_out(KeyRange::all()), None);
     assert_eq!(rt; store.next_bound(Bound(20)).0, GREATEST_BOUND);
-    Ok(())
 }
 
 /// Pushes the first pending insertion on once, which takes a row of this key into the hand, and appends that.
-fn push_once(rt: &impl Abort, store: Store, key: u32) -> Result<Store, Fail> {
-    let carrying = push_on(rt, lift_first(rt, store)?);
+fn push_once(rt: &impl Abort, store: Store, key: u32) -> Store {
+    let carrying = push_on(rt, lift_first(rt, store));
     let (_, row) = carrying.hand();
     assert_eq!(rt; row.key.0, key);
     let tally = carrying.tally();
     assert_eq!(rt; tally.put_in, 3);
     assert_eq!(rt; tally.moved, 1);
-    Ok(append(rt, carrying))
+    append(rt, carrying)
 }
 
 #[test]
-fn store_reads_what_was_admitted(rt: HostRuntime) -> Result<(), Fail> {
-    let store = admit_three(&rt, rt.alloc(), [10, 40, 15])?;
+fn store_reads_what_was_admitted(rt: HostRuntime) {
+    let store = admit_three(&rt, rt.alloc(), [10, 40, 15]);
     assert_three_pending(&rt, &store);
-    assert_found(&rt, &store)
+    assert_found(&rt, &store);
+    drop(store);
 }
 
 /// Both bounds at a place move up together, when a row is put there whose key is below them.
 #[test]
-fn two_bounds_at_one_place_move_together(rt: HostRuntime) -> Result<(), Fail> {
-    let mut store = append_two(&rt, rt.alloc(), [10, 40, 15])?;
-    crack(&rt, &mut store, 20, 30, 0)?;
-    crack(&rt, &mut store, 10, 20, 1)?;
-    let store = push_once(&rt, store, 40)?;
-    assert_sizes(&rt, &store, &[0, 2, 0, 1])
+fn two_bounds_at_one_place_move_together(rt: HostRuntime) {
+    let mut store = append_two(&rt, rt.alloc(), [10, 40, 15]);
+    crack(&rt, &mut store, 20, 30, 0);
+    crack(&rt, &mut store, 10, 20, 1);
+    let store = push_once(&rt, store, 40);
+    assert_sizes(&rt, &store, &[0, 2, 0, 1]);
+    drop(store);
 }
 
 /// The low bound of an empty piece stays where it is, though it stands where the piece's high bound moves up.
 #[test]
-fn low_bound_of_an_empty_piece_stays(rt: HostRuntime) -> Result<(), Fail> {
-    let mut store = append_two(&rt, rt.alloc(), [10, 15, 25])?;
-    crack(&rt, &mut store, 20, 30, 0)?;
-    let store = append(&rt, lift_first(&rt, store)?);
-    assert_sizes(&rt, &store, &[2, 1, 0])
+fn low_bound_of_an_empty_piece_stays(rt: HostRuntime) {
+    let mut store = append_two(&rt, rt.alloc(), [10, 15, 25]);
+    crack(&rt, &mut store, 20, 30, 0);
+    let store = append(&rt, lift_first(&rt, store));
+    assert_sizes(&rt, &store, &[2, 1, 0]);
+    drop(store);
 }

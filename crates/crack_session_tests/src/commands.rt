@@ -1,0 +1,94 @@
+//! The texts of the greatest numbers, a layout's among them, and writers that fail within one.
+use crate::devices::Failing;
+use crack_commands::{write_head, write_layout, write_reply, write_row};
+use crack_row::{
+    Bound, GREATEST_BOUND, GREATEST_KEY, GREATEST_PAYLOAD, Key, Layout, Payload, PieceList,
+    PieceSize, Refusal, Reply, Row, Serial, Watched,
+};
+use std::alloc::Global;
+use std::process::Abort;
+use std::test::Fail;
+
+/// The row of the greatest numbers.
+fn greatest_row() -> Row {
+    Row {
+        serial: Serial(u64::MAX),
+        key: Key(GREATEST_KEY),
+        payload: Payload(GREATEST_PAYLOAD),
+    }
+}
+
+/// A layout of the greatest numbers, with two pieces.
+fn greatest_layout(alloc: Global) -> Result<Layout, Fail> {
+    let piece = PieceSize {
+        low: Bound(GREATEST_BOUND),
+        high: Bound(GREATEST_BOUND),
+        size: u64::MAX,
+    };
+    let mut pieces = Vec::new(alloc);
+    pieces.push(piece)?;
+    pieces.push(piece)?;
+    Ok(Layout {
+        rows: u64::MAX,
+        column: u64::MAX,
+        pending_out: u64::MAX,
+        pending_in: u64::MAX,
+        cells: u64::MAX,
+        free: u64::MAX,
+        pieces: PieceList::from_vec(pieces),
+    })
+}
+
+#[test]
+fn greatest_numbers_are_written(rt: HostRuntime) -> Result<(), Fail> {
+    let mut writer = Watched::new(Vec::new(rt.alloc()));
+    write_reply(u32::MAX, &Reply::Placed(Serial(u64::MAX)), &mut writer)?;
+    write_reply(0, &Reply::Gone(greatest_row()), &mut writer)?;
+    write_reply(0, &Reply::Summed(u128::MAX), &mut writer)?;
+    write_head(u64::MAX, &mut writer)?;
+    write_row(u32::MAX, &greatest_row(), &mut writer)?;
+    let text = writer.into_inner();
+    let told =
+        "row 4294967295.18446744073709551615\ngone 4294967295 4294967295\nsum 340282366920938463463374607431768211455\n\
+rows 18446744073709551615\n4294967295.18446744073709551615 4294967295 4294967295\n";
+    assert_eq!(rt; text.as_slice(), told.as_bytes());
+    Ok(())
+}
+
+/// The text of a layout, to a writer that fails from a call on.
+fn layout_until(
+    rt: &impl Abort,
+    alloc: Global,
+    layout: &Layout,
+    fails_at: u64,
+) -> Result<Vec<u8>, Fail> {
+    let mut writer = Watched::new(Failing {
+        calls: 0,
+        fails_at,
+        bytes: Vec::new(alloc),
+    });
+    let result = write_layout(u32::MAX, layout, &mut writer);
+    assert_eq!(rt; result.err(), Some(Refusal::WriteFault));
+    assert!(rt; writer.failed());
+    Ok(writer.into_inner().bytes)
+}
+
+#[test]
+fn layouts_are_written_as_far_as_the_writer_goes(rt: HostRuntime) -> Result<(), Fail> {
+    let layout = greatest_layout(rt.alloc())?;
+    let mut writer = Watched::new(Vec::new(rt.alloc()));
+    write_layout(u32::MAX, &layout, &mut writer)?;
+    let whole = writer.into_inner();
+    let most = "18446744073709551615";
+    let told = format!(in rt.alloc();
+        "layout 4294967295 rows {most} column {most} out {most} in {most} cells {most} free {most} pieces 2\n\
+piece 4294967296 4294967296 {most}\npiece 4294967296 4294967296 {most}\n"
+    )?;
+    assert_eq!(rt; whole.as_slice(), told.as_bytes());
+    for fails_at in 0..5 {
+        let front = layout_until(&rt, rt.alloc(), &layout, fails_at)?;
+        assert!(rt; front.len() < whole.len());
+        assert_eq!(rt; front.as_slice(), &whole.as_slice()[..front.len()]);
+    }
+    Ok(())
+}
