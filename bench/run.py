@@ -1,7 +1,7 @@
 #!/usr/bin/env python3
 """Measures the proved programs beside plain Rust, and compares the ratios with their bounds: run.py [--once] [WHAT ..]
 
-WHAT is session, instructions, arena, column or partition; all of them without a word. Wants a quiet machine, rustc, and the programs, which are
+WHAT is session, instructions, memory, arena, column, partition, updates or growth; all of them without a word. Wants a quiet machine, rustc, and the programs, which are
 built (and first proved, where they aren't) by `rt run`. Each number is the median of five runs; with --once of one. The programs and
 their peers run in turn, so that all meet the same machine. Instructions are counted by valgrind where it is installed, and then once,
 since they are the same each time. Prints a table, and ends with status 1 where a ratio is above its bound,
@@ -16,6 +16,7 @@ import shutil
 import statistics
 import subprocess
 import sys
+import time
 
 TOP = pathlib.Path(__file__).resolve().parent.parent
 OUT = TOP / "bench" / "out"
@@ -29,7 +30,12 @@ WORDS = {"crackd": ["script"], "crack_bench": ["all", "1", "1", "1"]}
 STEPS, CELLS = 10_000_000, 100_000
 ROWS = 1_000_000
 LINES = 200_000
-PART_ROWS, COUNTS = 500_000, 1000
+DELETES = 100_000
+PART_ROWS, RANGES = 500_000, 1000
+POLICIES = ["complete", "gradual"]
+# how many sums, and how many deletes and inserts before each
+BATCHES = [(1000, 10), (100, 1000)]
+PIECES, PENDING = 1000, 1000
 # a history has at most a million entries
 MOST_PART_ROWS = 998_000
 
@@ -39,7 +45,7 @@ class Table:
 
     def __init__(self):
         self.is_well = True
-        print(f"{'what':52} {'measured':>12} {'beside it':>12} {'ratio':>7} {'bound':>6}")
+        print(f"{'what':68} {'measured':>12} {'beside it':>12} {'ratio':>7} {'bound':>6}")
 
     def line(self, what, measured, beside, bound=None):
         ratio = measured / beside
@@ -47,14 +53,21 @@ class Table:
         if bound is not None and ratio > bound:
             self.is_well, mark = False, "  ABOVE"
         shown = "-" if bound is None else f"{bound:.1f}"
-        print(f"{what:52} {measured * 1000:9.2f} ms {beside * 1000:9.2f} ms {ratio:7.2f} {shown:>6}{mark}", flush=True)
+        print(f"{what:68} {measured * 1000:9.2f} ms {beside * 1000:9.2f} ms {ratio:7.2f} {shown:>6}{mark}", flush=True)
+
+    def numbers(self, what, measured, beside, bound):
+        """A line of instructions beside others."""
+        mark = ""
+        if measured / beside > bound:
+            self.is_well, mark = False, "  ABOVE"
+        print(f"{what:68} {measured / 1e6:9.1f} M {beside / 1e6:9.1f} M {measured / beside:7.2f} {bound:6.1f}{mark}", flush=True)
 
     def count(self, what, each, bound):
-        """A line of instructions, where they are bounded by a number."""
+        """A line of instructions or bytes, where they are bounded by a number."""
         mark = ""
         if each > bound:
             self.is_well, mark = False, "  ABOVE"
-        print(f"{what:52} {each:12.0f} {'':12} {'':7} {bound:6}{mark}", flush=True)
+        print(f"{what:68} {each:12.0f} {'':12} {'':7} {bound:6}{mark}", flush=True)
 
 
 def build(names):
@@ -146,13 +159,60 @@ def instructions(words, source):
     return int(re.search(r"Collected : (\d+)", ran.stderr)[1])
 
 
+def script(name, lines):
+    """A file of these lines."""
+    path = OUT / name
+    path.write_text("".join(f"{line}\n" for line in lines))
+    return path
+
+
+def deletes(count, behind):
+    """A file of inserts, of these lines behind them, and of as many deletes of the rows in random order, which end with these lines too."""
+    order = list(range(PART_ROWS))
+    random.Random(5).shuffle(order)
+    rows = random_inserts(PART_ROWS).read_text().splitlines()
+    return script(f"deletes-{count}", [*rows, *behind, *(f"delete 0.{serial}" for serial in order[:count]), *(behind if count else [])])
+
+
 def measure_instructions(table, _runs):
     if not shutil.which("valgrind"):
         print("valgrind isn't installed: instructions aren't counted")
         return
-    for lines, bound in ((LINES // 2, 900), (PART_ROWS, 1000)):
+    for lines, bound in ((LINES // 2, 950), (PART_ROWS, 1000)):
         each = instructions([CRACKD, "script"], random_inserts(lines)) / lines
         table.count(f"instructions of each of {lines} random inserts", each, bound)
+    for what, behind in (("pending rows", []), ("a column of one piece, and a count", ["count 0 4294967296"])):
+        none, half, whole = (instructions([CRACKD, "script"], deletes(count, behind)) for count in (0, DELETES // 2, DELETES))
+        table.numbers(f"instructions of {DELETES} deletes of {what}, beside half", whole - none, half - none, 2.2)
+
+
+def status_of(process, name):
+    """A number of /proc's status of a process, by its name."""
+    text = pathlib.Path(f"/proc/{process}/status").read_text(encoding="utf-8")
+    return int(re.search(rf"^{name}:\s+(\d+)", text, re.MULTILINE)[1])
+
+
+def resident(source):
+    """The greatest resident memory of the program over a file, in bytes: read while it waits for more, since what a child is charged with at its
+    end counts its parent's memory too."""
+    started = subprocess.Popen([CRACKD, "script"], stdin=subprocess.PIPE, stdout=subprocess.DEVNULL)
+    started.stdin.write(source.read_bytes())
+    started.stdin.flush()
+    switches = None
+    while switches != (switches := status_of(started.pid, "voluntary_ctxt_switches")):
+        time.sleep(0.5)
+    greatest = status_of(started.pid, "VmHWM") * 1024
+    started.stdin.close()
+    started.wait()
+    return greatest
+
+
+def measure_memory(table, _runs):
+    empty = resident(script("nothing", []))
+    rows = random_inserts(PART_ROWS).read_text().splitlines()
+    for what, behind, bound in (("pending", [], 170), ("in the column", ["count 0 4294967296"], 200)):
+        each = (resident(script("rows", [*rows, *behind])) - empty) / PART_ROWS
+        table.count(f"bytes of each of {PART_ROWS} rows, {what}", each, bound)
 
 
 def middle_of(times, *names):
@@ -175,11 +235,12 @@ def measure_column(table, runs):
     table.line("16 later cracks, over keys that are known", later, middle_of(theirs, "later"), 1.5)
 
 
-def measure_partition(table, runs):
-    words = [str(PART_ROWS), str(COUNTS)]
+def measure_counts(table, runs):
+    words = [str(PART_ROWS), str(RANGES)]
     # (those that are compared stand side by side, and far from the passes over all rows, which disturb what runs after them)
-    programs = [[PEERS, "rows"], [PEERS, "inline"], [BENCH, "partition"], [PEERS, "partition"]]
-    rows, inline, ours, same = compare([[*program, *words] for program in programs], runs)
+    programs = [[PEERS, "counts", "rows"], [PEERS, "counts", "inline"], [PEERS, "counts", "pairs"]]
+    programs += [[BENCH, "counts", "gradual"], [PEERS, "counts", "gradual"]]
+    rows, inline, pairs, ours, same = compare([[*program, *words] for program in programs], runs)
     for what, names in (
         (f"{PART_ROWS} inserts, beside plain Rust", ["load"]),
         ("a first count of everything, beside plain Rust", ["everything"]),
@@ -187,16 +248,42 @@ def measure_partition(table, runs):
     ):
         table.line(what, middle_of(ours, *names), middle_of(same, *names), 2.0)
     counts = middle_of(ours, "counts")
-    table.line(f"{COUNTS} counts of random ranges, beside plain Rust", counts, middle_of(same, "counts"), 1.5)
+    table.line(f"{RANGES} counts of random ranges, beside plain Rust", counts, middle_of(same, "counts"), 1.5)
+    table.line("the same, beside a crack of keys and payloads side by side", counts, middle_of(pairs, "counts"), 1.5)
     table.line("the same, beside a cracker column of inline keys", counts, middle_of(inline, "counts"), 3.0)
-    table.line("plain Rust, beside inline keys", middle_of(same, "counts"), middle_of(inline, "counts"))
-    table.line("the same counts, beside a pass over the rows for each", counts, middle_of(rows, "counts"), 0.2)
+    table.line("the same, beside a pass over the rows for each", counts, middle_of(rows, "counts"), 0.2)
+
+
+def measure_sums(table, runs):
+    words = [str(PART_ROWS), str(RANGES)]
+    programs = [[PEERS, "sums", "tree"], [PEERS, "sums", "pairs"], [BENCH, "sums", "gradual"], [PEERS, "sums", "gradual"]]
+    tree, pairs, ours, same = compare([[*program, *words] for program in programs], runs)
+    sums, again = middle_of(ours, "sums"), middle_of(ours, "again")
+    table.line(f"{RANGES} sums of random ranges, beside plain Rust", sums, middle_of(same, "sums"), 1.5)
+    table.line("the same, beside a crack of keys and payloads side by side", sums, middle_of(pairs, "sums"), 1.8)
+    table.line("the same sums again", again, middle_of(pairs, "again"), 4.0)
+    table.line("the sums, beside a tree's range sums", sums, middle_of(tree, "sums"), 1.0)
+
+
+def measure_updates(table, runs):
+    for policy in POLICIES:
+        for batches, size in BATCHES:
+            words = ["updates", policy, str(PART_ROWS), str(batches), str(size)]
+            ours, same = compare([[BENCH, *words], [PEERS, *words]], runs)
+            what = f"{policy}: {batches} sums, {size} deletes and inserts before each"
+            table.line(what, middle_of(ours, "updates"), middle_of(same, "updates"), 1.5)
+    words = [str(PART_ROWS), str(PIECES), str(PENDING)]
+    programs = [[BENCH, "merge", "complete"], [PEERS, "merge", "complete"], [PEERS, "merge", "anew"]]
+    ours, same, anew = compare([[*program, *words] for program in programs], runs)
+    merge = middle_of(ours, "merge")
+    table.line(f"{PENDING} rows into {PIECES} pieces, beside plain Rust", merge, middle_of(same, "merge"))
+    table.line("the same, beside a search at each step", merge, middle_of(anew, "merge"), 0.2)
 
 
 def measure_growth(table, runs):
     for rows in (PART_ROWS, MOST_PART_ROWS):
         sizes = [str(rows // 2), str(rows)]
-        programs = [[program, "partition", size, "1"] for program in (BENCH, PEERS) for size in sizes]
+        programs = [[program, "counts", "gradual", size, "1"] for program in (BENCH, PEERS) for size in sizes]
         half, whole, same_half, same = (times for _, times in in_turn(programs, runs))
         for what, names in (
             (f"{rows} inserts, beside {rows // 2}", ["load"]),
@@ -209,10 +296,16 @@ def measure_growth(table, runs):
 MEASURES = {
     "session": [measure_session],
     "instructions": [measure_instructions],
+    "memory": [measure_memory],
     "arena": [measure_arena],
     "column": [measure_column],
-    "partition": [measure_partition, measure_growth],
+    "partition": [measure_counts, measure_sums],
+    "updates": [measure_updates],
+    "growth": [measure_growth],
 }
+
+# those that run the program; the others run crack_bench
+OF_CRACKD = {"session", "instructions", "memory"}
 
 
 def main(words):
@@ -221,7 +314,7 @@ def main(words):
         sys.exit(__doc__)
     runs = 1 if "--once" in words else 5
     wanted = chosen or list(MEASURES)
-    build(sorted({"crackd" if word in ("session", "instructions") else "crack_bench" for word in wanted}))
+    build(sorted({"crackd" if word in OF_CRACKD else "crack_bench" for word in wanted}))
     table = Table()
     for word in wanted:
         for measure in MEASURES[word]:

@@ -1,5 +1,5 @@
-//! A cracker column over an arena: handles that no crack moves, and in cracked order places, each with the key of its row once it was
-//! read and the ticket of its handle.
+//! A cracker column over an arena: generations of cells that no crack moves, and in cracked order places, each with what is remembered of its
+//! row, the number of its cell and the ticket of its generation.
 
 use crate::arena::{Arena, Handle, Row, fill};
 use crate::numbers::{Numbers, mixed};
@@ -8,45 +8,155 @@ use std::time::Instant;
 /// Stands for a key that isn't remembered.
 pub const UNKNOWN: u32 = u32::MAX;
 
-/// What a crack exchanges.
+/// What a crack exchanges, 16 bytes.
 #[derive(Clone, Copy)]
 pub struct Place {
+    key: u32,
+    ticket: u32,
+    payload: u32,
+    slot: u32,
+}
+
+/// A handle, and what is remembered of its row.
+#[derive(Clone, Copy)]
+pub struct Held {
+    pub handle: Handle,
     pub key: u32,
-    pub ticket: u32,
+    pub payload: u32,
 }
 
-fn key_of(arena: &Arena<Row>, handle: Handle) -> u32 {
-    arena.get(handle).map_or(0, |row| row.key)
+#[derive(Default)]
+pub struct Column {
+    generations: Vec<u64>,
+    places: Vec<Place>,
+    len: usize,
+    unread: usize,
 }
 
-/// Reads each key that isn't known. How many are known now.
-pub fn learn(places: &mut [Place], handles: &[Handle], arena: &Arena<Row>) -> usize {
+impl Column {
+    pub fn len(&self) -> usize {
+        self.len
+    }
+
+    pub fn reserve(&mut self, additional: usize) {
+        let more = additional.saturating_sub(self.places.len() - self.len);
+        self.generations.reserve(more);
+        self.places.reserve(more);
+    }
+
+    pub fn slot_at(&self, place: usize) -> u32 {
+        self.places[..self.len][place].slot
+    }
+
+    pub fn slots(&self, from: usize, to: usize) -> impl Iterator<Item = u32> {
+        self.places[from..to].iter().map(|it| it.slot)
+    }
+
+    fn held(&self, place: usize) -> Held {
+        let Place {
+            key,
+            ticket,
+            payload,
+            slot,
+        } = self.places[place];
+        let handle = Handle {
+            slot,
+            generation: self.generations[ticket as usize],
+        };
+        Held {
+            handle,
+            key,
+            payload,
+        }
+    }
+
+    fn put(&mut self, place: usize, held: Held) {
+        let here = &mut self.places[place];
+        self.generations[here.ticket as usize] = held.handle.generation;
+        (here.key, here.payload, here.slot) = (held.key, held.payload, held.handle.slot);
+        self.unread += (held.key == UNKNOWN) as usize;
+    }
+
+    pub fn append(&mut self, held: Held) {
+        if self.len == self.places.len() {
+            let ticket = self.places.len() as u32;
+            self.generations.push(0);
+            self.places.push(Place {
+                key: UNKNOWN,
+                ticket,
+                payload: 0,
+                slot: 0,
+            });
+        }
+        self.len += 1;
+        self.put(self.len - 1, held);
+    }
+
+    pub fn swap_in(&mut self, place: usize, held: Held) -> Held {
+        let there = self.held(place);
+        self.put(place, held);
+        there
+    }
+
+    pub fn pop(&mut self) -> Held {
+        self.len -= 1;
+        self.held(self.len)
+    }
+
+    pub fn crack_two(&mut self, from: usize, to: usize, bound: u64, arena: &Arena<Row>) -> usize {
+        let places = &mut self.places[from..to];
+        if self.unread > 0 {
+            self.unread -= learn(places, &self.generations, arena);
+        }
+        from + divide(places, bound)
+    }
+
+    /// The sum of the payloads from a place up to another; reads a cell for a row that isn't known alone.
+    pub fn sum_between(&self, from: usize, to: usize, arena: &Arena<Row>) -> u64 {
+        if self.unread == 0 {
+            return self.places[from..to].iter().map(|it| u64::from(it.payload)).sum();
+        }
+        let rows = (from..to).map(|place| arena.get(self.held(place).handle));
+        rows.map(|row| row.map_or(0, |it| u64::from(it.payload))).sum()
+    }
+}
+
+/// Reads each row that isn't known. How many are known now.
+fn learn(places: &mut [Place], generations: &[u64], arena: &Arena<Row>) -> usize {
     let mut learned = 0;
     for place in places {
         if place.key == UNKNOWN {
-            place.key = key_of(arena, handles[place.ticket as usize]);
+            let handle = Handle {
+                slot: place.slot,
+                generation: generations[place.ticket as usize],
+            };
+            if let Some(row) = arena.get(handle) {
+                (place.key, place.payload) = (row.key, row.payload);
+            }
             learned += (place.key != UNKNOWN) as usize;
         }
     }
     learned
 }
 
-/// Puts the keys below the bound first, and gives their number.
-pub fn partition(places: &mut [Place], bound: u64) -> usize {
+/// Puts the keys below the bound first, and gives their number. The key is read first, and then the place.
+fn divide(places: &mut [Place], bound: u64) -> usize {
     let mut low = 0;
     for i in 0..places.len() {
         let below = u64::from(places[i].key) < bound;
-        places.swap(low, i);
+        let here = places[i];
+        places[i] = places[low];
+        places[low] = here;
         low += below as usize;
     }
     low
 }
 
 /// A crack that remembers no key: each is read through the arena at each crack.
-fn partition_through(handles: &mut [Handle], bound: u64, arena: &Arena<Row>) -> usize {
+fn divide_through(handles: &mut [Handle], bound: u64, arena: &Arena<Row>) -> usize {
     let mut low = 0;
     for i in 0..handles.len() {
-        let below = u64::from(key_of(arena, handles[i])) < bound;
+        let below = arena.get(handles[i]).map_or(0, |row| u64::from(row.key)) < bound;
         handles.swap(low, i);
         low += below as usize;
     }
@@ -65,26 +175,26 @@ pub fn run(rows: u64) {
     let (arena, mut handles) = fill(rows, &mut numbers);
     shuffle(&mut handles, &mut numbers);
     let mut others = handles.clone();
-    let tickets = 0..handles.len() as u32;
-    let unread = |ticket| Place {
-        key: UNKNOWN,
-        ticket,
-    };
-    let mut places: Vec<Place> = tickets.map(unread).collect();
+    let mut column = Column::default();
+    column.reserve(handles.len());
+    for handle in handles {
+        column.append(Held {
+            handle,
+            key: UNKNOWN,
+            payload: 0,
+        });
+    }
+    let len = column.len();
     let start = Instant::now();
-    learn(&mut places, &handles, &arena);
-    let first = partition(&mut places, 1 << 30);
+    let first = column.crack_two(0, len, 1 << 30, &arena);
     crate::report("first", start);
     let start = Instant::now();
-    let later = (0..16).fold(0, |sum, i| {
-        mixed(sum, partition(&mut places, i << 27) as u64)
-    });
+    let later = (0..16).fold(0, |sum, i| mixed(sum, column.crack_two(0, len, i << 27, &arena) as u64));
     crate::report("later", start);
     let start = Instant::now();
-    let through = partition_through(&mut others, 1 << 30, &arena);
+    let through = divide_through(&mut others, 1 << 30, &arena);
     crate::report("through", start);
     assert_eq!(first, through);
-    let slots = places.iter().map(|it| handles[it.ticket as usize].slot);
-    let sum = slots.fold(0, |sum, slot| mixed(sum, slot as u64));
+    let sum = column.slots(0, len).fold(0, |sum, slot| mixed(sum, slot as u64));
     println!("column {first} {later} sum {sum}");
 }

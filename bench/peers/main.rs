@@ -1,14 +1,19 @@
-//! Plain Rust beside what the benchmark measures: `peers session`, `peers arena STEPS ROWS`, `peers column ROWS`, and
-//! `peers partition ROWS COUNTS`, beside which `inline` and `rows` count the same in other ways.
+//! Plain Rust beside what the benchmark measures: `peers session`, `peers arena STEPS ROWS`, `peers column ROWS`, and, by a table of which
+//! `TABLE` says the kind, `peers counts TABLE ROWS RANGES`, `peers sums TABLE ROWS RANGES`, `peers updates TABLE ROWS BATCHES SIZE` and
+//! `peers merge TABLE ROWS PIECES PENDING`. A table is `complete`, `gradual` or `anew`, a cracked partition that merges by this policy, or `inline`,
+//! `pairs`, `tree` or `rows`, which do the same in other ways.
 //!
 //! What a run computes goes to standard output, and must be what the measured program writes there. Times go to standard error, in
 //! nanoseconds, a line `NAME NUMBER` each.
 
 mod arena;
 mod column;
+mod index;
 mod inline;
 mod numbers;
+mod pairs;
 mod partition;
+mod pending;
 mod serials;
 mod session;
 mod store;
@@ -32,12 +37,11 @@ fn main() {
             arena::run(steps, number(words.next()));
         }
         Some("column") => column::run(number(words.next())),
-        Some(word @ ("partition" | "inline" | "rows")) => {
-            let rows = number(words.next()) as u32;
-            partition::run(word, rows, number(words.next()));
+        Some(word @ ("counts" | "sums" | "updates" | "merge")) => {
+            let table = words.next().expect("a table");
+            let numbers: Vec<u64> = words.map(|it| number(Some(it))).collect();
+            partition::run(word, &table, &numbers);
         }
-        _ => panic!(
-            "session, arena STEPS ROWS, column ROWS, or partition, inline or rows ROWS COUNTS"
-        ),
+        _ => panic!("session, arena, column, counts, sums, updates or merge"),
     }
 }

@@ -1,10 +1,12 @@
-//! Inserts in random order of keys, a count of everything and counts of random ranges: by a cracked partition with a history, by a
-//! cracker column of inline keys, and by a pass over a vector of rows for each count.
+//! Inserts in random order of keys, a count of everything, and counts, sums and updates: by a cracked partition with a history, by cracker
+//! columns of keys alone and of keys and payloads, by a tree, and by a pass over a vector of rows for each range.
 
 use crate::arena::Row;
 use crate::inline::Inline;
 use crate::numbers::{Numbers, mixed};
-use crate::store::{GREATEST_BOUND, Store};
+use crate::pairs::Pairs;
+use crate::store::{GREATEST_BOUND, Policy, Store};
+use std::collections::BTreeMap;
 use std::time::Instant;
 
 /// How wide a random range is: one in a hundred of the key space.
@@ -13,23 +15,41 @@ const WIDTH: u64 = 42949672;
 /// How many entries a history may have.
 pub const LIMIT: usize = 1_000_000;
 
-/// What takes rows and counts them.
+/// What takes rows, counts them and sums their payloads.
 trait Table {
     fn insert(&mut self, key: u32, payload: u32);
+
     fn count(&mut self, low: u64, high: u64) -> u64;
+
+    fn sum(&mut self, _low: u64, _high: u64) -> u64 {
+        unimplemented!()
+    }
+
+    fn delete(&mut self, _serial: u64) {
+        unimplemented!()
+    }
 }
 
 #[derive(Clone, Copy)]
 #[allow(dead_code)]
 pub enum Command {
     Insert { key: u32, payload: u32 },
+    Delete { serial: u64 },
+    Update { serial: u64, key: u32, payload: u32 },
     Count { low: u64, high: u64 },
+    Sum { low: u64, high: u64 },
+    Select { low: u64, high: u64 },
 }
 
-#[derive(Clone, Copy)]
+#[derive(Clone)]
+#[allow(dead_code)]
 pub enum Reply {
     Placed(u64),
+    Gone(Row),
+    NoRow,
     Counted(u64),
+    Summed(u128),
+    Rows(Vec<Row>),
 }
 
 #[allow(dead_code)]
@@ -40,21 +60,40 @@ struct Entry {
 }
 
 /// A cracked store, and each command with its reply.
-#[derive(Default)]
 pub struct Partition {
     store: Store,
+    policy: Policy,
     next: u64,
     history: Vec<Entry>,
 }
 
 impl Partition {
+    pub fn new(policy: Policy) -> Partition {
+        Partition {
+            store: Store::default(),
+            policy,
+            next: 0,
+            history: Vec::new(),
+        }
+    }
+
     /// Answers a command and keeps it; none once the history is full. The second reply is a copy, for a receipt.
     pub fn apply(&mut self, worker: u32, command: Command) -> Option<(Reply, Reply)> {
         if self.history.len() >= LIMIT {
             return None;
         }
         self.history.reserve(1);
-        let reply = match command {
+        let reply = self.reply_to(command);
+        self.history.push(Entry {
+            worker,
+            command,
+            reply: reply.clone(),
+        });
+        Some((reply.clone(), reply))
+    }
+
+    fn reply_to(&mut self, command: Command) -> Reply {
+        match command {
             Command::Insert { key, payload } => {
                 let serial = self.next;
                 self.store.admit(Row {
@@ -65,20 +104,24 @@ impl Partition {
                 self.next += 1;
                 Reply::Placed(serial)
             }
-            Command::Count { low, high } => Reply::Counted(self.store.count(low, high)),
-        };
-        self.history.push(Entry {
-            worker,
-            command,
-            reply,
-        });
-        Some((reply, reply))
+            Command::Delete { serial } => self.store.delete(serial).map_or(Reply::NoRow, Reply::Gone),
+            Command::Count { low, high } => {
+                let (from, to) = self.store.settle(low, high, self.policy);
+                Reply::Counted((to - from) as u64)
+            }
+            Command::Sum { low, high } => {
+                let (from, to) = self.store.settle(low, high, self.policy);
+                Reply::Summed(u128::from(self.store.sum_between(from, to)))
+            }
+            Command::Update { .. } | Command::Select { .. } => unimplemented!(),
+        }
     }
 
     fn ask(&mut self, command: Command) -> u64 {
-        match self.apply(0, command) {
-            Some((Reply::Placed(number) | Reply::Counted(number), _)) => number,
-            None => panic!("the history is full"),
+        match self.apply(0, command).expect("room in the history").0 {
+            Reply::Placed(number) | Reply::Counted(number) => number,
+            Reply::Summed(sum) => sum as u64,
+            _ => 0,
         }
     }
 }
@@ -91,6 +134,14 @@ impl Table for Partition {
     fn count(&mut self, low: u64, high: u64) -> u64 {
         self.ask(Command::Count { low, high })
     }
+
+    fn sum(&mut self, low: u64, high: u64) -> u64 {
+        self.ask(Command::Sum { low, high })
+    }
+
+    fn delete(&mut self, serial: u64) {
+        self.ask(Command::Delete { serial });
+    }
 }
 
 impl Table for Inline {
@@ -100,6 +151,37 @@ impl Table for Inline {
 
     fn count(&mut self, low: u64, high: u64) -> u64 {
         (self.edge(high) - self.edge(low)) as u64
+    }
+}
+
+impl Table for Pairs {
+    fn insert(&mut self, key: u32, payload: u32) {
+        self.pairs.push((key, payload));
+    }
+
+    fn count(&mut self, low: u64, high: u64) -> u64 {
+        (self.edge(high) - self.edge(low)) as u64
+    }
+
+    fn sum(&mut self, low: u64, high: u64) -> u64 {
+        let (from, to) = (self.edge(low), self.edge(high));
+        self.pairs[from.min(to)..to].iter().map(|it| u64::from(it.1)).sum()
+    }
+}
+
+/// The payloads by key and serial.
+impl Table for BTreeMap<(u32, u32), u32> {
+    fn insert(&mut self, key: u32, payload: u32) {
+        let serial = self.len() as u32;
+        BTreeMap::insert(self, (key, serial), payload);
+    }
+
+    fn count(&mut self, low: u64, high: u64) -> u64 {
+        self.range((low as u32, 0)..=((high - 1) as u32, u32::MAX)).count() as u64
+    }
+
+    fn sum(&mut self, low: u64, high: u64) -> u64 {
+        self.range((low as u32, 0)..=((high - 1) as u32, u32::MAX)).map(|it| u64::from(*it.1)).sum()
     }
 }
 
@@ -117,32 +199,119 @@ impl Table for Vec<Row> {
         let inside = |row: &&Row| low <= row.key as u64 && (row.key as u64) < high;
         self.iter().filter(inside).count() as u64
     }
+
+    fn sum(&mut self, low: u64, high: u64) -> u64 {
+        let inside = |row: &&Row| low <= row.key as u64 && (row.key as u64) < high;
+        self.iter().filter(inside).map(|row| u64::from(row.payload)).sum()
+    }
 }
 
-fn measure(mut table: impl Table, rows: u32, counts: u64) {
-    let mut numbers = Numbers(11);
+/// A range of that width at a random place: its low end.
+fn random_low(numbers: &mut Numbers) -> u64 {
+    u64::from(numbers.word()) % (GREATEST_BOUND - WIDTH)
+}
+
+/// As many inserts of random keys, and a count of everything.
+fn load(table: &mut impl Table, rows: u64, numbers: &mut Numbers) {
     let start = Instant::now();
     for row in 0..rows {
-        table.insert(numbers.word(), row);
+        table.insert(numbers.word(), row as u32);
     }
     crate::report("load", start);
     let start = Instant::now();
     let everything = table.count(0, GREATEST_BOUND);
     crate::report("everything", start);
+    println!("rows {everything}");
+}
+
+fn counts(mut table: impl Table, rows: u64, ranges: u64) {
+    let mut numbers = Numbers(11);
+    load(&mut table, rows, &mut numbers);
     let start = Instant::now();
-    let sum = (0..counts).fold(0, |sum, _| {
-        let low = u64::from(numbers.word()) % (GREATEST_BOUND - WIDTH);
+    let sum = (0..ranges).fold(0, |sum, _| {
+        let low = random_low(&mut numbers);
         mixed(sum, table.count(low, low + WIDTH))
     });
     crate::report("counts", start);
-    println!("partition {everything} sum {sum}");
+    println!("counts {sum}");
 }
 
-/// The word says what counts: `partition`, `inline` or `rows`.
-pub fn run(word: &str, rows: u32, counts: u64) {
-    match word {
-        "partition" => measure(Partition::default(), rows, counts),
-        "inline" => measure(Inline::default(), rows, counts),
-        _ => measure(Vec::new(), rows, counts),
+/// The sums of as many random ranges, and the same sums again.
+fn sums(mut table: impl Table, rows: u64, ranges: u64) {
+    let mut numbers = Numbers(11);
+    load(&mut table, rows, &mut numbers);
+    let mut told = 0;
+    for name in ["sums", "again"] {
+        let mut places = Numbers(numbers.0);
+        let start = Instant::now();
+        told = (0..ranges).fold(told, |sum, _| {
+            let low = random_low(&mut places);
+            mixed(sum, table.sum(low, low + WIDTH))
+        });
+        crate::report(name, start);
+    }
+    println!("sums {told}");
+}
+
+/// Batches of as many deletes and inserts, each with the sum of a random range behind it.
+fn updates(mut table: impl Table, rows: u64, batches: u64, size: u64) {
+    let mut numbers = Numbers(11);
+    load(&mut table, rows, &mut numbers);
+    let mut serials: Vec<u64> = (0..rows).collect();
+    let mut next = rows;
+    let start = Instant::now();
+    let told = (0..batches).fold(0, |sum, _| {
+        for _ in 0..size {
+            let at = numbers.below(serials.len() as u64) as usize;
+            table.delete(serials[at]);
+            let key = numbers.word();
+            table.insert(key, key);
+            serials[at] = next;
+            next += 1;
+        }
+        let low = random_low(&mut numbers);
+        mixed(sum, table.sum(low, low + WIDTH))
+    });
+    crate::report("updates", start);
+    println!("updates {told}");
+}
+
+/// As many rows pending beside a column of as many pieces, and the count that merges them.
+fn merge(mut table: impl Table, rows: u64, pieces: u64, pending: u64) {
+    let mut numbers = Numbers(11);
+    load(&mut table, rows, &mut numbers);
+    let width = GREATEST_BOUND / pieces;
+    for piece in 1..pieces {
+        table.count(0, piece * width);
+    }
+    for row in 0..pending {
+        table.insert(numbers.word(), row as u32);
+    }
+    let start = Instant::now();
+    let after = table.count(0, GREATEST_BOUND);
+    crate::report("merge", start);
+    println!("merge {after}");
+}
+
+fn measure(word: &str, table: impl Table, numbers: &[u64]) {
+    match (word, numbers) {
+        ("counts", [rows, ranges]) => counts(table, *rows, *ranges),
+        ("sums", [rows, ranges]) => sums(table, *rows, *ranges),
+        ("updates", [rows, batches, size]) => updates(table, *rows, *batches, *size),
+        ("merge", [rows, pieces, pending]) => merge(table, *rows, *pieces, *pending),
+        _ => panic!("as many numbers as are wanted"),
+    }
+}
+
+pub fn run(word: &str, table: &str, numbers: &[u64]) {
+    match table {
+        "complete" => measure(word, Partition::new(Policy::Complete), numbers),
+        "gradual" => measure(word, Partition::new(Policy::Gradual), numbers),
+        "anew" => measure(word, Partition::new(Policy::Anew), numbers),
+        "inline" => measure(word, Inline::default(), numbers),
+        "pairs" => measure(word, Pairs::default(), numbers),
+        "tree" => measure(word, BTreeMap::new(), numbers),
+        "rows" => measure(word, Vec::<Row>::new(), numbers),
+        _ => panic!("complete, gradual, anew, inline, pairs, tree or rows"),
     }
 }

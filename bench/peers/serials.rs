@@ -84,4 +84,54 @@ impl Serials {
         self.hashes.push(hash);
         None
     }
+
+    /// Where the serial's entry stands among the slots.
+    fn slot_of(&self, key: u64) -> Option<usize> {
+        if self.slots.is_empty() {
+            return None;
+        }
+        let hash = hash_of(key);
+        let mut at = hash as usize & (self.slots.len() - 1);
+        while self.slots[at].place != VACANT {
+            if self.slots[at].hash == hash && self.keys[self.slots[at].place as usize] == key {
+                return Some(at);
+            }
+            at = (at + 1) & (self.slots.len() - 1);
+        }
+        None
+    }
+
+    pub fn get(&self, key: u64) -> Option<Handle> {
+        let at = self.slot_of(key)?;
+        Some(self.handles[self.slots[at].place as usize])
+    }
+
+    /// Takes the entry out; the last entry takes its place.
+    pub fn remove(&mut self, key: u64) {
+        let Some(mut gap) = self.slot_of(key) else {
+            return;
+        };
+        let place = self.slots[gap].place;
+        let last = self.keys.len() as u32 - 1;
+        if let Some(moved) = self.slot_of(self.keys[last as usize]) {
+            self.slots[moved].place = place;
+        }
+        self.keys.swap_remove(place as usize);
+        self.handles.swap_remove(place as usize);
+        self.hashes.swap_remove(place as usize);
+        let mask = self.slots.len() - 1;
+        let mut at = gap;
+        loop {
+            at = (at + 1) & mask;
+            if self.slots[at].place == VACANT {
+                break;
+            }
+            let home = self.slots[at].hash as usize & mask;
+            if (at.wrapping_sub(home) & mask) >= (at.wrapping_sub(gap) & mask) {
+                self.slots[gap] = self.slots[at];
+                gap = at;
+            }
+        }
+        self.slots[gap].place = VACANT;
+    }
 }

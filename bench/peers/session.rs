@@ -1,6 +1,7 @@
 //! Inserts and counts from standard input to standard output, answered by a cracked partition.
 
 use crate::partition::{Command, LIMIT, Partition, Reply};
+use crate::store::Policy;
 use std::io::{self, BufWriter, Read, Write};
 
 fn number(word: &[u8]) -> Option<u128> {
@@ -43,12 +44,13 @@ fn answer(line: &[u8], partition: &mut Partition, writer: &mut impl Write) -> io
     match partition.apply(0, command) {
         Some((Reply::Placed(serial), _)) => writeln!(writer, "row 0.{serial}"),
         Some((Reply::Counted(count), _)) => writeln!(writer, "count {count}"),
+        Some(_) => unreachable!(),
         None => writeln!(writer, "refused 6 {LIMIT}"),
     }
 }
 
 pub fn run() -> io::Result<()> {
-    let mut partition = Partition::default();
+    let mut partition = Partition::new(Policy::Gradual);
     let mut reader = io::stdin().lock();
     let mut writer = BufWriter::new(io::stdout().lock());
     let mut buffer = [0; 4096];

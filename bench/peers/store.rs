@@ -1,169 +1,21 @@
-//! A cracked store, represented as the measured one is: handles of an arena in a column with an index of bounds, pending insertions
-//! in order of arrival, and a map from serials to handles.
+//! A cracked store, represented as the measured one is: handles of an arena in a column with an index of bounds, pending insertions and
+//! deletions in order of arrival, and a map from serials to handles.
 
 use crate::arena::{Arena, Handle, Row};
-use crate::column::{Place, UNKNOWN, learn, partition};
+use crate::column::{Column, Held};
+use crate::index::Index;
+use crate::pending::Pending;
 use crate::serials::Serials;
-use std::collections::VecDeque;
-use std::mem;
 
 /// The high end of the key space.
 pub const GREATEST_BOUND: u64 = 1 << 32;
 
-#[derive(Clone, Copy)]
-struct Mark {
-    bound: u64,
-    position: usize,
-}
-
-/// The bounds that divide the column, in rising order.
-#[derive(Default)]
-struct Index {
-    marks: Vec<Mark>,
-}
-
-impl Index {
-    /// How many marks have a bound at or below this one.
-    fn up_to(&self, bound: u64) -> usize {
-        self.marks.partition_point(|mark| mark.bound <= bound)
-    }
-
-    fn position(&self, bound: u64) -> Option<usize> {
-        let last = *self.marks[..self.up_to(bound)].last()?;
-        (last.bound == bound).then_some(last.position)
-    }
-
-    /// The ends of the piece whose keys hold this key, in a column of `len` rows.
-    fn piece_of(&self, key: u64, len: usize) -> (usize, usize) {
-        let (below, above) = self.marks.split_at(self.up_to(key));
-        (
-            below.last().map_or(0, |mark| mark.position),
-            above.first().map_or(len, |mark| mark.position),
-        )
-    }
-
-    fn add(&mut self, bound: u64, position: usize) {
-        let at = self.up_to(bound);
-        self.marks.insert(at, Mark { bound, position });
-    }
-
-    /// Each bound above the key that stands where the first of them stands moves up by one.
-    fn raise_above(&mut self, key: u64) {
-        let start = self.up_to(key);
-        let Some(first) = self.marks.get(start) else {
-            return;
-        };
-        let place = first.position;
-        let end = self.marks.partition_point(|mark| mark.position <= place);
-        for mark in &mut self.marks[start..end] {
-            mark.position += 1;
-        }
-    }
-}
-
-/// Handles, each under a ticket, and in cracked order places that bear the tickets.
-#[derive(Default)]
-struct Column {
-    handles: Vec<Handle>,
-    places: Vec<Place>,
-    unread: usize,
-}
-
-impl Column {
-    fn len(&self) -> usize {
-        self.places.len()
-    }
-
-    fn reserve(&mut self, additional: usize) {
-        self.handles.reserve(additional);
-        self.places.reserve(additional);
-    }
-
-    fn append(&mut self, handle: Handle) {
-        self.places.push(Place {
-            key: UNKNOWN,
-            ticket: self.handles.len() as u32,
-        });
-        self.handles.push(handle);
-        self.unread += 1;
-    }
-
-    fn swap_in(&mut self, place: usize, handle: Handle) -> Handle {
-        let here = &mut self.places[place];
-        here.key = UNKNOWN;
-        self.unread += 1;
-        mem::replace(&mut self.handles[here.ticket as usize], handle)
-    }
-
-    fn crack_two(&mut self, from: usize, to: usize, bound: u64, arena: &Arena<Row>) -> usize {
-        let places = &mut self.places[from..to];
-        if self.unread > 0 {
-            self.unread -= learn(places, &self.handles, arena);
-        }
-        from + partition(places, bound)
-    }
-}
-
-/// Handles in order of arrival, in two halves with a gap between them, and a mark for each cell that they name.
-#[derive(Default)]
-struct Pending {
-    front: Vec<Handle>,
-    back: VecDeque<Handle>,
-    marks: Vec<bool>,
-}
-
-impl Pending {
-    fn len(&self) -> usize {
-        self.front.len() + self.back.len()
-    }
-
-    fn reserve(&mut self, additional: usize) {
-        let length = self.len();
-        if additional > self.front.capacity().min(self.back.capacity()) - length {
-            let wanted = length + additional.max(length);
-            self.front.reserve(wanted - self.front.len());
-            self.back.reserve(wanted - self.back.len());
-        }
-    }
-
-    fn cover(&mut self, cells: usize) {
-        if cells > self.marks.len() {
-            self.marks.resize(cells, false);
-        }
-    }
-
-    fn push(&mut self, handle: Handle) {
-        self.back.push_back(handle);
-        self.marks[handle.slot as usize] = true;
-    }
-
-    fn at(&self, place: usize) -> Handle {
-        match self.front.get(place) {
-            Some(handle) => *handle,
-            None => self.back[place - self.front.len()],
-        }
-    }
-
-    fn take(&mut self, place: usize) -> Handle {
-        while self.front.len() < place {
-            self.front.extend(self.back.pop_front());
-        }
-        while self.front.len() > place {
-            if let Some(handle) = self.front.pop() {
-                self.back.push_front(handle);
-            }
-        }
-        let handle = self.back.pop_front().expect("a place of the list");
-        self.marks[handle.slot as usize] = false;
-        handle
-    }
-
-    fn has_key_in(&self, low: u64, high: u64, arena: &Arena<Row>) -> bool {
-        (0..self.len()).any(|place| {
-            let key = arena.get(self.at(place)).map_or(0, |row| row.key as u64);
-            low <= key && key < high
-        })
-    }
+#[derive(Clone, Copy, PartialEq, Eq)]
+pub enum Policy {
+    Complete,
+    Gradual,
+    /// Complete, in carries that search the index anew at each step, by a key that they read through the arena.
+    Anew,
 }
 
 #[derive(Default)]
@@ -174,32 +26,77 @@ pub struct Store {
     pending_in: Pending,
     pending_out: Pending,
     serials: Serials,
+    /// Where the doomed row of a cell was seen last.
+    notes: Vec<u32>,
 }
 
 impl Store {
-    /// Keeps a row behind the last pending insertion.
-    pub fn admit(&mut self, row: Row) {
-        let cells = self.arena.cells() + 1;
-        self.pending_in.reserve(1);
-        self.pending_in.cover(cells);
-        self.pending_out.cover(cells);
-        self.arena.reserve(1);
-        self.serials.reserve(1);
-        let handle = self.arena.put(row);
-        self.serials.insert(row.serial, handle);
-        self.pending_in.push(handle);
+    fn held(&self, handle: Handle) -> Held {
+        let row = self.arena.get(handle).expect("a live handle");
+        Held {
+            handle,
+            key: row.key,
+            payload: row.payload,
+        }
     }
 
-    /// Cracks the column at both ends, merges all pending rows if one of them has its key in the range, and counts.
-    pub fn count(&mut self, low: u64, high: u64) -> u64 {
+    fn add(&mut self, row: Row) -> Handle {
+        self.pending_in.reserve(1);
+        self.arena.reserve(1);
+        let handle = self.arena.put(row);
+        self.pending_in.cover(self.arena.cells());
+        self.pending_in.push(handle, row.key);
+        handle
+    }
+
+    /// Keeps a row behind the last pending insertion.
+    pub fn admit(&mut self, row: Row) {
+        self.serials.reserve(1);
+        let handle = self.add(row);
+        self.serials.insert(row.serial, handle);
+    }
+
+    fn doom(&mut self, handle: Handle, key: u32) {
+        self.pending_out.reserve(1);
+        self.pending_out.cover(self.arena.cells());
+        self.notes.resize(self.arena.cells(), 0);
+        self.pending_out.push(handle, key);
+    }
+
+    /// Takes a row out: a pending one at once, one of the column is doomed.
+    pub fn delete(&mut self, serial: u64) -> Option<Row> {
+        let handle = self.serials.get(serial)?;
+        let row = *self.arena.get(handle)?;
+        self.serials.remove(serial);
+        if self.pending_in.contains(handle.slot) {
+            self.pending_in.strike(handle.slot);
+            self.arena.free(handle);
+        } else {
+            self.doom(handle, row.key);
+        }
+        Some(row)
+    }
+
+    /// Cracks the column at both ends of the range and merges what it needs. The places between which its rows stand.
+    pub fn settle(&mut self, low: u64, high: u64, policy: Policy) -> (usize, usize) {
         if high <= low {
-            return 0;
+            return (0, 0);
         }
         self.index.marks.reserve(2);
         self.crack_at(low);
         self.crack_at(high);
-        self.merge_complete(low, high);
-        (self.edge(high) - self.edge(low)) as u64
+        match policy {
+            Policy::Gradual => self.merge(low, high, policy),
+            _ if self.pending_in.next_in(low, high, 0).is_some() || self.pending_out.next_in(low, high, 0).is_some() => {
+                self.merge(0, GREATEST_BOUND, policy)
+            }
+            _ => {}
+        }
+        (self.edge(low), self.edge(high))
+    }
+
+    pub fn sum_between(&self, from: usize, to: usize) -> u64 {
+        self.column.sum_between(from, to, &self.arena)
     }
 
     fn crack_at(&mut self, bound: u64) {
@@ -211,31 +108,113 @@ impl Store {
         self.index.add(bound, place);
     }
 
-    fn merge_complete(&mut self, low: u64, high: u64) {
-        if !self.pending_in.has_key_in(low, high, &self.arena)
-            && !self.pending_out.has_key_in(low, high, &self.arena)
-        {
-            return;
-        }
-        for _ in 0..self.pending_in.len() {
+    fn merge(&mut self, low: u64, high: u64, policy: Policy) {
+        let mut spot = 0;
+        while let Some(found) = self.pending_in.next_in(low, high, spot) {
             self.column.reserve(1);
-            self.pending_in.reserve(1);
-            let hand = self.pending_in.take(0);
-            self.carry(hand);
+            let (hand, _) = self.pending_in.take(found);
+            if policy == Policy::Anew {
+                self.carry_anew(hand);
+            } else {
+                self.carry(hand);
+            }
+            spot = found + 1;
+        }
+        self.pending_in.close_up();
+        let mut spot = 0;
+        while let Some(found) = self.pending_out.next_in(low, high, spot) {
+            let (doomed, key) = self.pending_out.take(found);
+            self.pull(doomed, key);
+            self.arena.free(doomed);
+            spot = found + 1;
+        }
+        self.pending_out.close_up();
+    }
+
+    fn bury_if_doomed(&mut self, hand: Handle) -> bool {
+        let is_doomed = self.pending_out.contains(hand.slot);
+        if is_doomed {
+            self.pending_out.strike(hand.slot);
+            self.arena.free(hand);
+        }
+        is_doomed
+    }
+
+    /// Puts the hand at the end of its piece, and the row that stood there on, until one is put at the column's end or is doomed.
+    fn carry(&mut self, hand: Handle) {
+        let mut held = self.held(hand);
+        let mut mark = self.index.up_to(u64::from(held.key));
+        while mark < self.index.marks.len() {
+            let place = self.index.marks[mark].position;
+            mark = self.index.raise(mark);
+            if place == self.column.len() {
+                break;
+            }
+            held = self.column.swap_in(place, held);
+            if self.bury_if_doomed(held.handle) {
+                return;
+            }
+        }
+        self.column.append(held);
+    }
+
+    fn carry_anew(&mut self, hand: Handle) {
+        let mut hand = hand;
+        loop {
+            let held = self.held(hand);
+            let len = self.column.len();
+            let (_, to) = self.index.piece_of(u64::from(held.key), len);
+            let mark = self.index.up_to(u64::from(held.key));
+            if mark < self.index.marks.len() {
+                self.index.raise(mark);
+            }
+            if to == len {
+                return self.column.append(held);
+            }
+            hand = self.column.swap_in(to, held).handle;
+            if self.bury_if_doomed(hand) {
+                return;
+            }
         }
     }
 
-    /// Puts the hand at the end of its piece, and the row that stood there on, until one is put at the column's end.
-    fn carry(&mut self, mut hand: Handle) {
-        loop {
-            let key = self.arena.get(hand).map_or(0, |row| row.key as u64);
-            let len = self.column.len();
-            let (_, to) = self.index.piece_of(key, len);
-            self.index.raise_above(key);
-            if to == len {
-                return self.column.append(hand);
+    /// Where a doomed row stands: where it was noted, or else it is looked for in its piece, with each other doomed row there.
+    fn place_of(&mut self, slot: u32, key: u32) -> usize {
+        let noted = self.notes[slot as usize] as usize;
+        if noted < self.column.len() && self.column.slot_at(noted) == slot {
+            return noted;
+        }
+        let (from, to) = self.index.piece_of(u64::from(key), self.column.len());
+        for (place, other) in (from..to).zip(self.column.slots(from, to)) {
+            if other == slot || self.pending_out.contains(other) {
+                self.notes[other as usize] = place as u32;
             }
-            hand = self.column.swap_in(to, hand);
+        }
+        self.notes[slot as usize] as usize
+    }
+
+    /// Takes a doomed row out of the column: the last row goes down to its place, piece by piece.
+    fn pull(&mut self, doomed: Handle, key: u32) {
+        let place = self.place_of(doomed.slot, key);
+        let len = self.column.len();
+        let mut held = self.column.pop();
+        while self.index.marks.last().is_some_and(|mark| mark.position == len) {
+            let to = self.index.marks.partition_point(|mark| mark.position < len);
+            for mark in &mut self.index.marks[to..] {
+                mark.position -= 1;
+            }
+        }
+        let mut mark = self.index.up_to(u64::from(held.key));
+        while held.handle.slot != doomed.slot {
+            let from = mark.checked_sub(1).map_or(0, |it| self.index.marks[it].position);
+            let to = if from <= place { place } else { from - 1 };
+            if from > place {
+                mark = self.index.lower(mark);
+            }
+            if self.pending_out.contains(held.handle.slot) {
+                self.notes[held.handle.slot as usize] = to as u32;
+            }
+            held = self.column.swap_in(to, held);
         }
     }
 
@@ -248,5 +227,10 @@ impl Store {
             return self.column.len();
         }
         self.index.position(bound).expect("a bound of a crack")
+    }
+
+    #[allow(dead_code)]
+    pub fn rows(&self) -> usize {
+        self.column.len() - self.pending_out.len() + self.pending_in.len()
     }
 }

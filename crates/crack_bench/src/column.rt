@@ -12,7 +12,7 @@ use std::alloc::Global;
 /// The bound of the first crack, which reads each key through the arena.
 pub const FIRST: Bound = Bound(1073741824);
 
-/// How many later cracks there are, over keys that are remembered.
+/// How many later cracks there are, over rows that are remembered.
 const LATER_CRACKS: u64 = 16;
 
 /// How many handles a column has at most.
@@ -30,13 +30,13 @@ pub fn shuffle(filled: &mut Filled, numbers: &mut Numbers) {
     }
 }
 
-/// A column of the handles, in their order, as far as one has room for them. It remembers no key.
+/// A column of the handles, in their order, as far as one has room for them. It knows no row.
 pub fn column_of(
     alloc: Global,
     handles: &[Handle<Row>],
     arena: &Arena<Row>,
 ) -> Result<CrackerColumn, Refusal>
-    ensures { IfOk result (λ c. Remembers arena.now.cells c.handles c.keys) }
+    ensures { IfOk result (λ c. Remembers arena.now.cells c.handles c.remembered) }
 {
     let mut column = CrackerColumn::new(alloc);
     let rows = handles.len().min(MOST_HANDLES);
@@ -49,8 +49,8 @@ pub fn column_of(
 
 /// Cracks the whole column at the bound. The place between.
 pub fn crack(column: &mut CrackerColumn, bound: Bound, arena: &Arena<Row>) -> usize
-    requires { Remembers arena.now.cells column.old.handles column.old.keys }
-    ensures { Remembers arena.now.cells column.new.handles column.new.keys }
+    requires { Remembers arena.now.cells column.old.handles column.old.remembered }
+    ensures { Remembers arena.now.cells column.new.handles column.new.remembered }
 {
     let len = column.len();
     column.crack_two(0, len, bound, arena)
@@ -58,7 +58,7 @@ pub fn crack(column: &mut CrackerColumn, bound: Bound, arena: &Arena<Row>) -> us
 
 /// Cracks the whole column at bounds that rise. A checksum of the places between.
 pub fn crack_on(column: &mut CrackerColumn, arena: &Arena<Row>) -> u64
-    requires { Remembers arena.now.cells column.old.handles column.old.keys }
+    requires { Remembers arena.now.cells column.old.handles column.old.remembered }
 {
     let mut sum = 0;
     'cracks: for i in 0..LATER_CRACKS {

@@ -1,5 +1,6 @@
-//! Measures the arena, the cracker column and a partition: `crack_bench arena STEPS ROWS`, `crack_bench column ROWS`,
-//! `crack_bench partition ROWS COUNTS`, or `crack_bench all STEPS ROWS COUNTS`.
+//! Measures the arena, the cracker column and a partition that merges by a policy: `crack_bench arena STEPS ROWS`, `crack_bench column ROWS`,
+//! `crack_bench counts POLICY ROWS RANGES`, `crack_bench sums POLICY ROWS RANGES`, `crack_bench updates POLICY ROWS BATCHES SIZE`,
+//! `crack_bench merge POLICY ROWS PIECES PENDING`, or `crack_bench all STEPS ROWS RANGES`.
 //!
 //! What a run computes goes to standard output: it depends on the words alone. Times go to standard error, in nanoseconds, a line
 //! `NAME NUMBER` each.
@@ -16,8 +17,9 @@ use arena::Filled;
 use crack_arena::Arena;
 use crack_column::CrackerColumn;
 use crack_part::Partition;
-use crack_row::{GREATEST_LIMIT, KeyRange, Row};
+use crack_row::{GREATEST_LIMIT, KeyRange, Policy, Row};
 use numbers::Numbers;
+use partition::Table;
 use std::env;
 use std::time::Instant;
 
@@ -73,7 +75,7 @@ fn measure_column(
     column: &mut CrackerColumn,
     arena: &Arena<Row>,
 ) -> anyhow::Result<()>
-    requires { Remembers arena.now.cells column.old.handles column.old.keys }
+    requires { Remembers arena.now.cells column.old.handles column.old.remembered }
 {
     let start = Instant::now(rt)?;
     let first = column::crack(column, column::FIRST, arena);
@@ -86,37 +88,142 @@ fn measure_column(
     Ok(())
 }
 
-fn run_partition(rt: &HostRuntime, rows: u32, counts: u64) -> anyhow::Result<()> {
-    let mut partition = Partition::open(rt.alloc(), KeyRange::all(), GREATEST_LIMIT)?;
-    let told = measure_partition(rt, &mut partition, rows, counts);
-    drop(partition);
+/// What is measured of a partition.
+#[derive(Clone, Copy)]
+enum Work {
+    Counts { ranges: u64 },
+    Sums { ranges: u64 },
+    Updates { batches: u64, size: u64 },
+    Merge { pieces: u32, pending: u32 },
+}
+
+fn policy_of(name: &str) -> anyhow::Result<Policy> {
+    match name {
+        "complete" => Ok(Policy::Complete),
+        "gradual" => Ok(Policy::Gradual),
+        _ => Err(anyhow::anyhow!("complete or gradual")),
+    }
+}
+
+fn run_partition(rt: &HostRuntime, policy: Policy, rows: u32, work: Work) -> anyhow::Result<()> {
+    let partition = Partition::open(rt.alloc(), KeyRange::all(), GREATEST_LIMIT)?;
+    let mut table = Table { partition, policy };
+    let told = measure_partition(rt, &mut table, rows, work);
+    drop(table);
     told
 }
 
 fn measure_partition(
     rt: &HostRuntime,
-    partition: &mut Partition,
+    table: &mut Table,
     rows: u32,
-    counts: u64,
+    work: Work,
 ) -> anyhow::Result<()> {
     let mut numbers = Numbers::new(11);
     let start = Instant::now(rt)?;
-    partition::load(partition, rows, &mut numbers)?;
+    table.load(rows, &mut numbers)?;
     report(rt, "load", start)?;
     let start = Instant::now(rt)?;
-    let everything = partition::count_all(partition)?;
+    let everything = table.count_all()?;
     report(rt, "everything", start)?;
+    println!(rt; "rows {everything}")?;
+    match work {
+        Work::Counts { ranges } => measure_counts(rt, table, ranges, &mut numbers),
+        Work::Sums { ranges } => measure_sums(rt, table, ranges, &mut numbers),
+        Work::Updates { batches, size } => {
+            measure_updates(rt, table, rows, batches, size, &mut numbers)
+        }
+        Work::Merge { pieces, pending } => measure_merge(rt, table, pieces, pending, &mut numbers),
+    }
+}
+
+fn measure_counts(
+    rt: &HostRuntime,
+    table: &mut Table,
+    ranges: u64,
+    numbers: &mut Numbers,
+) -> anyhow::Result<()> {
     let start = Instant::now(rt)?;
-    let sum = partition::counts(partition, counts, &mut numbers)?;
+    let sum = table.counts(ranges, numbers)?;
     report(rt, "counts", start)?;
-    println!(rt; "partition {everything} sum {sum}")?;
+    println!(rt; "counts {sum}")?;
     Ok(())
 }
 
-fn run_all(rt: &HostRuntime, steps: u64, rows: u32, counts: u64) -> anyhow::Result<()> {
+fn measure_sums(
+    rt: &HostRuntime,
+    table: &mut Table,
+    ranges: u64,
+    numbers: &mut Numbers,
+) -> anyhow::Result<()> {
+    let mut same = *numbers;
+    let start = Instant::now(rt)?;
+    let sum = table.sums(0, ranges, numbers)?;
+    report(rt, "sums", start)?;
+    let start = Instant::now(rt)?;
+    let sum = table.sums(sum, ranges, &mut same)?;
+    report(rt, "again", start)?;
+    println!(rt; "sums {sum}")?;
+    Ok(())
+}
+
+fn measure_updates(
+    rt: &HostRuntime,
+    table: &mut Table,
+    rows: u32,
+    batches: u64,
+    size: u64,
+    numbers: &mut Numbers,
+) -> anyhow::Result<()> {
+    let mut serials = partition::serials(rt.alloc(), rows)?;
+    let start = Instant::now(rt)?;
+    let sum = table.updates(batches, size, &mut serials, numbers)?;
+    report(rt, "updates", start)?;
+    println!(rt; "updates {sum}")?;
+    Ok(())
+}
+
+fn measure_merge(
+    rt: &HostRuntime,
+    table: &mut Table,
+    pieces: u32,
+    pending: u32,
+    numbers: &mut Numbers,
+) -> anyhow::Result<()> {
+    table.crack_and_load(pieces, pending, numbers)?;
+    let start = Instant::now(rt)?;
+    let after = table.count_all()?;
+    report(rt, "merge", start)?;
+    println!(rt; "merge {after}")?;
+    Ok(())
+}
+
+fn run_all(rt: &HostRuntime, steps: u64, rows: u32, ranges: u64) -> anyhow::Result<()> {
     run_arena(rt, steps, rows)?;
     run_column(rt, rows)?;
-    run_partition(rt, rows, counts)
+    run_partition(rt, Policy::Complete, rows, Work::Counts { ranges })?;
+    run_partition(rt, Policy::Gradual, rows, Work::Sums { ranges })
+}
+
+/// What the name of a partition's work and the numbers behind it ask for.
+fn work_of(name: &str, numbers: &[&str]) -> anyhow::Result<Work> {
+    match (name, numbers) {
+        ("counts", [ranges]) => Ok(Work::Counts {
+            ranges: ranges.parse()?,
+        }),
+        ("sums", [ranges]) => Ok(Work::Sums {
+            ranges: ranges.parse()?,
+        }),
+        ("updates", [batches, size]) => Ok(Work::Updates {
+            batches: batches.parse()?,
+            size: size.parse()?,
+        }),
+        ("merge", [pieces, pending]) => Ok(Work::Merge {
+            pieces: pieces.parse()?,
+            pending: pending.parse()?,
+        }),
+        _ => Err(anyhow::anyhow!("counts, sums, updates or merge")),
+    }
 }
 
 /// Measures what the words ask for.
@@ -124,12 +231,15 @@ fn run(rt: &HostRuntime, words: &[&str]) -> anyhow::Result<()> {
     match words {
         [_, "arena", steps, rows] => run_arena(rt, steps.parse()?, rows.parse()?),
         [_, "column", rows] => run_column(rt, rows.parse()?),
-        [_, "partition", rows, counts] => run_partition(rt, rows.parse()?, counts.parse()?),
-        [_, "all", steps, rows, counts] => {
-            run_all(rt, steps.parse()?, rows.parse()?, counts.parse()?)
+        [_, "all", steps, rows, ranges] => {
+            run_all(rt, steps.parse()?, rows.parse()?, ranges.parse()?)
+        }
+        [_, name, policy, rows, numbers @ ..] => {
+            let work = work_of(name, numbers)?;
+            run_partition(rt, policy_of(policy)?, rows.parse()?, work)
         }
         _ => Err(anyhow::anyhow!(
-            "arena STEPS ROWS, column ROWS, partition ROWS COUNTS, or all STEPS ROWS COUNTS"
+            "arena, column or all, or counts, sums, updates or merge with a policy"
         )),
     }
 }

@@ -2,7 +2,7 @@
 ghost use Rattle.std.specs.Prelude.{◌<◌};
 
 /// A linear congruential generator (Knuth's MMIX), of which the high bits are used.
-#[derive(Drop)]
+#[derive(Clone, Copy)]
 pub struct Numbers {
     state: u64,
 }

@@ -1,54 +1,130 @@
-//! A partition: inserts in random order of keys, a count of everything, and counts of random ranges.
+//! A partition: inserts in random order of keys, a count of everything, and counts, sums and updates.
+ghost use Rattle.std.specs.Prelude.{◌<◌};
 
 use crate::numbers::{Numbers, mixed};
 use crack_part::Partition;
-use crack_row::{Command, GREATEST_BOUND, Key, KeyRange, Payload, Policy, Refusal, Reply};
+use crack_row::{Command, GREATEST_BOUND, Key, KeyRange, Payload, Policy, Refusal, Reply, Serial};
+use std::alloc::{AllocError, Global};
 
 /// How wide a random range is: one in a hundred of the key space.
 const WIDTH: u64 = 42949672;
 
-/// Asks the partition, and gives the number that it replies.
-fn ask(partition: &mut Partition, command: Command) -> Result<u64, Refusal> {
-    let (reply, _) = partition.apply(0, command, Policy::Complete)?;
-    match reply {
-        Reply::Placed(serial) => Ok(serial.0),
-        Reply::Counted(count) => Ok(count),
+/// A partition that merges by one policy.
+#[derive(Drop)]
+pub struct Table {
+    pub partition: Partition,
+    pub policy: Policy,
+}
+
+impl Table {
+    /// Asks the partition, and gives the number that it replies; 0 where it replies none.
+    fn ask(&mut self, command: Command) -> Result<u64, Refusal> {
+        let (reply, _) = self.partition.apply(0, command, self.policy)?;
+        Ok(match reply {
+            Reply::Placed(serial) => serial.0,
+            Reply::Counted(count) => count,
+            Reply::Summed(sum) => u64::try_from(sum).unwrap_or(u64::MAX),
+            _ => 0,
+        })
+    }
+
+    fn insert(&mut self, key: u32, payload: u32) -> Result<u64, Refusal> {
+        self.ask(Command::Insert {
+            key: Key(key),
+            payload: Payload(payload),
+        })
+    }
+
+    /// Inserts as many rows of random keys.
+    pub fn load(&mut self, rows: u32, numbers: &mut Numbers) -> Result<(), Refusal> {
+        'rows: for row in 0..rows {
+            self.insert(numbers.word(), row)?;
+        }
+        Ok(())
+    }
+
+    /// Counts every row.
+    pub fn count_all(&mut self) -> Result<u64, Refusal> {
+        self.ask(Command::Count(KeyRange::all()))
+    }
+
+    /// As many counts of random ranges. A checksum of what they replied.
+    pub fn counts(&mut self, ranges: u64, numbers: &mut Numbers) -> Result<u64, Refusal> {
+        let mut sum = 0;
+        'ranges: for _ in 0..ranges {
+            sum = mixed(sum, self.ask(Command::Count(random_range(numbers)?))?);
+        }
+        Ok(sum)
+    }
+
+    /// As many sums of random ranges. A checksum of what they replied, over that of earlier ones.
+    pub fn sums(&mut self, told: u64, ranges: u64, numbers: &mut Numbers) -> Result<u64, Refusal> {
+        let mut sum = told;
+        'ranges: for _ in 0..ranges {
+            sum = mixed(sum, self.ask(Command::Sum(random_range(numbers)?))?);
+        }
+        Ok(sum)
+    }
+
+    /// A batch of as many deletes and inserts, of rows that are there.
+    fn batch(
+        &mut self,
+        size: u64,
+        rows: &mut Vec<u64>,
+        numbers: &mut Numbers,
+    ) -> Result<(), Refusal> {
+        'updates: for _ in 0..size {
+            if rows.is_empty() {
+                return Ok(());
+            }
+            let at = numbers.below(rows.len() as u64) as usize;
+            let serial = Serial(rows[at]);
+            self.ask(Command::Delete { serial })?;
+            let key = numbers.word();
+            rows[at] = self.insert(key, key)?;
+        }
+        Ok(())
+    }
+
+    /// Batches of as many updates, each with the sum of a random range behind it. A checksum of these.
+    pub fn updates(
+        &mut self,
+        batches: u64,
+        size: u64,
+        rows: &mut Vec<u64>,
+        numbers: &mut Numbers,
+    ) -> Result<u64, Refusal> {
+        let mut sum = 0;
+        'batches: for _ in 0..batches {
+            self.batch(size, rows, numbers)?;
+            sum = self.sums(sum, 1, numbers)?;
+        }
+        Ok(sum)
+    }
+
+    /// Cracks the column into as many pieces of one width, and inserts as many rows.
+    pub fn crack_and_load(
+        &mut self,
+        pieces: u32,
+        pending: u32,
+        numbers: &mut Numbers,
+    ) -> Result<(), Refusal> {
+        let width = GREATEST_BOUND / pieces.max(1) as u64;
+        'pieces: for piece in 1..pieces {
+            let high = width.saturating_mul(piece as u64);
+            self.ask(Command::Count(KeyRange::new(0, high as u128)?))?;
+        }
+        self.load(pending, numbers)
     }
 }
 
-/// Inserts as many rows of random keys.
-pub fn load(partition: &mut Partition, rows: u32, numbers: &mut Numbers) -> Result<(), Refusal> {
-    'rows: for row in 0..rows {
-        let command = Command::Insert {
-            key: Key(numbers.word()),
-            payload: Payload(row),
-        };
-        ask(partition, command)?;
-    }
-    Ok(())
-}
-
-/// Counts every row.
-pub fn count_all(partition: &mut Partition) -> Result<u64, Refusal> {
-    ask(partition, Command::Count(KeyRange::all()))
+/// The serials of as many rows.
+pub fn serials(alloc: Global, rows: u32) -> Result<Vec<u64>, AllocError> {
+    (0..rows as u64).collect(alloc)
 }
 
 /// A range of that width at a random place.
 fn random_range(numbers: &mut Numbers) -> Result<KeyRange, Refusal> {
     let low = numbers.word() as u64 % (GREATEST_BOUND - WIDTH);
     KeyRange::new(low as u128, (low + WIDTH) as u128)
-}
-
-/// As many counts of random ranges. A checksum of what they replied.
-pub fn counts(
-    partition: &mut Partition,
-    counts: u64,
-    numbers: &mut Numbers,
-) -> Result<u64, Refusal> {
-    let mut sum = 0;
-    'counts: for _ in 0..counts {
-        let range = random_range(numbers)?;
-        sum = mixed(sum, ask(partition, Command::Count(range))?);
-    }
-    Ok(sum)
 }

@@ -4,4 +4,4 @@ use Rattle.crack_bench.proofs.column.column_of.Given as goal
 
 -- each handle that is left has room, and what is remembered is right
 abbrev pub invariant-handles : goal.invariant-handles
-invariant-handles l = (l.rows ≤ l.column.room + l.i) × Remembers l.arena.cells l.column.handles l.column.keys
+invariant-handles l = (l.rows ≤ l.column.room + l.i) × Remembers l.arena.cells l.column.handles l.column.remembered

@@ -3,4 +3,4 @@ use Rattle.crack_bench.proofs.column.crack_on.Given as goal
 
 -- what is remembered is right
 abbrev pub invariant-cracks : goal.invariant-cracks
-invariant-cracks l = Remembers l.arena.cells l.column.handles l.column.keys
+invariant-cracks l = Remembers l.arena.cells l.column.handles l.column.remembered

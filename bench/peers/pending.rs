@@ -1,0 +1,108 @@
+//! Pending rows in order of arrival: keys side by side with their handles, a hole where a row went, and for each cell where its row stands.
+
+use crate::arena::Handle;
+
+/// The number of no cell: a hole.
+const HOLE: u32 = u32::MAX;
+
+/// How many keys are looked at before there is a branch.
+const BLOCK: usize = 16;
+
+#[derive(Default)]
+pub struct Pending {
+    keys: Vec<u32>,
+    handles: Vec<Handle>,
+    spots: Vec<u32>,
+    holes: usize,
+}
+
+impl Pending {
+    pub fn len(&self) -> usize {
+        self.handles.len() - self.holes
+    }
+
+    pub fn reserve(&mut self, additional: usize) {
+        self.keys.reserve(additional);
+        self.handles.reserve(additional);
+    }
+
+    pub fn cover(&mut self, cells: usize) {
+        if cells > self.spots.len() {
+            self.spots.resize(cells, HOLE);
+        }
+    }
+
+    pub fn push(&mut self, handle: Handle, key: u32) {
+        self.spots[handle.slot as usize] = self.handles.len() as u32;
+        self.handles.push(handle);
+        self.keys.push(key);
+    }
+
+    fn spot_of(&self, slot: u32) -> Option<usize> {
+        let spot = *self.spots.get(slot as usize)? as usize;
+        (self.handles.get(spot)?.slot == slot).then_some(spot)
+    }
+
+    pub fn contains(&self, slot: u32) -> bool {
+        self.spot_of(slot).is_some()
+    }
+
+    /// Takes the row of this spot; it leaves a hole.
+    pub fn take(&mut self, spot: usize) -> (Handle, u32) {
+        let handle = self.handles[spot];
+        self.handles[spot].slot = HOLE;
+        self.holes += 1;
+        (handle, self.keys[spot])
+    }
+
+    pub fn strike(&mut self, slot: u32) {
+        if let Some(spot) = self.spot_of(slot) {
+            self.take(spot);
+        }
+        self.close_up();
+    }
+
+    /// Closes the holes up, once there are as many as rows.
+    pub fn close_up(&mut self) {
+        if self.holes < self.len() || self.holes == 0 {
+            return;
+        }
+        let mut to = 0;
+        for from in 0..self.handles.len() {
+            let handle = self.handles[from];
+            if handle.slot != HOLE {
+                self.handles[to] = handle;
+                self.keys[to] = self.keys[from];
+                self.spots[handle.slot as usize] = to as u32;
+                to += 1;
+            }
+        }
+        self.handles.truncate(to);
+        self.keys.truncate(to);
+        self.holes = 0;
+    }
+
+    /// The first spot from this one on whose row has its key in the range.
+    pub fn next_in(&self, low: u64, high: u64, mut from: usize) -> Option<usize> {
+        if high <= low {
+            return None;
+        }
+        let (low, last) = (low as u32, (high - 1) as u32);
+        let is_in = |key: u32| (low <= key) & (key <= last);
+        let len = self.keys.len();
+        while from + BLOCK <= len {
+            let block = &self.keys[from..from + BLOCK];
+            let mut any = 0;
+            for i in 0..BLOCK {
+                any |= is_in(block[i]) as u32;
+            }
+            if any != 0
+                && let Some(i) = (0..BLOCK).find(|i| is_in(block[*i]) && self.handles[from + i].slot != HOLE)
+            {
+                return Some(from + i);
+            }
+            from += BLOCK;
+        }
+        (from..len).find(|spot| is_in(self.keys[*spot]) && self.handles[*spot].slot != HOLE)
+    }
+}
