@@ -1,9 +1,9 @@
 #!/usr/bin/env python3
-"""Runs the gate, and then the acceptance cases on the program that the gate built.
+"""Runs the gate, and then the acceptance cases and the random scripts on the program that the gate built.
 
 The gate, `rt ci`, proves every crate from nothing, tries the must-fail edits, runs the tests, and runs each program. What it writes is
 passed on as it comes. Before the last line stands the processor time of each crate, for its proof, its tests and its edits, as far as that
-was seen. The last line is the sum of both, 'N passed, M failed'; the status is 0 only where nothing failed.
+was seen. The last line is the sum of all, 'N passed, M failed'; the status is 0 only where nothing failed.
 """
 
 import pathlib
@@ -12,6 +12,7 @@ import subprocess
 import sys
 
 import processor
+import random_script
 import run
 
 TOP = pathlib.Path(__file__).resolve().parent.parent
@@ -44,7 +45,8 @@ def gate():
 def main():
     passed, failed, times = gate()
     if PROGRAM.exists():
-        more_passed, more_failed = run.run_all(PROGRAM)
+        more = [run.run_all(PROGRAM), random_script.run(PROGRAM)]
+        more_passed, more_failed = (sum(it) for it in zip(*more))
     else:
         print("acceptance: the gate left no program, so no case was run")
         more_passed, more_failed = 0, 1
