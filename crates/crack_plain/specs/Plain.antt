@@ -1,5 +1,5 @@
 -- The plain table: rows changed by commands and filtered by ranges, with no piece, handle, pending row, policy or lock.
-use Rattle.std.specs.Prelude.{◌≡◌, ℕ, ◌+◌, ◌<◌, ◌≤◌, List, [], ◌∷◌, ◌++◌, length, map, filter, find, count_by, All, AllPairs, Option, Some, None, IfSome, Bool, true, false}
+use Rattle.std.specs.Prelude.{◌≡◌, ℕ, ◌+◌, ◌<◌, ◌≤◌, ◌^◌, List, [], ◌∷◌, ◌++◌, length, map, filter, find, count_by, All, AllPairs, Option, Some, None, IfSome, Bool, true, false}
 use Rattle.crack_row.specs.Ranges.{Range, IsIn, in_range}
 use Rattle.crack_row.specs.Commands.{change_of, key_of}
 use Rattle.crack_row.specs.Replies.{IsFlat}
@@ -57,6 +57,13 @@ reply_to s (Update serial key payload) = rewritten (row_in s.rows serial)
 reply_to s (Count range) = Counted (count_by (in_range range) s.rows)
 reply_to s (Sum range) = Summed (sum_of (rows_in range s.rows))
 reply_to s (Select range) = Rows (rows_in range s.rows)
+
+-- a count is below 2^32, a sum below 2^96, and a list has fewer rows than 2^32
+abbrev pub IsSmall : Reply → Type 0
+IsSmall (Counted count) = count < 2 ^ 32
+IsSmall (Summed sum) = sum < 2 ^ 96
+IsSmall (Rows rows) = length rows < 2 ^ 32
+IsSmall _ = Unit {0}
 
 -- the state that a change leaves: a row that is placed gets the next serial; the row of a serial goes, or keeps its serial and its
 -- place and gets another key and another payload

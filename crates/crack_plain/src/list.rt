@@ -1,5 +1,5 @@
 //! Slow look-ups in a list of rows, and changes of it.
-ghost use Rattle.std.specs.Prelude.{◌≡◌, map, filter, count_by, IfOk, IfErr};
+ghost use Rattle.std.specs.Prelude.{◌≡◌, ◌≤◌, ◌*◌, length, map, filter, count_by, IfOk, IfErr};
 ghost use Rattle.crack_row.specs.Ranges.{in_range};
 ghost use Rattle.crack_row.specs.Rows.{is_other, replaced, sum_of};
 ghost use Rattle.crack_plain.specs.Plain.{row_in, rows_in};
@@ -44,24 +44,30 @@ fn replaced(new: Row, row: Row) -> Row
 
 /// How many rows have their key in the range: O(rows).
 pub(crate) fn count_in(rows: &[Row], range: KeyRange) -> u64
-    ensures { result ≡ count_by (in_range range) rows.now }
+    ensures is { result ≡ count_by (in_range range) rows.now }
+    ensures small { result ≤ length rows.now }
 {
     rows.iter().filter(|row| range.contains(row.key)).count() as u64
 }
 
 /// The sum of the payloads of the rows whose key is in the range: O(rows).
 pub(crate) fn sum_in(rows: &[Row], range: KeyRange) -> u128
-    ensures { result ≡ sum_of (rows_in range rows.now) }
+    ensures is { result ≡ sum_of (rows_in range rows.now) }
+    ensures small { result ≤ length rows.now * 4294967295 }
 {
-    rows.iter()
-        .filter(|row| range.contains(row.key))
-        .map(|row| row.payload.0 as u128)
-        .sum()
+    let mut sum = 0;
+    'rows: for place in 0..rows.len() {
+        if range.contains(rows[place].key) {
+            sum += rows[place].payload.0 as u128;
+        }
+    }
+    sum
 }
 
 /// The rows whose key is in the range: O(rows). Refused with 8 where it finds no memory.
 pub(crate) fn rows_in(alloc: Global, rows: &[Row], range: KeyRange) -> Result<Vec<Row>, Refusal>
     ensures ok { IfOk result (λ listed. listed.items ≡ rows_in range rows.now) }
+    ensures small { IfOk result (λ listed. length listed.items ≤ length rows.now) }
     ensures err { IfErr result (λ e. e ≡ Refusal.OutOfMemory) }
 {
     rows.iter()

@@ -2,7 +2,7 @@
 ghost use Rattle.std.specs.Prelude.{◌≡◌, ◌+◌, ◌<◌, ◌≤◌, ◌^◌, false, length, Err, IfOk, IfErr, IsOk, OnErr, OnOk};
 ghost use Rattle.crack_row.specs.Layouts.{IsLayout};
 ghost use Rattle.crack_row.specs.Replies.{IsFlat};
-ghost use Rattle.crack_plain.specs.Plain.{PlainState, no_rows, answer, reply_to, changed, places_row, all_keys, whole_layout, IsNumbered, TakesNoMemory};
+ghost use Rattle.crack_plain.specs.Plain.{PlainState, no_rows, answer, reply_to, changed, places_row, all_keys, whole_layout, IsNumbered, IsSmall, TakesNoMemory};
 
 use crate::MOST_ACCEPTED;
 use crate::list::{count_in, replace, row_in, rows_in, sum_in, take_out};
@@ -91,6 +91,7 @@ impl PlainTable {
     /// Refused with 8 where an insert or a select finds no memory, and with 6 once `MOST_ACCEPTED` commands were accepted.
     pub fn apply(&mut self, command: &Command) -> Result<Reply, Refusal>
         ensures reply { IfOk result (λ reply. reply ≡ (answer self.old.state command.now).0) }
+        ensures small { IfOk result IsSmall }
         ensures state { OnOk result (self.new.state ≡ (answer self.old.state command.now).1) }
         ensures accepted { OnOk result (self.new.accepted ≡ self.old.accepted + 1) }
         ensures err { OnErr result (self.new ≡ self.old) }
@@ -112,6 +113,7 @@ impl PlainTable {
     /// What the command is replied: O(rows). Refused with 8 where a list finds no memory.
     fn reply_to(&self, command: &Command) -> Result<Reply, Refusal>
         ensures reply { IfOk result (λ reply. reply ≡ reply_to self.now.state command.now) }
+        ensures small { IfOk result IsSmall }
         ensures err { IfErr result (λ e. e ≡ Refusal.OutOfMemory) }
         ensures spare { IsFlat (reply_to self.now.state command.now) → IsOk result }
     {

@@ -1,5 +1,5 @@
 //! What is asked of a partition, and what it answers.
-ghost use Rattle.std.specs.Prelude.{◌≡◌, IfOk, IfErr, IsOk};
+ghost use Rattle.std.specs.Prelude.{◌≡◌, ◌↔◌, IfOk, IfErr, IsOk, IsTrue};
 ghost use Rattle.crack_row.specs.Commands.{change_of, range_of, key_of};
 ghost use Rattle.crack_row.specs.Replies.{IsFlat};
 
@@ -7,7 +7,7 @@ use crate::{Key, KeyRange, Payload, Refusal, Row, RowList, Serial};
 use std::alloc::Global;
 
 /// What a worker asks of a partition.
-#[derive(Clone, Copy, Debug)]
+#[derive(Clone, Copy, PartialEq, Eq, Debug)]
 pub enum Command {
     /// Places a row.
     Insert {
@@ -101,6 +101,9 @@ pub enum Policy {
     Complete,
     /// Those alone whose key is in the range.
     Gradual,
+    /// Those alone whose key is in the range, with room made near it: a row that stands in the way behind the range is evicted, and is a
+    /// pending insertion again.
+    Ripple,
 }
 
 /// What a partition answers.
@@ -142,6 +145,29 @@ impl Reply {
             }
         }
     }
+
+    /// Whether two replies are the same: O(rows of their lists).
+    pub fn is_same(&self, other: &Reply) -> bool
+        ensures { IsTrue result ↔ (self.now ≡ other.now) }
+    {
+        match (self, other) {
+            (Reply::Placed(one), Reply::Placed(two)) => *one == *two,
+            (Reply::Gone(one), Reply::Gone(two)) => *one == *two,
+            (Reply::Changed, Reply::Changed) => true,
+            (Reply::NoRow, Reply::NoRow) => true,
+            (Reply::Counted(one), Reply::Counted(two)) => *one == *two,
+            (Reply::Summed(one), Reply::Summed(two)) => *one == *two,
+            (Reply::Rows(one), Reply::Rows(two)) => same_rows(one.as_slice(), two.as_slice()),
+            _ => false,
+        }
+    }
+}
+
+/// Whether two lists of rows are the same: O(rows).
+fn same_rows(one: &[Row], two: &[Row]) -> bool
+    ensures { IsTrue result ↔ (one.now ≡ two.now) }
+{
+    one == two
 }
 
 /// One answered command of a history: who asked, what, and what was replied.

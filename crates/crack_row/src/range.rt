@@ -7,7 +7,7 @@ use std::marker::Model;
 
 /// A half open range of keys: from its low end on, up to and without its high end.
 /// Its ends are in order and at most `GREATEST_BOUND`.
-#[derive(Clone, Copy, Debug)]
+#[derive(Clone, Copy, PartialEq, Eq, Debug)]
 pub struct KeyRange {
     low: Bound,
     high: Bound,
@@ -25,6 +25,21 @@ impl Model for KeyRange {
     ghost invariant = { λ r. (r.low.0 ≤ r.high.0) × (r.high.0 ≤ GREATEST_BOUND) };
 
     ghost inverse = { λ v. record { low = record { 0 = v.low }; high = record { 0 = v.high } } };
+}
+
+impl Default for KeyRange {
+    ghost use Rattle.std.specs.Prelude.{◌≡◌};
+
+    ghost is_default = { λ r. (r.low ≡ 0) × (r.high ≡ 0) };
+
+    /// The empty range at 0.
+    fn default() -> KeyRange {
+        let least = Bound(0);
+        KeyRange {
+            low: least,
+            high: least,
+        }
+    }
 }
 
 impl KeyRange {

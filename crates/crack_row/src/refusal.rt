@@ -3,6 +3,7 @@ ghost use Rattle.std.specs.Prelude.{◌≡◌};
 ghost use Rattle.crack_row.specs.Refusals.{code_of};
 
 use std::alloc::{AllocError, AllocFailed};
+use std::fmt;
 use thiserror::Error;
 
 /// Why a call was refused, with what it carries. Its text is that of the reply line, without the line feed.
@@ -23,18 +24,54 @@ pub enum Refusal {
     /// The history has as many entries as its limit.
     #[error("refused 6 {length}")]
     HistoryFull { length: u64 },
+    /// A gate said no as often in one call as it is asked.
+    #[error("refused 7")]
+    GateGaveUp,
     /// A growth was really refused.
     #[error("refused 8")]
     OutOfMemory,
+    /// The splits don't rise strictly, or one isn't 1 to `GREATEST_KEY`.
+    #[error("refused 11")]
+    BadSplits,
+    /// There are more splits than partitions may have.
+    #[error("refused 12")]
+    TooManyPartitions,
+    /// The number of workers isn't 1 to the most that a table may have.
+    #[error("refused 13")]
+    BadWorkerCount,
     /// The limit of a history isn't 1 to `GREATEST_LIMIT`.
     #[error("refused 14")]
     BadLimit,
+    /// Workers of the table weren't handed to a gathering: one bit for each missing number.
+    #[error("refused 15{}", Numbers(*missing))]
+    WorkersMissing { missing: u64 },
+    /// Receipts and histories don't cover each other at this place, or a partition isn't the table's.
+    #[error("refused 16 {part} {position}")]
+    StrangeReceipt { part: u32, position: u64 },
     /// The reader failed, or passed its stated bound.
     #[error("refused 17")]
     ReadFault,
     /// The writer failed.
     #[error("refused 18")]
     WriteFault,
+    /// A record of CSV hasn't just two fields, or one of them is no number in range: the record's number from 1, a header counted.
+    #[error("refused 19 {number}")]
+    BadRecord { number: u64 },
+}
+
+/// The numbers of the bits that are set, in rising order, each behind a space.
+#[derive(Clone, Copy)]
+struct Numbers(u64);
+
+impl fmt::Display for Numbers {
+    fn fmt<W: fmt::Write>(&self, f: &mut fmt::Formatter<W>) -> fmt::Result {
+        for number in 0..64u32 {
+            if (self.0 >> number) & 1 == 1 {
+                write!(f, " {number}")?;
+            }
+        }
+        Ok(())
+    }
 }
 
 impl Refusal {
@@ -48,10 +85,20 @@ impl Refusal {
             Refusal::KeyOutside => 4,
             Refusal::NoSuchPartition => 5,
             Refusal::HistoryFull { length: _ } => 6,
+            Refusal::GateGaveUp => 7,
             Refusal::OutOfMemory => 8,
+            Refusal::BadSplits => 11,
+            Refusal::TooManyPartitions => 12,
+            Refusal::BadWorkerCount => 13,
             Refusal::BadLimit => 14,
+            Refusal::WorkersMissing { missing: _ } => 15,
+            Refusal::StrangeReceipt {
+                part: _,
+                position: _,
+            } => 16,
             Refusal::ReadFault => 17,
             Refusal::WriteFault => 18,
+            Refusal::BadRecord { number: _ } => 19,
         }
     }
 }
