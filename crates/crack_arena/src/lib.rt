@@ -4,7 +4,7 @@
 //! This is known as a generational arena. The free cells are linked, each to the one that was freed before it.
 #![tactic(auto)]
 
-ghost use Rattle.std.specs.Prelude.{◌≡◌, ◌+◌, ◌<◌, ◌≤◌, List, [], length, option_copied, MatchOption, MatchResult, IfOk, IfErr, OnOk, OnErr, OnSome, is_some, None, Some, ⊤};
+ghost use Rattle.std.specs.Prelude.{◌≡◌, ◌≢◌, ◌+◌, ◌<◌, ◌≤◌, List, [], length, option_copied, MatchOption, MatchResult, IfOk, IfErr, OnOk, OnErr, OnSome, is_some, None, Some, ⊤};
 ghost use Rattle.crack_row.specs.declared.refusal.Refusal.TheVariants.{OutOfMemory};
 ghost use Rattle.std.proofs.Common.{rules};
 ghost use Rattle.std.specs.Cmp.Rules.{comparing};
@@ -17,6 +17,10 @@ pub use rows::{key_of, payload_of};
 use std::alloc::{AllocError, Global};
 use std::marker::{Model, PhantomData};
 use std::{fmt, mem};
+
+/// For how many cells there is room at first: so large a block of memory is mapped by itself, so that it grows without being copied,
+/// and what isn't used of it takes no memory.
+const FIRST_CELLS: usize = 4096;
 
 /// Names one cell at one generation. It doesn't know which arena made it.
 pub struct Handle<T> {
@@ -243,7 +247,8 @@ impl<T> Arena<T> {
         ensures unchanged { OnErr result (self.new ≡ self.old) }
     {
         if additional > self.free {
-            self.cells.reserve(additional - self.free)?;
+            let wanted = growth(self.cells.capacity(), additional - self.free);
+            self.cells.reserve(wanted)?;
         }
         Ok(())
     }
@@ -267,6 +272,7 @@ impl<T> Arena<T> {
     }
 
     /// Keeps the value in the first free cell, or else in a new one, for which there is room. O(1), takes no memory.
+    #[inline(always)]
     pub fn put_reserved(&mut self, value: T) -> Handle<T>
         requires room { 0 < self.old.room }
         requires cells { CanPut self.old }
@@ -361,4 +367,15 @@ impl<T> Arena<T> {
             _ => false,
         }
     }
+}
+
+/// For how many cells more to make room: for `FIRST_CELLS` at least where there is no room at all.
+fn growth(capacity: usize, wanted: usize) -> usize
+    ensures enough { wanted ≤ result }
+    ensures wanted { capacity ≢ 0 → result ≡ wanted }
+{
+    if capacity == 0 {
+        return wanted.max(FIRST_CELLS);
+    }
+    wanted
 }
