@@ -202,21 +202,29 @@ pub(crate) fn lower_at(marks: &mut [Mark], place: usize)
     lower_all(&mut marks[start..end]);
 }
 
-/// Each of the marks moves up by one.
+/// Each of the marks moves up by one. Mostly it is one mark, which needs no loop.
 fn raise_all(marks: &mut [Mark])
     requires { All (λ m. m.position < usize.MAX) marks.old }
     ensures { marks.new ≡ map one_up marks.old }
 {
+    if marks.len() == 1 {
+        marks[0].position += 1;
+        return;
+    }
     for mark in marks.iter_mut() {
         mark.position += 1;
     }
 }
 
-/// Each of the marks moves down by one.
+/// Each of the marks moves down by one. Mostly it is one mark, which needs no loop.
 fn lower_all(marks: &mut [Mark])
     requires { All (λ m. 0 < m.position) marks.old }
     ensures { marks.new ≡ map one_down marks.old }
 {
+    if marks.len() == 1 {
+        marks[0].position -= 1;
+        return;
+    }
     for mark in marks.iter_mut() {
         mark.position -= 1;
     }
