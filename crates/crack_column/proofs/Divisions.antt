@@ -77,8 +77,6 @@ pub IsDividedAt-raised : (bound : ℕ) (keys : List ℕ) (place key : ℕ) → p
 IsDividedAt-raised bound keys place key inside below d =
     IsDividedAt-set bound keys place (place + 1) place key (λ k ne h. omega arith) (λ k _ h. omega arith) (λ _. below) (λ h. absurd (omega arith)) (omega arith) d
 
--- For pulls and for the column without its last place, whose calls are still to come
-
 -- the division moves down over a key at or above the bound that is put before it
 pub IsDividedAt-lowered : (bound : ℕ) (keys : List ℕ) (place key : ℕ) → 0 < place → bound ≤ key → IsDividedAt bound keys place → IsDividedAt bound (set keys (place - 1) key) (place - 1)
 IsDividedAt-lowered bound keys place key inside above d =

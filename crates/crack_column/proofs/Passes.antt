@@ -1,67 +1,120 @@
 -- How the tags of a stretch are read, divided and summed up, one after the other.
 use Rattle.std.proofs.Common.{◌≡◌, ◌≢◌, ℕ, suc, true, ◌+◌, ◌<◌, ◌≤◌, List, [], ◌∷◌, length, map, get_or, set, ◌⊎◌, refl, sym, ap, ◌∙◌, length-set, inl, inr, arith}
 use Rattle.std.specs.Prelude.{sum_by}
-use Rattle.std.specs.List.{All, swap}
+use Rattle.std.specs.List.{All}
 use Rattle.std.proofs.Math.Seq.{map-set_same}
 use Rattle.std.proofs.lemmas.List.Sums.{sum_by-cons}
 use Rattle.std.specs.List.Sorted.{IsPermutation}
-use Rattle.std.proofs.lemmas.List.Sorted.{IsPermutation-trans, IsPermutation-swap}
-use Rattle.std.proofs.lemmas.List.Edits.{Swapped, swapped_from_swap, swap_is}
-use Rattle.std.proofs.lemmas.List.{map-set, get_or_default, length-map, get_or-map, get_or-set_same, get_or-set_other}
+use Rattle.std.proofs.lemmas.List.Sorted.{IsPermutation-refl, IsPermutation-trans, IsPermutation-swap}
+use Rattle.std.proofs.lemmas.List.Edits.{swap_is}
+use Rattle.std.proofs.lemmas.List.{set-set, set_comm, map-set, get_or_default, length-map, get_or-map, get_or-set_same, get_or-set_other}
 use Rattle.std.proofs.lemmas.Bool.{cases_eq, eq-eqb}
 use Rattle.crack_arena.specs.Arena.{Cell, Handle, same_handle, times}
 use Rattle.crack_arena.proofs.Times.{times-set, times_head, times-nil, times_other, times_map_at}
 use Rattle.crack_row.specs.declared.Row.{Row}
 use Rattle.crack_column.specs.declared.tag.Tag.{Tag}
-use Rattle.crack_arena.specs.Rows.{payload_at}
-use Rattle.crack_column.specs.Column.{Memory, memory_at, unknown, IsDividedAt}
+use Rattle.crack_arena.specs.Rows.{payload_at, unknown}
+use Rattle.crack_column.specs.Column.{Memory, memory_at, IsDividedAt}
 use Rattle.crack_column.specs.Tickets.{no_tag, remembered_key, handle_of, forgotten, Knows, Read}
 
--- the first i tags were divided
-pub record IsPartway (bound : ℕ) (tags tags' : List Tag) (low i : ℕ) : Type 0 where
-  pub kept : IsPermutation tags tags'
-  pub within : low ≤ i
-  pub below : (k : ℕ) → k < low → (get_or tags' k no_tag).key < bound
-  pub above : (k : ℕ) → low ≤ k → k < i → bound ≤ (get_or tags' k no_tag).key
+-- a tag comes in at the place, and the one that stood there fills the gap
+abbrev pub shifted : List Tag → ℕ → ℕ → Tag → List Tag
+shifted ts gap low t = set (set ts gap (get_or ts low no_tag)) low t
 
-pub IsPartway-step : (bound : ℕ) (ts ts1 ts2 : List Tag) (low i low2 : ℕ) → i < length ts1 → ts2 ≡ set (set ts1 i (get_or ts1 low no_tag)) low (get_or ts1 i no_tag) → (((get_or ts1 i no_tag).key < bound) × (low2 ≡ low + 1)) ⊎ ((bound ≤ (get_or ts1 i no_tag).key) × (low2 ≡ low)) → IsPartway bound ts ts1 low i → IsPartway bound ts ts2 low2 (i + 1)
-IsPartway-step bound ts ts1 ts2 low i low2 inside is which so_far =
-    let there : low < length ts1 = omega (arith, so_far.within) in
-    let moved : ts2 ≡ swap ts1 i low = is ∙ swap_is ts1 i low no_tag inside there in
-    let at : Swapped (λ k. get_or ts1 k no_tag) (λ k. get_or ts2 k no_tag) i low = swapped_from_swap ts1 ts2 i low no_tag inside there moved in
+-- the tags before the gap stand divided
+pub record IsSplit (bound : ℕ) (tags : List Tag) (low gap : ℕ) : Type 0 where
+  pub within : low ≤ gap
+  pub below : (k : ℕ) → k < low → (get_or tags k no_tag).key < bound
+  pub above : (k : ℕ) → low ≤ k → k < gap → bound ≤ (get_or tags k no_tag).key
+
+-- the tags before the gap were divided, and the first one is to fill it
+pub record IsPartway (bound : ℕ) (tags tags' : List Tag) (first : Tag) (low gap : ℕ) : Type 0 where
+  pub kept : IsPermutation tags (set tags' gap first)
+  pub split : IsSplit bound tags' low gap
+
+-- on which side of the bound a tag is, and where the tags at or above it begin once it stands there
+abbrev pub Falls : ℕ → Tag → ℕ → ℕ → Type 0
+Falls bound t low low2 = ((t.key < bound) × (low2 ≡ low + 1)) ⊎ ((bound ≤ t.key) × (low2 ≡ low))
+
+-- a tag that comes in moves the gap up
+IsSplit-shifted : (bound : ℕ) (ts : List Tag) (t : Tag) (low gap low2 : ℕ) → gap < length ts → Falls bound t low low2 → IsSplit bound ts low gap → IsSplit bound (shifted ts gap low t) low2 (gap + 1)
+IsSplit-shifted bound ts t low gap low2 inside falls split =
+    let filled : List Tag = set ts gap (get_or ts low no_tag) in
+    let long : length filled ≡ length ts = length-set ts gap (get_or ts low no_tag) in
+    let there : get_or (shifted ts gap low t) low no_tag ≡ t = get_or-set_same filled low t no_tag (omega (arith, split.within)) in
+    let at_gap : gap ≢ low → get_or (shifted ts gap low t) gap no_tag ≡ get_or ts low no_tag = λ ne. get_or-set_other filled low gap t no_tag ne ∙ get_or-set_same ts gap (get_or ts low no_tag) no_tag inside in
+    let others : (k : ℕ) → k ≢ low → k ≢ gap → get_or (shifted ts gap low t) k no_tag ≡ get_or ts k no_tag = λ k ne apart. get_or-set_other filled low k t no_tag ne ∙ get_or-set_other ts gap k (get_or ts low no_tag) no_tag apart in
+    let far : (k : ℕ) → low < k → k < gap + 1 → bound ≤ (get_or (shifted ts gap low t) k no_tag).key = λ k from to. elim (cases_eq k gap) [
+      | inl e ↦ rw (e, at_gap (omega arith)) (split.above low (omega arith) (omega arith))
+      | inr ne ↦ rw (others k (omega arith) ne) (split.above k (omega arith) (omega arith))
+    ] in
+    let near : (k : ℕ) → k < low → (get_or (shifted ts gap low t) k no_tag).key < bound = λ k to. rw (others k (omega arith) (omega (arith, split.within))) (split.below k to) in
+    elim falls [
+      | inl y ↦ record {
+        within = omega (arith, split.within, y.1);
+        below = λ k to. elim (cases_eq k low) [ inl e ↦ rw (e, there) y.0 | inr ne ↦ near k (omega (arith, y.1)) ];
+        above = λ k from to. far k (omega (arith, y.1)) to;
+      }
+      | inr n ↦ record {
+        within = omega (arith, split.within, n.1);
+        below = λ k to. near k (omega (arith, n.1));
+        above = λ k from to. elim (cases_eq k low) [ inl e ↦ rw (e, there) n.0 | inr ne ↦ far k (omega (arith, n.1)) to ];
+      }
+    ]
+
+-- a tag that fills the gap itself, or comes in elsewhere and leaves the gap to the one that stood there: the tags are the same
+shifted-permutes : (ts : List Tag) (t : Tag) (low gap : ℕ) → low ≤ gap → gap < length ts → IsPermutation (set ts gap t) (shifted ts gap low t)
+shifted-permutes ts t low gap order inside =
+    let filled : List Tag = set ts gap t in
+    let here : get_or filled gap no_tag ≡ t = get_or-set_same ts gap t no_tag inside in
+    let long : length filled ≡ length ts = length-set ts gap t in
+    elim (cases_eq low gap) [
+      | inl e ↦ rw (e, set-set ts gap (get_or ts gap no_tag) t) (IsPermutation-refl (set ts gap t))
+      | inr ne ↦
+          let other : get_or filled low no_tag ≡ get_or ts low no_tag = get_or-set_other ts gap low t no_tag ne in
+          let same : shifted ts gap low t ≡ set (set filled gap (get_or filled low no_tag)) low (get_or filled gap no_tag) = rw (here, other, set-set ts gap t (get_or ts low no_tag)) refl in
+          IsPermutation-swap filled (shifted ts gap low t) gap low (omega arith) (omega arith) (same ∙ swap_is filled gap low no_tag (omega arith) (omega arith))
+    ]
+
+-- the tag behind the gap comes in, and the gap is where it stood
+pub IsPartway-step : (bound : ℕ) (ts ts1 : List Tag) (first : Tag) (low gap low2 : ℕ) → gap + 1 < length ts1 → Falls bound (get_or ts1 (gap + 1) no_tag) low low2 → IsPartway bound ts ts1 first low gap → IsPartway bound ts (shifted ts1 gap low (get_or ts1 (gap + 1) no_tag)) first low2 (gap + 1)
+IsPartway-step bound ts ts1 first low gap low2 inside falls so_far =
+    let next : Tag = get_or ts1 (gap + 1) no_tag in
+    let whole : List Tag = set ts1 gap first in
+    let held : List Tag = set ts1 (gap + 1) first in
+    let whole_long : length whole ≡ length ts1 = length-set ts1 gap first in
+    let held_long : length held ≡ length ts1 = length-set ts1 (gap + 1) first in
+    let order : low ≤ gap = so_far.split.within in
+    let behind : get_or whole (gap + 1) no_tag ≡ next = get_or-set_other ts1 gap (gap + 1) first no_tag (omega arith) in
+    let front : get_or whole gap no_tag ≡ first = get_or-set_same ts1 gap first no_tag (omega arith) in
+    let exchanged : set (set whole gap (get_or whole (gap + 1) no_tag)) (gap + 1) (get_or whole gap no_tag) ≡ set held gap next =
+    rw (behind, front, set-set ts1 gap first next) (set_comm ts1 gap (gap + 1) next first (omega arith)) in
+    let first_moved : IsPermutation whole (set held gap next) = IsPermutation-swap whole (set held gap next) gap (gap + 1) (omega arith) (omega arith) (sym exchanged ∙ swap_is whole gap (gap + 1) no_tag (omega arith) (omega arith)) in
+    let low_held : get_or held low no_tag ≡ get_or ts1 low no_tag = get_or-set_other ts1 (gap + 1) low first no_tag (omega arith) in
+    let apart : shifted held gap low next ≡ set (shifted ts1 gap low next) (gap + 1) first =
+    rw (low_held, set_comm ts1 (gap + 1) gap first (get_or ts1 low no_tag) (omega arith)) (set_comm (set ts1 gap (get_or ts1 low no_tag)) (gap + 1) low first next (omega arith)) in
+    let then_shifted : IsPermutation (set held gap next) (set (shifted ts1 gap low next) (gap + 1) first) = rw apart at (shifted-permutes held next low gap order (omega arith)) in
     record {
-      kept = IsPermutation-trans ts ts1 ts2 so_far.kept (IsPermutation-swap ts1 ts2 i low inside there moved);
-      within = elim which [ inl y ↦ omega (arith, so_far.within, y.1) | inr n ↦ omega (arith, so_far.within, n.1) ];
-      below = λ k to. elim which [
-        | inl y ↦ elim (cases_eq k low) [
-          | inl e ↦ rw (e, at.1) y.0
-          | inr ne ↦ rw (at.2 k (λ e. absurd (omega (arith, so_far.within, y.1))) ne) (so_far.below k (omega (arith, y.1)))
-        ]
-        | inr n ↦ rw (at.2 k (λ e. absurd (omega (arith, so_far.within, n.1))) (λ e. absurd (omega (arith, n.1)))) (so_far.below k (omega (arith, n.1)))
-      ];
-      above = λ k from to. elim which [
-        | inl y ↦ elim (cases_eq k i) [
-          | inl e ↦ rw (e, at.0) (so_far.above low (omega arith) (omega (arith, y.1)))
-          | inr ne ↦ rw (at.2 k ne (λ e. absurd (omega (arith, y.1)))) (so_far.above k (omega (arith, y.1)) (omega arith))
-        ]
-        | inr n ↦ elim (cases_eq k low) [
-          | inl e ↦ rw (e, at.1) n.0
-          | inr apart ↦ elim (cases_eq k i) [
-            | inl e ↦ rw (e, at.0) (so_far.above low (omega arith) (omega (arith, n.1)))
-            | inr ne ↦ rw (at.2 k ne apart) (so_far.above k (omega (arith, n.1)) (omega arith))
-          ]
-        ]
-      ];
+      kept = IsPermutation-trans ts whole (set (shifted ts1 gap low next) (gap + 1) first) so_far.kept (IsPermutation-trans whole (set held gap next) (set (shifted ts1 gap low next) (gap + 1) first) first_moved then_shifted);
+      split = IsSplit-shifted bound ts1 next low gap low2 (omega arith) falls so_far.split;
     }
 
--- once all were, the keys stand divided
-pub divided_all : (bound : ℕ) (ts ts' : List Tag) (low i : ℕ) → length ts' ≤ i → i ≤ length ts' → IsPartway bound ts ts' low i → IsDividedAt bound (map remembered_key ts') low
-divided_all bound ts ts' low i past not_past so_far =
-    let long = length-map ts' remembered_key in
+-- once the gap is the last place, the first tag comes in
+pub permuted_all : (bound : ℕ) (ts ts' : List Tag) (first : Tag) (low gap : ℕ) → gap < length ts' → IsPartway bound ts ts' first low gap → IsPermutation ts (shifted ts' gap low first)
+permuted_all bound ts ts' first low gap inside so_far = IsPermutation-trans ts (set ts' gap first) (shifted ts' gap low first) so_far.kept (shifted-permutes ts' first low gap so_far.split.within inside)
+
+-- and the keys stand divided
+pub divided_all : (bound : ℕ) (ts ts' : List Tag) (first : Tag) (low gap place : ℕ) → gap + 1 ≡ length ts' → Falls bound first low place → IsPartway bound ts ts' first low gap → IsDividedAt bound (map remembered_key (shifted ts' gap low first)) place
+divided_all bound ts ts' first low gap place is_last falls so_far =
+    let after : List Tag = shifted ts' gap low first in
+    let split = IsSplit-shifted bound ts' first low gap place (omega arith) falls so_far.split in
+    let filled : List Tag = set ts' gap (get_or ts' low no_tag) in
+    let long : length after ≡ length ts' = length-set filled low first ∙ length-set ts' gap (get_or ts' low no_tag) in
+    let keys = length-map after remembered_key in
     record {
-      within = omega (arith, so_far.within);
-      below = λ k l. rw (get_or-map remembered_key ts' k no_tag 0 (omega (arith, so_far.within))) (so_far.below k l);
-      above = λ k g l. rw (get_or-map remembered_key ts' k no_tag 0 (omega arith)) (so_far.above k g (omega arith));
+      within = omega (arith, split.within, long, keys);
+      below = λ k l. rw (get_or-map remembered_key after k no_tag 0 (omega (arith, split.within, long))) (split.below k l);
+      above = λ k g l. rw (get_or-map remembered_key after k no_tag 0 (omega (arith, keys))) (split.above k g (omega (arith, long, keys)));
     }
 
 -- the first i tags were read, so many of them weren't known and no more are, and nothing else was changed

@@ -14,8 +14,8 @@ use Rattle.crack_arena.specs.Arena.{Cell, Handle, times, no_handle}
 use Rattle.crack_arena.proofs.Times.{times-map-remove, times_map_at, times_head, times-nil, times-map-append, times_one, times_other, times-cons, times-le-length, times-IsPermutation, times-append, times-set}
 use Rattle.crack_row.specs.declared.Row.{Row}
 use Rattle.crack_column.specs.declared.tag.Tag.{Tag}
-use Rattle.crack_arena.specs.Rows.{key_at}
-use Rattle.crack_column.specs.Column.{Memory, unknown, nothing, memory_at, Remembers, Cracks}
+use Rattle.crack_arena.specs.Rows.{key_at, unknown}
+use Rattle.crack_column.specs.Column.{Memory, nothing, memory_at, Remembers, Cracks}
 use Rattle.crack_column.proofs.Cracking.{Replaced, replaced}
 use Rattle.crack_column.specs.Tickets.{no_tag, tag_for, ticket_of, remembered_key, memory_of, handle_of, handles_in, remembered_in, unread_in, Knows, AreDrawn, Kept, Turns, forgotten}
 

@@ -1,19 +1,15 @@
 -- What a column holds, and what a crack does to it.
-use Rattle.std.specs.Prelude.{◌≡◌, ℕ, ◌-◌, ◌<◌, ◌≤◌, ◌^◌, ◌⊎◌, List, ◌++◌, length, map, take, drop, slice_index, slice_index_or}
+use Rattle.std.specs.Prelude.{◌≡◌, ℕ, ◌-◌, ◌<◌, ◌≤◌, ◌⊎◌, List, ◌++◌, length, map, take, drop, slice_index, slice_index_or}
 use Rattle.std.specs.List.{between}
 use Rattle.std.specs.List.Sorted.{IsPermutation}
 use Rattle.crack_arena.specs.Arena.{Cell, Handle}
-use Rattle.crack_arena.specs.Rows.{key_at, payload_at}
+use Rattle.crack_arena.specs.Rows.{key_at, payload_at, unknown}
 use Rattle.crack_row.specs.declared.Row.{Row}
 
 -- what a column remembers of a row
 pub record Memory : Type 0 where
   pub key : ℕ
   pub payload : ℕ
-
--- the key that is remembered where the row isn't; so a row with the greatest key is never known
-abbrev pub unknown : ℕ
-unknown = 2 ^ 32 - 1
 
 -- the row isn't known
 abbrev pub nothing : Memory

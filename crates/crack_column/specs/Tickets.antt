@@ -3,9 +3,10 @@ use Rattle.std.specs.Prelude.{◌≡◌, ℕ, ◌+◌, ◌-◌, ◌<◌, ◌≤�
 use Rattle.std.specs.List.{between}
 use Rattle.std.specs.List.Sorted.{IsPermutation}
 use Rattle.crack_arena.specs.Arena.{Cell, Handle, times}
+use Rattle.crack_arena.specs.Rows.{unknown}
 use Rattle.crack_row.specs.declared.Row.{Row}
 use Rattle.crack_column.specs.declared.tag.Tag.{Tag}
-use Rattle.crack_column.specs.Column.{Memory, unknown, memory_at, Agrees, IsDividedAt}
+use Rattle.crack_column.specs.Column.{Memory, memory_at, Agrees, IsDividedAt}
 
 abbrev pub ticket_of : Tag → ℕ
 ticket_of t = t.ticket

@@ -2,8 +2,8 @@
 ghost use Rattle.std.specs.Prelude.{◌≡◌, ◌+◌, ◌-◌, ◌<◌, ◌≤◌, ◌^◌, ◌↔◌, List, [], ◌∷◌, ◌++◌, Some, length, vec_len, slice_get, slice_index_or, slice_set, vec_capacity, IsTrue, OnOk, OnErr, IfErr, All, MatchOption, take, sum_by};
 ghost use Rattle.std.specs.List.{between};
 ghost use Rattle.crack_arena.specs.Arena.{Cell, times, StandsAt, IsFirstAt, IsAbsent, no_handle};
-ghost use Rattle.crack_arena.specs.Rows.{payload_at};
-ghost use Rattle.crack_column.specs.Column.{unknown, nothing, Remembers, StillRemembers, StillRemembersWith, Cracks};
+ghost use Rattle.crack_arena.specs.Rows.{payload_at, unknown};
+ghost use Rattle.crack_column.specs.Column.{nothing, Remembers, StillRemembers, StillRemembersWith, Cracks};
 ghost use Rattle.crack_column.specs.Tickets.{AreDrawn, Knows, Turns, Kept, handles_in, remembered_in, unread_in, room_in, tag_for};
 
 use crate::remembered::Remembered;

@@ -1,10 +1,11 @@
 //! What a cracker column remembers of a row.
 ghost use Rattle.std.specs.Prelude.{◌≡◌, [], ◌∷◌};
 ghost use Rattle.crack_arena.specs.Arena.{times};
-ghost use Rattle.crack_column.specs.Column.{unknown, nothing, memory_at};
+ghost use Rattle.crack_arena.specs.Rows.{key_at, unknown};
+ghost use Rattle.crack_column.specs.Column.{nothing, memory_at, Agrees};
 
-use crack_arena::{Arena, Handle};
-use crack_row::Row;
+use crack_arena::{Arena, Handle, key_of};
+use crack_row::{Key, Row};
 use std::marker::Model;
 
 /// Stands for a key that isn't remembered.
@@ -45,6 +46,18 @@ impl Remembered {
         Remembered {
             key: UNKNOWN,
             payload: 0,
+        }
+    }
+
+    /// The key of the handle's row, which is asked of the arena only where the row isn't known. O(1).
+    pub fn key_of(&self, handle: Handle<Row>, arena: &Arena<Row>) -> Key
+        requires { Agrees arena.now.cells handle self.now }
+        ensures { result.0 ≡ key_at arena.now.cells handle }
+    {
+        if self.key == UNKNOWN {
+            key_of(arena, handle)
+        } else {
+            Key(self.key)
         }
     }
 

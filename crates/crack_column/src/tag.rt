@@ -113,21 +113,28 @@ fn learn(tags: &mut [Tag], generations: &[u64], arena: &Arena<Row>) -> usize
 }
 
 /// Puts the keys below the bound first, and gives their number.
-/// The exchange is made at each step, so that no branch hangs on a key. The key is read first and then its place: to read the whole
-/// place before its key costs more than twice as much.
+/// The first tag is held, and the gap that it leaves goes round: each step fills it from the place where the keys at or above the bound
+/// begin, and puts the next tag there, so that no branch hangs on a key. To exchange the two tags instead costs a fourth more. The key
+/// is read first and then its tag: to read the whole tag before its key costs three times as much.
 fn divide(tags: &mut [Tag], bound: Bound) -> usize
     ensures kept { IsPermutation tags.old tags.new }
     ensures divided { IsDividedAt bound.0 (map remembered_key tags.new) result }
 {
+    let Some(last) = tags.len().checked_sub(1) else {
+        return 0;
+    };
+    let first = tags[0];
     let mut low = 0;
-    'tags: for i in 0..tags.len() {
-        let below = (tags[i].key as u64) < bound.0;
-        let here = tags[i];
-        tags[i] = tags[low];
-        tags[low] = here;
+    'tags: for gap in 0..last {
+        let below = (tags[gap + 1].key as u64) < bound.0;
+        let next = tags[gap + 1];
+        tags[gap] = tags[low];
+        tags[low] = next;
         low += below as usize;
     }
-    low
+    tags[last] = tags[low];
+    tags[low] = first;
+    low + ((first.key as u64) < bound.0) as usize
 }
 
 /// The sum of the payloads of the tags' rows, of which at most so many aren't known.

@@ -1,6 +1,7 @@
 use Rattle.std.proofs.Common.{◌≡◌, arith, ap, sym, ◌∙◌, refl, inl, inr, get_or, ◌+◌, add-zero}
 use Rattle.std.proofs.lemmas.Bool.{cases_eq, eq-eqb, ne_eqb}
-use Rattle.crack_column.specs.Column.{unknown, memory_at}
+use Rattle.crack_arena.specs.Rows.{unknown}
+use Rattle.crack_column.specs.Column.{memory_at}
 use Rattle.crack_column.specs.Tickets.{no_tag, handle_of}
 use Rattle.crack_column.proofs.Passes.{IsLearned-read, IsLearned-known, drawn-IsLearned, learned_all}
 use Rattle.crack_column.proofs.tag.learn.Goals as goal

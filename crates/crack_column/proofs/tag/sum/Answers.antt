@@ -1,6 +1,6 @@
 use Rattle.std.proofs.Common.{◌≡◌, map, arith, ◌∙◌}
 use Rattle.crack_arena.specs.Arena.{times}
-use Rattle.crack_column.specs.Column.{unknown}
+use Rattle.crack_arena.specs.Rows.{unknown}
 use Rattle.crack_column.specs.Tickets.{remembered_key}
 use Rattle.crack_column.proofs.Passes.{all_read, sum_all}
 use Rattle.crack_column.proofs.tag.sum.Goals as goal

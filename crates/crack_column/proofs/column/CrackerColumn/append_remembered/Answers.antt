@@ -1,7 +1,7 @@
 use Rattle.std.proofs.Common.{arith}
 use Rattle.crack_arena.proofs.Times.{times-le-length}
 use Rattle.std.proofs.Common.{◌∷◌, []}
-use Rattle.crack_column.specs.Column.{unknown}
+use Rattle.crack_arena.specs.Rows.{unknown}
 use Rattle.crack_column.proofs.Remembering.{Remembers-append}
 use Rattle.crack_column.specs.Tickets.{handles_in, remembered_in}
 use Rattle.crack_column.proofs.TicketLaws.{unread-le}

@@ -1,6 +1,6 @@
 use Rattle.std.proofs.Common.{arith, refl}
 use Rattle.crack_arena.proofs.Times.{times-nil}
-use Rattle.crack_column.specs.Column.{unknown}
+use Rattle.crack_arena.specs.Rows.{unknown}
 use Rattle.crack_column.proofs.column.CrackerColumn.new.Goals as goal
 
 pub invariant_of-result : goal.invariant_of-result

@@ -1,7 +1,7 @@
 use Rattle.std.proofs.Common.{◌≡◌, ◌≤◌, ◌<◌, ◌+◌, length, take, get_or, ◌∷◌, [], arith, ap, ◌∙◌}
 use Rattle.std.proofs.lemmas.List.{get_or_default}
 use Rattle.crack_arena.specs.Arena.{times}
-use Rattle.crack_column.specs.Column.{unknown}
+use Rattle.crack_arena.specs.Rows.{unknown}
 use Rattle.crack_column.specs.Tickets.{no_tag, remembered_key, unread_in}
 use Rattle.crack_column.proofs.Remembering.{Remembers-take}
 use Rattle.crack_column.proofs.TicketLaws.{length-in, handles-shorter, remembered-shorter, unread-last}

@@ -1,7 +1,8 @@
 use Rattle.std.proofs.Common.{◌≡◌, ◌<◌, ◌+◌, length, take, ◌∷◌, [], Some, arith, refl, sym, ap, ◌∙◌}
 use Rattle.crack_arena.specs.Arena.{Handle, times}
 use Rattle.crack_arena.proofs.Times.{times-le-length}
-use Rattle.crack_column.specs.Column.{Memory, unknown}
+use Rattle.crack_arena.specs.Rows.{unknown}
+use Rattle.crack_column.specs.Column.{Memory}
 use Rattle.crack_column.specs.Tickets.{unread_in}
 use Rattle.crack_column.proofs.Remembering.{Remembers-set}
 use Rattle.crack_column.proofs.TicketLaws.{length-in, unread-le, AreDrawn-Kept, length-Kept, handles-swapped, remembered-swapped, unread-swapped, stands_at, remembered_at}
