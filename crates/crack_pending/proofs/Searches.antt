@@ -1,10 +1,9 @@
 -- Laws of the searches for a key, for the crates above.
-use Rattle.std.proofs.Common.{◌≡◌, ℕ, ◌+◌, ◌<◌, ◌≤◌, true, false, List, length, get_or, All, refl, sym, ap, ◌∙◌, inl, inr, arith}
+use Rattle.std.proofs.Common.{◌≡◌, ℕ, ◌+◌, ◌<◌, true, false, List, length, get_or, All, refl, sym, ap, ◌∙◌, inl, inr, arith}
 use Rattle.std.specs.Prelude.{slice_index}
-use Rattle.std.specs.List.{remove, list_any}
+use Rattle.std.specs.List.{list_any}
 use Rattle.std.proofs.lemmas.Bool.{cases_lt, lt-ltb, le-ltb, le-leb, lt-leb}
 use Rattle.std.proofs.lemmas.List.{get_or-map, get_or_default, length-map}
-use Rattle.std.proofs.lemmas.List.Edits.{get_or-remove_below}
 use Rattle.std.proofs.lemmas.List.Folds.{list_any_at, list_any_none}
 use Rattle.crack_row.specs.Ranges.{Range, IsIn, is_in}
 use Rattle.crack_row.specs.declared.Row.{Row}
@@ -63,27 +62,3 @@ module _ (range : Range) (cells : List (Cell Row)) (handles : List Handle) where
       let within : place < length handles = omega (arith, first.within, length-keys_at cells handles) in
       let key = keys_at-StandsAt cells handles place (get_or handles place no_handle) (StandsAt-get_or handles place no_handle within) in
       list_any_at (λ h. is_in range (key_at cells h)) handles place no_handle within (is_in-true range (key_at cells (get_or handles place no_handle)) (rw key at first.holds))
-
--- For merges that take rows at rising places and search on from there, whose calls are still to come
-
--- two stretches that were passed over
-pub NoneIn-join : (range : Range) (keys : List ℕ) (from between to : ℕ) → NoneIn range keys from between → NoneIn range keys between to → NoneIn range keys from to
-NoneIn-join range keys from between to first second = λ k from_on up_to.
-    elim (cases_lt k between) [
-      | inl l ↦ first k from_on l
-      | inr l ↦ second k l up_to
-    ]
-
--- where none was found before a place that is taken, there is none afterwards
-pub NoneIn-remove : (range : Range) (keys : List ℕ) (from place : ℕ) → place < length keys → NoneIn range keys from place → NoneIn range (remove keys place) from place
-NoneIn-remove range keys from place within none = λ k from_on before.
-    rw (get_or-remove_below keys place 0 k before within) (none k from_on before)
-
--- a search that goes on from where none was found before finds the first of all
-pub IsFirstIn-join : (range : Range) (keys : List ℕ) (from between place : ℕ) → from ≤ between → NoneIn range keys from between → IsFirstIn range keys between place → IsFirstIn range keys from place
-IsFirstIn-join range keys from between place order none first = record {
-  after = omega (arith, first.after);
-  within = first.within;
-  holds = first.holds;
-  before = NoneIn-join range keys from between place none first.before;
-}

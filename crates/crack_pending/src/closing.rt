@@ -7,7 +7,8 @@ use crate::spots::StoredKey;
 use crack_arena::Handle;
 use crack_row::Row;
 
-/// Closes all holes up: the rows stand in their order without any, and each cell leads to the new spot. O(spots).
+/// Closes all holes up: the rows stand in their order without any, and each cell leads to the new spot.
+/// O(spots), and O(1) where there is no hole.
 pub(crate) fn close_up(
     handles: &mut Vec<Handle<Row>>,
     keys: &mut Vec<StoredKey>,
@@ -30,6 +31,9 @@ pub(crate) fn close_up(
     ensures key_capacity { vec_capacity keys.new ≡ vec_capacity keys.old }
     ensures stand_capacity { vec_capacity stands.new ≡ vec_capacity stands.old }
 {
+    if rows == stands.len() {
+        return;
+    }
     close_up_handles(handles, stands);
     close_up_keys(keys, stands);
     close_up_marks(stands, rows);

@@ -107,6 +107,7 @@ impl<Kind> PendingList<Kind> {
     }
 
     /// Puts the handle behind all others, and remembers the key of its row. It takes no memory. O(1).
+    #[inline(always)]
     pub fn push_keyed(&mut self, handle: Handle<Row>, key: Key)
         requires room { 0 < self.old.room }
         requires covered { handle.slot < self.old.covered }
@@ -200,6 +201,16 @@ impl<Kind> PendingList<Kind> {
         ensures { Finds range (keys_at arena.now.cells self.now.handles) from result }
     {
         self.list.next_in(range, from, arena)
+    }
+
+    /// As `next_in`, and goes on from the place that it finds when one is looked for next: to find a row and then to take it is one
+    /// pass.
+    pub fn seek_in(&mut self, range: KeyRange, from: usize, arena: &Arena<Row>) -> Option<usize>
+        requires { RemembersKeys arena.now.cells self.old.handles self.old.keys }
+        ensures finds { Finds range (keys_at arena.now.cells self.old.handles) from result }
+        ensures same { self.new ≡ self.old }
+    {
+        self.list.seek_in(range, from, arena)
     }
 
     /// The first place where the handle stands; none where it stands nowhere. O(1) where there are no holes, else O(len).

@@ -15,19 +15,19 @@ const BLOCK: usize = 16;
 fn may_lie(key: StoredKey, low: StoredKey, last: StoredKey) -> bool
     ensures { OnFalse result (¬ MayLie low last key) }
 {
-    (low <= key && key <= last) || key == UNKNOWN
+    ((low <= key) & (key <= last)) | (key == UNKNOWN)
 }
 
-/// Whether one of a block's keys may lie between the two.
+/// Whether one of a block's keys may lie between the two. Counted in place of this, they would cost twice as much.
 fn any_may_lie(keys: &[StoredKey], low: StoredKey, last: StoredKey) -> bool
     requires { length keys.now ≡ 16 }
     ensures { OnFalse result ((k : ℕ) → k < 16 → ¬ MayLie low last (slice_index keys.now k)) }
 {
-    let mut found = 0u32;
+    let mut found = false;
     'keys: for i in 0..BLOCK {
-        found += may_lie(keys[i], low, last) as u32;
+        found |= may_lie(keys[i], low, last);
     }
-    found != 0
+    found
 }
 
 /// The key of the handle's row, which stands beside it where it is known.

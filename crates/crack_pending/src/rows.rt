@@ -97,3 +97,28 @@ pub(crate) fn spot_of(
         spot_from(stands, 0, 0, place)
     }
 }
+
+/// A spot before which as many rows stand as before the place: the spot that is told, or the next where it is a hole, if so many stand
+/// before it; else that of the row itself.
+pub(crate) fn spot_before(
+    stands: &[bool],
+    rows: usize,
+    before: usize,
+    from: usize,
+    place: usize,
+) -> usize
+    requires rows { rows ≡ place_at stands.now (length stands.now) }
+    requires before { before ≡ place_at stands.now from }
+    requires near { from ≤ length stands.now }
+    requires within { place < rows }
+    ensures place { place_at stands.now result ≡ place }
+    ensures within { result ≤ length stands.now }
+{
+    if before != place {
+        return spot_of(stands, rows, before, from, place);
+    }
+    if from < stands.len() && !stands[from] {
+        return from + 1;
+    }
+    from
+}

@@ -8,7 +8,7 @@ ghost use Rattle.crack_pending.specs.Spots.{place_at, Stands, LeadBack, IsNowher
 
 use crate::closing::close_up;
 use crate::pass::first_hit;
-use crate::rows::{rows_between, spot_of};
+use crate::rows::{rows_between, spot_before, spot_of};
 use crack_arena::{Arena, Handle};
 use crack_row::{KeyRange, Refusal, Row};
 use std::alloc::Global;
@@ -22,6 +22,13 @@ pub(crate) const UNKNOWN: StoredKey = StoredKey::MAX;
 
 /// A spot is numbered by 32 bits.
 const MOST_SPOTS: usize = 4294967296;
+
+/// For how many rows there is room at first, and at least each time that it grows: so large a block of memory is mapped by itself, so that it
+/// grows without being copied, and what isn't used of it takes no memory.
+const FIRST_SPOTS: usize = 8192;
+
+/// For how many cells more there is place at least, each time that it grows.
+const MORE_PLACES: usize = 2048;
 
 /// Handles in the order of their arrival, each at a spot of its own, and holes where rows went. A hole keeps its handle and
 /// its key, which nobody reads; a mark beside tells it from a row.
@@ -99,8 +106,8 @@ impl SpotList {
             .saturating_sub(self.handles.len())
     }
 
-    /// Closes all holes up before it grows; then it makes room for half as many more, so that n pushes cost O(n) however many
-    /// rows go between them.
+    /// Makes room for so many more; where there is room, it looks at no more than that.
+    #[inline(always)]
     pub(crate) fn reserve(&mut self, additional: usize) -> Result<(), Refusal>
         requires { length self.old.handles + additional ≤ 2 ^ 32 }
         ensures same { self.new ≡ record self.old { room = self.new.room } }
@@ -113,6 +120,20 @@ impl SpotList {
         if additional <= self.room() {
             return Ok(());
         }
+        self.make_room(additional)
+    }
+
+    /// Closes all holes up before it grows; then it makes room for half as many more, and for `FIRST_SPOTS` at least, so that n pushes cost O(n) however many
+    /// rows go between them.
+    #[inline(never)]
+    fn make_room(&mut self, additional: usize) -> Result<(), Refusal>
+        requires { length self.old.handles + additional ≤ 2 ^ 32 }
+        ensures same { self.new ≡ record self.old { room = self.new.room } }
+        ensures room { OnOk result (additional ≤ self.new.room) }
+        ensures kept { self.old.room ≤ self.new.room }
+        ensures err { IfErr result (λ e. e ≡ Refusal.OutOfMemory) }
+        ensures remembered { StillRemembersKeys self.old self.new }
+    {
         close_up(
             &mut self.handles,
             &mut self.keys,
@@ -122,10 +143,12 @@ impl SpotList {
         );
         self.hint_place = 0;
         self.hint_spot = 0;
-        let wanted = additional.max(self.rows / 2);
+        let wanted = additional.max(self.rows / 2).max(FIRST_SPOTS);
         grow(&mut self.handles, &mut self.keys, &mut self.stands, wanted)
     }
 
+    /// Makes place for so many cells; where there is place, it looks at no more than that.
+    #[inline(always)]
     pub(crate) fn cover(&mut self, cells: usize) -> Result<(), Refusal>
         ensures same { self.new ≡ record self.old { covered = self.new.covered } }
         ensures covered { OnOk result (cells ≤ self.new.covered) }
@@ -135,9 +158,13 @@ impl SpotList {
         ensures err { IfErr result (λ e. e ≡ Refusal.OutOfMemory) }
         ensures remembered { StillRemembersKeys self.old self.new }
     {
+        if cells <= self.spots.len() {
+            return Ok(());
+        }
         lengthen(&mut self.spots, cells)
     }
 
+    #[inline(always)]
     pub(crate) fn push(&mut self, handle: Handle<Row>, key: StoredKey)
         requires room { 0 < self.old.room }
         requires covered { handle.slot < self.old.covered }
@@ -283,7 +310,7 @@ impl SpotList {
         if self.rows <= from {
             return None;
         }
-        let start = spot_of(
+        let start = spot_before(
             &self.stands,
             self.rows,
             self.hint_place,
@@ -292,6 +319,38 @@ impl SpotList {
         );
         match first_hit(&self.handles, &self.keys, &self.stands, start, range, arena) {
             Some(spot) => Some(from + rows_between(&self.stands, start, spot)),
+            None => None,
+        }
+    }
+
+    /// As `next_in`; the next look for a place goes on from the one that is found.
+    pub(crate) fn seek_in(
+        &mut self,
+        range: KeyRange,
+        from: usize,
+        arena: &Arena<Row>,
+    ) -> Option<usize>
+        requires { RemembersKeys arena.now.cells self.old.handles self.old.keys }
+        ensures finds { Finds range (keys_at arena.now.cells self.old.handles) from result }
+        ensures same { self.new ≡ self.old }
+    {
+        if self.rows <= from {
+            return None;
+        }
+        let start = spot_before(
+            &self.stands,
+            self.rows,
+            self.hint_place,
+            self.hint_spot,
+            from,
+        );
+        match first_hit(&self.handles, &self.keys, &self.stands, start, range, arena) {
+            Some(spot) => {
+                let place = from + rows_between(&self.stands, start, spot);
+                self.hint_place = place;
+                self.hint_spot = spot;
+                Some(place)
+            }
             None => None,
         }
     }
@@ -321,20 +380,18 @@ fn grow(
     Ok(())
 }
 
-/// Puts zeros at the end until there are so many numbers.
+/// Puts zeros at the end until there are so many numbers, and as many more as their memory holds.
+#[inline(never)]
 fn lengthen(spots: &mut Vec<u32>, cells: usize) -> Result<(), Refusal>
+    requires { vec_len spots.old < cells }
     ensures same { (k : ℕ) → k < vec_len spots.old → slice_index spots.new.items k ≡ slice_index spots.old.items k }
     ensures long { OnOk result (cells ≤ vec_len spots.new) }
     ensures kept { vec_len spots.old ≤ vec_len spots.new }
-    ensures full { OnErr result (vec_len spots.old < cells) }
     ensures unchanged { OnErr result (spots.new.items ≡ spots.old.items) }
     ensures err { IfErr result (λ e. e ≡ Refusal.OutOfMemory) }
 {
-    if cells <= spots.len() {
-        return Ok(());
-    }
-    spots.reserve(cells - spots.len())?;
-    'cells: while spots.len() < cells {
+    spots.reserve((cells - spots.len()).max(MORE_PLACES))?;
+    'cells: while spots.len() < spots.capacity() {
         spots.push_reserved(0);
     }
     Ok(())

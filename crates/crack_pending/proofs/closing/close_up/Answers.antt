@@ -1,6 +1,6 @@
-use Rattle.std.proofs.Common.{◌≡◌, length, vec_len, refl, ◌∙◌, arith}
-use Rattle.crack_pending.specs.Spots.{kept}
-use Rattle.crack_pending.proofs.Kept.{place_at-few, length-kept}
+use Rattle.std.proofs.Common.{◌≡◌, length, vec_len, refl, sym, ◌∙◌, arith}
+use Rattle.crack_pending.specs.Spots.{kept, place_at}
+use Rattle.crack_pending.proofs.Kept.{place_at-few, length-kept, kept-full}
 use Rattle.crack_pending.proofs.Moves.{kept-apart, kept-covered, led_all}
 use Rattle.crack_pending.proofs.closing.close_up.Goals as goal
 
@@ -43,3 +43,17 @@ returns-clause-led c =
     let rows = rw same at c.requires.rows in
     let all = rw (c.deref-3.ensures.value) at c.lead_back.ensures.led in
     led_all c.close_up_handles.new.handles.items c.close_up_marks.new.stands.items c.lead_back.new.spots.items (omega (arith, long, length-kept stands handles beside, c.close_up_marks.ensures.length, rows, c.requires.stands, beside)) all
+
+pub returns-then-rows-len-clause-handles : goal.returns-then-rows-len-clause-handles
+returns-then-rows-len-clause-handles c =
+    let stands = c.args.stands.now.items in
+    let same : vec_len c.args.stands.now ≡ length stands = omega arith in
+    let full : place_at stands (length stands) ≡ length stands = sym (rw same at c.requires.rows) ∙ omega (arith, c.if-rows-len.true, c.len.ensures) in
+    sym (kept-full stands c.args.handles.now.items (omega (arith, c.requires.stands)) full)
+
+pub returns-then-rows-len-clause-keys : goal.returns-then-rows-len-clause-keys
+returns-then-rows-len-clause-keys c =
+    let stands = c.args.stands.now.items in
+    let same : vec_len c.args.stands.now ≡ length stands = omega arith in
+    let full : place_at stands (length stands) ≡ length stands = sym (rw same at c.requires.rows) ∙ omega (arith, c.if-rows-len.true, c.len.ensures) in
+    sym (kept-full stands c.args.keys.now.items (omega (arith, c.requires.stands, c.requires.keys)) full)

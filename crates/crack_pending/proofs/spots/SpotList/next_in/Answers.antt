@@ -21,7 +21,7 @@ first_hit-requires-clause-known c =
 pub overflow_add-result : goal.overflow_add-result
 overflow_add-result c =
     let a = c.self.invariant in
-    let place = rw (c.deref.ensures.value) at c.spot_of-start.ensures.place in
+    let place = rw (c.deref.ensures.value) at c.spot_before-start.ensures.place in
     let hit = rw (c.deref-2.ensures.value, c.deref-4.ensures.value) at c.in-Some.ensures in
     let more = rw (c.deref-in-Some.ensures.value) at c.rows_between.ensures in
     omega (arith, place, more, place_at-few c.self.inside.stands.items c.in-Some.spot, hit.within, a.few)
@@ -29,16 +29,16 @@ overflow_add-result c =
 pub returns-in-Some : goal.returns-in-Some
 returns-in-Some c =
     let a = c.self.invariant in
-    let place = rw (c.deref.ensures.value) at c.spot_of-start.ensures.place in
+    let place = rw (c.deref.ensures.value) at c.spot_before-start.ensures.place in
     let hit = rw (c.deref-2.ensures.value, c.deref-4.ensures.value) at c.in-Some.ensures in
     let more = rw (c.deref-in-Some.ensures.value) at c.rows_between.ensures in
-    let first = finds-some c.args.range c.args.arena.now.cells c.self.inside.handles.items c.self.inside.stands.items a.stands_beside c.spot_of-start.result c.in-Some.spot hit in
+    let first = finds-some c.args.range c.args.arena.now.cells c.self.inside.handles.items c.self.inside.stands.items a.stands_beside c.spot_before-start.result c.in-Some.spot hit in
     rw (← c.self.view_is) (rw (more, place) at first)
 
 pub returns-in-None : goal.returns-in-None
 returns-in-None c =
     let a = c.self.invariant in
-    let place = rw (c.deref.ensures.value) at c.spot_of-start.ensures.place in
+    let place = rw (c.deref.ensures.value) at c.spot_before-start.ensures.place in
     let missed = rw (c.deref-2.ensures.value, c.deref-4.ensures.value) at c.in-None.ensures in
-    let none = finds-none c.args.range c.args.arena.now.cells c.self.inside.handles.items c.self.inside.stands.items a.stands_beside c.spot_of-start.result missed in
+    let none = finds-none c.args.range c.args.arena.now.cells c.self.inside.handles.items c.self.inside.stands.items a.stands_beside c.spot_before-start.result missed in
     rw (← c.self.view_is) (rw place at none)

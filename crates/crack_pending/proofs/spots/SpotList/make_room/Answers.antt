@@ -1,7 +1,7 @@
 use Rattle.std.proofs.Common.{◌≡◌, ◌≤◌, length, vec_len, vec_capacity, ap, ◌∙◌, arith}
 use Rattle.crack_pending.proofs.Kept.{length-kept}
 use Rattle.crack_pending.proofs.Views.{IsClosed, same_view, closed-kept, closed-handles, closed-keys, closed-fewer, closed-rows, room-more, room-enough, OnOk_three}
-use Rattle.crack_pending.proofs.spots.SpotList.reserve.Goals as goal
+use Rattle.crack_pending.proofs.spots.SpotList.make_room.Goals as goal
 
 pub invariant_of-self : goal.invariant_of-self
 invariant_of-self c =

@@ -1,0 +1,44 @@
+use Rattle.std.proofs.Common.{arith}
+use Rattle.crack_pending.proofs.Kept.{length-kept, place_at-few}
+use Rattle.crack_pending.proofs.Searches.{length-keys_at}
+use Rattle.crack_pending.proofs.Views.{KnowKeys-kept, finds-none, finds-some}
+use Rattle.crack_pending.specs.Spots.{kept}
+use Rattle.crack_pending.proofs.spots.SpotList.seek_in.Goals as goal
+
+pub returns-then-self-from-clause-finds : goal.returns-then-self-from-clause-finds
+returns-then-self-from-clause-finds c =
+    let a = c.self.invariant in
+    let rows = kept c.self.inside.stands.items c.self.inside.handles.items in
+    rw (← c.self.view_is) (λ k after before inside.
+    absurd (omega (arith, after, before, length-keys_at c.args.arena.now.cells rows, length-kept c.self.inside.stands.items c.self.inside.handles.items a.stands_beside, a.counted, c.if-self-from.true)))
+
+pub first_hit-requires-clause-known : goal.first_hit-requires-clause-known
+first_hit-requires-clause-known c =
+    let a = c.self.invariant in
+    let right = rw (← c.self.view_is) at c.requires in
+    rw (c.deref-2.ensures.value, c.deref-3.ensures.value, c.deref-4.ensures.value) (KnowKeys-kept c.args.arena.now.cells c.self.inside.handles.items c.self.inside.keys.items c.self.inside.stands.items a.stands_beside a.keys_beside right)
+
+pub overflow_add-place : goal.overflow_add-place
+overflow_add-place c =
+    let a = c.self.invariant in
+    let place = rw (c.deref.ensures.value) at c.spot_before-start.ensures.place in
+    let hit = rw (c.deref-2.ensures.value, c.deref-4.ensures.value) at c.in-Some.ensures in
+    let more = rw (c.deref-in-Some.ensures.value) at c.rows_between.ensures in
+    omega (arith, place, more, place_at-few c.self.inside.stands.items c.in-Some.spot, hit.within, a.few)
+
+pub returns-in-Some-clause-finds : goal.returns-in-Some-clause-finds
+returns-in-Some-clause-finds c =
+    let a = c.self.invariant in
+    let place = rw (c.deref.ensures.value) at c.spot_before-start.ensures.place in
+    let hit = rw (c.deref-2.ensures.value, c.deref-4.ensures.value) at c.in-Some.ensures in
+    let more = rw (c.deref-in-Some.ensures.value) at c.rows_between.ensures in
+    let first = finds-some c.args.range c.args.arena.now.cells c.self.inside.handles.items c.self.inside.stands.items a.stands_beside c.spot_before-start.result c.in-Some.spot hit in
+    rw (← c.self.view_is) (rw (more, place) at first)
+
+pub returns-in-None-clause-finds : goal.returns-in-None-clause-finds
+returns-in-None-clause-finds c =
+    let a = c.self.invariant in
+    let place = rw (c.deref.ensures.value) at c.spot_before-start.ensures.place in
+    let missed = rw (c.deref-2.ensures.value, c.deref-4.ensures.value) at c.in-None.ensures in
+    let none = finds-none c.args.range c.args.arena.now.cells c.self.inside.handles.items c.self.inside.stands.items a.stands_beside c.spot_before-start.result missed in
+    rw (← c.self.view_is) (rw place at none)
