@@ -245,7 +245,7 @@ tallies_drawn policy s e drawn within intact =
             moved = omega (arith, drawn.moved, ap (λ n. n * (length s.marks + 1)) drawn.put_in);
             pulled = more_pulled e.store.tally.pulled s.tally.pulled s.tally.taken_out (buried e).tally.taken_out (length s.marks + 1) one drawn.pulled;
           };
-      evicts = MayEvict-none policy s (buried e) drawn.evicted;
+      evicts = MayEvict-none policy s (buried e) (omega (arith, drawn.put_in)) drawn.evicted;
     }
   where
     more_pulled : (pulled before out after q : ℕ) → after ≡ out + 1 → pulled ≤ before + q → pulled + out * q ≤ before + after * q

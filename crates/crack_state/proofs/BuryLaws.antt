@@ -1,16 +1,17 @@
 -- Bury: the doomed hand's cell is freed. It keeps a store intact, and commands see the same rows.
-use Rattle.std.proofs.Common.{◌≡◌, ◌≢◌, ℕ, ◌+◌, ◌*◌, ◌<◌, ◌≤◌, true, eqb, List, [], ◌∷◌, length, get_or, set, Option, None, refl, sym, ap, ◌∙◌, inl, inr, arith, length-set}
+use Rattle.std.proofs.Common.{◌≡◌, ◌≢◌, ℕ, ◌+◌, ◌*◌, ◌<◌, ◌≤◌, eqb, List, [], ◌∷◌, length, get_or, set, Option, None, refl, sym, ap, ◌∙◌, inl, inr, arith, length-set}
 use Rattle.std.specs.Prelude.{◌==◌, IfSome}
 use Rattle.std.specs.List.{remove, filter_map, range_with_len}
 use Rattle.std.proofs.Math.Nat.{min-le_right}
-use Rattle.std.proofs.lemmas.List.Sums.{passes_at_first, sum_by-set}
+use Rattle.std.proofs.lemmas.List.Sums.{sum_by-set}
 use Rattle.std.proofs.lemmas.List.{get_or-set_same, get_or-set_other, get_or_default}
 use Rattle.std.proofs.lemmas.List.Elements.{All-nil, All-cons, All-set, All-get_or}
-use Rattle.std.proofs.lemmas.Bool.{cases_eq, ne_eqb, eq-eqb, eqb-true}
+use Rattle.std.proofs.lemmas.Bool.{cases_eq}
 use Rattle.crack_row.specs.Ranges.{IsIn}
 use Rattle.crack_row.specs.declared.Row.{Row}
 use Rattle.crack_row.specs.declared.command.Policy.{Policy}
 use Rattle.crack_arena.specs.Arena.{Cell, Handle, StandsAt, times, read, cell_at, empty_cell, slots, place_in}
+use Rattle.crack_arena.proofs.Places.{place_in-within, place_in-found}
 use Rattle.crack_arena.proofs.Times.{times-nil, times-cons, times_one, times_other, times_head, times-append}
 use Rattle.crack_state.specs.declared.MergeReport.{MergeReport}
 use Rattle.crack_state.specs.State.{State, Carried, Reads, IsCounted, IsIntact, IsKeyed, IsLiveAt, AreEmpty, freed_of, live_at, live_rows, greatest}
@@ -20,22 +21,6 @@ use Rattle.crack_state.proofs.OwnedLaws.{times-taken, times-places, All-removed,
 use Rattle.crack_state.proofs.CellLaws.{AgreeOff-set, read-off, Reads-off, keys-off, generation_of_read}
 use Rattle.crack_state.proofs.LiveLaws.{none_either}
 use Rattle.crack_state.proofs.FollowLaws.{MayEvict-none, Pushes, raised_counter, length-remove, bounds_above-few}
-
--- a slot that is in the list has a place there
-pub place_in-within : (hs : List Handle) (slot : ℕ) → 0 < times slot (slots hs) → place_in hs slot < length hs
-place_in-within [] slot some = absurd (omega (arith, times-nil slot))
-place_in-within (h ∷ hs) slot some = elim (cases_eq h.slot slot) [
-  | inl e ↦ rw (eq-eqb h.slot slot e) (omega arith)
-  | inr ne ↦
-      let rest = place_in-within hs slot (omega (arith, times-cons slot h.slot (slots hs), times_one slot h.slot, times_other slot h.slot ne)) in
-      rw (ne_eqb h.slot slot ne) (omega (arith, rest))
-]
-
--- what stands there is of that slot
-pub place_in-found : (hs : List Handle) (slot : ℕ) (h : Handle) → place_in hs slot < length hs → h ≡ get_or hs (place_in hs slot) h → h.slot ≡ slot
-place_in-found hs slot h within found =
-    let passes : (get_or hs (place_in hs slot) h).slot == slot ≡ true = passes_at_first (λ (x : Handle). x.slot == slot) hs h within in
-    eqb-true h.slot slot (rw (← found) at passes)
 
 IsCounted-taken_out : (tally : MergeReport) → IsCounted tally → IsCounted (record tally { taken_out = more tally.taken_out })
 IsCounted-taken_out tally counted = record { put_in = counted.put_in; taken_out = min-le_right (tally.taken_out + 1) greatest; evicted = counted.evicted; moved = counted.moved; pulled = counted.pulled }
@@ -222,7 +207,7 @@ Tallies-carried_buried policy s i c inside doomed intact now pushes =
             moved = more_moved c.store.tally.moved s.tally.moved s.tally.put_in c.store.tally.put_in (length s.marks) one (omega (arith, pushes.moved, few));
             pulled = more_pulled c.store.tally.pulled s.tally.pulled s.tally.taken_out (buried c).tally.taken_out (length s.marks) (two ∙ ap (λ n. n + 1) pushes.taken_out) pushes.pulled;
           };
-      evicts = MayEvict-none policy s (buried c) pushes.evicted;
+      evicts = MayEvict-none policy s (buried c) (omega (arith, pushes.put_in, risen)) pushes.evicted;
     }
   where
     more_moved : (moved before put_in after q : ℕ) → after ≡ put_in + 1 → moved ≤ before + q → moved + put_in * (q + 1) ≤ before + after * (q + 1)

@@ -20,7 +20,7 @@ use Rattle.crack_column.proofs.Divisions.{IsDividedAt-zero, IsDividedAt-end}
 use Rattle.crack_column.proofs.Cracking.{length-Cracks, Cracks-apart, Cracks-around, Cracks-whole, Cracks-divides, Cracks-keeps}
 use Rattle.crack_state.specs.State.{State, Reads, Divides, IsObeyed, HaveKeysIn, IsOwned, IsIntact, column_keys, live_rows}
 use Rattle.crack_state.specs.Steps.{piece_start, piece_end}
-use Rattle.crack_state.specs.Merge.{IsInner, IsCracked, cuts, RefinesBy, RefinesAt, Refines}
+use Rattle.crack_state.specs.Merge.{IsInner, AreEnds, IsCracked, cuts, RefinesBy, RefinesAt, Refines}
 use Rattle.crack_state.proofs.OwnedLaws.{times-places}
 use Rattle.crack_state.proofs.CellLaws.{read_is_value, cell_within}
 use Rattle.crack_state.proofs.PieceLaws.{Divides-listed, piece_end-le, piece_end-before, piece_start-behind}
@@ -249,19 +249,25 @@ pub keys-refined : (IsNew : ℕ → Type 0) (s u : State) → RefinesBy IsNew s 
 keys-refined IsNew s u refined = ap (λ (x : State). x.keys) refined.same
 
 -- refined at the one end of a range, and then at the other
-pub Refines-both : (s u v : State) (r : Range) → RefinesAt s u r.low → RefinesAt u v r.high → Refines s v r
-Refines-both s u v r a b =
-    let keys = keys-refined (λ n. (n ≡ r.low) × (s.keys.low < n) × (n < s.keys.high)) s u a in
-    RefinesBy-as (λ n. ((n ≡ r.low) × (s.keys.low < n) × (n < s.keys.high)) ⊎ ((n ≡ r.high) × (u.keys.low < n) × (n < u.keys.high))) (IsInner s.keys r) s v
+pub Refines-both : (s u v : State) (r : Range) (first second : ℕ) → AreEnds r first second → RefinesAt s u first → RefinesAt u v second → Refines s v r
+Refines-both s u v r first second ends a b =
+    let keys = keys-refined (λ n. (n ≡ first) × (s.keys.low < n) × (n < s.keys.high)) s u a in
+    let low : u.keys.low ≡ s.keys.low = ap (λ (x : Range). x.low) keys in
+    let high : u.keys.high ≡ s.keys.high = ap (λ (x : Range). x.high) keys in
+    let New : ℕ → Type 0 = λ n. ((n ≡ first) × (s.keys.low < n) × (n < s.keys.high)) ⊎ ((n ≡ second) × (u.keys.low < n) × (n < u.keys.high)) in
+    RefinesBy-as New (IsInner s.keys r) s v
     (λ n is. elim is [
-      | inl l ↦ (inl l.0, l.1, l.2)
-      | inr l ↦ (inr l.0, omega (arith, ap (λ (x : Range). x.low) keys, l.1), omega (arith, ap (λ (x : Range). x.high) keys, l.2))
+      | inl l ↦ (elim ends [ inl e ↦ inl (l.0 ∙ e.0) | inr e ↦ inr (l.0 ∙ e.0) ], l.1, l.2)
+      | inr l ↦ (elim ends [ inl e ↦ inr (l.0 ∙ e.1) | inr e ↦ inl (l.0 ∙ e.1) ], omega (arith, low, l.1), omega (arith, high, l.2))
     ])
-    (λ n is. elim is.0 [
-      | inl l ↦ inl (l, is.1, is.2)
-      | inr l ↦ inr (l, omega (arith, ap (λ (x : Range). x.low) keys, is.1), omega (arith, ap (λ (x : Range). x.high) keys, is.2))
+    (λ n is.
+    let is_first : n ≡ first → New n = λ e. inl (e, is.1, is.2) in
+    let is_second : n ≡ second → New n = λ e. inr (e, omega (arith, low, is.1), omega (arith, high, is.2)) in
+    elim is.0 [
+      | inl l ↦ elim ends [ inl e ↦ is_first (l ∙ sym e.0) | inr e ↦ is_second (l ∙ sym e.1) ]
+      | inr l ↦ elim ends [ inl e ↦ is_second (l ∙ sym e.1) | inr e ↦ is_first (l ∙ sym e.0) ]
     ])
-    (RefinesBy-trans (λ n. (n ≡ r.low) × (s.keys.low < n) × (n < s.keys.high)) (λ n. (n ≡ r.high) × (u.keys.low < n) × (n < u.keys.high)) s u v a b)
+    (RefinesBy-trans (λ n. (n ≡ first) × (s.keys.low < n) × (n < s.keys.high)) (λ n. (n ≡ second) × (u.keys.low < n) × (n < u.keys.high)) s u v a b)
 
 -- commands see the same rows
 pub live_rows-refined : (IsNew : ℕ → Type 0) (s u : State) → RefinesBy IsNew s u → live_rows u ≡ live_rows s

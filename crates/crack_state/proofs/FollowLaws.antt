@@ -6,7 +6,7 @@ use Rattle.std.proofs.Math.Nat.{min-le_left, min-le_right, le-min}
 use Rattle.std.proofs.lemmas.Bool.{cases_lt}
 use Rattle.std.proofs.lemmas.List.Sums.{count_by-le-length}
 use Rattle.crack_row.specs.declared.command.Policy.{Policy}
-use Rattle.crack_row.specs.declared.command.Policy.TheVariants.{Complete, Gradual}
+use Rattle.crack_row.specs.declared.command.Policy.TheVariants.{Complete, Gradual, Ripple}
 use Rattle.crack_arena.specs.Arena.{Handle}
 use Rattle.crack_index.specs.declared.mark.Mark.{Mark}
 use Rattle.crack_index.specs.Marks.{next_mark, bounds_of}
@@ -70,17 +70,19 @@ length-remove [] i h = absurd (omega arith)
 length-remove (x ∷ xs) zero h = omega arith
 length-remove (x ∷ xs) (suc i) h = omega (arith, length-remove xs i (omega arith))
 
-MayEvict-trans : (policy : Policy) (s t u : State) → MayEvict policy s t → MayEvict policy t u → MayEvict policy s u
-MayEvict-trans Complete s t u a b = b ∙ a
-MayEvict-trans Gradual s t u a b = b ∙ a
+MayEvict-trans : (policy : Policy) (s t u : State) → (IsExact u.tally → IsExact t.tally) → MayEvict policy s t → MayEvict policy t u → MayEvict policy s u
+MayEvict-trans Complete s t u before a b = b ∙ a
+MayEvict-trans Gradual s t u before a b = b ∙ a
+MayEvict-trans Ripple s t u before a b = λ exact. omega (arith, a (before exact), b exact)
 
 -- where nothing was evicted, no policy is broken
-pub MayEvict-none : (policy : Policy) (s t : State) → t.tally.evicted ≡ s.tally.evicted → MayEvict policy s t
-MayEvict-none Complete s t same = same
-MayEvict-none Gradual s t same = same
+pub MayEvict-none : (policy : Policy) (s t : State) → s.tally.put_in ≤ t.tally.put_in → t.tally.evicted ≡ s.tally.evicted → MayEvict policy s t
+MayEvict-none Complete s t rises same = same
+MayEvict-none Gradual s t rises same = same
+MayEvict-none Ripple s t rises same = λ _. omega (arith, rises, same)
 
 -- no counter is at its greatest number, if none is later on
-IsExact-before : (policy : Policy) (s t : State) → Tallies policy s t → IsExact t.tally → IsExact s.tally
+pub IsExact-before : (policy : Policy) (s t : State) → Tallies policy s t → IsExact t.tally → IsExact s.tally
 IsExact-before policy s t tallies exact = record {
   put_in = omega (arith, tallies.put_in_rises, exact.put_in);
   taken_out = omega (arith, tallies.taken_out_rises, exact.taken_out);
@@ -105,7 +107,7 @@ Tallies-trans policy s t u same a b = record {
   moved_rises = omega (arith, a.moved_rises, b.moved_rises);
   pulled_rises = omega (arith, a.pulled_rises, b.pulled_rises);
   counts = λ exact. Counts-trans s t u (length s.marks + 1) (a.counts (IsExact-before policy t u b exact)) (rw same at (b.counts exact));
-  evicts = MayEvict-trans policy s t u a.evicts b.evicts;
+  evicts = MayEvict-trans policy s t u (IsExact-before policy t u b) a.evicts b.evicts;
 }
 
 pub Tallies-room : (policy : Policy) (s t : State) → SameButRoom s t → Tallies policy s t
@@ -116,7 +118,7 @@ Tallies-room policy s t room = rw room.same (record {
   moved_rises = omega arith;
   pulled_rises = omega arith;
   counts = λ _. record { put_in = refl; taken_out = refl; moved = omega arith; pulled = omega arith };
-  evicts = MayEvict-none policy s (record s { column_room = t.column_room; in_room = t.in_room }) refl;
+  evicts = MayEvict-none policy s (record s { column_room = t.column_room; in_room = t.in_room }) (omega arith) refl;
 })
 
 -- what the pushes of a carry keep, from a hand that was lifted on: each brings the hand nearer to the column's end
@@ -210,7 +212,7 @@ Tallies-carried policy s i c inside intact pushes =
             moved = more_moved c.store.tally.moved s.tally.moved s.tally.put_in c.store.tally.put_in (length s.marks) one (omega (arith, pushes.moved, few));
             pulled = omega (arith, pushes.pulled, ap (λ n. n * (length s.marks + 1)) pushes.taken_out);
           };
-      evicts = MayEvict-none policy s (appended c) pushes.evicted;
+      evicts = MayEvict-none policy s (appended c) (omega (arith, pushes.put_in, risen)) pushes.evicted;
     }
   where
     more_moved : (moved before put_in after q : ℕ) → after ≡ put_in + 1 → moved ≤ before + q → moved + put_in * (q + 1) ≤ before + after * (q + 1)

@@ -7,10 +7,11 @@ use Rattle.std.specs.Option.{option_and_then}
 use Rattle.std.proofs.lemmas.List.Elements.{All-head, All-tail}
 use Rattle.std.proofs.lemmas.List.Sorted.{All-permutation, Contains-permutation, IsPermutation-sym, IsPermutation-trans, IsPermutation-map}
 use Rattle.std.proofs.lemmas.Bool.{ne_eqb, eq-eqb, eqb-true, true≢false}
+use Rattle.crack_row.specs.Rows.{is_other, replaced}
 use Rattle.crack_row.specs.declared.Row.{Row}
 use Rattle.crack_arena.specs.Arena.{Handle, times, read, cell_at, slots}
 use Rattle.crack_state.specs.State.{State, IsIntact, IsLiveAt, handle_of, live_at, live_rows}
-use Rattle.crack_state.specs.Points.{row_by, pending_by, handle_by, is_other, replaced, Cancels, Dooms}
+use Rattle.crack_state.specs.Points.{row_by, pending_by, handle_by, Cancels, Dooms}
 use Rattle.crack_state.proofs.LiveLaws.{All-filter_map}
 use Rattle.crack_state.proofs.KeyedLaws.{Contains-live}
 use Rattle.crack_state.proofs.PointLaws.{found_by, reads_by, others_live}

@@ -13,6 +13,10 @@ use Rattle.crack_arena.specs.Rows.{key_at}
 use Rattle.crack_state.specs.Merge.{SomeOf, nothing, left_out, kept, outside_of, without_first, count_inside, ReadsOutside}
 use Rattle.crack_state.proofs.MergeLaws.{outside_of_not_in}
 
+pub SomeOf-none : (hs : List Handle) → SomeOf [] hs
+SomeOf-none [] = nothing
+SomeOf-none (h ∷ hs) = left_out h [] hs (SomeOf-none hs)
+
 pub SomeOf-refl : (hs : List Handle) → SomeOf hs hs
 SomeOf-refl [] = nothing
 SomeOf-refl (h ∷ hs) = kept h hs hs (SomeOf-refl hs)

@@ -10,17 +10,19 @@ use Rattle.std.proofs.lemmas.List.Sorted.{IsPermutation-sym, IsPermutation-trans
 use Rattle.std.proofs.lemmas.List.Sums.{sum_by-set}
 use Rattle.std.proofs.lemmas.Bool.{cases_eq, cases_lt, ne_eqb, eq-eqb, eqb-true, lt-ltb, true≢false}
 use Rattle.crack_row.specs.Ranges.{IsIn}
+use Rattle.crack_row.specs.Rows.{replaced}
 use Rattle.crack_row.specs.declared.Row.{Row}
 use Rattle.crack_arena.specs.Arena.{Cell, Handle, StandsAt, times, read, cell_at, empty_cell, slots, no_handle, place_in}
+use Rattle.crack_arena.proofs.Places.{place_in-within, place_in-found}
 use Rattle.crack_arena.proofs.Times.{times-nil, times-cons, times_one, times_other, times_head, times-append, times-map-append}
 use Rattle.crack_state.specs.State.{State, places, Reads, IsOwned, IsIntact, IsKeyed, IsLiveAt, AreEmpty, handle_of, freed_of, live_at, live_rows}
 use Rattle.crack_state.specs.Steps.{next_handle, admitted, SameButRoom}
-use Rattle.crack_state.specs.Points.{pending_by, handle_by, Maps, replaced, MayFree, struck, doomed_too, rewritten, renewed, Cancels, Dooms, Renews, Rewrites, IsRenewable, IsRewritable}
+use Rattle.crack_state.specs.Points.{pending_by, handle_by, Maps, MayFree, struck, doomed_too, rewritten, renewed, Cancels, Dooms, Renews, Rewrites, IsRenewable, IsRewritable}
 use Rattle.crack_state.proofs.OwnedLaws.{times-taken, times-places, All-removed}
 use Rattle.crack_state.proofs.CellLaws.{AgreeOff-set, read-off, Reads-off, keys-off, generation_of_read, read-value, cell_within}
 use Rattle.crack_state.proofs.LiveLaws.{filter_map-less, times-range, none_either, All-filter_map}
 use Rattle.crack_state.proofs.AdmitLaws.{Filled, handle_of-push, handle_same, read-new, read_same, IsIntact-admitted, live_rows-admitted, freed-admitted, cells-admitted}
-use Rattle.crack_state.proofs.BuryLaws.{place_in-within, place_in-found, read-set_none, AreEmpty-freed}
+use Rattle.crack_state.proofs.BuryLaws.{read-set_none, AreEmpty-freed}
 
 -- the handle that a serial leads to, and whether it is a pending insertion
 pub record FoundBy (s : State) (serial : ℕ) (pending : Bool) : Type 0 where

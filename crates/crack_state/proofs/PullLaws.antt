@@ -1,4 +1,4 @@
--- The steps of a pull, and the step back to the pending insertions, whose call is still to come, keep a store intact.
+-- The steps of a pull, and the step back to the pending insertions, keep a store intact.
 use Rattle.std.proofs.Common.{◌≡◌, ◌⊎◌, ℕ, ◌+◌, ◌-◌, ◌<◌, ◌≤◌, List, [], ◌∷◌, ◌++◌, map, length, get_or, set, take, Option, Some, None, refl, sym, ap, ◌∙◌, inl, inr, arith}
 use Rattle.std.specs.List.{All}
 use Rattle.std.proofs.Math.Nat.{min-le_right}
@@ -17,8 +17,7 @@ use Rattle.crack_index.proofs.MarkLaws.{last_mark-is, bounds_of-lowered, bounds_
 use Rattle.crack_column.proofs.Divisions.{IsDividedAt-set_below, IsDividedAt-set_above, IsDividedAt-lowered, IsDividedAt-take}
 use Rattle.crack_state.specs.declared.MergeReport.{MergeReport}
 use Rattle.crack_state.specs.State.{State, Carried, Reads, IsOwned, Divides, IsObeyed, AreInside, IsCounted, IsIntact, column_keys, greatest}
-use Rattle.crack_state.specs.Steps.{hand_key, piece_start, piece_end, lower_last, more, lifted_last, pulled_back, exchanged, bounds_up_to}
-use Rattle.crack_state.specs.StepsToCome.{returned}
+use Rattle.crack_state.specs.Steps.{hand_key, piece_start, piece_end, lower_last, more, lifted_last, pulled_back, exchanged, bounds_up_to, returned}
 use Rattle.crack_state.specs.Merge.{Follows}
 use Rattle.crack_state.proofs.OwnedLaws.{times-places}
 use Rattle.crack_state.proofs.ObeyedLaws.{Divides-order}

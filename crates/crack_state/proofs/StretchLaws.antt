@@ -8,12 +8,13 @@ use Rattle.std.proofs.lemmas.List.Kept.{AllPairs-filter}
 use Rattle.std.proofs.lemmas.List.Sorted.{IsPermutation-sym, IsPermutation-trans, sum_by-IsPermutation}
 use Rattle.std.proofs.lemmas.List.Sums.{sum_by-cons}
 use Rattle.crack_row.specs.Ranges.{Range, in_range}
+use Rattle.crack_row.specs.Rows.{sum_of}
 use Rattle.crack_row.specs.declared.Row.{Row}
 use Rattle.crack_arena.specs.Arena.{Cell, Handle, no_handle, read}
 use Rattle.crack_arena.specs.Rows.{payload_of_row, payload_at}
 use Rattle.crack_state.specs.State.{State, live_rows}
 use Rattle.crack_state.specs.Merge.{IsSettled}
-use Rattle.crack_state.specs.Stretch.{rows_within, stretch_rows, serial_of, sum_of}
+use Rattle.crack_state.specs.Stretch.{rows_within, stretch_rows, serial_of}
 use Rattle.crack_state.proofs.RowLists.{AreRising, IsPermutation-filter, sorted_is}
 
 -- no place, no row

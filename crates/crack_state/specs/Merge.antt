@@ -5,7 +5,7 @@ use Rattle.std.specs.List.Sorted.{IsPermutation}
 use Rattle.crack_row.specs.Ranges.{Range, is_in, in_range}
 use Rattle.crack_row.specs.declared.Row.{Row}
 use Rattle.crack_row.specs.declared.command.Policy.{Policy}
-use Rattle.crack_row.specs.declared.command.Policy.TheVariants.{Complete, Gradual}
+use Rattle.crack_row.specs.declared.command.Policy.TheVariants.{Complete, Gradual, Ripple}
 use Rattle.crack_arena.specs.Arena.{Cell, Handle, read}
 use Rattle.crack_index.specs.declared.mark.Mark.{Mark}
 use Rattle.crack_index.specs.Marks.{HasBound, bounds_of, place_of}
@@ -45,6 +45,10 @@ pub data SomeOf : List Handle → List Handle → Type 0 where
 -- an end of the range that isn't the partition's own
 abbrev pub IsInner : Range → Range → ℕ → Type 0
 IsInner keys r bound = ((bound ≡ r.low) ⊎ (bound ≡ r.high)) × (keys.low < bound) × (bound < keys.high)
+
+-- two bounds are the ends of the range, in one order or the other
+abbrev pub AreEnds : Range → ℕ → ℕ → Type 0
+AreEnds r first second = ((first ≡ r.low) × (second ≡ r.high)) ⊎ ((first ≡ r.high) × (second ≡ r.low))
 
 -- the place at which the rows at or above a bound begin: the column's front or end for the partition's ends, else where the
 -- index has the bound
@@ -119,10 +123,19 @@ pub record LeavesOutside (s t : State) (r : Range) : Type 0 where
   pub some : SomeOf t.pending_out (outside_of s.cells r s.pending_out)
   pub few : length (outside_of s.cells r s.pending_out) ≤ length t.pending_out + count_inside s.cells r s.pending_in
 
--- which pending rows are left by a merge of this policy: complete takes all or none of both, gradual those of the range
+-- the pending insertions that ripple leaves: those outside the range, in their order, and then the evicted, which are some of the column's
+-- rows from the place of the range's end on, in their order, at most as many as the pending insertions in the range
+pub record Evicts (s t : State) (r : Range) : Type 0 where
+  pub evicted : List Handle
+  pub pending_in : t.pending_in ≡ outside_of s.cells r s.pending_in ++ evicted
+  pub some : SomeOf evicted (drop (edge s r.high) s.column)
+  pub few : length evicted ≤ count_inside s.cells r s.pending_in
+
+-- which pending rows are left by a merge of this policy: complete takes all or none of both, gradual and ripple those of the range
 abbrev pub Leaves : Policy → State → State → Range → Type 0
 Leaves Complete s t r = (t.pending_in ≡ (if is_touched s r then [] else s.pending_in)) × (t.pending_out ≡ (if is_touched s r then [] else s.pending_out))
 Leaves Gradual s t r = (t.pending_in ≡ outside_of s.cells r s.pending_in) × LeavesOutside s t r
+Leaves Ripple s t r = Evicts s t r × LeavesOutside s t r
 
 -- merged: the range is settled, the pending rows that the policy takes are gone, and commands see the same rows as before
 pub record Merges (policy : Policy) (s t : State) (r : Range) : Type 0 where
@@ -158,10 +171,11 @@ pub record Counts (s t : State) (q : ℕ) : Type 0 where
   pub moved : t.tally.moved + s.tally.put_in * q ≤ s.tally.moved + t.tally.put_in * q
   pub pulled : t.tally.pulled + s.tally.taken_out * q ≤ s.tally.pulled + t.tally.taken_out * q
 
--- what a policy may have evicted: complete and gradual nothing
+-- what a policy may have evicted: complete and gradual nothing, ripple at most as many rows as it put in, where every counter is exact
 abbrev pub MayEvict : Policy → State → State → Type 0
 MayEvict Complete s t = t.tally.evicted ≡ s.tally.evicted
 MayEvict Gradual s t = t.tally.evicted ≡ s.tally.evicted
+MayEvict Ripple s t = IsExact t.tally → t.tally.evicted + s.tally.put_in ≤ s.tally.evicted + t.tally.put_in
 
 -- what a merge of this policy counts: no counter falls, and the report is right unless one is at its greatest number
 pub record Tallies (policy : Policy) (s t : State) : Type 0 where

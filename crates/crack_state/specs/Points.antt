@@ -1,12 +1,9 @@
 -- What the commands on one row do to a store. The row is found by its serial, and taken out, or replaced by another of its serial.
-use Rattle.std.specs.Prelude.{◌≡◌, ℕ, ◌+◌, ◌-◌, ◌<◌, ◌==◌, ◌^◌, Bool, true, false, not, nat_lt, nat_eq, if◌then◌else◌, drop, length, List, [], ◌∷◌, ◌++◌, Option, Some, None, IsSome, slice_set}
+use Rattle.std.specs.Prelude.{◌≡◌, ℕ, ◌+◌, ◌-◌, ◌<◌, ◌^◌, Bool, true, false, nat_lt, nat_eq, if◌then◌else◌, drop, length, List, [], ◌∷◌, ◌++◌, Option, Some, None, IsSome, slice_set}
 use Rattle.std.specs.List.{remove}
 use Rattle.std.specs.Option.{option_map, option_and_then, unwrap_or}
 use Rattle.crack_row.specs.Ranges.{IsIn}
-use Rattle.crack_row.specs.declared.Key.{Key}
-use Rattle.crack_row.specs.declared.Payload.{Payload}
 use Rattle.crack_row.specs.declared.Row.{Row}
-use Rattle.crack_row.specs.declared.Serial.{Serial}
 use Rattle.crack_arena.specs.Arena.{Handle, no_handle, read, cells_with, times, slots, place_in}
 use Rattle.crack_state.specs.State.{State, handle_of, freed_of, greatest}
 use Rattle.crack_state.specs.Steps.{next_handle, SameButRoom}
@@ -26,18 +23,6 @@ handle_by s serial = unwrap_or (handle_of s.serials serial) no_handle
 -- the second map has this handle, or none, for the serial, and for each other serial what the first has
 abbrev pub Maps : ℕ → Option Handle → List (ℕ × Handle) → List (ℕ × Handle) → Type 0
 Maps serial o serials after = (n : ℕ) → handle_of after n ≡ (if nat_eq serial n then o else handle_of serials n)
-
--- whether a row has another serial
-abbrev pub is_other : ℕ → Row → Bool
-is_other serial row = not (row.serial.0 == serial)
-
--- the row of this serial, key and payload
-abbrev pub row_with : Serial → Key → Payload → Row
-row_with serial key payload = record { serial = serial; key = key; payload = payload }
-
--- a row, unless it has the serial of the first: that stands in its place
-abbrev pub replaced : Row → Row → Row
-replaced new row = if row.serial.0 == new.serial.0 then new else row
 
 -- a cell may be freed once more, now or later
 abbrev pub MayFree : State → Type 0

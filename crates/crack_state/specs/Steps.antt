@@ -140,3 +140,12 @@ bounds_above key marks = count_by (λ (m : Mark). nat_lt key m.bound.0) marks
 -- how many bounds are at or below a key
 abbrev pub bounds_up_to : ℕ → List Mark → ℕ
 bounds_up_to key marks = count_by (λ (m : Mark). nat_le m.bound.0 key) marks
+
+-- put_back: the hand goes behind the last pending insertion
+abbrev pub returned : Carried → State
+returned c =
+    record c.store {
+      pending_in = c.store.pending_in ++ c.hand ∷ [];
+      tally = record c.store.tally { evicted = more c.store.tally.evicted };
+      in_room = c.store.in_room - 1;
+    }

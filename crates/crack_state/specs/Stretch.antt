@@ -1,5 +1,5 @@
 -- What a range command reads off the column.
-use Rattle.std.specs.Prelude.{ℕ, List, sum_by}
+use Rattle.std.specs.Prelude.{ℕ, List}
 use Rattle.std.specs.List.{filter_map, between}
 use Rattle.crack_row.specs.Ranges.{Range}
 use Rattle.crack_row.specs.declared.Row.{Row}
@@ -18,7 +18,3 @@ stretch_rows s r = rows_within s (edge s r.low) (edge s r.high)
 -- a row's serial, as a number
 abbrev pub serial_of : Row → ℕ
 serial_of row = row.serial.0
-
--- the sum of the payloads of rows
-abbrev pub sum_of : List Row → ℕ
-sum_of rows = sum_by (λ (row : Row). row.payload.0) rows
