@@ -35,3 +35,9 @@ is_covered row s h cells free covered is cells_is free_is enough intact =
     let more = rw (← free_is) at (length_cells_with row s.cells s.free) in
     let within : h.slot < length (cells_with row s.cells s.free) = rw is (next_within row s s.free refl intact) in
     omega arith
+
+-- and so is every other
+pub all_covered : (row : Row) (s : State) (cells free covered : ℕ) → cells ≡ length s.cells → free ≡ length s.free → cells + bool_byte (nat_eq free 0) ≤ covered → length (cells_with row s.cells s.free) ≤ covered
+all_covered row s cells free covered cells_is free_is enough =
+    let more = rw (← free_is) at (length_cells_with row s.cells s.free) in
+    omega arith

@@ -5,10 +5,15 @@ use Rattle.crack_arena.specs.Rows.{key_at}
 use Rattle.crack_column.specs.Column.{Memory, Agrees}
 use Rattle.crack_index.specs.declared.mark.Mark.{Mark}
 use Rattle.crack_index.specs.Marks.{near_mark, next_mark, last_mark}
+use Rattle.crack_state.specs.State.{Carried}
 use Rattle.crack_store.specs.declared.inside.Inside.{Inside}
 use Rattle.crack_store.specs.declared.carrying.Near.{Near}
 use Rattle.crack_store.specs.declared.carrying.Near.TheVariants.{Above, Below}
-use Rattle.crack_store.specs.Inside.{KeepsIntact}
+use Rattle.crack_store.specs.Inside.{lists_of, KeepsIntact}
+
+-- the inside with a cell in hand, as lists
+abbrev pub carried_of : Inside → Handle → Carried
+carried_of p hand = record { store = lists_of p; hand = hand }
 
 -- the bound that is kept is the one next to the key
 abbrev pub IsNear : List Mark → ℕ → Near → Type 0

@@ -27,14 +27,15 @@ lists_of p = record {
   in_room = p.in_room;
 }
 
--- what the inside keeps, with no hand or one: what the column and the pending lists remember is right, and there is room for as many
--- pending insertions as are said to be sure to fit
+-- what the inside keeps, with no hand or one: what the column and the pending lists remember is right, there is room for as many
+-- pending insertions as are said to be sure to fit, and any cell may become one
 pub record KeepsIntact (p : Inside) (hand : List Handle) : Type 0 where
   pub intact : IsIntact (lists_of p) hand
   pub remembers : Remembers p.arena.cells p.column.handles p.column.remembered
   pub keys_in : RemembersKeys p.arena.cells p.pending_in.handles p.pending_in.keys
   pub keys_out : RemembersKeys p.arena.cells p.pending_out.handles p.pending_out.keys
   pub room : p.in_room ≤ p.pending_in.room
+  pub covered : length p.arena.cells ≤ p.pending_in.covered
 
 -- the bound lies strictly between the partition's ends, and doesn't stand in the index
 pub record IsMissing (s : State) (bound : ℕ) : Type 0 where

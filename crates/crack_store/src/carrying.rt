@@ -3,14 +3,15 @@ ghost use Rattle.std.specs.Prelude.{◌≡◌, ◌-◌, ◌<◌, ◌≤◌, ◌�
 ghost use Rattle.crack_arena.specs.Arena.{read, times, slots, IsFirstAt, IsAbsent, same_handle};
 ghost use Rattle.crack_index.specs.Marks.{piece_at, next_mark, last_mark, near_mark};
 ghost use Rattle.crack_state.specs.State.{IsIntact, live_rows};
-ghost use Rattle.crack_state.specs.Steps.{hand_key, piece_start, piece_end, IsDoomed, pushed_on, pulled_back, exchanged, appended, buried, bounds_above, bounds_up_to, raise_next as next_raised};
+ghost use Rattle.crack_state.specs.Steps.{hand_key, piece_start, piece_end, IsDoomed, pushed_on, pulled_back, exchanged, appended, buried, bounds_above, bounds_up_to, returned};
 
 use crate::Store;
 use crate::inside::Inside;
 use crate::search::note_if_doomed;
+use crate::steps::{free_hand, give_back, put_last};
 use crack_arena::Handle;
 use crack_column::Remembered;
-use crack_index::{CrackerIndex, NearBound, Piece};
+use crack_index::{NearBound, Piece};
 use crack_row::{Key, Row};
 use crack_state::MergeReport;
 use std::marker::Model;
@@ -101,12 +102,11 @@ impl Carrying {
         self.inside.column.place_of(handle)
     }
 
-    /// The key of the row in hand.
-    fn hand_key(&self) -> Key
+    /// The key of the row in hand. O(1), without a look at its cell where the row is known.
+    pub fn hand_key(&self) -> Key
         ensures { result.0 ≡ hand_key self.now }
     {
-        let (_, row) = self.hand();
-        row.key
+        self.known.key_of(self.hand, &self.inside.arena)
     }
 
     /// The piece whose keys hold the key of the row in hand. O(log bounds).
@@ -123,7 +123,7 @@ impl Carrying {
     }
 
     /// The least bound above the key in hand. O(1) on the way up, else O(log bounds).
-    fn bound_above(&self) -> Option<NearBound>
+    pub(crate) fn bound_above(&self) -> Option<NearBound>
         ensures { near_mark result ≡ next_mark (hand_key self.now) self.now.store.marks }
     {
         match self.near {
@@ -242,7 +242,6 @@ impl Carrying {
 
     /// Frees the cell of the row in hand, which is doomed, and strikes it from the pending deletions.
     /// Amortised O(1).
-    #[inline(always)]
     pub fn bury(self) -> Store
         requires { IsDoomed self }
         ensures after { result ≡ buried self }
@@ -254,15 +253,29 @@ impl Carrying {
             known: _,
             near: _,
         } = self;
-        inside.pending_out.strike(hand);
-        let _ = inside.arena.free(hand);
-        inside.tally.taken_out = inside.tally.taken_out.saturating_add(1);
+        free_hand(&mut inside, hand);
+        Store { inside }
+    }
+
+    /// Puts the hand, which isn't doomed, behind the last pending insertion: its row makes way for another. Takes no memory. O(1).
+    pub fn put_back(self) -> Store
+        requires room { 0 < self.store.in_room }
+        requires kept { times self.hand.slot (slots self.store.pending_out) ≡ 0 }
+        ensures after { result ≡ returned self }
+        ensures live { live_rows result ≡ live_rows self.store }
+    {
+        let Carrying {
+            mut inside,
+            hand,
+            known,
+            near: _,
+        } = self;
+        give_back(&mut inside, hand, known);
         Store { inside }
     }
 
     /// Puts the hand behind the column's last row, where its own piece ends there; each bound above its key that stands there
     /// moves up by one. O(1) on the way up and the bounds at that place, else O(log bounds) more.
-    #[inline(always)]
     pub fn append(self) -> Store
         requires ends { piece_end self.store (hand_key self) ≡ length self.store.column }
         requires room { 0 < self.store.column_room }
@@ -277,20 +290,7 @@ impl Carrying {
             known,
             near: _,
         } = self;
-        raise_next(&mut inside.index, above);
-        inside.column.append_remembered(hand, known);
+        put_last(&mut inside, hand, known, above);
         Store { inside }
-    }
-}
-
-/// Each bound above a key that stands where the key's piece ends moves up by one, from the least such bound on.
-fn raise_next(index: &mut CrackerIndex, above: Option<NearBound>)
-    requires there { IfSome above (λ n. Contains index.old.marks n.mark) }
-    requires small { All (λ m. m.position < usize.MAX) index.old.marks }
-    ensures marks { index.new.marks ≡ next_raised (near_mark above) index.old.marks }
-    ensures room { index.new.room ≡ index.old.room }
-{
-    if let Some(bound) = above {
-        let _ = index.raise_past(bound);
     }
 }

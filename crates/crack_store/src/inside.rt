@@ -1,6 +1,6 @@
 //! What a store and a store with a cell in hand are made of.
 ghost use Rattle.std.specs.Prelude.{◌≡◌, ◌+◌, ◌<◌, ◌≤◌, [], IsTrue, IsFalse};
-ghost use Rattle.crack_state.specs.Merge.{RefinesAt, Stands};
+ghost use Rattle.crack_state.specs.Merge.{RefinesAt, Stands, AreEnds};
 ghost use Rattle.crack_store.specs.Inside.{lists_of, KeepsIntact, IsMissing};
 
 use crate::notes::Notes;
@@ -39,6 +39,25 @@ pub(crate) fn is_missing(inside: &Inside, bound: Bound) -> bool
     inside.keys.low() < bound
         && bound < inside.keys.high()
         && inside.index.position(bound).is_none()
+}
+
+/// The ends of a range in the order in which to crack at them: where both lie in one piece, the one first that leaves fewer rows to
+/// crack for the other, as keys go that are spread evenly. O(log bounds).
+pub(crate) fn in_turn(inside: &Inside, range: KeyRange) -> (Bound, Bound)
+    ensures { AreEnds range result.0.0 result.1.0 }
+{
+    let (low, high) = (range.low(), range.high());
+    let Ok(key) = u32::try_from(low.0) else {
+        return (low, high);
+    };
+    let piece = inside.index.piece_of(Key(key), inside.column.len());
+    let below = piece.low.unwrap_or(inside.keys.low());
+    let above = piece.high.unwrap_or(inside.keys.high());
+    if low.0.saturating_sub(below.0) < above.0.saturating_sub(high.0) {
+        (high, low)
+    } else {
+        (low, high)
+    }
 }
 
 /// Cracks the bound's own piece by it, unless the bound is there or is an end of the partition. Takes no memory.

@@ -7,9 +7,11 @@
 pub mod carrying;
 mod inside;
 mod notes;
+pub mod onward;
 pub mod points;
 pub mod reads;
 mod search;
+mod steps;
 pub mod store;
 
 pub use carrying::Carrying;

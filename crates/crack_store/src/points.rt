@@ -2,10 +2,11 @@
 ghost use Rattle.std.specs.Prelude.{◌≡◌, ◌+◌, ◌-◌, ◌<◌, ◌∷◌, map, Some, None, IsSome, IfOk, IfErr, OnOk, OnErr, IsOk, IfNone, true, false};
 ghost use Rattle.std.specs.List.Sorted.{IsPermutation};
 ghost use Rattle.crack_row.specs.Ranges.{IsIn};
+ghost use Rattle.crack_row.specs.Rows.{row_with, replaced};
 ghost use Rattle.crack_arena.specs.Arena.{read, freed, freed_at};
 ghost use Rattle.crack_state.specs.State.{live_rows, handle_of, freed_of};
 ghost use Rattle.crack_state.specs.Steps.{SameButRoom};
-ghost use Rattle.crack_state.specs.Points.{row_by, pending_by, handle_by, row_with, replaced, Maps, MayFree, IsRenewable, IsRewritable, Cancels, Dooms, Renews, Rewrites, rewritten};
+ghost use Rattle.crack_state.specs.Points.{row_by, pending_by, handle_by, Maps, MayFree, IsRenewable, IsRewritable, Cancels, Dooms, Renews, Rewrites, rewritten};
 
 use crate::Store;
 use crack_arena::{Arena, Handle, key_of};

@@ -1,9 +1,10 @@
 //! What a range command reads off the column.
-ghost use Rattle.std.specs.Prelude.{◌≡◌, ◌<◌, ◌≤◌, Some, length, IfOk, IfErr, slice_index_or};
+ghost use Rattle.std.specs.Prelude.{◌≡◌, ◌<◌, ◌≤◌, ◌^◌, Some, length, IfOk, IfErr, slice_index_or};
 ghost use Rattle.std.specs.List.Sorted.{IsPermutation, IsNonDecreasingBy};
+ghost use Rattle.crack_row.specs.Rows.{sum_of};
 ghost use Rattle.crack_arena.specs.Arena.{read, no_handle};
 ghost use Rattle.crack_state.specs.Merge.{IsCracked, edge};
-ghost use Rattle.crack_state.specs.Stretch.{rows_within, stretch_rows, serial_of, sum_of};
+ghost use Rattle.crack_state.specs.Stretch.{rows_within, stretch_rows, serial_of};
 
 use crate::Store;
 use crate::points::row_at;
@@ -14,7 +15,8 @@ impl Store {
     /// Takes no memory. O(rows there + log bounds); it reads no cell of a row that the column knows.
     pub fn sum_between(&self, range: KeyRange) -> u128
         requires { IsCracked self.now range }
-        ensures { result ≡ sum_of (stretch_rows self.now range) }
+        ensures is { result ≡ sum_of (stretch_rows self.now range) }
+        ensures small { result < 2 ^ 64 }
     {
         let (from, to) = self.places_of(range);
         self.inside.column.sum_between(from, to, &self.inside.arena) as u128

@@ -12,12 +12,11 @@ ghost use Rattle.crack_state.specs.Points.{pending_by};
 ghost use Rattle.crack_store.specs.Inside.{no_cells, bound_above, IsLayoutOf};
 
 use crate::Carrying;
-use crate::carrying::Near;
-use crate::inside::{Inside, crack_at, is_missing};
+use crate::inside::{Inside, crack_at, in_turn, is_missing};
 use crate::notes::Notes;
-use crate::points::row_at;
+use crate::steps::{take_in, take_last};
 use crack_arena::{Arena, Handle};
-use crack_column::{CrackerColumn, Remembered};
+use crack_column::CrackerColumn;
 use crack_index::CrackerIndex;
 use crack_pending::{PendingIn, PendingOut};
 use crack_row::{Bound, KeyRange, Layout, PieceList, Refusal, Row, Serial};
@@ -25,6 +24,9 @@ use crack_state::MergeReport;
 use indexmap::IndexMap;
 use std::alloc::Global;
 use std::marker::Model;
+
+/// For how many rows the map of serials has room at first.
+const FIRST_SERIALS: usize = 4096;
 
 /// The rows of a partition in cracked order, with the pending rows that no command has needed yet
 /// ("Database Cracking", CIDR 2007; "Updating a Cracked Database", SIGMOD 2007).
@@ -90,7 +92,9 @@ impl Store {
     {
         self.inside.pending_in.reserve(1)?;
         self.inside.arena.reserve(1)?;
-        self.inside.serials.reserve(1)?;
+        self.inside
+            .serials
+            .reserve(growth(self.inside.serials.len()))?;
         let new_cells = (self.inside.arena.free_cells() == 0) as usize;
         self.inside
             .pending_in
@@ -127,8 +131,9 @@ impl Store {
         let low = is_missing(&self.inside, range.low());
         let high = is_missing(&self.inside, range.high());
         self.inside.index.reserve(low as usize + high as usize)?;
-        crack_at(&mut self.inside, range.low());
-        crack_at(&mut self.inside, range.high());
+        let (first, second) = in_turn(&self.inside, range);
+        crack_at(&mut self.inside, first);
+        crack_at(&mut self.inside, second);
         Ok(())
     }
 
@@ -150,19 +155,15 @@ impl Store {
 
     /// Takes the pending insertion at this place of the order of arrival into the hand.
     /// O(log bounds) at the first place or behind the one that was taken last; takes no memory.
-    #[inline(always)]
-    pub fn lift(mut self, place: usize) -> Carrying
+    pub fn lift(self, place: usize) -> Carrying
         requires { place < length self.pending_in }
         ensures after { result ≡ lifted place self }
         ensures live { live_rows result.store ≡ live_rows self }
     {
-        let hand = self.inside.pending_in.take(place);
-        self.inside.tally.put_in = self.inside.tally.put_in.saturating_add(1);
-        let row = row_at(&self.inside.arena, hand);
-        let known = Remembered::of(row);
-        let near = Near::Above(self.inside.index.bound_above(row.key));
+        let Store { mut inside } = self;
+        let (hand, known, near) = take_in(&mut inside, place);
         Carrying {
-            inside: self.inside,
+            inside,
             hand,
             known,
             near,
@@ -171,21 +172,13 @@ impl Store {
 
     /// Takes the column's last row into the hand; each bound that stands behind it moves down by one.
     /// O(log bounds) and the bounds at that place; takes no memory.
-    #[inline(always)]
     pub fn lift_last(self) -> Carrying
         requires { 0 < length self.column }
         ensures after { result ≡ lifted_last self }
         ensures live { live_rows result.store ≡ live_rows self }
     {
         let Store { mut inside } = self;
-        let len = inside.column.len();
-        inside.index.lower_at(len);
-        let Some(hand) = inside.column.pop() else {
-            unreachable!();
-        };
-        let row = row_at(&inside.arena, hand);
-        let known = Remembered::of(row);
-        let near = Near::Below(inside.index.bound_below(row.key));
+        let (hand, known, near) = take_last(&mut inside);
         Carrying {
             inside,
             hand,
@@ -345,4 +338,11 @@ impl Store {
     {
         self.inside.pending_out.at(place)
     }
+}
+
+/// For how many rows more a map of so many is to have room.
+fn growth(rows: usize) -> usize
+    ensures { 1 ≤ result }
+{
+    if rows == 0 { FIRST_SERIALS } else { 1 }
 }

@@ -37,6 +37,7 @@ returns-clause-intact c =
       keys_in = c.requires.intact.keys_in;
       keys_out = c.requires.intact.keys_out;
       room = c.requires.intact.room;
+      covered = c.requires.intact.covered;
     }
 
 pub returns-clause-refined : goal.returns-clause-refined

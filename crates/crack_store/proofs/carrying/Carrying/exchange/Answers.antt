@@ -32,6 +32,7 @@ invariant_of-self c =
         keys_in = c.self.invariant.kept.keys_in;
         keys_out = c.self.invariant.kept.keys_out;
         room = c.self.invariant.kept.room;
+        covered = c.self.invariant.kept.covered;
       };
       agrees = Agrees-at carried.store.cells carried.store.column c.self.inside.inside.column.remembered c.args.place c.swap_in_remembered-there.result.0 c.swap_in_remembered-there.result.1 c.swap_in_remembered-there.ensures.handle c.swap_in_remembered-there.ensures.known c.self.invariant.kept.remembers;
       is_near = rw met (IsNear-same carried.store.marks (hand_key carried) (hand_key (exchanged c.args.place carried)) c.self.inside.near (next-exchanged c.args.place carried from to intact) (last-exchanged c.args.place carried from to intact) c.self.invariant.is_near);

@@ -17,6 +17,7 @@ invariant_of-self c =
         keys_in = kept.keys_in;
         keys_out = kept.keys_out;
         room = kept.room;
+        covered = kept.covered;
       };
       agrees = c.self.invariant.agrees;
       is_near = c.self.invariant.is_near;

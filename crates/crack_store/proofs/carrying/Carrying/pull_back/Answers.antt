@@ -66,6 +66,7 @@ invariant_of-self c =
         keys_in = c.self.invariant.kept.keys_in;
         keys_out = c.self.invariant.kept.keys_out;
         room = c.self.invariant.kept.room;
+        covered = c.self.invariant.kept.covered;
       };
       agrees = Agrees-at carried.store.cells carried.store.column c.self.inside.inside.column.remembered (c.position-last.result - 1) c.swap_in_remembered-drawn.result.0 c.swap_in_remembered-drawn.result.1 c.swap_in_remembered-drawn.ensures.handle c.swap_in_remembered-drawn.ensures.known c.self.invariant.kept.remembers;
       is_near = rw (marks, met) (c.lower_past-next.ensures.next ∙ sym (last-pulled_back carried c.in-Some.bound.mark down.found down.above intact));

@@ -58,6 +58,7 @@ invariant_of-self c =
         keys_in = c.self.invariant.kept.keys_in;
         keys_out = c.self.invariant.kept.keys_out;
         room = c.self.invariant.kept.room;
+        covered = c.self.invariant.kept.covered;
       };
       agrees = Agrees-at carried.store.cells carried.store.column c.self.inside.inside.column.remembered c.position.result c.swap_in_remembered-met.result.0 c.swap_in_remembered-met.result.1 c.swap_in_remembered-met.ensures.handle c.swap_in_remembered-met.ensures.known c.self.invariant.kept.remembers;
       is_near = rw (marks, met) (c.raise_past-next.ensures.next ∙ sym (next-pushed_on carried c.in-Some.bound.mark up.found up.within intact));

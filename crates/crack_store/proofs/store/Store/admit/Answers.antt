@@ -10,7 +10,7 @@ use Rattle.crack_state.proofs.LayoutLaws.{cells-intact}
 use Rattle.crack_state.proofs.StepLaws.{IsIntact-room}
 use Rattle.crack_state.proofs.AdmitLaws.{IsIntact-admitted, live_rows-admitted}
 use Rattle.crack_store.specs.Inside.{lists_of}
-use Rattle.crack_store.proofs.AdmitLemmas.{is_covered}
+use Rattle.crack_store.proofs.AdmitLemmas.{is_covered, all_covered}
 use Rattle.crack_store.proofs.RememberLemmas.{Remembers-admitted, RemembersKeys-off, Added, added}
 use Rattle.crack_store.proofs.store.Store.admit.Goals as goal
 
@@ -59,7 +59,7 @@ after c =
     let cells_is : c.reserve-2.new.self.cells ≡ s.cells = ap (λ a. a.cells) c.in_ok-reserve-2.ensures.same in
     let free_is : c.reserve-2.new.self.free ≡ s.free = ap (λ a. a.free) c.in_ok-reserve-2.ensures.same in
     let fresh : handle_of s.serials serial ≡ None = rw (← c.self.view_is) at c.requires.fresh in
-    let entries = at_ok c.insert.result _ (c.insert.ensures.succeeds c.in_ok-reserve-3.ensures.ok) c.insert.ensures.entries in
+    let entries = at_ok c.insert.result _ (c.insert.ensures.succeeds (omega (arith, c.growth.ensures, c.in_ok-reserve-3.ensures.ok))) c.insert.ensures.entries in
     let listed : c.insert.new.self.entries ≡ s.serials ++ (serial, next_handle s) ∷ [] = (rw (c.in_ok-reserve-3.ensures.entries, handle c) at entries) ∙ insert_entry-new nat_eq c.self.inside.inside.serials serial (next_handle s) fresh in
     record {
       same = rw (c.put_reserved-handle.ensures.after, cells_is, free_is, c.push_keyed.ensures.after, c.in_ok-cover.ensures.same, c.in_ok-reserve.ensures.same, listed, handle c) refl;
@@ -86,6 +86,7 @@ invariant_of-self-2 c =
       keys_in = rw (cells_after c) (c.push_keyed.ensures.remembered cells plus.key (c.in_ok-cover.ensures.remembered cells (c.in_ok-reserve.ensures.remembered cells (RemembersKeys-off h.slot s.cells cells kept_in.handles kept_in.keys plus.agree plus.off_in c.self.invariant.keys_in))));
       keys_out = rw (cells_after c) (RemembersKeys-off h.slot s.cells cells kept_out.handles kept_out.keys plus.agree plus.off_out c.self.invariant.keys_out);
       room = omega arith;
+      covered = rw (cells_after c, c.push_keyed.ensures.after) (all_covered row s c.cells.result c.free_cells.result c.cover.new.self.covered (rw (ap (λ a. a.cells) c.in_ok-reserve-2.ensures.same) at c.cells.ensures) (rw (ap (λ a. a.free) c.in_ok-reserve-2.ensures.same) at c.free_cells.ensures) c.in_ok-cover.ensures.covered);
     }
 
 pub returns-clause-ok : goal.returns-clause-ok

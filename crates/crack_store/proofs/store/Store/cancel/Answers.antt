@@ -1,4 +1,4 @@
-use Rattle.std.proofs.Common.{◌≡◌, ◌+◌, true, [], set, Some, None, arith, refl}
+use Rattle.std.proofs.Common.{◌≡◌, ◌+◌, true, [], set, Some, None, arith, refl, length-set}
 use Rattle.crack_state.specs.Points.{pending_by, MayFree, struck}
 use Rattle.crack_state.specs.Steps.{SameButRoom}
 use Rattle.crack_state.proofs.PointLaws.{reads_by, IsIntact-struck, live_rows-struck}
@@ -34,6 +34,7 @@ invariant_of-self c =
       keys_in = rw c.free.ensures.after (RemembersKeys-off h.slot s.cells (struck h s).cells c.strike.new.self.handles c.strike.new.self.keys agree (rw c.strike.ensures.handles pending.left) (c.strike.ensures.remembered s.cells c.self.invariant.keys_in));
       keys_out = rw c.free.ensures.after (RemembersKeys-off h.slot s.cells (struck h s).cells s.pending_out c.self.inside.inside.pending_out.keys agree pending.kept c.self.invariant.keys_out);
       room = omega (arith, c.self.invariant.room, c.strike.ensures.room);
+      covered = rw (c.free.ensures.after, c.strike.ensures.covered) (omega (arith, c.self.invariant.covered, length-set s.cells h.slot (record { generation = h.generation + 1; value = None })));
     }
 
 pub returns-clause-live : goal.returns-clause-live

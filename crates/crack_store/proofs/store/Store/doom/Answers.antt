@@ -46,6 +46,7 @@ invariant_of-self-2 c =
       keys_in = c.self.invariant.keys_in;
       keys_out = c.push_keyed.ensures.remembered s.cells key (c.in_ok-cover.ensures.remembered s.cells (c.in_ok-reserve.ensures.remembered s.cells c.self.invariant.keys_out));
       room = c.self.invariant.room;
+      covered = c.self.invariant.covered;
     }
 
 pub returns-clause-live : goal.returns-clause-live

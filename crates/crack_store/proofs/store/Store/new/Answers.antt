@@ -11,4 +11,5 @@ invariant_of-result c =
       keys_in = c.new-4.ensures.remembered c.new.result.cells;
       keys_out = c.new-5.ensures.remembered c.new.result.cells;
       room = omega arith;
+      covered = search rules;
     }

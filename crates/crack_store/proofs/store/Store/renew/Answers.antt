@@ -9,7 +9,7 @@ use Rattle.crack_state.proofs.LayoutLaws.{cells-intact, pending_out-few}
 use Rattle.crack_state.proofs.StepLaws.{IsIntact-room}
 use Rattle.crack_state.proofs.PointLaws.{stands1, IsIntact-renewed, live_rows-renewed}
 use Rattle.crack_store.specs.Inside.{lists_of}
-use Rattle.crack_store.proofs.AdmitLemmas.{is_covered}
+use Rattle.crack_store.proofs.AdmitLemmas.{is_covered, all_covered}
 use Rattle.crack_store.proofs.RememberLemmas.{Remembers-admitted, RemembersKeys-off, Added, added}
 use Rattle.crack_store.proofs.PointLemmas.{column_handle}
 use Rattle.crack_store.proofs.store.Store.renew.Goals as goal
@@ -108,6 +108,7 @@ invariant_of-self-2 c =
       keys_in = rw (cells_after c) (c.push_keyed-2.ensures.remembered cells plus.key (c.in_ok-cover-3.ensures.remembered cells (c.in_ok-reserve-2.ensures.remembered cells (RemembersKeys-off n.slot s.cells cells kept_in.handles kept_in.keys plus.agree plus.off_in c.self.invariant.keys_in))));
       keys_out = rw (cells_after c) (c.push_keyed.ensures.remembered cells key (c.in_ok-cover.ensures.remembered cells (c.in_ok-reserve.ensures.remembered cells (RemembersKeys-off n.slot s.cells cells kept_out.handles kept_out.keys plus.agree plus.off_out c.self.invariant.keys_out))));
       room = omega arith;
+      covered = rw (cells_after c, c.push_keyed-2.ensures.after) (all_covered row s c.cells-3.result c.free_cells.result c.cover-3.new.self.covered (rw (ap (λ a. a.cells) c.in_ok-reserve-3.ensures.same) at c.cells-3.ensures) (rw (ap (λ a. a.free) c.in_ok-reserve-3.ensures.same) at c.free_cells.ensures) c.in_ok-cover-3.ensures.covered);
     }
 
 pub returns-clause-live : goal.returns-clause-live

@@ -1,14 +1,15 @@
 use Rattle.std.proofs.Common.{ℕ, ◌∙◌, sym, ap}
 use Rattle.std.specs.List.{between}
+use Rattle.crack_row.specs.Rows.{sum_of}
 use Rattle.crack_state.specs.State.{State}
 use Rattle.crack_state.specs.Merge.{edge}
-use Rattle.crack_state.specs.Stretch.{rows_within, sum_of}
+use Rattle.crack_state.specs.Stretch.{rows_within}
 use Rattle.crack_state.proofs.StretchLaws.{sum-payloads}
 use Rattle.crack_store.specs.Inside.{lists_of}
 use Rattle.crack_store.proofs.store.Store.sum_between.Goals as goal
 
-pub returns : goal.returns
-returns c =
+pub returns-clause-is : goal.returns-clause-is
+returns-clause-is c =
     let s = lists_of c.self.inside.inside in
     let now = c.args.self.now in
     let places = c.places_of-from.result in

@@ -1,4 +1,4 @@
-use Rattle.std.proofs.Common.{◌≡◌, true, get_or, Some, None, refl, sym, ◌∙◌}
+use Rattle.std.proofs.Common.{◌≡◌, true, get_or, Some, None, refl, sym, ◌∙◌, arith, length-set}
 use Rattle.std.proofs.lemmas.List.{get_or_default}
 use Rattle.crack_row.specs.Ranges.{IsIn}
 use Rattle.crack_arena.specs.Arena.{read, set_at, place_in, no_handle}
@@ -43,6 +43,7 @@ invariant_of-self c =
       keys_in = rw (written c) (c.remember.ensures.remembered s.cells cells key (λ x ne. key_at-off h.slot s.cells cells x agree ne) c.self.invariant.keys_in);
       keys_out = rw (written c) (RemembersKeys-off h.slot s.cells cells s.pending_out c.self.inside.inside.pending_out.keys agree pending.kept c.self.invariant.keys_out);
       room = rw c.remember.ensures.after c.self.invariant.room;
+      covered = rw (written c, c.remember.ensures.after) (omega (arith, c.self.invariant.covered, length-set s.cells h.slot (record { generation = h.generation; value = Some row })));
     }
 
 pub returns-clause-after : goal.returns-clause-after

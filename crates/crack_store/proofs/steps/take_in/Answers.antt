@@ -3,29 +3,30 @@ use Rattle.std.proofs.lemmas.List.{get_or_default}
 use Rattle.crack_arena.specs.Arena.{no_handle, read}
 use Rattle.crack_state.proofs.StepLaws.{IsIntact-lifted}
 use Rattle.crack_store.specs.Inside.{lists_of}
-use Rattle.crack_store.proofs.store.Store.lift.Goals as goal
+use Rattle.crack_store.proofs.steps.take_in.Goals as goal
 
 pub row_at-row-requires : goal.row_at-row-requires
 row_at-row-requires c =
-    let s = lists_of c.self.inside.inside in
-    let there : c.args.place < length s.pending_in = rw (← c.self.view_is) at c.requires in
+    let s = lists_of c.args.inside.now in
+    let there : c.args.place < length s.pending_in = c.requires.there in
     let hand : c.take-hand.result ≡ get_or s.pending_in c.args.place no_handle = c.take-hand.ensures.value.is ∙ get_or_default s.pending_in c.args.place c.take-hand.result no_handle there in
-    rw hand (c.self.invariant.intact.owned.pending_reads c.args.place no_handle there)
+    rw hand (c.requires.intact.intact.owned.pending_reads c.args.place no_handle there)
 
-pub invariant_of-result : goal.invariant_of-result
-invariant_of-result c =
-    let s = lists_of c.self.inside.inside in
-    let there : c.args.place < length s.pending_in = rw (← c.self.view_is) at c.requires in
+pub returns-clause-kept : goal.returns-clause-kept
+returns-clause-kept c =
+    let s = lists_of c.args.inside.now in
+    let there : c.args.place < length s.pending_in = c.requires.there in
     let hand : c.take-hand.result ≡ get_or s.pending_in c.args.place no_handle = c.take-hand.ensures.value.is ∙ get_or_default s.pending_in c.args.place c.take-hand.result no_handle there in
     let reads : read s.cells (get_or s.pending_in c.args.place no_handle) ≡ Some c.row_at-row.result = rw hand at c.row_at-row.ensures in
     record {
       kept = record {
-        intact = rw (c.take-hand.ensures.handles, hand, c.saturating_add-self-inside.ensures) (IsIntact-lifted c.args.place s there c.self.invariant.intact);
-        remembers = c.self.invariant.remembers;
-        keys_in = c.take-hand.ensures.remembered s.cells c.self.invariant.keys_in;
-        keys_out = c.self.invariant.keys_out;
-        room = omega (arith, c.self.invariant.room, c.take-hand.ensures.room);
+        intact = rw (c.take-hand.ensures.handles, hand, c.saturating_add-inside.ensures) (IsIntact-lifted c.args.place s there c.requires.intact.intact);
+        remembers = c.requires.intact.remembers;
+        keys_in = c.take-hand.ensures.remembered s.cells c.requires.intact.keys_in;
+        keys_out = c.requires.intact.keys_out;
+        room = omega (arith, c.requires.intact.room, c.take-hand.ensures.room);
+        covered = rw c.take-hand.ensures.covered c.requires.intact.covered;
       };
-      agrees = inr (rw (hand, reads) c.of-known.ensures);
+      agrees = inr (rw (hand, reads) c.of.ensures);
       is_near = rw (hand, reads) c.bound_above.ensures.value;
     }

@@ -2,7 +2,7 @@ use Rattle.std.proofs.Common.{◌<◌, ◌^◌, ◌-◌}
 use Rattle.std.specs.Prelude.{Contains}
 use Rattle.std.proofs.lemmas.List.Elements.{All-contains}
 use Rattle.crack_index.specs.declared.mark.Mark.{Mark}
-use Rattle.crack_store.proofs.carrying.raise_next.Goals as goal
+use Rattle.crack_store.proofs.steps.raise_next.Goals as goal
 
 pub raise_past-requires-clause-small : goal.raise_past-requires-clause-small
 raise_past-requires-clause-small c =

@@ -1,0 +1,104 @@
+//! From one row in hand to the next: what ends the way of the one and begins that of the other, with the store where it is.
+ghost use Rattle.std.specs.Prelude.{◌≡◌, ◌<◌, ◌≤◌, length, OnOk, IfErr};
+ghost use Rattle.crack_arena.specs.Arena.{times, slots};
+ghost use Rattle.crack_arena.specs.Rows.{keys_at};
+ghost use Rattle.crack_pending.specs.Pending.{Finds};
+ghost use Rattle.crack_state.specs.State.{live_rows};
+ghost use Rattle.crack_state.specs.Steps.{hand_key, piece_end, IsDoomed, lifted, appended, buried, SameButRoom, returned};
+
+use crate::Carrying;
+use crate::steps::{free_hand, give_back, put_last, take_in};
+use crack_row::{KeyRange, Refusal};
+
+impl Carrying {
+    /// Makes room for two more places in the column and two more pending insertions: for the hand and for one row more.
+    /// Refused with 8 where it finds no memory; all is then as it was.
+    pub fn make_room(&mut self) -> Result<(), Refusal>
+        ensures same { SameButRoom self.old.store self.new.store }
+        ensures hand { self.new.hand ≡ self.old.hand }
+        ensures column { OnOk result (1 < self.new.store.column_room) }
+        ensures pending_in { OnOk result (1 < self.new.store.in_room) }
+        ensures column_kept { self.old.store.column_room ≤ self.new.store.column_room }
+        ensures pending_in_kept { self.old.store.in_room ≤ self.new.store.in_room }
+        ensures err { IfErr result (λ e. e ≡ Refusal.OutOfMemory) }
+    {
+        self.inside.column.reserve(2)?;
+        // what was made before stays until a row is evicted
+        if self.inside.in_room < 2 {
+            self.inside.pending_in.reserve(2)?;
+            self.inside.in_room = 2;
+        }
+        Ok(())
+    }
+
+    /// Ends the way of the hand as `append` does, and takes the pending insertion at this place into the hand, as `lift` does.
+    /// It costs what the two do, and moves no store.
+    pub fn append_and_lift(&mut self, place: usize)
+        requires ends { piece_end self.old.store (hand_key self.old) ≡ length self.old.store.column }
+        requires room { 0 < self.old.store.column_room }
+        requires kept { times self.old.hand.slot (slots self.old.store.pending_out) ≡ 0 }
+        requires there { place < length self.old.store.pending_in }
+        ensures after { self.new ≡ lifted place (appended self.old) }
+        ensures live { live_rows self.new.store ≡ live_rows self.old.store }
+    {
+        let above = self.bound_above();
+        put_last(&mut self.inside, self.hand, self.known, above);
+        (self.hand, self.known, self.near) = take_in(&mut self.inside, place);
+    }
+
+    /// Ends the way of the hand as `bury` does, and takes the pending insertion at this place into the hand, as `lift` does.
+    /// It costs what the two do, and moves no store.
+    pub fn bury_and_lift(&mut self, place: usize)
+        requires doomed { IsDoomed self.old }
+        requires there { place < length self.old.store.pending_in }
+        ensures after { self.new ≡ lifted place (buried self.old) }
+        ensures live { live_rows self.new.store ≡ live_rows self.old.store }
+    {
+        free_hand(&mut self.inside, self.hand);
+        (self.hand, self.known, self.near) = take_in(&mut self.inside, place);
+    }
+
+    /// Ends the way of the hand as `put_back` does, and takes the pending insertion at this place into the hand, as `lift` does; the hand
+    /// itself stands behind all others.
+    /// It costs what the two do, and moves no store.
+    pub fn put_back_and_lift(&mut self, place: usize)
+        requires room { 0 < self.old.store.in_room }
+        requires kept { times self.old.hand.slot (slots self.old.store.pending_out) ≡ 0 }
+        requires there { place ≤ length self.old.store.pending_in }
+        ensures after { self.new ≡ lifted place (returned self.old) }
+        ensures live { live_rows self.new.store ≡ live_rows self.old.store }
+    {
+        give_back(&mut self.inside, self.hand, self.known);
+        (self.hand, self.known, self.near) = take_in(&mut self.inside, place);
+    }
+
+    /// The first pending insertion at or behind the place with its key in the range; O(1) for each that it passes. Where the range holds all
+    /// of the partition's keys, it looks at none.
+    pub fn next_in(&self, range: KeyRange, from: usize) -> Option<usize>
+        ensures { Finds range (keys_at self.now.store.cells self.now.store.pending_in) from result }
+    {
+        let inside = &self.inside;
+        if range.low().0 <= inside.keys.low().0 && inside.keys.high().0 <= range.high().0 {
+            if from < inside.pending_in.len() {
+                return Some(from);
+            }
+            return None;
+        }
+        inside.pending_in.next_in(range, from, &inside.arena)
+    }
+    /// As `next_in`, and goes on from the place that it finds when one is lifted next: to find a row and then to lift it is one pass.
+    pub fn seek_in(&mut self, range: KeyRange, from: usize) -> Option<usize>
+        ensures finds { Finds range (keys_at self.old.store.cells self.old.store.pending_in) from result }
+        ensures same { self.new ≡ self.old }
+    {
+        let inside = &mut self.inside;
+        let keys = inside.keys;
+        if range.low().0 <= keys.low().0 && keys.high().0 <= range.high().0 {
+            if from < inside.pending_in.len() {
+                return Some(from);
+            }
+            return None;
+        }
+        inside.pending_in.seek_in(range, from, &inside.arena)
+    }
+}
