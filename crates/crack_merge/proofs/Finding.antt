@@ -14,11 +14,11 @@ use Rattle.crack_state.proofs.AdvanceLaws.{keys_still}
 use Rattle.crack_state.proofs.OutsideLaws.{LacksFirst, LacksFirst-next, LacksFirst-all, NoneInside}
 
 module _ (cells : List (Cell Row)) (r : Range) (hs : List Handle) where
-  none_inside : (from to : ℕ) → to ≤ length hs → NoneIn r (keys_at cells hs) from to → NoneInside cells r hs from to
+  pub none_inside : (from to : ℕ) → to ≤ length hs → NoneIn r (keys_at cells hs) from to → NoneInside cells r hs from to
   none_inside from to within none = λ j d start before.
       is_in-false r (key_at cells (get_or hs j d)) (rw (get_or-map (key_at cells) hs j d 0 (omega arith)) at (none j start before))
 
-  inside_at : (place : ℕ) (d : Handle) → place < length hs → (from : ℕ) → IsFirstIn r (keys_at cells hs) from place → is_in r (key_at cells (get_or hs place d)) ≡ true
+  pub inside_at : (place : ℕ) (d : Handle) → place < length hs → (from : ℕ) → IsFirstIn r (keys_at cells hs) from place → is_in r (key_at cells (get_or hs place d)) ≡ true
   inside_at place d within from first = is_in-true r (key_at cells (get_or hs place d)) (rw (get_or-map (key_at cells) hs place d 0 within) at first.holds)
 
 module _ (cells after : List (Cell Row)) (r : Range) (before left : List Handle) (from : ℕ) (still : StillReads cells after) (reads : All (Reads after) left) where

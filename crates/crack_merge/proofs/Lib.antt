@@ -1,8 +1,11 @@
 mod Deleting
-mod Finding
+mod Ending
+pub mod Finding
 mod Inserting
 mod Merging
+mod Onward
 mod Pulling
 mod Touched
 pub mod CarryLaws
 pub mod PullLaws
+pub mod RangeLaws

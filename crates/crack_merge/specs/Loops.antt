@@ -1,11 +1,35 @@
 -- What the loops of a merge have done so far. No public clause cites this module.
-use Rattle.std.specs.Prelude.{◌≡◌, ◌≤◌, ◌+◌, ℕ, ◌++◌, List, take, drop, length}
-use Rattle.crack_row.specs.Ranges.{Range}
-use Rattle.crack_row.specs.declared.Row.{Row}
+use Rattle.std.specs.Prelude.{◌≡◌, ◌≤◌, ◌+◌, ⊤, ℕ, Option, length}
 use Rattle.crack_row.specs.declared.command.Policy.{Policy}
-use Rattle.crack_arena.specs.Arena.{Cell, Handle}
-use Rattle.crack_state.specs.State.{State}
-use Rattle.crack_state.specs.Merge.{Advances, outside_of}
+use Rattle.crack_arena.specs.Arena.{times, slots}
+use Rattle.crack_state.specs.State.{State, Carried}
+use Rattle.crack_state.specs.Steps.{hand_key, piece_end, IsDoomed, appended, buried, returned}
+use Rattle.crack_merge.specs.declared.carries.CarryEnd.{CarryEnd}
+use Rattle.crack_merge.specs.declared.carries.CarryEnd.TheVariants.{Buries, Evicts, Appends}
+use Rattle.crack_state.specs.Merge.{Advances}
+use Rattle.crack_merge.specs.Merges.{IsBelow}
+
+-- where a carry ends by a rule
+abbrev pub ended : CarryEnd → Carried → State
+ended Buries c = buried c
+ended Evicts c = returned c
+ended Appends c = appended c
+
+-- the hand isn't a pending deletion
+abbrev pub IsKept : Carried → Type 0
+IsKept c = times c.hand.slot (slots c.store.pending_out) ≡ 0
+
+-- a carry may end by this rule
+abbrev pub MayEnd : CarryEnd → Carried → Type 0
+MayEnd Buries c = IsDoomed c
+MayEnd Evicts c = IsKept c
+MayEnd Appends c = IsKept c × (piece_end c.store (hand_key c) ≡ length c.store.column)
+
+-- a row that is evicted isn't below the limit
+abbrev pub EvictsOver : Option ℕ → CarryEnd → ℕ → Type 0
+EvictsOver limit Buries key = ⊤
+EvictsOver limit Evicts key = ¬ IsBelow limit key
+EvictsOver limit Appends key = ⊤
 
 -- pending insertions were carried in; each carry buried one row at most
 pub record PutsIn (policy : Policy) (s t : State) : Type 0 where
@@ -16,10 +40,3 @@ pub record PutsIn (policy : Policy) (s t : State) : Type 0 where
 pub record TakesOut (policy : Policy) (s t : State) : Type 0 where
   pub advances : Advances policy s t
   pub pending_in : t.pending_in ≡ s.pending_in
-
--- of the handles up to some place those of the range are gone, and behind it none is; the search goes on from there
-pub record LacksFirst (cells : List (Cell Row)) (r : Range) (before left : List Handle) (from : ℕ) : Type 0 where
-  pub passed : ℕ
-  pub within : passed ≤ length before
-  pub left_are : left ≡ outside_of cells r (take passed before) ++ drop passed before
-  pub from_is : from ≡ length (outside_of cells r (take passed before))

@@ -1,21 +1,62 @@
 -- What a carry, a pull and a merge have done to a store, where they end.
-use Rattle.std.specs.Prelude.{◌≡◌, ◌≢◌, ◌<◌, ◌≤◌, ℕ, ◌++◌, take, drop, length, []}
+use Rattle.std.specs.Prelude.{◌≡◌, ◌≢◌, ◌<◌, ◌≤◌, ⊤, ℕ, ◌++◌, take, drop, length, List, [], Option, Some, None}
 use Rattle.crack_row.specs.Ranges.{Range}
+use Rattle.crack_row.specs.declared.Bound.{Bound}
 use Rattle.crack_row.specs.declared.command.Policy.{Policy}
-use Rattle.crack_row.specs.declared.command.Policy.TheVariants.{Complete, Gradual}
+use Rattle.crack_row.specs.declared.command.Policy.TheVariants.{Complete, Gradual, Ripple}
 use Rattle.crack_arena.specs.Arena.{Handle, StandsAt}
+use Rattle.crack_arena.specs.Rows.{keys_at}
+use Rattle.crack_pending.specs.Pending.{Finds}
 use Rattle.crack_state.specs.State.{State, Carried, IsIntact}
-use Rattle.crack_state.specs.Steps.{hand_key, piece_start, piece_end, IsDoomed, appended, pushed_on, pulled_back, exchanged, buried}
-use Rattle.crack_state.specs.Merge.{Follows, Tallies, SomeOf, outside_of}
+use Rattle.crack_state.specs.Steps.{hand_key, piece_start, piece_end, IsDoomed, lifted, lifted_last, appended, pushed_on, pulled_back, exchanged, buried, SameButRoom, returned}
+use Rattle.crack_state.specs.Merge.{Follows, Tallies, SomeOf, edge, outside_of, without_first, count_inside}
 
--- a carry, step by step, each by the first rule that holds; that of an evicted row will come second
-pub data Carries : Carried → State → Type 0 where
+-- the number of a bound, if there is one
+abbrev pub limit_of : Option Bound → Option ℕ
+limit_of None = None
+limit_of (Some bound) = Some bound.0
+
+-- the key is below the limit, if there is one
+abbrev pub IsBelow : Option ℕ → ℕ → Type 0
+IsBelow None key = ⊤
+IsBelow (Some bound) key = key < bound
+
+-- the limit, if there is one, is at or above the range's high end
+abbrev pub IsLimit : Option ℕ → Range → Type 0
+IsLimit None r = ⊤
+IsLimit (Some bound) r = r.high ≤ bound
+
+-- a carry, step by step, each by the first rule that holds
+pub data Carries (limit : Option ℕ) : Carried → State → Type 0 where
   -- the hand is doomed: it is buried, and the carry ends
-  buries : (c : Carried) → IsDoomed c → Carries c (buried c)
+  buries : (c : Carried) → IsDoomed c → Carries limit c (buried c)
+  -- else, its key is at or above the limit: the row is evicted, and the carry ends
+  evicts : (c : Carried) (bound : ℕ) → ¬ IsDoomed c → limit ≡ Some bound → bound ≤ hand_key c → Carries limit c (returned c)
   -- else, the own piece of the hand ends at the column's end: the hand becomes the column's last row, and the carry ends
-  ends : (c : Carried) → ¬ IsDoomed c → piece_end c.store (hand_key c) ≡ length c.store.column → Carries c (appended c)
+  ends : (c : Carried) → ¬ IsDoomed c → IsBelow limit (hand_key c) → piece_end c.store (hand_key c) ≡ length c.store.column → Carries limit c (appended c)
   -- else, it ends before that: the hand takes the place of the row there, and the carry goes on with that row in hand
-  goes_on : (c : Carried) (t : State) → ¬ IsDoomed c → piece_end c.store (hand_key c) < length c.store.column → Carries (pushed_on c) t → Carries c t
+  goes_on : (c : Carried) (t : State) → ¬ IsDoomed c → IsBelow limit (hand_key c) → piece_end c.store (hand_key c) < length c.store.column → Carries limit (pushed_on c) t → Carries limit c t
+
+-- pending insertions of a range were carried, in the order of arrival: each was lifted where the search found it that went on from the
+-- place of the one before, the last of all at this place
+pub data CarriesIn (limit : Option ℕ) (r : Range) (s : State) : ℕ → State → Type 0 where
+  -- none was
+  begins : CarriesIn limit r s 0 s
+  -- one more was: room was made, and it was lifted and carried
+  carries : (from place : ℕ) (t u v : State) → CarriesIn limit r s from t → Finds r (keys_at t.cells t.pending_in) from (Some place) → SameButRoom t u → Carries limit (lifted place u) v → CarriesIn limit r s place v
+
+-- all pending insertions of a range were carried: the search finds none behind the last
+pub record CarriesAll (limit : Option ℕ) (r : Range) (s t : State) : Type 0 where
+  pub from : ℕ
+  pub carries : CarriesIn limit r s from t
+  pub none : Finds r (keys_at t.cells t.pending_in) from None
+
+-- some of them were, the first ones, and no memory was found for the next
+pub record CarriesSome (limit : Option ℕ) (r : Range) (s t : State) : Type 0 where
+  pub from : ℕ
+  pub last : State
+  pub carries : CarriesIn limit r s from last
+  pub room : SameButRoom last t
 
 -- the pull of a doomed row, step by step, each by the first rule that holds
 pub data Pulls (doomed : Handle) : Carried → State → Type 0 where
@@ -26,11 +67,36 @@ pub data Pulls (doomed : Handle) : Carried → State → Type 0 where
   -- else, it stands before that piece: the hand takes the last place before its piece, and the pull goes on with the row that stood there in hand
   draws : (c : Carried) (place : ℕ) (t : State) → c.hand ≢ doomed → StandsAt c.store.column place doomed → place < piece_start c.store (hand_key c) → Pulls doomed (pulled_back c) t → Pulls doomed c t
 
+-- pending deletions of a range were pulled, in the order of arrival: each where the search found it that went on from the place of the
+-- one before, the last of all at this place
+pub data PullsOut (r : Range) (s : State) : ℕ → State → Type 0 where
+  -- none was
+  begins : PullsOut r s 0 s
+  -- one more was, by the column's last row
+  pulls : (from place : ℕ) (doomed : Handle) (t u : State) → PullsOut r s from t → Finds r (keys_at t.cells t.pending_out) from (Some place) → StandsAt t.pending_out place doomed → Pulls doomed (lifted_last t) u → PullsOut r s place u
+
+-- all pending deletions of a range were pulled: the search finds none behind the last
+pub record PullsAll (r : Range) (s t : State) : Type 0 where
+  pub from : ℕ
+  pub pulls : PullsOut r s from t
+  pub none : Finds r (keys_at t.cells t.pending_out) from None
+
+-- the pending insertions that ripple leaves where it found no memory: those of the range among the first ones, so many, are gone, and behind
+-- the others stand the evicted, at most as many
+pub record EvictsFirst (s t : State) (r : Range) : Type 0 where
+  pub passed : ℕ
+  pub within : passed ≤ length s.pending_in
+  pub evicted : List Handle
+  pub pending_in : t.pending_in ≡ without_first s.cells r passed s.pending_in ++ evicted
+  pub some : SomeOf evicted (drop (edge s r.high) s.column)
+  pub few : length evicted ≤ count_inside s.cells r (take passed s.pending_in)
+
 -- which pending insertions are left by a merge of this policy that found no memory: the first ones, so many, are gone; complete
--- takes all from the front, in the order of arrival, gradual those of the range
+-- takes all from the front, in the order of arrival, gradual and ripple those of the range
 abbrev pub LeavesRest : Policy → State → State → Range → Type 0
 LeavesRest Complete s t r = (k : ℕ) × (k ≤ length s.pending_in) × (t.pending_in ≡ drop k s.pending_in)
 LeavesRest Gradual s t r = (k : ℕ) × (k ≤ length s.pending_in) × (t.pending_in ≡ outside_of s.cells r (take k s.pending_in) ++ drop k s.pending_in)
+LeavesRest Ripple s t r = EvictsFirst s t r
 
 -- a merge that found no memory on the way: what it had done stands, and commands see the same rows as before; of the pending
 -- deletions some are left, in the order of arrival

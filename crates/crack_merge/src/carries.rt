@@ -1,26 +1,122 @@
-//! The carry.
-ghost use Rattle.std.specs.Prelude.{◌<◌};
-ghost use Rattle.crack_merge.specs.Merges.{Carries};
+//! The carry, and the carries of a range.
+ghost use Rattle.std.specs.Prelude.{◌≡◌, ◌≤◌, ◌<◌, ℕ, length, Some, IsTrue, IsFalse, IfOk, IfErr};
+ghost use Rattle.crack_state.specs.Steps.{hand_key, lifted};
+ghost use Rattle.crack_merge.specs.Merges.{Carries, CarriesAll, CarriesSome, IsBelow, IsLimit, limit_of};
+ghost use Rattle.crack_merge.specs.Loops.{MayEnd, EvictsOver, ended};
 
+use crack_row::{Bound, KeyRange, Refusal};
 use crack_store::{Carrying, Store};
 
-/// Carries the hand up through the pieces: where its own piece ends before the column does, it takes the place of the row
-/// there, which is then in hand; in the end the hand becomes the column's last row. A doomed row that comes into hand is buried,
-/// whatever its key, and that ends the carry.
+/// The rule that ends a carry.
+#[derive(Clone, Copy)]
+pub(crate) enum CarryEnd {
+    /// The hand is doomed: it is buried.
+    Buries,
+    /// The hand's key is at or above the limit: its row is evicted.
+    Evicts,
+    /// The hand's own piece ends where the column does: the hand becomes the column's last row.
+    Appends,
+}
+
+/// Carries the pending insertions of a range, each as far as to the limit, in the order of arrival; passes over the others once. The limit
+/// lies at or above the range's high end, so no row that is evicted is one of these again.
+/// O(1) for each pending row that it passes, and O(log bounds) and the pieces on its way for each that it carries.
+/// Refused with 8 where it finds no memory; the rows that it had carried stay where they are.
+pub fn carry_range(
+    mut store: Store,
+    range: KeyRange,
+    limit: Option<Bound>,
+) -> Result<Store, (Store, Refusal)>
+    requires { IsLimit (limit_of limit) range }
+    ensures ok { IfOk result (λ t. CarriesAll (limit_of limit) range store t) }
+    ensures stops { IfErr result (λ e. CarriesSome (limit_of limit) range store e.0) }
+    ensures err { IfErr result (λ e. e.1 ≡ Refusal.OutOfMemory) }
+{
+    let Some(first) = store.next_in(range, 0) else {
+        return Ok(store);
+    };
+    if let Err(refusal) = store.make_room() {
+        return Err((store, refusal));
+    }
+    let mut carrying = store.lift(first);
+    let mut from = first;
+    'insertions: loop {
+        let rule = carry(&mut carrying, limit);
+        carrying.facts();
+        let Some(place) = carrying.seek_in(range, from) else {
+            return Ok(end(carrying, rule));
+        };
+        if let Err(refusal) = carrying.make_room() {
+            return Err((end(carrying, rule), refusal));
+        }
+        end_and_lift(&mut carrying, rule, place);
+        from = place;
+    }
+}
+
+/// Carries the hand up through the pieces until a rule holds that ends the carry, and tells which. As long as none does, the hand
+/// takes the place where its own piece ends, and the row that stood there is in hand.
 /// O(1) for each piece, and the bounds at its place; takes no memory.
-#[inline(always)]
-pub fn carry(mut carrying: Carrying) -> Store
-    requires room { 0 < carrying.store.column_room }
-    ensures { Carries carrying result }
+pub(crate) fn carry(carrying: &mut Carrying, limit: Option<Bound>) -> CarryEnd
+    ensures ends { MayEnd result carrying.new }
+    ensures evicts { EvictsOver (limit_of limit) result (hand_key carrying.new) }
+    ensures carries { Carries (limit_of limit) carrying.old (ended result carrying.new) }
+    ensures column_room { carrying.new.store.column_room ≡ carrying.old.store.column_room }
+    ensures in_room { carrying.new.store.in_room ≡ carrying.old.store.in_room }
+    ensures pending_in { carrying.new.store.pending_in ≡ carrying.old.store.pending_in }
+    ensures cells { carrying.new.store.cells ≡ carrying.old.store.cells }
 {
     'pieces: loop {
         if carrying.is_doomed() {
-            return carrying.bury();
+            return CarryEnd::Buries;
+        }
+        if is_at_limit(carrying, limit) {
+            return CarryEnd::Evicts;
         }
         if carrying.piece_ends_at() == carrying.column_len() {
-            return carrying.append();
+            return CarryEnd::Appends;
         }
         carrying.facts();
         carrying.push_on();
+    }
+}
+
+/// Whether the key of the hand is at or above the limit.
+fn is_at_limit(carrying: &Carrying, limit: Option<Bound>) -> bool
+    ensures at { IsTrue result → (bound : ℕ) × (limit_of limit ≡ Some bound) × (bound ≤ hand_key carrying.now) }
+    ensures below { IsFalse result → IsBelow (limit_of limit) (hand_key carrying.now) }
+{
+    match limit {
+        Some(bound) => bound.0 <= carrying.hand_key().0 as u64,
+        None => false,
+    }
+}
+
+/// Ends a carry by its rule.
+pub(crate) fn end(carrying: Carrying, rule: CarryEnd) -> Store
+    requires ends { MayEnd rule carrying }
+    requires column_room { 0 < carrying.store.column_room }
+    requires in_room { 0 < carrying.store.in_room }
+    ensures { result ≡ ended rule carrying }
+{
+    match rule {
+        CarryEnd::Buries => carrying.bury(),
+        CarryEnd::Evicts => carrying.put_back(),
+        CarryEnd::Appends => carrying.append(),
+    }
+}
+
+/// Ends a carry by its rule, and takes the pending insertion at this place into the hand.
+pub(crate) fn end_and_lift(carrying: &mut Carrying, rule: CarryEnd, place: usize)
+    requires ends { MayEnd rule carrying.old }
+    requires column_room { 0 < carrying.old.store.column_room }
+    requires in_room { 0 < carrying.old.store.in_room }
+    requires there { place < length carrying.old.store.pending_in }
+    ensures { carrying.new ≡ lifted place (ended rule carrying.old) }
+{
+    match rule {
+        CarryEnd::Buries => carrying.bury_and_lift(place),
+        CarryEnd::Evicts => carrying.put_back_and_lift(place),
+        CarryEnd::Appends => carrying.append_and_lift(place),
     }
 }

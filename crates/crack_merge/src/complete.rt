@@ -6,7 +6,7 @@ ghost use Rattle.crack_state.specs.Merge.{IsCracked, Merges, Tallies, counted_be
 ghost use Rattle.crack_merge.specs.Merges.{Stops};
 ghost use Rattle.crack_merge.specs.Loops.{PutsIn, TakesOut};
 
-use crate::carries::carry;
+use crate::carries::{carry, end, end_and_lift};
 use crate::pulls::pull;
 use crate::report::counted_between;
 use crack_row::{KeyRange, Refusal};
@@ -60,16 +60,28 @@ fn put_in_all(mut store: Store) -> Result<Store, (Store, Refusal)>
     ensures stops { IfErr result (λ e. (range : Range) → Stops Complete store e.0 range) }
     ensures err { IfErr result (λ e. e.1 ≡ Refusal.OutOfMemory) }
 {
+    store.facts();
     let count = store.pending_in();
-    'insertions: for taken in 0..count {
-        store.facts();
-        if let Err(refusal) = store.make_room() {
-            store.facts();
-            return Err((store, refusal));
-        }
-        store = carry(store.lift(0));
+    if count == 0 {
+        return Ok(store);
     }
-    Ok(store)
+    if let Err(refusal) = store.make_room() {
+        store.facts();
+        return Err((store, refusal));
+    }
+    let mut carrying = store.lift(0);
+    'insertions: for taken in 1..count {
+        let rule = carry(&mut carrying, None);
+        carrying.facts();
+        if let Err(refusal) = carrying.make_room() {
+            let stopped = end(carrying, rule);
+            stopped.facts();
+            return Err((stopped, refusal));
+        }
+        end_and_lift(&mut carrying, rule, 0);
+    }
+    let rule = carry(&mut carrying, None);
+    Ok(end(carrying, rule))
 }
 
 /// Takes out every pending deletion, in the order of arrival.

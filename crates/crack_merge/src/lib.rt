@@ -7,7 +7,8 @@ pub mod gradual;
 pub mod pulls;
 mod report;
 
-pub use carries::carry;
+pub use carries::carry_range;
 pub use complete::merge_complete;
 pub use gradual::merge_gradual;
-pub use pulls::pull;
+pub use pulls::{pull, pull_range};
+pub use report::counted_between;

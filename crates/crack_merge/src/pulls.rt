@@ -2,11 +2,28 @@
 ghost use Rattle.std.specs.Prelude.{◌<◌, ℕ, Contains};
 ghost use Rattle.crack_arena.specs.Arena.{StandsAt};
 ghost use Rattle.crack_state.specs.Steps.{hand_key, piece_end};
-ghost use Rattle.crack_merge.specs.Merges.{Pulls};
+ghost use Rattle.crack_merge.specs.Merges.{Pulls, PullsAll};
 
 use crack_arena::Handle;
-use crack_row::Row;
+use crack_row::{KeyRange, Row};
 use crack_store::{Carrying, Store};
+
+/// Takes the pending deletions of a range out, in the order of arrival, each by the column's last row; passes over the others once.
+/// O(1) for each pending row that it passes; for each that it takes out O(log bounds) and the pieces on its way, and one search for its
+/// place. Takes no memory.
+pub fn pull_range(mut store: Store, range: KeyRange) -> Store
+    ensures { PullsAll range store result }
+{
+    let mut from = 0;
+    'deletions: while let Some(place) = store.next_out(range, from) {
+        store.facts();
+        store.seek_out(place);
+        let doomed = store.doomed(place);
+        store = pull(store.lift_last(), doomed);
+        from = place;
+    }
+    store
+}
 
 /// Takes a doomed row out of the column, by the cell in hand, which goes down through the pieces to fill its place: the hand takes
 /// the last place before its own piece, and the row that stood there is in hand. Another doomed row that comes into hand is drawn

@@ -5,7 +5,7 @@ ghost use Rattle.crack_state.specs.Merge.{counted_between};
 use crack_store::MergeReport;
 
 /// What was counted since `before`, up to `after`.
-pub(crate) fn counted_between(before: MergeReport, after: MergeReport) -> MergeReport
+pub fn counted_between(before: MergeReport, after: MergeReport) -> MergeReport
     ensures { result ≡ counted_between before after }
 {
     MergeReport {

@@ -1,13 +1,16 @@
 use Rattle.std.proofs.Common.{◌≡◌}
 use Rattle.crack_state.specs.State.{State}
 use Rattle.crack_state.specs.Steps.{hand_key, bounds_above}
-use Rattle.crack_merge.specs.Merges.{Carries}
+use Rattle.crack_merge.specs.Merges.{Carries, limit_of}
 use Rattle.crack_merge.proofs.carries.carry.Given as goal
 
 abbrev pub invariant-pieces : goal.invariant-pieces
 invariant-pieces l = record {
-  room : l.carrying.store.column_room ≡ l.fn.carrying.store.column_room;
-  carries : (t : State) → Carries l.carrying t → Carries l.fn.carrying t;
+  column_room : l.carrying.store.column_room ≡ l.fn.carrying.store.column_room;
+  in_room : l.carrying.store.in_room ≡ l.fn.carrying.store.in_room;
+  pending_in : l.carrying.store.pending_in ≡ l.fn.carrying.store.pending_in;
+  cells : l.carrying.store.cells ≡ l.fn.carrying.store.cells;
+  carries : (t : State) → Carries (limit_of l.fn.limit) l.carrying t → Carries (limit_of l.fn.limit) l.fn.carrying t;
 }
 
 abbrev pub decreases-pieces : goal.decreases-pieces

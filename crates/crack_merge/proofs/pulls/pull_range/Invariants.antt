@@ -1,9 +1,9 @@
 use Rattle.std.proofs.Common.{length}
-use Rattle.crack_merge.proofs.Deleting.{TakesInside}
-use Rattle.crack_merge.proofs.gradual.take_out_range.Given as goal
+use Rattle.crack_merge.specs.Merges.{PullsOut}
+use Rattle.crack_merge.proofs.pulls.pull_range.Given as goal
 
 abbrev pub invariant-deletions : goal.invariant-deletions
-invariant-deletions l = TakesInside l.fn.store l.store l.fn.range l.from
+invariant-deletions l = PullsOut l.fn.range l.fn.store l.from l.store
 
 abbrev pub decreases-deletions : goal.decreases-deletions
 decreases-deletions l = length l.store.pending_out
