@@ -1,0 +1,153 @@
+-- What one carry does under ripple.
+use Rattle.std.proofs.Common.{◌≡◌, ◌⊎◌, ℕ, ◌+◌, ◌*◌, ◌<◌, ◌≤◌, [], ◌∷◌, ◌++◌, length, get_or, Some, refl, ap, ◌∙◌, inl, inr, arith, length-append}
+use Rattle.std.specs.List.{remove}
+use Rattle.std.specs.Option.{unwrap_or}
+use Rattle.crack_row.specs.Ranges.{Range}
+use Rattle.crack_row.specs.declared.command.Policy.TheVariants.{Ripple}
+use Rattle.crack_arena.specs.Arena.{Handle}
+use Rattle.crack_index.specs.Marks.{bounds_of}
+use Rattle.crack_state.specs.State.{State, Carried, IsIntact, greatest}
+use Rattle.crack_state.specs.Steps.{hand_key, piece_end, IsDoomed, lifted, pushed_on, appended, buried, returned}
+use Rattle.crack_state.specs.Merge.{Follows, Tallies, Advances, IsExact, edge}
+use Rattle.crack_state.proofs.AdvanceLaws.{CarriedIn-appended, CarriedIn-buried, StillReads-refl}
+use Rattle.crack_state.proofs.BuryLaws.{IsIntact-buried}
+use Rattle.crack_state.proofs.FollowLaws.{Pushes, Follows-trans, Follows-lifted, Follows-Pushes, raised_counter, length-remove, bounds_above-few}
+use Rattle.crack_state.proofs.OutsideLaws.{SomeOf-refl}
+use Rattle.crack_state.proofs.PullLaws.{IsIntact-returned, Follows-returned}
+use Rattle.crack_state.proofs.StepLaws.{IsIntact-lifted, IsIntact-pushed_on, IsIntact-appended}
+use Rattle.crack_merge.specs.Merges.{Carries, buries, evicts, ends, goes_on}
+use Rattle.crack_merge.proofs.RangeLaws.{kept_hand}
+use Rattle.crack_ripple.specs.Near.{pieces_of, MovesNear}
+use Rattle.crack_ripple.proofs.EdgeLaws.{IsRangeOf, IsRangeOf-follows, low_within, high_within, AppendsInside-appended}
+use Rattle.crack_ripple.proofs.Pieces.{pieces_ahead-few}
+use Rattle.crack_ripple.proofs.Rippling.{Ripples, Ripples-refl, Ripples-pushed_on}
+use Rattle.crack_ripple.proofs.Staying.{StaysOutside, StaysOutside-same, StaysOutside-trans, StaysOutside-appended}
+
+-- the row that stood first behind the range was evicted, and the range's end has moved up
+pub record EvictsOne (s t : State) (r : Range) (i : ℕ) : Type 0 where
+  pub evicted : Handle
+  pub pending_in : t.pending_in ≡ remove s.pending_in i ++ evicted ∷ []
+  pub within : edge s r.high < length s.column
+  pub up : edge s r.high < edge t r.high
+  pub is : (d : Handle) → get_or s.column (edge s r.high) d ≡ evicted
+
+-- the i-th pending insertion, one of the range, was carried
+pub record CarriesNear (s t : State) (r : Range) (i : ℕ) : Type 0 where
+  pub advances : Advances Ripple s t
+  pub intact : IsIntact t []
+  pub stays : StaysOutside s t r
+  pub moves : MovesNear s t r
+  pub few : length s.pending_out + length t.pending_in ≤ length t.pending_out + length s.pending_in
+  pub left : (t.pending_in ≡ remove s.pending_in i) ⊎ EvictsOne s t r i
+
+-- a carry that ends at a row to be evicted: lifted, pushed on, returned
+tallies_evicted : (s : State) (i : ℕ) (c : Carried) → i < length s.pending_in → IsIntact s [] → IsIntact c.store (c.hand ∷ []) → Pushes (lifted i s) c → Tallies Ripple s (returned c)
+tallies_evicted s i c inside intact now pushes =
+    let counter = raised_counter s.tally.put_in in
+    let risen = counter.rises intact.counted.put_in in
+    let out = raised_counter c.store.tally.evicted in
+    let out_risen = out.rises now.counted.evicted in
+    let gone = length-remove s.pending_in i inside in
+    let more = length-append c.store.pending_in (c.hand ∷ []) in
+    let few = bounds_above-few (hand_key (lifted i s)) s.marks in
+    let one : IsExact (returned c).tally → c.store.tally.put_in ≡ s.tally.put_in + 1 = λ exact. let e = pushes.put_in in e ∙ counter.exact (omega (arith, exact.put_in, e)) in
+    let two : IsExact (returned c).tally → (returned c).tally.evicted ≡ s.tally.evicted + 1 = λ exact. out.exact exact.evicted ∙ ap (λ n. n + 1) pushes.evicted in
+    record {
+      put_in_rises = omega (arith, pushes.put_in, risen);
+      taken_out_rises = omega (arith, pushes.taken_out);
+      evicted_rises = omega (arith, pushes.evicted, out_risen);
+      moved_rises = omega (arith, pushes.moved_rises);
+      pulled_rises = omega (arith, pushes.pulled);
+      counts = λ exact. record {
+        put_in = omega (arith, one exact, two exact, gone, more, ap length pushes.pending_in);
+        taken_out = omega (arith, pushes.taken_out, ap length pushes.pending_out);
+        moved = more_moved c.store.tally.moved s.tally.moved s.tally.put_in c.store.tally.put_in (length s.marks) (one exact) (omega (arith, pushes.moved, few));
+        pulled = omega (arith, pushes.pulled, ap (λ n. n * (length s.marks + 1)) pushes.taken_out);
+      };
+      evicts = λ exact. omega (arith, one exact, two exact);
+    }
+  where
+    more_moved : (moved before put_in after q : ℕ) → after ≡ put_in + 1 → moved ≤ before + q → moved + put_in * (q + 1) ≤ before + after * (q + 1)
+    more_moved moved before put_in after q one few = rw one (grind arith)
+
+-- it moved at most as many rows as the range has pieces
+moved_few : (s : State) (r : Range) (i : ℕ) (c : Carried) → IsIntact s [] → r.low ≤ hand_key (lifted i s) → Ripples r (lifted i s) c → c.store.tally.put_in < greatest → c.store.tally.moved + s.tally.put_in * pieces_of s r ≤ s.tally.moved + c.store.tally.put_in * pieces_of s r
+moved_few s r i c intact above ripples exact =
+    let counter = raised_counter s.tally.put_in in
+    let same = ripples.pushes.put_in in
+    let one : c.store.tally.put_in ≡ s.tally.put_in + 1 = same ∙ counter.exact (omega (arith, exact, same)) in
+    let few = pieces_ahead-few r.low (hand_key (lifted i s)) r.high (bounds_of s.marks) above in
+    more_moved c.store.tally.moved s.tally.moved s.tally.put_in c.store.tally.put_in (pieces_of s r) one (omega (arith, ripples.moved, few))
+  where
+    more_moved : (moved before put_in after q : ℕ) → after ≡ put_in + 1 → moved ≤ before + q → moved + put_in * q ≤ before + after * q
+    more_moved moved before put_in after q one few = rw one (grind arith)
+
+module _ (s : State) (r : Range) (i : ℕ) (of : IsRangeOf s r) (inside : i < length s.pending_in) (intact : IsIntact s []) (above : r.low ≤ hand_key (lifted i s)) where
+  follows_pushed : (c : Carried) → Ripples r (lifted i s) c → Follows s c.store
+  follows_pushed c ripples = Follows-trans s (lifted i s).store c.store (Follows-lifted i s) (Follows-Pushes (lifted i s) c ripples.pushes)
+
+  of_pushed : (c : Carried) → Ripples r (lifted i s) c → IsRangeOf c.store r
+  of_pushed c ripples = IsRangeOf-follows s c.store r (follows_pushed c ripples) of
+
+  stays_pushed : (c : Carried) → Ripples r (lifted i s) c → StaysOutside s c.store r
+  stays_pushed c ripples =
+      StaysOutside-trans s (lifted i s).store c.store r (StaysOutside-same s (lifted i s).store r (record { keys = refl; column = refl; marks = refl }) (high_within s [] r of intact)) ripples.stays
+
+  CarriesNear-buried : (c : Carried) → Ripples r (lifted i s) c → IsDoomed c → IsIntact c.store (c.hand ∷ []) → CarriesNear s (buried c) r i
+  CarriesNear-buried c ripples doomed now =
+      let carried = CarriedIn-buried s i c inside intact ripples.pushes doomed now in
+      let stays = stays_pushed c ripples in
+      record {
+        advances = carried.advances Ripple;
+        intact = IsIntact-buried c doomed now;
+        stays = StaysOutside-trans s c.store (buried c) r stays (StaysOutside-same c.store (buried c) r (record { keys = refl; column = refl; marks = refl }) stays.within);
+        moves = λ exact. moved_few s r i c intact above ripples exact.put_in;
+        few = omega (arith, carried.few, ap length carried.pending_in, length-remove s.pending_in i inside);
+        left = inl carried.pending_in;
+      }
+
+  CarriesNear-appended : (c : Carried) → Ripples r (lifted i s) c → hand_key c < r.high → piece_end c.store (hand_key c) ≡ length c.store.column → IsIntact c.store (c.hand ∷ []) → CarriesNear s (appended c) r i
+  CarriesNear-appended c ripples below at_end now =
+      let carried = CarriedIn-appended s i c inside intact ripples.pushes in
+      let of_now = of_pushed c ripples in
+      record {
+        advances = carried.advances Ripple;
+        intact = IsIntact-appended c at_end now;
+        stays = StaysOutside-trans s c.store (appended c) r (stays_pushed c ripples) (StaysOutside-appended c r (AppendsInside-appended c r of_now now ripples.above below at_end) (low_within c.store (c.hand ∷ []) r of_now now));
+        moves = λ exact. moved_few s r i c intact above ripples exact.put_in;
+        few = omega (arith, carried.few, ap length carried.pending_in, length-remove s.pending_in i inside);
+        left = inl carried.pending_in;
+      }
+
+  CarriesNear-returned : (c : Carried) → Ripples r (lifted i s) c → ¬ IsDoomed c → r.high ≤ hand_key c → IsIntact c.store (c.hand ∷ []) → CarriesNear s (returned c) r i
+  CarriesNear-returned c ripples kept behind now =
+      let pushes = ripples.pushes in
+      let stays = stays_pushed c ripples in
+      let met = ripples.met behind in
+      record {
+        advances = record {
+          follows = Follows-trans s c.store (returned c) (follows_pushed c ripples) (Follows-returned c);
+          tallies = tallies_evicted s i c inside intact now pushes;
+          reads = rw pushes.cells (StillReads-refl s.cells);
+          pending_out = rw pushes.pending_out (SomeOf-refl s.pending_out);
+        };
+        intact = IsIntact-returned c (kept_hand c kept) now;
+        stays = StaysOutside-trans s c.store (returned c) r stays (StaysOutside-same c.store (returned c) r (record { keys = refl; column = refl; marks = refl }) stays.within);
+        moves = λ exact. moved_few s r i c intact above ripples exact.put_in;
+        few = omega (arith, ap length pushes.pending_out, ap length pushes.pending_in, length-append c.store.pending_in (c.hand ∷ []), length-remove s.pending_in i inside);
+        left = inr (record { evicted = c.hand; pending_in = ap (λ hs. hs ++ c.hand ∷ []) pushes.pending_in; within = met.within; up = met.up; is = met.is });
+      }
+
+  -- a carry that goes on from where pushes have led
+  carried_from : (c : Carried) (t : State) → Ripples r (lifted i s) c → IsIntact c.store (c.hand ∷ []) → Carries (Some r.high) c t → CarriesNear s t r i
+  carried_from c t ripples now (buries d doomed) = CarriesNear-buried d ripples doomed now
+  carried_from c t ripples now (evicts d bound kept is behind) =
+      let same : r.high ≡ bound = ap (λ o. unwrap_or o 0) is in
+      CarriesNear-returned d ripples kept (omega (arith, same, behind)) now
+  carried_from c t ripples now (ends d kept below at_end) = CarriesNear-appended d ripples below at_end now
+  carried_from c t ripples now (goes_on d u kept below before rest) =
+      carried_from (pushed_on d) u (Ripples-pushed_on r (lifted i s) d (of_pushed d ripples) now below before ripples) (IsIntact-pushed_on d before now) rest
+
+  pub CarriesNear-Carries : (t : State) → hand_key (lifted i s) < r.high → Carries (Some r.high) (lifted i s) t → CarriesNear s t r i
+  CarriesNear-Carries t below carries =
+      carried_from (lifted i s) t (Ripples-refl r (lifted i s) above below (high_within s [] r of intact)) (IsIntact-lifted i s inside intact) carries

@@ -1,0 +1,9 @@
+mod Carrying
+mod EdgeLaws
+mod Evicted
+mod Merging
+mod Pieces
+mod Pulling
+mod Putting
+mod Rippling
+mod Staying

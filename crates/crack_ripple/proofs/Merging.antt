@@ -1,0 +1,95 @@
+-- What a ripple merge has done where it ends.
+use Rattle.std.proofs.Common.{◌≡◌, ℕ, ◌<◌, ◌≤◌, [], ◌++◌, Result, Ok, Err, Some, IfOk, IfErr, ◌∙◌, inr, arith}
+use Rattle.std.specs.List.{All}
+use Rattle.std.proofs.lemmas.List.Elements.{All-append}
+use Rattle.crack_row.specs.Ranges.{Range}
+use Rattle.crack_row.specs.declared.refusal.Refusal.{Refusal}
+use Rattle.crack_row.specs.declared.command.Policy.TheVariants.{Ripple}
+use Rattle.crack_state.specs.State.{State, IsIntact}
+use Rattle.crack_state.specs.Merge.{ReadsOutside, IsCracked, Merges, Tallies, outside_of}
+use Rattle.crack_state.proofs.AdvanceLaws.{StillReads-trans}
+use Rattle.crack_state.proofs.FollowLaws.{Follows-trans, IsExact-before, Tallies-trans, length_marks-Follows}
+use Rattle.crack_state.proofs.GradualLaws.{reads_outside, LeavesOutside-both}
+use Rattle.crack_state.proofs.OutsideLaws.{All-outside}
+use Rattle.crack_state.proofs.SettledLaws.{IsSettled-of}
+use Rattle.crack_merge.specs.Merges.{CarriesAll, CarriesSome, PullsAll, Stops}
+use Rattle.crack_ripple.specs.Near.{PutsInNear, TakesOutNear, MovesNear}
+use Rattle.crack_ripple.proofs.EdgeLaws.{IsRangeOf, IsRangeOf-follows}
+use Rattle.crack_ripple.proofs.Evicted.{behind_range}
+use Rattle.crack_ripple.proofs.Pulling.{TakesNear-PullsOut, TakesOutNear-all}
+use Rattle.crack_ripple.proofs.Putting.{PutsNear-CarriesIn, PutsNear-room, PutsInNear-all, Stops-PutsNear, MovesNear-trans}
+
+-- as calls require it
+pub is_range : (s : State) (r : Range) → r.low < r.high → s.keys.low ≤ r.low → r.high ≤ s.keys.high → IsCracked s r → IsRangeOf s r
+is_range s r some low high cracked = record { some = some; low = low; high = high; cracked = cracked }
+
+-- all that a call that puts in has to say
+pub record PutIn (s t : State) (r : Range) : Type 0 where
+  pub near : PutsInNear s t r
+  pub tallies : Tallies Ripple s t
+  pub moves : MovesNear s t r
+
+PutIn-carried : (s t : State) (r : Range) → IsRangeOf s r → IsIntact s [] → CarriesAll (Some r.high) r s t → PutIn s t r
+PutIn-carried s t r of intact all =
+    let was = PutsNear-CarriesIn s r of intact all.from t all.carries in
+    record { near = PutsInNear-all s r of intact all.from t was all.none; tallies = was.advances.tallies; moves = was.moves }
+
+Stops-carried : (s t : State) (r : Range) → IsRangeOf s r → IsIntact s [] → CarriesSome (Some r.high) r s t → Stops Ripple s t r
+Stops-carried s t r of intact part =
+    let was = PutsNear-CarriesIn s r of intact part.from part.last part.carries in
+    Stops-PutsNear s r of intact part.from t (PutsNear-room s part.last t r part.from part.room was)
+
+-- the result of the carries of a range
+module _ (s : State) (r : Range) (of : IsRangeOf s r) (intact : IsIntact s []) (limit : ℕ) (is : limit ≡ r.high) where
+  pub if_put_in : (P : State → Type 0) → ((t : State) → PutIn s t r → P t) → (result : Result State (State × Refusal)) → IfOk result (λ t. CarriesAll (Some limit) r s t) → IfOk result P
+  if_put_in P says (Ok t) all = says t (PutIn-carried s t r of intact (rw is at all))
+  if_put_in P says (Err e) all = tt
+
+  pub if_stopped : (P : State × Refusal → Type 0) → ((e : State × Refusal) → Stops Ripple s e.0 r → P e) → (result : Result State (State × Refusal)) → IfErr result (λ e. CarriesSome (Some limit) r s e.0) → IfErr result P
+  if_stopped P says (Ok t) part = tt
+  if_stopped P says (Err e) part = says e (Stops-carried s e.0 r of intact (rw is at part))
+
+-- all that a call that takes out has to say
+pub record TakenOut (s t : State) (r : Range) : Type 0 where
+  pub near : TakesOutNear s t r
+  pub tallies : Tallies Ripple s t
+  pub moves : MovesNear s t r
+
+pub TakenOut-pulled : (s t : State) (r : Range) → IsIntact s [] → PullsAll r s t → TakenOut s t r
+TakenOut-pulled s t r intact all =
+    let was = TakesNear-PullsOut s r intact all.from t all.pulls in
+    record {
+      near = TakesOutNear-all s r intact all.from t was all.none;
+      tallies = was.advances.tallies;
+      moves = λ _. let put_in = was.put_in in let moved = was.moved in rw (put_in, moved) (omega arith);
+    }
+
+-- both parts
+module _ (s m t : State) (r : Range) (of : IsRangeOf s r) (intact : IsIntact s []) (puts : PutsInNear s m r) (takes : TakesOutNear m t r) where
+  evicted_outside : All (ReadsOutside s.cells r) puts.evicts.evicted
+  evicted_outside = let behind = behind_range s r puts.evicts.evicted of intact puts.evicts.some in λ k d within. inr (behind k d within)
+
+  pub Merges-near : Merges Ripple s t r
+  Merges-near =
+      let follows = Follows-trans s m t puts.follows takes.follows in
+      let of_now = IsRangeOf-follows s t r follows of in
+      let pending_in : t.pending_in ≡ outside_of s.cells r s.pending_in ++ puts.evicts.evicted = takes.pending_in ∙ puts.evicts.pending_in in
+      let was = All-append (ReadsOutside s.cells r) (outside_of s.cells r s.pending_in) puts.evicts.evicted (All-outside s.cells r s.pending_in) evicted_outside in
+      let pending = reads_outside s.cells t.cells r t.pending_in (StillReads-trans s.cells m.cells t.cells puts.reads takes.reads) takes.intact.owned.pending_reads (rw pending_in was) in
+      let doomed = reads_outside m.cells t.cells r t.pending_out takes.reads takes.intact.owned.doomed_reads (rw takes.pending_out (All-outside m.cells r m.pending_out)) in
+      record {
+        follows = follows;
+        intact = takes.intact;
+        settled = IsSettled-of t r (omega (arith, of.some)) of_now.low of_now.high of_now.cracked pending doomed takes.intact;
+        leaves = (
+          record { evicted = puts.evicts.evicted; pending_in = pending_in; some = puts.evicts.some; few = puts.evicts.few },
+          LeavesOutside-both s m t r puts.pending_out puts.reads puts.intact puts.few takes.pending_out,
+        );
+      }
+
+-- what both counted
+pub Tallies-near : (s m t : State) (r : Range) → PutsInNear s m r → Tallies Ripple s m → Tallies Ripple m t → Tallies Ripple s t
+Tallies-near s m t r puts first second = Tallies-trans Ripple s m t (length_marks-Follows s m puts.follows) first second
+
+pub MovesNear-near : (s m t : State) (r : Range) → PutsInNear s m r → Tallies Ripple m t → MovesNear s m r → MovesNear m t r → MovesNear s t r
+MovesNear-near s m t r puts second first_moves second_moves = MovesNear-trans s m t r puts.follows.bounds (IsExact-before Ripple m t second) first_moves second_moves

@@ -1,0 +1,43 @@
+-- What ripple leaves where it stands, and what it counts.
+use Rattle.std.specs.Prelude.{◌≡◌, ℕ, ◌+◌, ◌*◌, ◌≤◌, ◌&&◌, nat_lt, max, length, take, drop, count_by, []}
+use Rattle.crack_row.specs.Ranges.{Range}
+use Rattle.crack_index.specs.Marks.{bounds_of}
+use Rattle.crack_state.specs.State.{State, IsIntact}
+use Rattle.crack_state.specs.Merge.{Follows, StillReads, SomeOf, Evicts, IsExact, edge, outside_of, count_inside}
+
+-- the pending insertions of a range are put in, near it: the column is the same before the range's low end, and from the place of its high
+-- end on, where that place is after the rows were put in; the rows that made way behind the range are evicted, or buried where they were
+-- doomed, of which there are no more than pending insertions in the range; and the column is no longer than it was, unless the range ends it
+pub record PutsInNear (s t : State) (r : Range) : Type 0 where
+  pub follows : Follows s t
+  pub intact : IsIntact t []
+  pub evicts : Evicts s t r
+  pub pending_out : SomeOf t.pending_out s.pending_out
+  pub few : length s.pending_out ≤ length t.pending_out + count_inside s.cells r s.pending_in
+  pub reads : StillReads s.cells t.cells
+  pub before : take (edge s r.low) t.column ≡ take (edge s r.low) s.column
+  pub behind : drop (edge t r.high) t.column ≡ drop (edge t r.high) s.column
+  pub long : length t.column ≡ max (length s.column) (edge t r.high)
+
+-- the pending deletions of a range are taken out, and no other; the column is shorter by one for each
+pub record TakesOutNear (s t : State) (r : Range) : Type 0 where
+  pub follows : Follows s t
+  pub intact : IsIntact t []
+  pub pending_in : t.pending_in ≡ s.pending_in
+  pub pending_out : t.pending_out ≡ outside_of s.cells r s.pending_out
+  pub reads : StillReads s.cells t.cells
+  pub long : length t.column + length s.pending_out ≡ length s.column + length t.pending_out
+
+-- near: first the pending insertions of the range are put in, and then the pending deletions of the range that are left are taken out
+pub record MergesNear (s t : State) (r : Range) : Type 0 where
+  pub filled : State
+  pub puts_in : PutsInNear s filled r
+  pub takes_out : TakesOutNear filled t r
+
+-- how many pieces the range has in a store that is cracked at its ends
+abbrev pub pieces_of : State → Range → ℕ
+pieces_of s r = count_by (λ bound. nat_lt r.low bound && nat_lt bound r.high) (bounds_of s.marks) + 1
+
+-- where every counter is exact, each row that was put in has moved at most as many rows as the range has pieces
+abbrev pub MovesNear : State → State → Range → Type 0
+MovesNear s t r = IsExact t.tally → t.tally.moved + s.tally.put_in * pieces_of s r ≤ s.tally.moved + t.tally.put_in * pieces_of s r
