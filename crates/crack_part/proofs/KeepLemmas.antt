@@ -4,14 +4,14 @@ use Rattle.std.proofs.lemmas.Bool.{cases_lt}
 use Rattle.std.proofs.lemmas.List.{take_all, drop_all, append-nil}
 use Rattle.crack_row.specs.Ranges.{Range, is_in, clipped}
 use Rattle.crack_row.specs.declared.command.Policy.{Policy}
-use Rattle.crack_row.specs.declared.command.Policy.TheVariants.{Complete, Gradual}
+use Rattle.crack_row.specs.declared.command.Policy.TheVariants.{Complete, Gradual, Ripple}
 use Rattle.crack_arena.specs.Arena.{Handle}
 use Rattle.crack_arena.specs.Rows.{key_at}
 use Rattle.crack_state.specs.State.{State, IsIntact, live_rows, freed_of}
 use Rattle.crack_state.specs.Steps.{SameButRoom}
-use Rattle.crack_state.specs.Merge.{Refines, Follows, Merges, IsSettled, Tallies, Leaves, SomeOf, is_touched, outside_of}
+use Rattle.crack_state.specs.Merge.{Refines, Follows, Merges, IsSettled, Tallies, Leaves, LeavesOutside, SomeOf, is_touched, outside_of}
 use Rattle.crack_state.specs.Merge.SomeOf.{nothing, left_out, kept}
-use Rattle.crack_state.proofs.OutsideLaws.{SomeOf-refl, SomeOf-trans}
+use Rattle.crack_state.proofs.OutsideLaws.{SomeOf-none, SomeOf-refl, SomeOf-trans}
 use Rattle.crack_state.proofs.StepLaws.{IsIntact-room}
 use Rattle.crack_state.proofs.CrackLaws.{keys-refined, live_rows-refined, cells-refined, pending_out-refined}
 use Rattle.crack_state.proofs.FollowLaws.{Follows-trans, Follows-room, Tallies-trans, Tallies-room, length_marks-Follows}
@@ -103,11 +103,7 @@ pub IsSettled-prepared : (policy : Policy) (keys : Range) (range : Option Range)
 IsSettled-prepared policy keys None s t prepared = tt
 IsSettled-prepared policy keys (Some range) s t prepared = λ filled. (prepared.settled filled).merges.settled
 
--- none of the handles, and those that pass a test
-SomeOf-none : (hs : List Handle) → SomeOf [] hs
-SomeOf-none [] = nothing
-SomeOf-none (h ∷ hs) = left_out h [] hs (SomeOf-none hs)
-
+-- those of the handles that pass a test
 SomeOf-filter : (test : Handle → Bool) (hs : List Handle) → SomeOf (filter test hs) hs
 SomeOf-filter test [] = nothing
 SomeOf-filter test (h ∷ hs) = by_test (test h) (SomeOf-filter test hs)
@@ -128,6 +124,22 @@ Leaves-rest Gradual s t r leaves =
     let ahead = ap (outside_of s.cells r) (take_all k s.pending_in (omega arith)) in
     let behind = drop_all k s.pending_in (omega arith) in
     (k, omega arith, rw (ahead, behind, append-nil (outside_of s.cells r s.pending_in)) leaves.0)
+Leaves-rest Ripple s t r leaves =
+    let k : ℕ = length s.pending_in in
+    let evicts = leaves.0 in
+    let all = take_all k s.pending_in (omega arith) in
+    let behind = drop_all k s.pending_in (omega arith) in
+    record {
+      passed = k;
+      within = omega arith;
+      evicted = evicts.evicted;
+      pending_in = rw (all, behind, append-nil (outside_of s.cells r s.pending_in)) evicts.pending_in;
+      some = evicts.some;
+      few = rw all evicts.few;
+    }
+
+SomeOf-left : (s t : State) (r : Range) → LeavesOutside s t r → SomeOf t.pending_out s.pending_out
+SomeOf-left s t r left = SomeOf-trans t.pending_out (outside_of s.cells r s.pending_out) s.pending_out left.some (SomeOf-filter (λ h. not (is_in r (key_at s.cells h))) s.pending_out)
 
 Leaves-some : (policy : Policy) (s t : State) (r : Range) → Leaves policy s t r → SomeOf t.pending_out s.pending_out
 Leaves-some Complete s t r leaves = by_test (is_touched s r) leaves.1
@@ -135,8 +147,8 @@ Leaves-some Complete s t r leaves = by_test (is_touched s r) leaves.1
     by_test : (b : Bool) → t.pending_out ≡ cond b [] s.pending_out → SomeOf t.pending_out s.pending_out
     by_test true gone = rw gone (SomeOf-none s.pending_out)
     by_test false same = rw same (SomeOf-refl s.pending_out)
-Leaves-some Gradual s t r leaves =
-    SomeOf-trans t.pending_out (outside_of s.cells r s.pending_out) s.pending_out leaves.1.some (SomeOf-filter (λ h. not (is_in r (key_at s.cells h))) s.pending_out)
+Leaves-some Gradual s t r leaves = SomeOf-left s t r leaves.1
+Leaves-some Ripple s t r leaves = SomeOf-left s t r leaves.1
 
 Stops-merged : (policy : Policy) (s t u : State) (r : Range) → Merges policy s t r → Tallies policy s t → SameButRoom t u → Stops policy s u r
 Stops-merged policy s t u r merges tallies room =
@@ -153,6 +165,7 @@ Stops-merged policy s t u r merges tallies room =
     by_policy : (p : Policy) → LeavesRest p s t r → u.pending_in ≡ t.pending_in → LeavesRest p s u r
     by_policy Complete rest same = (rest.0, rest.1, same ∙ rest.2)
     by_policy Gradual rest same = (rest.0, rest.1, same ∙ rest.2)
+    by_policy Ripple rest same = record { passed = rest.passed; within = rest.within; evicted = rest.evicted; pending_in = same ∙ rest.pending_in; some = rest.some; few = rest.few }
 
 -- a range was read, and no memory was found afterwards
 StopsRead-read : (policy : Policy) (s u t : State) (r : Range) → ReadsRange policy s u r → SameButRoom u t → StopsRead policy s t r

@@ -12,6 +12,7 @@ use Rattle.crack_row.specs.declared.command.Change.{Change}
 use Rattle.crack_row.specs.declared.command.Change.TheVariants.{Place, Remove, Rewrite}
 use Rattle.crack_row.specs.declared.command.Command.{Command}
 use Rattle.crack_row.specs.declared.command.Policy.{Policy}
+use Rattle.crack_row.specs.declared.command.Policy.TheVariants.{Complete, Gradual, Ripple}
 use Rattle.crack_row.specs.declared.command.Entry.{Entry}
 use Rattle.crack_plain.specs.Plain.{PlainState, replay, IsLegal}
 use Rattle.crack_plain.specs.Totals.{inserted, deleted, updated}
@@ -20,6 +21,7 @@ use Rattle.crack_state.specs.Steps.{admitted, IsAdmissible, SameButRoom}
 use Rattle.crack_state.specs.Points.{pending_by, MayFree, IsRenewable, Cancels, Dooms, Rewrites}
 use Rattle.crack_state.specs.Merge.{Refines, Merges, Tallies}
 use Rattle.crack_merge.specs.Merges.{Stops}
+use Rattle.crack_ripple.specs.Near.{MergesNear}
 
 -- its keys, how many entries its history may have, its history, the serial of the next row, and the store of its rows
 pub record Part : Type 0 where
@@ -58,12 +60,19 @@ pub record IsSound (part : Part) : Type 0 where
 abbrev pub placed : ℕ → Key → Payload → Row
 placed serial key payload = row_with (record { 0 = serial }) key payload
 
+-- where a merge of this policy leaves rows: ripple near the range
+abbrev pub LeavesNear : Policy → State → State → Range → Type 0
+LeavesNear Complete s t r = Unit {0}
+LeavesNear Gradual s t r = Unit {0}
+LeavesNear Ripple s t r = MergesNear s t r
+
 -- a store is cracked at the ends of a range, where it is intact, and then merged
 pub record CracksAndMerges (policy : Policy) (s t : State) (r : Range) : Type 0 where
   pub cracked : State
   pub refines : Refines s cracked r
   pub intact : IsIntact cracked []
   pub merges : Merges policy cracked t r
+  pub near : LeavesNear policy cracked t r
   pub tallies : Tallies policy cracked t
 
 -- what a read of a range does to a store: nothing where the range is empty

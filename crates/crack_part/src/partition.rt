@@ -1,20 +1,22 @@
 //! Commands and their history.
-ghost use Rattle.std.specs.Prelude.{◌≡◌, ◌⊎◌, ◌+◌, ◌<◌, ◌≤◌, ◌↔◌, ◌^◌, List, [], ◌∷◌, ◌++◌, length, map, filter, count_by, IsTrue, IsOk, IfOk, IfErr, IfSome, OnErr, OnOk, Err, vec_len, vec_capacity};
+ghost use Rattle.std.specs.Prelude.{◌≡◌, ◌⊎◌, None, ◌+◌, ◌<◌, ◌≤◌, ◌↔◌, ◌^◌, List, [], ◌∷◌, ◌++◌, length, map, filter, count_by, IsTrue, IsOk, IfOk, IfErr, IfSome, OnErr, OnOk, Err, vec_len, vec_capacity};
 ghost use Rattle.std.specs.List.Sorted.{IsPermutation};
 ghost use Rattle.crack_row.specs.Commands.{change_of, range_of};
 ghost use Rattle.crack_row.specs.Ranges.{IsIn, clipped, in_range};
+ghost use Rattle.crack_row.specs.Replies.{IsFlat};
 ghost use Rattle.crack_row.specs.Rows.{is_other, replaced, sum_of};
 ghost use Rattle.crack_row.specs.Layouts.{IsLayout};
-ghost use Rattle.crack_plain.specs.Plain.{PlainState, IsNumbered, reply_to, row_in, rows_in, gone, rewritten, after, changed, IsWithin, IsLegal};
+ghost use Rattle.crack_plain.specs.Plain.{PlainState, IsNumbered, reply_to, row_in, rows_in, gone, rewritten, after, changed, IsSmall, IsWithin, IsLegal};
 ghost use Rattle.crack_state.specs.State.{State, IsIntact, live_rows};
 ghost use Rattle.crack_state.specs.Steps.{SameButRoom};
 ghost use Rattle.crack_state.specs.Points.{pending_by, MayFree, IsRenewable};
 ghost use Rattle.crack_state.specs.Merge.{IsCracked, IsSettled, Merges, Tallies};
 ghost use Rattle.crack_merge.specs.Merges.{Stops};
 ghost use Rattle.crack_store.specs.Inside.{no_cells, IsLayoutOf};
-ghost use Rattle.crack_part.specs.Parts.{state_of, IsLimit, IsSound, IsFaithful, CracksAndMerges, StopsRead, Serves, Spares, Prepares, MayPerform, Performs, Removes, Replaces};
+ghost use Rattle.crack_part.specs.Parts.{state_of, IsLimit, IsSound, IsFaithful, LeavesNear, CracksAndMerges, StopsRead, Serves, Spares, Prepares, MayPerform, Performs, Removes, Replaces};
 
 use crack_merge::{merge_complete, merge_gradual};
+use crack_ripple::merge_ripple;
 use crack_row::{
     Change, Command, Entry, GREATEST_LIMIT, KeyRange, Layout, Policy, Refusal, Reply, Row, RowList,
     Serial,
@@ -23,6 +25,10 @@ use crack_store::{MergeReport, Store};
 use std::alloc::Global;
 use std::marker::Model;
 use std::mem;
+
+/// How many entries a history has room for at first: so large a block of memory is mapped by itself, so that it grows without being copied,
+/// and what isn't used of it takes no memory.
+const FIRST_ENTRIES: usize = 2048;
 
 /// The rows whose keys lie in one range, and every command that was answered, with the worker who asked and the reply.
 /// Contracts see besides what stands where in the store of its rows; the plain rows are those after the history.
@@ -100,6 +106,13 @@ impl Partition {
         self.limit
     }
 
+    /// What its merges did since it was opened. Takes no memory.
+    pub fn tally(&self) -> MergeReport
+        ensures { result ≡ self.now.store.tally }
+    {
+        self.store.tally()
+    }
+
     /// What stands where, as numbers, and the pieces of the column. It cracks and merges nothing, and isn't kept in the
     /// history. Refused with 8 where it finds no memory. O(pieces).
     pub fn layout(&self) -> Result<Layout, Refusal>
@@ -118,6 +131,7 @@ impl Partition {
     /// An insert, a delete and an update are O(1), amortised. A command that reads a range cracks the pieces in which its ends fall
     /// and merges by the policy what its range needs; a count is then O(log pieces), a sum O(m), and a select O(m log m) for m rows
     /// in the range.
+    #[inline(always)]
     pub fn apply(
         &mut self,
         worker: u32,
@@ -125,6 +139,7 @@ impl Partition {
         policy: Policy,
     ) -> Result<(Reply, Reply), Refusal>
         ensures replies { IfOk result (λ replies. (replies.0 ≡ reply_to (state_of self.old) command) × (replies.1 ≡ replies.0)) }
+        ensures small { IfOk result (λ replies. IsSmall replies.0) }
         ensures kept { IfOk result (λ replies. self.new.history ≡ self.old.history ++ record { worker = worker; command = command; reply = replies.0 } ∷ []) }
         ensures state { OnOk result (state_of self.new ≡ after (state_of self.old) command) }
         ensures store { OnOk result (Serves policy self.old.keys self.old.next command self.old.store self.new.store) }
@@ -138,8 +153,8 @@ impl Partition {
         ensures room { IsWithin self.old.keys command → length self.old.history < self.old.limit → IfErr result (λ e. e ≡ Refusal.OutOfMemory) }
     {
         self.may_keep(&command)?;
-        self.history.reserve(1)?;
-        let copies = serve(
+        make_room(&mut self.history)?;
+        let reply = serve(
             &mut self.store,
             &mut self.next,
             self.alloc,
@@ -147,6 +162,8 @@ impl Partition {
             &command,
             policy,
         )?;
+        // only a list may find no memory here, and a command that is replied with one makes no change
+        let copies = copied(reply, self.alloc)?;
         let entry = Entry {
             worker,
             command,
@@ -157,6 +174,7 @@ impl Partition {
     }
 
     /// Refuses, in this order, a command that brings a key that isn't the partition's, and any where the history is full.
+    #[inline(always)]
     fn may_keep(&self, command: &Command) -> Result<(), Refusal>
         ensures ok { OnOk result (IsWithin self.now.keys command.now × (length self.now.history < self.now.limit)) }
         ensures err { OnErr result ((IsWithin self.now.keys command.now → ⊥) ⊎ (self.now.limit ≤ length self.now.history)) }
@@ -185,6 +203,7 @@ struct Copies {
 }
 
 /// Whether the key that a command brings, if any, is one of these.
+#[inline(always)]
 fn allows(keys: KeyRange, command: &Command) -> bool
     ensures { IsTrue result ↔ IsWithin keys command.now }
 {
@@ -195,6 +214,7 @@ fn allows(keys: KeyRange, command: &Command) -> bool
 }
 
 /// Answers a command: reads its range, replies, and makes its change.
+#[inline(always)]
 fn serve(
     store: &mut Store,
     next: &mut u64,
@@ -202,13 +222,14 @@ fn serve(
     keys: KeyRange,
     command: &Command,
     policy: Policy,
-) -> Result<Copies, Refusal>
+) -> Result<Reply, Refusal>
     requires ends { store.old.keys ≡ keys }
     requires intact { IsIntact store.old [] }
     requires admissible { (ready : State) → Prepares policy keys (range_of command.now) store.old ready → MayPerform next.old (change_of command.now) ready }
     requires small { next.old + 1 < 2 ^ 64 }
-    ensures replies { IfOk result (λ copies. (plain : PlainState) → IsNumbered plain → IsFaithful store.old next.old plain → copies.reply ≡ reply_to plain command.now) }
-    ensures copied { IfOk result (λ copies. (copies.receipt ≡ copies.reply) × (copies.kept ≡ copies.reply)) }
+    ensures replies { IfOk result (λ reply. (plain : PlainState) → IsNumbered plain → IsFaithful store.old next.old plain → reply ≡ reply_to plain command.now) }
+    ensures small { IfOk result (λ reply. (plain : PlainState) → IsNumbered plain → IsFaithful store.old next.old plain → length plain.rows < 2 ^ 32 → IsSmall reply) }
+    ensures lists { IfOk result (λ reply. (Prepares policy keys (range_of command.now) store.old store.new × (next.new ≡ next.old)) ⊎ IsFlat reply) }
     ensures served { OnOk result (Serves policy keys next.old command.now store.old store.new) }
     ensures faithful { OnOk result ((plain : PlainState) → IsFaithful store.old next.old plain → IsFaithful store.new next.new (after plain command.now)) }
     ensures intact { OnOk result (IsIntact store.new []) }
@@ -217,12 +238,12 @@ fn serve(
 {
     prepare(store, alloc, keys, command.range(), policy)?;
     let reply = reply_of(store, *next, alloc, keys, command)?;
-    let copies = copied(reply, alloc)?;
     perform(store, next, command.change())?;
-    Ok(copies)
+    Ok(reply)
 }
 
 /// Reads a range, if there is one, as far as it is within the keys: where none of them is in it, nothing is cracked or merged.
+#[inline(always)]
 fn prepare(
     store: &mut Store,
     alloc: Global,
@@ -248,6 +269,7 @@ fn prepare(
 }
 
 /// What is replied to a command where the store is settled for its range. Refused with 8 where a list finds no memory.
+#[inline(always)]
 fn reply_of(
     store: &Store,
     next: u64,
@@ -258,6 +280,8 @@ fn reply_of(
     requires ends { store.now.keys ≡ keys }
     requires settled { IfSome (range_of command.now) (λ range. (clipped range keys).low < (clipped range keys).high → IsSettled store.now (clipped range keys)) }
     ensures reply { IfOk result (λ reply. (plain : PlainState) → IsNumbered plain → IsFaithful store.now next plain → reply ≡ reply_to plain command.now) }
+    ensures flat { IfOk result (λ reply. (change_of command.now ≡ None) ⊎ IsFlat reply) }
+    ensures small { IfOk result (λ reply. (plain : PlainState) → IsNumbered plain → IsFaithful store.now next plain → length plain.rows < 2 ^ 32 → IsSmall reply) }
     ensures err { IfErr result (λ e. e ≡ Refusal.OutOfMemory) }
 {
     match *command {
@@ -283,7 +307,9 @@ fn row_of(store: &Store, serial: Serial) -> Option<Row>
 
 /// What a delete is replied where this is the row of its serial.
 fn gone(row: Option<Row>) -> Reply
-    ensures { result ≡ gone row }
+    ensures is { result ≡ gone row }
+    ensures flat { IsFlat result }
+    ensures small { IsSmall result }
 {
     match row {
         Some(row) => Reply::Gone(row),
@@ -293,7 +319,9 @@ fn gone(row: Option<Row>) -> Reply
 
 /// What an update is replied where this is the row of its serial.
 fn rewritten(row: Option<Row>) -> Reply
-    ensures { result ≡ rewritten row }
+    ensures is { result ≡ rewritten row }
+    ensures flat { IsFlat result }
+    ensures small { IsSmall result }
 {
     match row {
         Some(_) => Reply::Changed,
@@ -302,6 +330,7 @@ fn rewritten(row: Option<Row>) -> Reply
 }
 
 /// How many rows have their key in the range: the difference of two places of the column, which is settled for it.
+#[inline(never)]
 fn count(store: &Store, keys: KeyRange, range: KeyRange) -> u64
     requires ends { store.now.keys ≡ keys }
     requires settled { (clipped range keys).low < (clipped range keys).high → IsSettled store.now (clipped range keys) }
@@ -316,10 +345,12 @@ fn count(store: &Store, keys: KeyRange, range: KeyRange) -> u64
 }
 
 /// The sum of the payloads of the rows whose key is in the range: of those between two places of the column, which is settled for it.
+#[inline(never)]
 fn sum(store: &Store, keys: KeyRange, range: KeyRange) -> u128
     requires ends { store.now.keys ≡ keys }
     requires settled { (clipped range keys).low < (clipped range keys).high → IsSettled store.now (clipped range keys) }
-    ensures { (plain : List Row) → IsPermutation (live_rows store.now) plain → result ≡ sum_of (rows_in range plain) }
+    ensures is { (plain : List Row) → IsPermutation (live_rows store.now) plain → result ≡ sum_of (rows_in range plain) }
+    ensures small { result < 2 ^ 64 }
 {
     store.facts();
     let within = range.clip(keys);
@@ -331,6 +362,7 @@ fn sum(store: &Store, keys: KeyRange, range: KeyRange) -> u128
 
 /// The rows whose key is in the range, in rising serial: those between two places of the column, which is settled for it.
 /// Refused with 8 where it finds no memory.
+#[inline(never)]
 fn select(
     store: &Store,
     alloc: Global,
@@ -351,9 +383,11 @@ fn select(
 }
 
 /// A reply with its copies.
+#[inline(always)]
 fn copied(reply: Reply, alloc: Global) -> Result<Copies, Refusal>
     ensures ok { IfOk result (λ copies. (copies.reply ≡ reply) × (copies.receipt ≡ reply) × (copies.kept ≡ reply)) }
     ensures err { IfErr result (λ e. e ≡ Refusal.OutOfMemory) }
+    ensures flat { IsFlat reply → IsOk result }
 {
     let receipt = reply.copy(alloc)?;
     let kept = reply.copy(alloc)?;
@@ -365,6 +399,7 @@ fn copied(reply: Reply, alloc: Global) -> Result<Copies, Refusal>
 }
 
 /// Cracks the store at the ends of a range, and merges by the policy what the range needs.
+#[inline(never)]
 fn settle(
     store: &mut Store,
     alloc: Global,
@@ -407,6 +442,7 @@ fn merge(
     requires high { range.high ≤ store.keys.high }
     requires cracked { IsCracked store range }
     ensures merged { IfOk result (λ r. Merges policy store r.0 range) }
+    ensures near { IfOk result (λ r. LeavesNear policy store r.0 range) }
     ensures tallied { IfOk result (λ r. Tallies policy store r.0) }
     ensures stopped { IfErr result (λ e. Stops policy store e.0 range) }
     ensures err { IfErr result (λ e. e.1 ≡ Refusal.OutOfMemory) }
@@ -414,10 +450,12 @@ fn merge(
     match policy {
         Policy::Complete => merge_complete(store, range),
         Policy::Gradual => merge_gradual(store, range),
+        Policy::Ripple => merge_ripple(store, range),
     }
 }
 
 /// Makes a change, if there is one, where the next row gets this serial.
+#[inline(always)]
 fn perform(store: &mut Store, next: &mut u64, change: Option<Change>) -> Result<(), Refusal>
     requires intact { IsIntact store.old [] }
     requires admissible { MayPerform next.old change store.old }
@@ -425,6 +463,7 @@ fn perform(store: &mut Store, next: &mut u64, change: Option<Change>) -> Result<
     ensures performed { OnOk result (Performs next.old change store.old store.new) }
     ensures faithful { OnOk result ((plain : PlainState) → IsFaithful store.old next.old plain → IsFaithful store.new next.new (changed plain change)) }
     ensures intact { OnOk result (IsIntact store.new []) }
+    ensures none { change ≡ None → (store.new ≡ store.old) × (next.new ≡ next.old) }
     ensures same { OnErr result (SameButRoom store.old store.new × (next.new ≡ next.old)) }
     ensures err { IfErr result (λ e. e ≡ Refusal.OutOfMemory) }
 {
@@ -460,6 +499,7 @@ fn perform(store: &mut Store, next: &mut u64, change: Option<Change>) -> Result<
 }
 
 /// Takes out the row of a serial, if there is one: O(1), amortised.
+#[inline(never)]
 fn remove(store: &mut Store, serial: Serial) -> Result<(), Refusal>
     requires few { MayFree store.old }
     ensures removed { OnOk result (Removes (pending_by store.old serial.0) serial.0 store.old store.new) }
@@ -482,6 +522,7 @@ fn remove(store: &mut Store, serial: Serial) -> Result<(), Refusal>
 }
 
 /// Puts a row in the place of the one of its serial, if there is one: O(1), amortised.
+#[inline(never)]
 fn rewrite(store: &mut Store, row: Row) -> Result<(), Refusal>
     requires within { IsIn store.old.keys row.key.0 }
     requires renewable { IsRenewable store.old }
@@ -497,13 +538,34 @@ fn rewrite(store: &mut Store, row: Row) -> Result<(), Refusal>
     }
 }
 
+/// Makes room for one entry: O(1), amortised. Takes no memory where there is room.
+#[inline(always)]
+fn make_room(history: &mut Vec<Entry>) -> Result<(), Refusal>
+    ensures same { history.new.items ≡ history.old.items }
+    ensures room { OnOk result (vec_len history.old < vec_capacity history.new) }
+    ensures err { IfErr result (λ e. e ≡ Refusal.OutOfMemory) }
+{
+    if history.len() < history.capacity() {
+        return Ok(());
+    }
+    lengthen(history)
+}
+
+/// Makes room for twice as many entries, and for `FIRST_ENTRIES` at first.
+#[inline(never)]
+fn lengthen(history: &mut Vec<Entry>) -> Result<(), Refusal>
+    ensures same { history.new.items ≡ history.old.items }
+    ensures room { OnOk result (vec_len history.old < vec_capacity history.new) }
+    ensures err { IfErr result (λ e. e ≡ Refusal.OutOfMemory) }
+{
+    history.reserve(history.len().max(FIRST_ENTRIES))?;
+    Ok(())
+}
+
 /// Adds an element where there is room.
 fn push_reserved<T: Drop>(items: &mut Vec<T>, item: T)
     requires { vec_len items.old < vec_capacity items.old }
     ensures { items.new.items ≡ items.old.items ++ item ∷ [] }
 {
-    match items.push(item) {
-        Ok(()) => {}
-        Err(_) => unreachable!(),
-    }
+    items.push_reserved(item);
 }

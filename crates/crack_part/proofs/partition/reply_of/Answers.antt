@@ -1,4 +1,6 @@
-use Rattle.std.proofs.Common.{ap}
+use Rattle.std.proofs.Common.{ap, arith, length, ◌∙◌}
+use Rattle.std.proofs.lemmas.List.Sums.{count_by-le-length, length-filter}
+use Rattle.crack_row.specs.Ranges.{in_range}
 use Rattle.crack_row.specs.declared.command.Reply.TheVariants.{Counted, Summed}
 use Rattle.crack_part.proofs.partition.reply_of.Goals as goal
 
@@ -6,4 +8,12 @@ pub returns-in-Count-clause-reply : goal.returns-in-Count-clause-reply
 returns-in-Count-clause-reply c = λ plain numbered faithful. rw c.in-Count.is (ap Counted (c.count.ensures plain.rows faithful.rows))
 
 pub returns-in-Sum-clause-reply : goal.returns-in-Sum-clause-reply
-returns-in-Sum-clause-reply c = λ plain numbered faithful. rw c.in-Sum.is (ap Summed (c.sum.ensures plain.rows faithful.rows))
+returns-in-Sum-clause-reply c = λ plain numbered faithful. rw c.in-Sum.is (ap Summed (c.sum.ensures.is plain.rows faithful.rows))
+
+pub returns-in-Count-clause-small : goal.returns-in-Count-clause-small
+returns-in-Count-clause-small c = λ plain numbered faithful few. omega (arith, c.count.ensures plain.rows faithful.rows, count_by-le-length (in_range c.in-Count.range) plain.rows, few)
+
+pub returns-in_ok-rows-in-Select-clause-small : goal.returns-in_ok-rows-in-Select-clause-small
+returns-in_ok-rows-in-Select-clause-small c = λ plain numbered faithful few.
+    let is = ap length (c.from_vec.ensures ∙ c.in_ok-rows-in-Select.ensures.rows plain numbered faithful.rows) in
+    omega (arith, is, length-filter (in_range c.in-Select.range) plain.rows, count_by-le-length (in_range c.in-Select.range) plain.rows, few)

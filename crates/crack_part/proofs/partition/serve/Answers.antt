@@ -1,4 +1,4 @@
-use Rattle.std.proofs.Common.{Result, Ok, Err, OnErr, refl}
+use Rattle.std.proofs.Common.{Result, Ok, Err, OnErr, inl, inr, refl, ◌∙◌}
 use Rattle.crack_part.proofs.KeepLemmas.{Keeps-prepared, Spares-prepared}
 use Rattle.crack_part.proofs.SoundLemmas.{IsFaithful-kept}
 use Rattle.crack_part.proofs.partition.serve.Goals as goal
@@ -11,11 +11,6 @@ pub returns-in_err-reply-clause-spared : goal.returns-in_err-reply-clause-spared
 returns-in_err-reply-clause-spared c =
     let prepared = rw c.range.ensures at c.in_ok-prepare.ensures.prepared in
     on_err c.from_residual-in_err-reply.result (Spares-prepared c.args.policy c.args.keys _ c.args.store.now c.prepare.new.store c.prepare.new.store prepared (record { same = refl }), refl)
-
-pub returns-in_err-copies-clause-spared : goal.returns-in_err-copies-clause-spared
-returns-in_err-copies-clause-spared c =
-    let prepared = rw c.range.ensures at c.in_ok-prepare.ensures.prepared in
-    on_err c.from_residual-in_err-copies.result (Spares-prepared c.args.policy c.args.keys _ c.args.store.now c.prepare.new.store c.prepare.new.store prepared (record { same = refl }), refl)
 
 pub returns-in_err-perform-clause-spared : goal.returns-in_err-perform-clause-spared
 returns-in_err-perform-clause-spared c =
@@ -35,3 +30,18 @@ returns-clause-faithful c = λ plain faithful.
     let prepared = rw c.range.ensures at c.in_ok-prepare.ensures.prepared in
     let keeps = Keeps-prepared c.args.policy c.args.keys _ c.args.store.now c.prepare.new.store prepared in
     rw c.change.ensures at (c.in_ok-perform.ensures.faithful plain (IsFaithful-kept c.args.store.now c.prepare.new.store c.args.next.now plain keeps faithful))
+
+pub returns-clause-lists : goal.returns-clause-lists
+returns-clause-lists c = elim c.in_ok-reply.ensures.flat [
+  | inl none ↦
+      let prepared = rw c.range.ensures at c.in_ok-prepare.ensures.prepared in
+      let still = c.in_ok-perform.ensures.none (c.change.ensures ∙ none) in
+      inl (rw still.0 prepared, still.1)
+  | inr flat ↦ inr flat
+]
+
+pub returns-clause-small : goal.returns-clause-small
+returns-clause-small c = λ plain numbered faithful few.
+    let prepared = rw c.range.ensures at c.in_ok-prepare.ensures.prepared in
+    let keeps = Keeps-prepared c.args.policy c.args.keys _ c.args.store.now c.prepare.new.store prepared in
+    c.in_ok-reply.ensures.small plain numbered (IsFaithful-kept c.args.store.now c.prepare.new.store c.args.next.now plain keeps faithful) few

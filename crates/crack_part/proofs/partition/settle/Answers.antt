@@ -13,6 +13,7 @@ returns-in-Ok-clause-settled c = record {
   refines = c.in_default.ensures.ok;
   intact = c.facts.ensures;
   merges = rw (c.replace-cracked.ensures.value, c.in-Ok.merged-is) at c.in-Ok.ensures.merged;
+  near = rw (c.replace-cracked.ensures.value, c.in-Ok.merged-is) at c.in-Ok.ensures.near;
   tallies = rw (c.replace-cracked.ensures.value, c.in-Ok.merged-is) at c.in-Ok.ensures.tallied;
 }
 

@@ -1,12 +1,17 @@
-use Rattle.std.proofs.Common.{List, [], ◌∷◌, ◌++◌, arith, ap, ◌∙◌}
+use Rattle.std.proofs.Common.{◌<◌, ◌^◌, length, List, [], ◌∷◌, ◌++◌, Result, Ok, Err, OnErr, arith, ap, sym, subst, refl, ◌∙◌, inl, inr}
+use Rattle.std.proofs.lemmas.Bool.{false≢true}
 use Rattle.crack_row.specs.Commands.{range_of}
 use Rattle.crack_row.specs.declared.command.Entry.{Entry}
 use Rattle.crack_row.specs.declared.command.Reply.{Reply}
-use Rattle.crack_plain.specs.Plain.{replay}
-use Rattle.crack_plain.proofs.Laws.{replay-push, IsNumbered-replay}
-use Rattle.crack_part.proofs.KeepLemmas.{Keeps-spared, IsIntact-spared}
+use Rattle.crack_plain.specs.Plain.{replay, IsSmall}
+use Rattle.crack_plain.proofs.Laws.{replay-push, IsNumbered-replay, length_rows-le-accepted}
+use Rattle.crack_part.proofs.KeepLemmas.{Keeps-spared, IsIntact-spared, Keeps-prepared, Spares-prepared}
 use Rattle.crack_part.proofs.SoundLemmas.{next-le-limit, MayPerform-prepared, IsSound-kept, IsSound-served, Spends-served}
 use Rattle.crack_part.proofs.partition.Partition.apply.Goals as goal
+
+on_err : {T E P : Type 0} (r : Result T E) → P → OnErr r P
+on_err (Ok x) p = tt
+on_err (Err e) p = p
 
 pub serve-requires-clause-admissible : goal.serve-requires-clause-admissible
 serve-requires-clause-admissible c =
@@ -16,40 +21,62 @@ serve-requires-clause-admissible c =
 pub serve-requires-clause-small : goal.serve-requires-clause-small
 serve-requires-clause-small c = let next = next-le-limit _ c.self.invariant in omega (arith, next)
 
-pub invariant_of-self-in_err-copies : goal.invariant_of-self-in_err-copies
-invariant_of-self-in_err-copies c =
-    let spared = c.in_err-copies.ensures.spared in
+pub invariant_of-self-in_err-reply : goal.invariant_of-self-in_err-reply
+invariant_of-self-in_err-reply c =
+    let spared = c.in_err-reply.ensures.spared in
     let keeps = Keeps-spared c.args.policy c.self.inside.keys (range_of c.args.command) _ c.serve.new.store spared.0 in
     let intact = IsIntact-spared c.args.policy c.self.inside.keys (range_of c.args.command) _ c.serve.new.store spared.0 c.self.invariant.intact in
-    rw (c.reserve.ensures.items, spared.1) (IsSound-kept _ c.serve.new.store c.self.invariant keeps intact)
+    rw (c.make_room.ensures.same, spared.1) (IsSound-kept _ c.serve.new.store c.self.invariant keeps intact)
+
+pub invariant_of-self-in_err-copies : goal.invariant_of-self-in_err-copies
+invariant_of-self-in_err-copies c = elim c.in_ok-reply.ensures.lists [
+  | inl read ↦
+      let keeps = Keeps-prepared c.args.policy c.self.inside.keys (range_of c.args.command) _ c.serve.new.store read.0 in
+      rw (c.make_room.ensures.same, read.1) (IsSound-kept _ c.serve.new.store c.self.invariant keeps c.in_ok-reply.ensures.intact)
+  | inr flat ↦ absurd (false≢true (c.in_err-copies.ensures.flat flat))
+]
+
+pub returns-in_err-copies-clause-spared : goal.returns-in_err-copies-clause-spared
+returns-in_err-copies-clause-spared c = elim c.in_ok-reply.ensures.lists [
+  | inl read ↦
+      let spared = Spares-prepared c.args.policy c.self.inside.keys (range_of c.args.command) _ c.serve.new.store c.serve.new.store read.0 (record { same = refl }) in
+      rw (← c.self.view_is) (on_err c.from_residual-in_err-copies.result spared)
+  | inr flat ↦ absurd (false≢true (c.in_err-copies.ensures.flat flat))
+]
 
 pub invariant_of-self-2 : goal.invariant_of-self-2
 invariant_of-self-2 c =
     let e : Entry = record { worker = c.args.worker; command = c.args.command; reply = c.in_ok-copies.copies.kept } in
     let kept = rw (← c.self.view_is) at c.in_ok-may_keep.ensures.ok in
     let plain = replay c.self.inside.history.items in
-    let said = c.in_ok-copies.ensures.replies plain (IsNumbered-replay c.self.inside.history.items) c.self.invariant.faithful in
-    let faithful = c.in_ok-copies.ensures.faithful plain c.self.invariant.faithful in
-    let spends = Spends-served c.args.policy _ c.args.command c.serve.new.store c.self.invariant kept.0 c.in_ok-copies.ensures.served in
-    let grown = c.push_reserved.ensures ∙ ap (λ (h : List Entry). h ++ e ∷ []) c.reserve.ensures.items in
-    rw grown (IsSound-served _ e c.serve.new.next c.serve.new.store c.self.invariant kept.1 kept.0 (c.in_ok-copies.ensures.copied.1 ∙ said) c.in_ok-copies.ensures.intact faithful spends)
+    let said = c.in_ok-reply.ensures.replies plain (IsNumbered-replay c.self.inside.history.items) c.self.invariant.faithful in
+    let faithful = c.in_ok-reply.ensures.faithful plain c.self.invariant.faithful in
+    let spends = Spends-served c.args.policy _ c.args.command c.serve.new.store c.self.invariant kept.0 c.in_ok-reply.ensures.served in
+    let grown = c.push_reserved.ensures ∙ ap (λ (h : List Entry). h ++ e ∷ []) c.make_room.ensures.same in
+    rw grown (IsSound-served _ e c.serve.new.next c.serve.new.store c.self.invariant kept.1 kept.0 (c.in_ok-copies.ensures.ok.2 ∙ said) c.in_ok-reply.ensures.intact faithful spends)
 
 pub returns-clause-state : goal.returns-clause-state
 returns-clause-state c =
     let e : Entry = record { worker = c.args.worker; command = c.args.command; reply = c.in_ok-copies.copies.kept } in
-    let grown = c.push_reserved.ensures ∙ ap (λ (h : List Entry). h ++ e ∷ []) c.reserve.ensures.items in
+    let grown = c.push_reserved.ensures ∙ ap (λ (h : List Entry). h ++ e ∷ []) c.make_room.ensures.same in
     rw (← c.self.view_is) (ap replay grown ∙ replay-push c.self.inside.history.items e)
 
 pub returns-clause-replies : goal.returns-clause-replies
 returns-clause-replies c =
-    let said = c.in_ok-copies.ensures.replies (replay c.self.inside.history.items) (IsNumbered-replay c.self.inside.history.items) c.self.invariant.faithful in
-    rw (← c.self.view_is) (said, c.in_ok-copies.ensures.copied.0)
+    let said = c.in_ok-reply.ensures.replies (replay c.self.inside.history.items) (IsNumbered-replay c.self.inside.history.items) c.self.invariant.faithful in
+    rw (← c.self.view_is) (c.in_ok-copies.ensures.ok.0 ∙ said, c.in_ok-copies.ensures.ok.1 ∙ sym c.in_ok-copies.ensures.ok.0)
 
 pub returns-clause-kept : goal.returns-clause-kept
 returns-clause-kept c =
     let entry : Reply → Entry = λ r. record { worker = c.args.worker; command = c.args.command; reply = r } in
-    let grown = c.push_reserved.ensures ∙ ap (λ (h : List Entry). h ++ entry c.in_ok-copies.copies.kept ∷ []) c.reserve.ensures.items in
-    rw (← c.self.view_is) (grown ∙ ap (λ r. c.self.inside.history.items ++ entry r ∷ []) c.in_ok-copies.ensures.copied.1)
+    let grown = c.push_reserved.ensures ∙ ap (λ (h : List Entry). h ++ entry c.in_ok-copies.copies.kept ∷ []) c.make_room.ensures.same in
+    rw (← c.self.view_is) (grown ∙ ap (λ r. c.self.inside.history.items ++ entry r ∷ []) (c.in_ok-copies.ensures.ok.2 ∙ sym c.in_ok-copies.ensures.ok.0))
 
 pub returns-clause-store : goal.returns-clause-store
-returns-clause-store c = rw (← c.self.view_is) c.in_ok-copies.ensures.served
+returns-clause-store c = rw (← c.self.view_is) c.in_ok-reply.ensures.served
+
+pub returns-clause-small : goal.returns-clause-small
+returns-clause-small c =
+    let rows = length_rows-le-accepted c.self.inside.history.items c.self.invariant.legal.replies in
+    let few : length (replay c.self.inside.history.items).rows < 2 ^ 32 = omega (arith, rows, c.self.invariant.legal.limited, c.self.invariant.limited.1) in
+    subst IsSmall (sym c.in_ok-copies.ensures.ok.0) (c.in_ok-reply.ensures.small (replay c.self.inside.history.items) (IsNumbered-replay c.self.inside.history.items) c.self.invariant.faithful few)
