@@ -1,0 +1,266 @@
+-- What follows of steps, of the entries that they leave, and of partitions of which one is replaced.
+use Rattle.std.specs.Prelude.{◌≡◌, ◌≢◌, ℕ, ◌+◌, ◌<◌, ◌≤◌, ◌==◌, Bool, true, false, cond, List, [], ◌∷◌, ◌++◌, length, map, take, drop, Option, None, Some, Result, Ok, Err, is_ok, slice_get, IfSome, nat_le, nat_lt, if◌then◌else◌}
+use Rattle.std.specs.Option.{option_map}
+use Rattle.std.proofs.Common.{zero, suc, get_or, set, arith, ap, refl, sym, subst, ◌∙◌, ⊎_elim, inl, inr, append-nil, append_assoc, length-append, length-set}
+use Rattle.std.proofs.lemmas.Bool.{true≢false, both_ways, and_parts, and_from, leb-true, leb-false, le-leb, ltb-true, lt-ltb, eq-eqb, ne_eqb, cases_eq, cases_lt}
+use Rattle.std.proofs.lemmas.Option.{slice_get-map, slice_get-get_or, slice_get_past, slice_get_within}
+use Rattle.std.proofs.lemmas.List.{map-set, get_or-map, get_or-set_same, get_or-set_other, length-map, take-append-le, take_all}
+use Rattle.std.proofs.lemmas.List.Elements.{All-set}
+use Rattle.std.proofs.lemmas.List.Sums.{sum_by-set}
+use Rattle.std.proofs.Math.Seq.{map-set_same}
+use Rattle.crack_row.specs.Commands.{key_of}
+use Rattle.crack_row.specs.Ranges.{Range, IsIn, is_in}
+use Rattle.crack_row.specs.declared.Bound.{Bound}
+use Rattle.crack_row.specs.declared.Key.{Key}
+use Rattle.crack_row.specs.declared.command.Command.{Command}
+use Rattle.crack_row.specs.declared.command.Entry.{Entry}
+use Rattle.crack_row.specs.declared.command.Reply.{Reply}
+use Rattle.crack_row.specs.declared.refusal.Refusal.{Refusal}
+use Rattle.crack_row.specs.declared.refusal.Refusal.TheVariants.{KeyOutside, NoSuchPartition, HistoryFull, OutOfMemory}
+use Rattle.crack_plain.specs.Plain.{Table, IsWithin, reply_to, replay}
+use Rattle.crack_plain.proofs.Laws.{replay-push}
+use Rattle.crack_part.specs.Parts.{Part, IsSound}
+use Rattle.crack_core.specs.declared.step.Step.{Step}
+use Rattle.crack_core.specs.Routes.{keys_at}
+use Rattle.crack_core.specs.Opening.{AreParts}
+use Rattle.crack_core.specs.Steps.{is_key_in, expected, expected_at, IsOutcome, fresh_table, table_after, table_after_all, tables_after, table_of, tables_of, histories_of, accepted_by, entries_at, Keeps, answered_at, table_at, AreExpectedReplies}
+
+-- whether a command brings a key of others, by the test
+within-true : (keys : Range) (key : Option Key) → is_key_in keys key ≡ true → IfSome key (λ (k : Key). IsIn keys k.0)
+within-true keys None is = tt
+within-true keys (Some key) is =
+    let parts = and_parts (nat_le keys.low key.0) (nat_lt key.0 keys.high) is in
+    (leb-true keys.low key.0 parts.0, ltb-true key.0 keys.high parts.1)
+
+within-false : (keys : Range) (key : Option Key) → is_key_in keys key ≡ false → IfSome key (λ (k : Key). IsIn keys k.0) → ⊥
+within-false keys None is within = true≢false is
+within-false keys (Some key) is within =
+    both_ways (is_in keys key.0) is (and_from (nat_le keys.low key.0) (nat_lt key.0 keys.high) (le-leb keys.low key.0 within.0) (lt-ltb key.0 keys.high within.1))
+
+-- a refusal of a partition is the one that is expected, or a want of memory in place of a reply
+pub outcome-refused : {T : Type 0} (limit : ℕ) (keys : Range) (history : List Entry) (command : Command) (e : Refusal) → ((IsWithin keys command → ⊥) → ◌≡◌ {A = Result T Refusal} (Err e) (Err KeyOutside)) → (IsWithin keys command → limit ≤ length history → ◌≡◌ {A = Result T Refusal} (Err e) (Err (HistoryFull limit))) → (IsWithin keys command → length history < limit → e ≡ OutOfMemory) → IsOutcome (expected limit keys (Some (table_of history)) command) (Err e)
+outcome-refused {T} limit keys history command e outside full room = by_key (is_key_in keys (key_of command)) refl
+  where
+    same : (f : Refusal) → ◌≡◌ {A = Result T Refusal} (Err e) (Err f) → ◌≡◌ {A = Result Reply Refusal} (Err e) (Err f)
+    same f is = let equal : e ≡ f = cc in ap Err equal
+
+    by_length : (b : Bool) → nat_le limit (length history) ≡ b → IsWithin keys command → IsOutcome (if b then Err (HistoryFull limit) else Ok (reply_to (replay history) command)) (Err e)
+    by_length true is within = inl (same (HistoryFull limit) (full within (leb-true limit (length history) is)))
+    by_length false is within = inr (ap Err (room within (leb-false limit (length history) is)), refl)
+
+    by_key : (b : Bool) → is_key_in keys (key_of command) ≡ b → IsOutcome (if b then (if nat_le limit (length history) then Err (HistoryFull limit) else Ok (reply_to (replay history) command)) else Err KeyOutside) (Err e)
+    by_key true is = by_length (nat_le limit (length history)) refl (within-true keys (key_of command) is)
+    by_key false is = inl (same KeyOutside (outside (within-false keys (key_of command) is)))
+
+-- one entry more
+pub table_of-push : (history : List Entry) (e : Entry) → table_of (history ++ e ∷ []) ≡ table_after (table_of history) e.command
+table_of-push history e =
+    let long : length (history ++ e ∷ []) ≡ length history + 1 = omega (arith, length-append history (e ∷ [])) in
+    rw (replay-push history e, long) refl
+
+-- several entries more
+pub table_of-append : (history es : List Entry) → table_after_all (table_of history) (map (λ (e : Entry). e.command) es) ≡ table_of (history ++ es)
+table_of-append history [] = ap table_of (sym (append-nil history))
+table_of-append history (e ∷ es) =
+    ap (λ (t : Table). table_after_all t (map (λ (x : Entry). x.command) es)) (sym (table_of-push history e)) ∙ table_of-append (history ++ e ∷ []) es ∙ ap table_of (append_assoc history (e ∷ []) es)
+
+-- the tables are those of the histories
+pub tables-histories : (parts : List Part) (part : ℕ) → slice_get (tables_of parts) part ≡ option_map table_of (slice_get (histories_of parts) part)
+tables-histories parts part =
+    slice_get-map (λ (p : Part). table_of p.history) parts part ∙ both (slice_get parts part) ∙ ap (option_map table_of) (sym (slice_get-map (λ (p : Part). p.history) parts part))
+  where
+    both : (o : Option Part) → option_map (λ (p : Part). table_of p.history) o ≡ option_map table_of (option_map (λ (p : Part). p.history) o)
+    both None = refl
+    both (Some p) = refl
+
+-- the entries of one step: of an answered one at its own partition alone
+entries-own : (s : Step) (reply : Reply) → entries_at s.part (s ∷ []) (Ok reply ∷ []) ≡ record { worker = s.worker; command = s.command; reply = reply } ∷ []
+entries-own s reply = ap (λ (b : Bool). cond b (record { worker = s.worker; command = s.command; reply = reply } ∷ []) []) (eq-eqb s.part s.part refl)
+
+entries-other : (part : ℕ) (s : Step) (r : Result Reply Refusal) → s.part ≢ part → entries_at part (s ∷ []) (r ∷ []) ≡ []
+entries-other part s (Ok reply) differs = ap (λ (b : Bool). cond b (record { worker = s.worker; command = s.command; reply = reply } ∷ []) []) (ne_eqb s.part part differs)
+entries-other part s (Err e) differs = refl
+
+-- one step more
+pub entries_at-push : (part : ℕ) (steps : List Step) (results : List (Result Reply Refusal)) (s : Step) (r : Result Reply Refusal) → length results ≡ length steps → entries_at part (steps ++ s ∷ []) (results ++ r ∷ []) ≡ entries_at part steps results ++ entries_at part (s ∷ []) (r ∷ [])
+entries_at-push part [] [] s r same = refl
+entries_at-push part [] (x ∷ results) s r same = absurd (omega (arith, same))
+entries_at-push part (y ∷ steps) [] s r same = absurd (omega (arith, same))
+entries_at-push part (y ∷ steps) (Ok reply ∷ results) s r same = by_test (y.part == part) (entries_at-push part steps results s r (omega (arith, same)))
+  where
+    entry : Entry
+    entry = record { worker = y.worker; command = y.command; reply = reply }
+
+    by_test : (b : Bool) → entries_at part (steps ++ s ∷ []) (results ++ r ∷ []) ≡ entries_at part steps results ++ entries_at part (s ∷ []) (r ∷ []) → cond b (entry ∷ entries_at part (steps ++ s ∷ []) (results ++ r ∷ [])) (entries_at part (steps ++ s ∷ []) (results ++ r ∷ [])) ≡ cond b (entry ∷ entries_at part steps results) (entries_at part steps results) ++ entries_at part (s ∷ []) (r ∷ [])
+    by_test true later = ap (λ (es : List Entry). entry ∷ es) later
+    by_test false later = later
+entries_at-push part (y ∷ steps) (Err e ∷ results) s r same = entries_at-push part steps results s r (omega (arith, same))
+
+-- nothing is added to a history that may not be there
+option-same : (o : Option (List Entry)) (none : List Entry) → none ≡ [] → option_map (λ (history : List Entry). history ++ none) o ≡ o
+option-same None none is = refl
+option-same (Some history) none is = ap Some (ap (λ (es : List Entry). history ++ es) is ∙ append-nil history)
+
+-- no step
+pub Keeps-nil : (histories : List (List Entry)) → Keeps histories [] [] histories
+Keeps-nil histories = λ part. sym (option-same (slice_get histories part) [] refl)
+
+-- a step that was refused
+pub Keeps-refused : (histories : List (List Entry)) (s : Step) (e : Refusal) → Keeps histories (s ∷ []) (Err e ∷ []) histories
+Keeps-refused histories s e = λ part. sym (option-same (slice_get histories part) [] refl)
+
+-- one step more
+pub Keeps-push : (old now new : List (List Entry)) (steps : List Step) (results : List (Result Reply Refusal)) (s : Step) (r : Result Reply Refusal) → length results ≡ length steps → Keeps old steps results now → Keeps now (s ∷ []) (r ∷ []) new → Keeps old (steps ++ s ∷ []) (results ++ r ∷ []) new
+Keeps-push old now new steps results s r same before step = λ part.
+    let more = entries_at part (s ∷ []) (r ∷ []) in
+    step part ∙ ap (option_map (λ (history : List Entry). history ++ more)) (before part) ∙ joined (slice_get old part) (entries_at part steps results) more (entries_at part (steps ++ s ∷ []) (results ++ r ∷ [])) (entries_at-push part steps results s r same)
+  where
+    joined : (o : Option (List Entry)) (es more all : List Entry) → all ≡ es ++ more → option_map (λ (history : List Entry). history ++ more) (option_map (λ (history : List Entry). history ++ es) o) ≡ option_map (λ (history : List Entry). history ++ all) o
+    joined None es more all is = refl
+    joined (Some history) es more all is = ap Some (append_assoc history es more ∙ ap (λ (x : List Entry). history ++ x) (sym is))
+
+-- what one partition is after its answered steps, by what its history is
+pub table_at-kept : (old now : List Part) (part : ℕ) (steps : List Step) (results : List (Result Reply Refusal)) → Keeps (histories_of old) steps results (histories_of now) → slice_get (tables_of now) part ≡ table_at (tables_of old) part steps results
+table_at-kept old now part steps results kept =
+    tables-histories now part ∙ ap (option_map table_of) (kept part) ∙ by_history (slice_get (histories_of old) part) ∙ ap (option_map (λ (t : Table). table_after_all t (answered_at part steps results))) (sym (tables-histories old part))
+  where
+    by_history : (o : Option (List Entry)) → option_map table_of (option_map (λ (history : List Entry). history ++ entries_at part steps results) o) ≡ option_map (λ (t : Table). table_after_all t (answered_at part steps results)) (option_map table_of o)
+    by_history None = refl
+    by_history (Some history) = ap Some (sym (table_of-append history (entries_at part steps results)))
+
+-- no step
+pub AreExpectedReplies-nil : (limit : ℕ) (splits : List Bound) (tables : List Table) → AreExpectedReplies limit splits tables [] []
+AreExpectedReplies-nil limit splits tables = record { each = refl; outcomes = λ k s r at. absurd (omega (arith, slice_get_within {A = Step} [] k s at)) }
+
+-- the last of a list
+get-last : {X : Type 0} (xs : List X) (x : X) → slice_get (xs ++ x ∷ []) (length xs) ≡ Some x
+get-last [] x = refl
+get-last (y ∷ xs) x = get-last xs x
+
+get-front : {X : Type 0} (xs : List X) (x : X) (k : ℕ) → k < length xs → slice_get (xs ++ x ∷ []) k ≡ slice_get xs k
+get-front [] x k within = absurd (omega (arith, within))
+get-front (y ∷ xs) x zero within = refl
+get-front (y ∷ xs) x (suc k) within = get-front xs x k (omega (arith, within))
+
+-- one step more
+pub AreExpectedReplies-push : (limit : ℕ) (splits : List Bound) (tables : List Table) (steps : List Step) (results : List (Result Reply Refusal)) (s : Step) (r : Result Reply Refusal) → AreExpectedReplies limit splits tables steps results → IsOutcome (expected limit (keys_at splits s.part) (table_at tables s.part steps results) s.command) r → AreExpectedReplies limit splits tables (steps ++ s ∷ []) (results ++ r ∷ [])
+AreExpectedReplies-push limit splits tables steps results s r before now = record {
+  each = omega (arith, before.each, length-append steps (s ∷ []), length-append results (r ∷ []));
+  outcomes = λ k s' r' at_step at_result. ⊎_elim
+      (λ (front : k < length steps).
+      let step = sym (get-front steps s k front) ∙ at_step in
+      let result = sym (get-front results r k (omega (arith, front, before.each))) ∙ at_result in
+      let same_steps = take-append-le k steps (s ∷ []) (omega (arith, front)) in
+      let same_results = take-append-le k results (r ∷ []) (omega (arith, front, before.each)) in
+      rw (same_steps, same_results) (before.outcomes k s' r' step result))
+      (λ (back : length steps ≤ k).
+      let within = slice_get_within (steps ++ s ∷ []) k s' at_step in
+      let last : k ≡ length steps = omega (arith, back, within, length-append steps (s ∷ [])) in
+      let step : s ≡ s' = some_same (sym (get-last steps s) ∙ ap (slice_get (steps ++ s ∷ [])) (sym last) ∙ at_step) in
+      let end : k ≡ length results = omega (arith, last, before.each) in
+      let result : r ≡ r' = some_same (sym (get-last results r) ∙ ap (slice_get (results ++ r ∷ [])) (sym end) ∙ at_result) in
+      let same_steps : take k (steps ++ s ∷ []) ≡ steps = take-append-le k steps (s ∷ []) (omega (arith, last)) ∙ take_all k steps (omega (arith, last)) in
+      let same_results : take k (results ++ r ∷ []) ≡ results = take-append-le k results (r ∷ []) (omega (arith, end)) ∙ take_all k results (omega (arith, end)) in
+      rw (same_steps, same_results, ← step, ← result) now)
+      (cases_lt k (length steps));
+}
+  where
+    some_same : {X : Type 0} {x y : X} → Some x ≡ Some y → x ≡ y
+    some_same e = cc
+
+-- what stands in a list of which one element was replaced
+pub get-set_same : {X : Type 0} (xs : List X) (i : ℕ) (y : X) → i < length xs → slice_get (set xs i y) i ≡ Some y
+get-set_same [] i y within = absurd (omega (arith, within))
+get-set_same (x ∷ xs) zero y within = refl
+get-set_same (x ∷ xs) (suc i) y within = get-set_same xs i y (omega (arith, within))
+
+pub get-set_other : {X : Type 0} (xs : List X) (i k : ℕ) (y : X) → k ≢ i → slice_get (set xs i y) k ≡ slice_get xs k
+get-set_other [] i k y differs = refl
+get-set_other (x ∷ xs) zero zero y differs = absurd (differs refl)
+get-set_other (x ∷ xs) zero (suc k) y differs = refl
+get-set_other (x ∷ xs) (suc i) zero y differs = refl
+get-set_other (x ∷ xs) (suc i) (suc k) y differs = get-set_other xs i k y (λ e. differs (ap suc e))
+
+-- the partition of a step is replaced by one that keeps its entry
+pub Keeps-set : (parts : List Part) (q d : Part) (s : Step) (r : Result Reply Refusal) → s.part < length parts → q.history ≡ (get_or parts s.part d).history ++ entries_at s.part (s ∷ []) (r ∷ []) → Keeps (histories_of parts) (s ∷ []) (r ∷ []) (histories_of (set parts s.part q))
+Keeps-set parts q d s r within kept = λ k. ⊎_elim
+    (λ (same : k ≡ s.part). subst (λ (n : ℕ). slice_get (histories_of (set parts s.part q)) n ≡ option_map (λ (h : List Entry). h ++ entries_at n (s ∷ []) (r ∷ [])) (slice_get (histories_of parts) n)) (sym same) own)
+    (λ (other : k ≢ s.part).
+    slice_get-map (λ (p : Part). p.history) (set parts s.part q) k
+    ∙ ap (option_map (λ (p : Part). p.history)) (get-set_other parts s.part k q other)
+    ∙ sym (slice_get-map (λ (p : Part). p.history) parts k)
+    ∙ sym (option-same (slice_get (histories_of parts) k) (entries_at k (s ∷ []) (r ∷ [])) (entries-other k s r (λ e. other (sym e)))))
+    (cases_eq k s.part)
+  where
+    own : slice_get (histories_of (set parts s.part q)) s.part ≡ option_map (λ (h : List Entry). h ++ entries_at s.part (s ∷ []) (r ∷ [])) (slice_get (histories_of parts) s.part)
+    own =
+        slice_get-map (λ (p : Part). p.history) (set parts s.part q) s.part
+        ∙ ap (option_map (λ (p : Part). p.history)) (get-set_same parts s.part q within)
+        ∙ ap Some kept
+        ∙ ap (λ (o : Option Part). option_map (λ (h : List Entry). h ++ entries_at s.part (s ∷ []) (r ∷ [])) (option_map (λ (p : Part). p.history) o)) (sym (slice_get-get_or parts s.part d within))
+        ∙ ap (option_map (λ (h : List Entry). h ++ entries_at s.part (s ∷ []) (r ∷ []))) (sym (slice_get-map (λ (p : Part). p.history) parts s.part))
+
+pub tables-set : (parts : List Part) (q d : Part) (s : Step) (r : Result Reply Refusal) → s.part < length parts → q.history ≡ (get_or parts s.part d).history ++ entries_at s.part (s ∷ []) (r ∷ []) → tables_of (set parts s.part q) ≡ tables_after (tables_of parts) s.part s.command r
+tables-set parts q d s (Ok reply) within kept =
+    let table = λ (p : Part). table_of p.history in
+    let entry : Entry = record { worker = s.worker; command = s.command; reply = reply } in
+    let old = get_or parts s.part d in
+    let grown = kept ∙ ap (λ (es : List Entry). old.history ++ es) (entries-own s reply) in
+    map-set table parts s.part q ∙ ap (set (tables_of parts) s.part) (ap table_of grown ∙ table_of-push old.history entry ∙ ap (λ (t : Table). table_after t s.command) (sym (get_or-map table parts s.part d fresh_table within)))
+tables-set parts q d s (Err e) within kept =
+    map-set_same (λ (p : Part). table_of p.history) parts s.part q d (ap table_of (kept ∙ append-nil (get_or parts s.part d).history))
+
+pub accepted-set : (parts : List Part) (q d : Part) (s : Step) (r : Result Reply Refusal) → s.part < length parts → q.history ≡ (get_or parts s.part d).history ++ entries_at s.part (s ∷ []) (r ∷ []) → accepted_by (set parts s.part q) ≡ (if is_ok r then accepted_by parts + 1 else accepted_by parts)
+accepted-set parts q d s (Ok reply) within kept =
+    let old = get_or parts s.part d in
+    let sum = sum_by-set (λ (p : Part). length p.history) parts s.part q d within in
+    let grown = ap length (kept ∙ ap (λ (es : List Entry). old.history ++ es) (entries-own s reply)) in
+    let long = length-append old.history (record { worker = s.worker; command = s.command; reply = reply } ∷ []) in
+    omega (arith, sum, grown, long)
+accepted-set parts q d s (Err e) within kept =
+    let old = get_or parts s.part d in
+    let sum = sum_by-set (λ (p : Part). length p.history) parts s.part q d within in
+    let same = ap length (kept ∙ append-nil old.history) in
+    omega (arith, sum, same)
+
+pub AreParts-set : (splits : List Bound) (limit : ℕ) (parts : List Part) (i : ℕ) (q d : Part) → i < length parts → AreParts splits limit parts → q.keys ≡ (get_or parts i d).keys → q.limit ≡ (get_or parts i d).limit → IsSound q → AreParts splits limit (set parts i q)
+AreParts-set splits limit parts i q d within are keys limits sound = record {
+  count = length-set parts i q ∙ are.count;
+  keys = λ k e k_lt. ⊎_elim
+      (λ (same : k ≡ i). rw (same, get_or-set_same parts i q e within) (keys ∙ are.keys i d within))
+      (λ (other : k ≢ i). rw (get_or-set_other parts i k q e other) (are.keys k e (omega (arith, k_lt, length-set parts i q))))
+      (cases_eq k i);
+  limits = All-set (λ (p : Part). p.limit ≡ limit) parts i q (limits ∙ are.limits i d within) are.limits;
+  sound = All-set IsSound parts i q sound are.sound;
+}
+
+-- where there is no such partition
+pub outcome-nowhere : (splits : List Bound) (limit : ℕ) (parts : List Part) (s : Step) → length parts ≤ s.part → IsOutcome (expected_at limit splits (tables_of parts) s.part s.command) (Err NoSuchPartition)
+outcome-nowhere splits limit parts s beyond =
+    let none = slice_get_past (tables_of parts) s.part (omega (arith, beyond, length-map parts (λ (p : Part). table_of p.history))) in
+    inl (sym (ap (λ (t : Option Table). expected limit (keys_at splits s.part) t s.command) none))
+
+-- what a partition of these splits is to answer is what the one of this number is to answer
+pub outcome-at : (splits : List Bound) (limit : ℕ) (parts : List Part) (s : Step) (r : Result Reply Refusal) (d : Part) → AreParts splits limit parts → s.part < length parts → IsOutcome (expected (get_or parts s.part d).limit (get_or parts s.part d).keys (Some (table_of (get_or parts s.part d).history)) s.command) r → IsOutcome (expected_at limit splits (tables_of parts) s.part s.command) r
+outcome-at splits limit parts s r d are within outcome =
+    let table = λ (p : Part). table_of p.history in
+    let there = slice_get-map table parts s.part ∙ ap (option_map table) (slice_get-get_or parts s.part d within) in
+    rw (there, ← are.keys s.part d within) (subst (λ (l : ℕ). IsOutcome (expected l (get_or parts s.part d).keys (Some (table_of (get_or parts s.part d).history)) s.command) r) (are.limits s.part d within) outcome)
+
+-- what holds of a partition and of the one that replaces it holds of those of its number
+pub replaced-at : (R : Part → Part → Type 0) (parts : List Part) (i : ℕ) (q d : Part) → i < length parts → R (get_or parts i d) q → (old new : Part) → slice_get parts i ≡ Some old → slice_get (set parts i q) i ≡ Some new → R old new
+replaced-at R parts i q d within related old new at_old at_new =
+    let first : get_or parts i d ≡ old = some_is (sym (slice_get-get_or parts i d within) ∙ at_old) in
+    let second : q ≡ new = some_is (sym (get-set_same parts i q within) ∙ at_new) in
+    rw (← first, ← second) related
+  where
+    some_is : {x y : Part} → Some x ≡ Some y → x ≡ y
+    some_is e = cc
+
+-- nothing holds of a partition that isn't there
+pub nowhere-at : (R : Part → Part → Type 0) (parts : List Part) (i : ℕ) → length parts ≤ i → (old new : Part) → slice_get parts i ≡ Some old → slice_get parts i ≡ Some new → R old new
+nowhere-at R parts i beyond old new at_old at_new = absurd (omega (arith, beyond, slice_get_within parts i old at_old))
+
+-- a vector whose elements were lent, once as many have come back
+pub come_back : (old new : List Part) (n : ℕ) → length new ≡ n → take n (new ++ drop (length new) old) ≡ new
+come_back old new n long = take-append-le n new (drop (length new) old) (omega (arith, long)) ∙ take_all n new (omega (arith, long))

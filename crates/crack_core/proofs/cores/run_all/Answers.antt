@@ -1,0 +1,36 @@
+use Rattle.std.proofs.Common.{◌≡◌, ◌+◌, ◌<◌, ◌++◌, [], ◌∷◌, length, take, Option, arith, ap, sym, subst, ◌∙◌, length-append, length-take-le, take_all}
+use Rattle.std.proofs.lemmas.List.{take_more}
+use Rattle.crack_plain.specs.Plain.{Table}
+use Rattle.crack_core.specs.declared.step.Step.{Step}
+use Rattle.crack_core.specs.Routes.{keys_at}
+use Rattle.crack_core.specs.Steps.{expected, IsOutcome, tables_of, histories_of}
+use Rattle.crack_core.proofs.StepLaws.{Keeps-push, AreExpectedReplies-push, table_at-kept}
+use Rattle.crack_core.proofs.cores.run_all.Goals as goal
+
+pub steps-preserved : goal.steps-preserved
+steps-preserved c =
+    let steps = c.args.steps.now in
+    let i = c.steps.step-index in
+    let results = c.steps.results.items in
+    let s = c.step-item.result in
+    let r = c.ask_part-result.result in
+    let old = c.args.partitions.now in
+    let now = c.steps.partitions in
+    let before = c.steps.invariant in
+    let within : i < length steps = omega arith in
+    let front = take i steps in
+    let grown : take (i + 1) steps ≡ front ++ s ∷ [] = take_more steps i s within ∙ ap (λ (x : Step). front ++ x ∷ []) (sym c.step-item.is) in
+    let long : length results ≡ length front = before.count ∙ sym (length-take-le i steps (omega (arith, within))) in
+    record {
+      room = omega (arith, before.room, c.push_reserved.ensures.capacity);
+      count = omega (arith, before.count, ap length c.push_reserved.ensures.items, length-append results (r ∷ []));
+      replies = λ splits limit are. rw (grown, c.push_reserved.ensures.items) (AreExpectedReplies-push limit splits (tables_of old) front results s r (before.replies splits limit are)
+          (subst (λ (t : Option Table). IsOutcome (expected limit (keys_at splits s.part) t s.command) r) (table_at-kept old now s.part front results before.kept) (c.ask_part-result.ensures.outcome splits limit (before.parts splits limit are))));
+      kept = rw (grown, c.push_reserved.ensures.items) (Keeps-push (histories_of old) (histories_of now) (histories_of c.ask_part-result.new.partitions) front results s r long before.kept c.ask_part-result.ensures.kept);
+      parts = λ splits limit are. c.ask_part-result.ensures.parts splits limit (before.parts splits limit are);
+    }
+
+pub returns-clause-replies : goal.returns-clause-replies
+returns-clause-replies c = λ splits limit are.
+    let all : take c.steps.step-index c.args.steps.now ≡ c.args.steps.now = take_all c.steps.step-index c.args.steps.now (omega arith) in
+    rw all at (c.steps.invariant.replies splits limit are)

@@ -1,0 +1,5 @@
+pub mod Cores
+pub mod Opening
+pub mod Receipts
+pub mod Routes
+pub mod Steps

@@ -1,0 +1,103 @@
+-- What the steps of many workers are to be answered, and what they leave.
+use Rattle.std.specs.Prelude.{◌≡◌, ◌⊎◌, ℕ, ◌+◌, ◌==◌, Bool, true, List, [], ◌∷◌, ◌++◌, length, map, take, Option, None, Some, Result, Ok, Err, IsOk, nat_le, slice_get, slice_set, slice_index_or, sum_by, if◌then◌else◌}
+use Rattle.std.specs.Option.{option_map}
+use Rattle.crack_row.specs.Ranges.{Range, is_in}
+use Rattle.crack_row.specs.Commands.{key_of}
+use Rattle.crack_row.specs.Layouts.{IsLayout}
+use Rattle.crack_row.specs.declared.Bound.{Bound}
+use Rattle.crack_row.specs.declared.Key.{Key}
+use Rattle.crack_row.specs.declared.command.Command.{Command}
+use Rattle.crack_row.specs.declared.command.Entry.{Entry}
+use Rattle.crack_row.specs.declared.command.Reply.{Reply}
+use Rattle.crack_row.specs.declared.layout.Layout.{Layout}
+use Rattle.crack_row.specs.declared.refusal.Refusal.{Refusal}
+use Rattle.crack_row.specs.declared.refusal.Refusal.TheVariants.{KeyOutside, NoSuchPartition, HistoryFull, OutOfMemory}
+use Rattle.crack_plain.specs.Plain.{Table, no_rows, reply_to, after, replay}
+use Rattle.crack_part.specs.Parts.{Part}
+use Rattle.crack_core.specs.Routes.{keys_at}
+use Rattle.crack_core.specs.declared.step.Step.{Step}
+
+-- whether a key, if there is one, is one of these
+abbrev pub is_key_in : Range → Option Key → Bool
+is_key_in keys None = true
+is_key_in keys (Some key) = is_in keys key.0
+
+-- what a partition of these keys, whose history may have so many entries, is to answer; there may be none
+abbrev pub expected : ℕ → Range → Option Table → Command → Result Reply Refusal
+expected limit keys None command = Err NoSuchPartition
+expected limit keys (Some table) command = if is_key_in keys (key_of command) then (if nat_le limit table.accepted then Err (HistoryFull limit) else Ok (reply_to table.state command)) else Err KeyOutside
+
+-- what the partition of this number is to answer
+abbrev pub expected_at : ℕ → List Bound → List Table → ℕ → Command → Result Reply Refusal
+expected_at limit splits tables part command = expected limit (keys_at splits part) (slice_get tables part) command
+
+-- what comes out is what is expected, or, in place of a reply, a want of memory
+abbrev pub IsOutcome : Result Reply Refusal → Result Reply Refusal → Type 0
+IsOutcome expected outcome = (outcome ≡ expected) ⊎ ((outcome ≡ Err OutOfMemory) × IsOk expected)
+
+-- a partition without rows, that has answered nothing
+abbrev pub fresh_table : Table
+fresh_table = record { state = no_rows; accepted = 0 }
+
+-- a partition after an answered command: its rows, and one entry more
+abbrev pub table_after : Table → Command → Table
+table_after table command = record { state = after table.state command; accepted = table.accepted + 1 }
+
+-- a partition after several answered commands
+abbrev pub table_after_all : Table → List Command → Table
+table_after_all table [] = table
+table_after_all table (command ∷ commands) = table_after_all (table_after table command) commands
+
+-- the partitions after what came out of asking one of them: a refusal leaves all as they were
+abbrev pub tables_after : List Table → ℕ → Command → Result Reply Refusal → List Table
+tables_after tables part command (Ok reply) = slice_set tables part (table_after (slice_index_or tables part fresh_table) command)
+tables_after tables part command (Err e) = tables
+
+-- what comes out of asking for a layout: 5 where there is no such partition, else any layout between the partition's ends
+-- that has as many rows as there are plain rows, or a want of memory
+abbrev pub IsLayoutOutcome : Range → Option Table → Result Layout Refusal → Type 0
+IsLayoutOutcome keys None outcome = outcome ≡ Err NoSuchPartition
+IsLayoutOutcome keys (Some table) (Ok layout) = IsLayout keys layout × (layout.rows ≡ length table.state.rows)
+IsLayoutOutcome keys (Some table) (Err e) = e ≡ OutOfMemory
+
+-- the plain rows after a history, and how many entries it has
+abbrev pub table_of : List Entry → Table
+table_of history = record { state = replay history; accepted = length history }
+
+-- the same of each partition
+abbrev pub tables_of : List Part → List Table
+tables_of parts = map (λ (part : Part). table_of part.history) parts
+
+-- the histories of partitions
+abbrev pub histories_of : List Part → List (List Entry)
+histories_of parts = map (λ (part : Part). part.history) parts
+
+-- how many commands partitions have answered together
+abbrev pub accepted_by : List Part → ℕ
+accepted_by parts = sum_by (λ (part : Part). length part.history) parts
+
+-- the entries that one partition keeps of these steps: of each of its own that was answered, in order
+abbrev pub entries_at : ℕ → List Step → List (Result Reply Refusal) → List Entry
+entries_at part [] results = []
+entries_at part (step ∷ steps) [] = []
+entries_at part (step ∷ steps) (Ok reply ∷ results) = if step.part == part then record { worker = step.worker; command = step.command; reply = reply } ∷ entries_at part steps results else entries_at part steps results
+entries_at part (step ∷ steps) (Err e ∷ results) = entries_at part steps results
+
+-- each history is the old one, and then the entries of its answered steps
+abbrev pub Keeps : List (List Entry) → List Step → List (Result Reply Refusal) → List (List Entry) → Type 0
+Keeps old steps results new = (part : ℕ) → slice_get new part ≡ option_map (λ history. history ++ entries_at part steps results) (slice_get old part)
+
+-- the commands that one partition answered of these steps, in order
+abbrev pub answered_at : ℕ → List Step → List (Result Reply Refusal) → List Command
+answered_at part steps results = map (λ (entry : Entry). entry.command) (entries_at part steps results)
+
+-- one partition after its answered steps, if there is such a partition
+abbrev pub table_at : List Table → ℕ → List Step → List (Result Reply Refusal) → Option Table
+table_at tables part steps results = option_map (λ table. table_after_all table (answered_at part steps results)) (slice_get tables part)
+
+-- the expected replies: each step comes out as its partition is to answer after those of its own steps that it answered before; neither
+-- workers nor policies nor other partitions' steps matter
+pub record AreExpectedReplies (limit : ℕ) (splits : List Bound) (tables : List Table) (steps : List Step) (results : List (Result Reply Refusal)) : Type 0 where
+  pub each : length results ≡ length steps
+  pub outcomes : (k : ℕ) (step : Step) (result : Result Reply Refusal) → slice_get steps k ≡ Some step → slice_get results k ≡ Some result →
+      IsOutcome (expected limit (keys_at splits step.part) (table_at tables step.part (take k steps) (take k results)) step.command) result

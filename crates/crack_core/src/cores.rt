@@ -1,0 +1,192 @@
+//! Partitions that one thread asks.
+ghost use Rattle.std.specs.Prelude.{◌≡◌, ◌≢◌, ℕ, ◌+◌, ◌≤◌, vec_capacity, List, [], ◌∷◌, length, All, is_ok, IsOk, None, Some, IfOk, IfErr, OnErr, OnOk, slice_get, if◌then◌else◌};
+ghost use Rattle.crack_row.specs.declared.Bound.{Bound};
+ghost use Rattle.crack_plain.specs.Plain.{Table, IsNumbered, IsSmall};
+ghost use Rattle.crack_part.specs.Parts.{Part};
+ghost use Rattle.crack_core.specs.Routes.{AreSplits, keys_at, route, parts_of};
+ghost use Rattle.crack_core.specs.Opening.{opening_fault, MayFault, AreParts};
+ghost use Rattle.crack_core.specs.Steps.{expected_at, IsOutcome, IsLayoutOutcome, tables_of, tables_after, histories_of, accepted_by, Keeps, AreExpectedReplies};
+ghost use Rattle.crack_store.specs.Inside.{IsLayoutOf};
+ghost use Rattle.crack_core.specs.Cores.{IsCore, ServesAt, SparesAt};
+
+use crate::opening::{limit_fault, open_partitions, splits_fault};
+use crate::routes;
+use crate::step::{Step, ask};
+use crack_part::Partition;
+use crack_row::{Bound, Key, KeyRange, Layout, Refusal, Reply};
+use smallvec::SmallVec;
+use std::alloc::Global;
+use std::marker::Model;
+
+/// Partitions by key range, which one thread asks. Contracts see its splits, the limit of each history, and its partitions.
+#[derive(Drop)]
+pub struct Core {
+    splits: Vec<Bound>,
+    limit: u64,
+    partitions: Vec<Partition>,
+}
+
+impl Model for Core {
+    ghost use Rattle.crack_core.specs.Cores.{CoreState, IsCore};
+
+    ghost Value = { CoreState };
+
+    ghost view = { λ c. record { splits = c.splits.items; limit = c.limit; parts = c.partitions.items } };
+
+    ghost invariant = { λ c. let core : CoreState = record { splits = c.splits.items; limit = c.limit; parts = c.partitions.items } in IsCore core };
+}
+
+impl Core {
+    /// Partitions without rows, one more than splits, each with a history of at most `limit` entries. Refused, in this order: with 11 where
+    /// the splits don't rise strictly or one isn't 1 to `GREATEST_KEY`, with 12 where they are more than `MOST_SPLITS`, with 14 where
+    /// the limit isn't 1 to `GREATEST_LIMIT`, and with 8 where no memory is found.
+    pub fn open(alloc: Global, splits: &[Bound], limit: u64) -> Result<Core, Refusal>
+        ensures opened { IfOk result (λ core. (core.splits ≡ splits.now) × (core.limit ≡ limit)) }
+        ensures fresh { IfOk result (λ core. All (λ (part : Part). part.history ≡ []) core.parts) }
+        ensures none { OnOk result (opening_fault splits.now limit ≡ None) }
+        ensures fault { IfErr result (λ e. MayFault splits.now limit e) }
+    {
+        if let Some(fault) = splits_fault(splits) {
+            return Err(fault);
+        }
+        if let Some(fault) = limit_fault(limit) {
+            return Err(fault);
+        }
+        let kept = Vec::from_slice(alloc, splits)?;
+        let partitions = open_partitions(alloc, splits, limit)?;
+        Ok(Core {
+            splits: kept,
+            limit,
+            partitions,
+        })
+    }
+
+    /// States what is true of every core, and does nothing.
+    pub fn facts(&self)
+        ensures { IsCore self.now }
+    {
+        let _ = &self.partitions;
+    }
+
+    /// Where one partition ends and the next begins. Takes no memory.
+    pub fn splits(&self) -> &[Bound]
+        ensures value { result.now ≡ self.now.splits }
+        ensures good { AreSplits self.now.splits }
+        ensures partitions { length (tables_of self.now.parts) ≡ length self.now.splits + 1 }
+        ensures numbered { All (λ (table : Table). IsNumbered table.state) (tables_of self.now.parts) }
+    {
+        self.splits.as_slice()
+    }
+
+    /// The partition in which a key falls. O(log splits).
+    pub fn route(&self, key: Key) -> u32
+        ensures { result ≡ route self.now.splits key.0 }
+    {
+        routes::route(&self.splits, key)
+    }
+
+    /// The partitions that a range meets, as `parts_of` gives them for its splits. Up to 8 take no memory; refused with 8 where more find none.
+    pub fn parts_of(&self, range: KeyRange) -> Result<SmallVec<(u32, KeyRange), 8>, Refusal>
+        ensures ok { IfOk result (λ parts. parts.items ≡ parts_of self.now.splits range) }
+        ensures few { IfOk result (λ parts. length parts.items ≤ length self.now.splits + 1) }
+        ensures spare { length (parts_of self.now.splits range) ≤ 8 → IsOk result }
+        ensures err { IfErr result (λ e. e ≡ Refusal.OutOfMemory) }
+    {
+        routes::parts_of(*self.splits.allocator(), &self.splits, range)
+    }
+
+    /// What stands where in one partition. It cracks and merges nothing, and isn't kept. Refused with 5 where there is no such
+    /// partition, and with 8 where it finds no memory. O(pieces).
+    pub fn layout(&self, part: u32) -> Result<Layout, Refusal>
+        ensures outcome { IsLayoutOutcome (keys_at self.now.splits part) (slice_get (tables_of self.now.parts) part) result }
+        ensures store { IfOk result (λ layout. (p : Part) → slice_get self.now.parts part ≡ Some p → IsLayoutOf p.store layout) }
+    {
+        match self.partitions.get(part as usize) {
+            Some(partition) => partition.layout(),
+            None => Err(Refusal::NoSuchPartition),
+        }
+    }
+
+    /// Asks one partition, by one `Partition::apply`. Refused, in this order: with 5 where there is no such partition, with 4 where the
+    /// command brings a key that isn't the partition's, with 6 where its history is full, and with 8 where no memory is found. After 4, 5
+    /// and 6 nothing has changed, and after 8 what `Partition::apply` says.
+    #[inline(always)]
+    pub fn step(&mut self, step: Step) -> Result<Reply, Refusal>
+        // It is the reply of the partition's plain rows, or the refusal that they call for; in place of a reply it may be 8.
+        ensures outcome { IsOutcome (expected_at self.old.limit self.old.splits (tables_of self.old.parts) step.part step.command) result }
+        // The plain rows change as the reply says, and a refusal leaves them.
+        ensures after { tables_of self.new.parts ≡ tables_after (tables_of self.old.parts) step.part step.command result }
+        ensures kept { Keeps (histories_of self.old.parts) (step ∷ []) (result ∷ []) (histories_of self.new.parts) }
+        ensures accepted { accepted_by self.new.parts ≡ (if is_ok result then accepted_by self.old.parts + 1 else accepted_by self.old.parts) }
+        ensures small { IfOk result IsSmall }
+        ensures opened { (self.new.splits ≡ self.old.splits) × (self.new.limit ≡ self.old.limit) }
+
+        ensures others { (k : ℕ) → k ≢ step.part → slice_get self.new.parts k ≡ slice_get self.old.parts k }
+        ensures store { OnOk result (ServesAt step self.old.parts self.new.parts) }
+        ensures spared { OnErr result (SparesAt step self.old.parts self.new.parts) }
+        ensures same { IfErr result (λ e. e ≢ Refusal.OutOfMemory → self.new ≡ self.old) }
+    {
+        ask_part(&mut self.partitions, step)
+    }
+
+    /// Makes these steps one after the other, and answers what comes out of each. A step that is refused leaves what `step` says, and the
+    /// next one is made. Refused with 8, before the first step, where the list of the answers finds no memory.
+    pub fn run_steps(&mut self, steps: &[Step]) -> Result<Vec<Result<Reply, Refusal>>, Refusal>
+        ensures replies { IfOk result (λ results. AreExpectedReplies self.old.limit self.old.splits (tables_of self.old.parts) steps.now results.items) }
+        ensures kept { IfOk result (λ results. Keeps (histories_of self.old.parts) steps.now results.items (histories_of self.new.parts)) }
+        ensures opened { (self.new.splits ≡ self.old.splits) × (self.new.limit ≡ self.old.limit) }
+        ensures same { OnErr result (self.new ≡ self.old) }
+        ensures err { IfErr result (λ e. e ≡ Refusal.OutOfMemory) }
+    {
+        let mut results = Vec::with_capacity(*self.partitions.allocator(), steps.len())?;
+        run_all(&mut self.partitions, steps, &mut results);
+        Ok(results)
+    }
+
+    /// How many commands were answered by its partitions. O(partitions).
+    pub fn accepted(&self) -> u64
+        ensures { result ≡ accepted_by self.now.parts }
+    {
+        let mut accepted = 0;
+        for partition in &self.partitions {
+            partition.facts();
+            accepted += partition.history().len() as u64;
+        }
+        accepted
+    }
+}
+
+/// Asks the partition of a step, if there is one.
+#[inline(always)]
+fn ask_part(partitions: &mut [Partition], step: Step) -> Result<Reply, Refusal>
+    ensures outcome { (splits : List Bound) (limit : ℕ) → AreParts splits limit partitions.old → IsOutcome (expected_at limit splits (tables_of partitions.old) step.part step.command) result }
+    ensures after { tables_of partitions.new ≡ tables_after (tables_of partitions.old) step.part step.command result }
+    ensures kept { Keeps (histories_of partitions.old) (step ∷ []) (result ∷ []) (histories_of partitions.new) }
+    ensures accepted { accepted_by partitions.new ≡ (if is_ok result then accepted_by partitions.old + 1 else accepted_by partitions.old) }
+    ensures parts { (splits : List Bound) (limit : ℕ) → AreParts splits limit partitions.old → AreParts splits limit partitions.new }
+    ensures small { IfOk result IsSmall }
+    ensures others { (k : ℕ) → k ≢ step.part → slice_get partitions.new k ≡ slice_get partitions.old k }
+    ensures store { OnOk result (ServesAt step partitions.old partitions.new) }
+    ensures spared { OnErr result (SparesAt step partitions.old partitions.new) }
+    ensures same { IfErr result (λ e. e ≢ Refusal.OutOfMemory → partitions.new ≡ partitions.old) }
+{
+    let part = step.part as usize;
+    if part >= partitions.len() {
+        return Err(Refusal::NoSuchPartition);
+    }
+    ask(&mut partitions[part], step)
+}
+
+/// Makes steps one after the other, and adds what comes out of each where there is room.
+fn run_all(partitions: &mut [Partition], steps: &[Step], results: &mut Vec<Result<Reply, Refusal>>)
+    requires empty { results.old.items ≡ [] }
+    requires room { length steps.now ≤ vec_capacity results.old }
+    ensures replies { (splits : List Bound) (limit : ℕ) → AreParts splits limit partitions.old → AreExpectedReplies limit splits (tables_of partitions.old) steps.now results.new.items }
+    ensures kept { Keeps (histories_of partitions.old) steps.now results.new.items (histories_of partitions.new) }
+    ensures parts { (splits : List Bound) (limit : ℕ) → AreParts splits limit partitions.old → AreParts splits limit partitions.new }
+{
+    'steps: for step in steps {
+        let result = ask_part(partitions, *step);
+        results.push_reserved(result);
+    }
+}

@@ -1,0 +1,19 @@
+//! Partitions by key range, asked by one thread; the receipts of workers, and the books that keep them.
+#![tactic(auto)]
+
+pub mod book;
+pub mod cores;
+pub mod opening;
+pub mod receipt;
+pub mod routes;
+pub mod step;
+
+pub use book::Book;
+pub use cores::Core;
+pub use opening::{limit_fault, open_partitions, splits_fault};
+pub use receipt::Receipt;
+pub use routes::{keys_at, only_part, parts_of, route};
+pub use step::Step;
+
+/// The greatest number of splits, one fewer than that of partitions.
+pub const MOST_SPLITS: usize = 63;

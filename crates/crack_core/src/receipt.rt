@@ -1,0 +1,13 @@
+//! Receipts.
+
+use crack_row::{Command, Reply};
+
+/// What a worker was replied to a command, and where its entry stands: in which partition, and how many entries stand before it there.
+#[derive(Drop, Debug)]
+pub struct Receipt {
+    pub part: u32,
+    pub position: u64,
+    pub worker: u32,
+    pub command: Command,
+    pub reply: Reply,
+}

@@ -1,0 +1,127 @@
+//! Which partitions a key or a range meets, where splits cut the keys into partitions.
+ghost use Rattle.std.specs.Prelude.{◌≡◌, ◌+◌, ◌-◌, ◌<◌, ◌≤◌, [], ◌∷◌, length, IsOk, IfOk, IfErr, IfSome, IfNone};
+ghost use Rattle.crack_row.specs.Ranges.{IsIn};
+ghost use Rattle.crack_core.specs.Routes.{AreSplits, keys_at, route, parts_of};
+ghost use Rattle.smallvec.specs.SmallVec.{HasRoomFor};
+
+use crack_row::{Bound, GREATEST_BOUND, Key, KeyRange, Refusal};
+use smallvec::SmallVec;
+use std::alloc::Global;
+
+/// The partition in which a key falls: partition 0 has the keys below the first split, and each later one those from its split on.
+/// O(log splits).
+pub fn route(splits: &[Bound], key: Key) -> u32
+    requires { AreSplits splits.now }
+    ensures value { result ≡ route splits.now key.0 }
+    ensures there { result ≤ length splits.now }
+    ensures within { IsIn (keys_at splits.now result) key.0 }
+{
+    splits_up_to(splits, u64::from(key.0)) as u32
+}
+
+/// The partitions that a range meets, in rising order, each with its part of the range; an empty range goes as it is to the partition in
+/// which its low end falls, the last one where that is the greatest bound. O(log splits + partitions met). Up to 8 partitions take no
+/// memory; refused with 8 where more find none.
+pub fn parts_of(
+    alloc: Global,
+    splits: &[Bound],
+    range: KeyRange,
+) -> Result<SmallVec<(u32, KeyRange), 8>, Refusal>
+    requires { AreSplits splits.now }
+    ensures ok { IfOk result (λ parts. parts.items ≡ parts_of splits.now range) }
+    ensures few { IfOk result (λ parts. length parts.items ≤ length splits.now + 1) }
+    ensures spare { length (parts_of splits.now range) ≤ 8 → IsOk result }
+    ensures err { IfErr result (λ e. e ≡ Refusal.OutOfMemory) }
+{
+    let mut parts = SmallVec::new(alloc);
+    if let Some(part) = only_part(splits, range) {
+        parts.push_reserved((part, range));
+        return Ok(parts);
+    }
+    let first = splits_up_to(splits, range.low().0);
+    let last = splits_up_to(splits, range.high().0 - 1);
+    parts.reserve(last + 1 - first)?;
+    push_parts(&mut parts, splits, range, first, last);
+    Ok(parts)
+}
+
+/// The partition that alone has keys of a range, or in which an empty range falls; `None` where several have. Takes no memory.
+/// O(log splits).
+pub fn only_part(splits: &[Bound], range: KeyRange) -> Option<u32>
+    requires { AreSplits splits.now }
+    ensures one { IfSome result (λ part. parts_of splits.now range ≡ (part, range) ∷ []) }
+    ensures several { IfNone result (1 < length (parts_of splits.now range)) }
+    ensures filled { IfNone result (range.low < range.high) }
+{
+    let first = splits_up_to(splits, range.low().0);
+    if range.is_empty() {
+        return Some(first as u32);
+    }
+    if range.high().0 > high_end(splits, first) {
+        return None;
+    }
+    Some(first as u32)
+}
+
+/// The keys of a partition.
+pub fn keys_at(splits: &[Bound], part: usize) -> KeyRange
+    requires splits { AreSplits splits.now }
+    requires there { part ≤ length splits.now }
+    ensures { result ≡ keys_at splits.now part }
+{
+    let low = low_end(splits, part);
+    let high = high_end(splits, part);
+    match KeyRange::new(u128::from(low), u128::from(high)) {
+        Ok(keys) => keys,
+        Err(_) => unreachable!(),
+    }
+}
+
+/// Adds the parts of a range in the partitions from `first` to `last`.
+fn push_parts(
+    parts: &mut SmallVec<(u32, KeyRange), 8>,
+    splits: &[Bound],
+    range: KeyRange,
+    first: usize,
+    last: usize,
+)
+    requires splits { AreSplits splits.now }
+    requires filled { range.low < range.high }
+    requires bounded { range.high ≤ GREATEST_BOUND }
+    requires first { first ≡ route splits.now range.low }
+    requires last { last ≡ route splits.now (range.high - 1) }
+    requires empty { parts.old.items ≡ [] }
+    requires room { HasRoomFor parts.old (last + 1 - first) }
+    ensures { parts.new.items ≡ parts_of splits.now range }
+{
+    for part in first..last + 1 {
+        parts.push_reserved((part as u32, range.clip(keys_at(splits, part))));
+    }
+}
+
+/// How many splits are at or below a number. O(log splits).
+fn splits_up_to(splits: &[Bound], number: u64) -> usize
+    requires { AreSplits splits.now }
+    ensures value { result ≡ route splits.now number }
+    ensures within { result ≤ length splits.now }
+{
+    splits.partition_point(|split| split.0 <= number)
+}
+
+/// The low end of a partition's keys.
+fn low_end(splits: &[Bound], part: usize) -> u64
+    requires { part ≤ length splits.now }
+    ensures { result ≡ (keys_at splits.now part).low }
+{
+    if part == 0 { 0 } else { splits[part - 1].0 }
+}
+
+/// The high end of a partition's keys.
+fn high_end(splits: &[Bound], part: usize) -> u64
+    ensures { result ≡ (keys_at splits.now part).high }
+{
+    match splits.get(part) {
+        Some(split) => split.0,
+        None => GREATEST_BOUND,
+    }
+}
