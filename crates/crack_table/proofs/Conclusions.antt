@@ -1,0 +1,139 @@
+-- From marks, strangers and late receipts to a cover, or to the place of its fault.
+use Rattle.std.proofs.Common.{◌≡◌, ◌≢◌, ◌<◌, ℕ, List, [], ◌∷◌, ◌++◌, length, map, Bool, true, false, cond, ◌||◌, not, Option, Some, None, refl, ap, arith, sym, get_or, zero, suc, ◌∙◌, subst, append-nil, inl, inr, ⊎_elim, ◌⊎◌, length-append, append_assoc}
+use Rattle.std.specs.Prelude.{filter, All, AllPairs, if◌then◌else◌}
+use Rattle.std.specs.List.{list_any}
+use Rattle.std.specs.Option.{option_map}
+use Rattle.std.proofs.lemmas.Bool.Decides.{nat_tests}
+use Rattle.std.proofs.lemmas.List.Elements.{All-nil, All-cons, All-head, All-tail}
+use Rattle.std.proofs.lemmas.List.Folds.{Any-from_list_any}
+use Rattle.std.proofs.lemmas.List.{get_or_append_left, get_or_at, get_or_default}
+use Rattle.std.proofs.lemmas.List.Quantifiers.{all_pairs_push}
+use Rattle.crack_row.specs.declared.command.Entry.{Entry}
+use Rattle.crack_core.specs.declared.receipt.Receipt.{Receipt}
+use Rattle.crack_core.specs.Receipts.{entry_of}
+use Rattle.crack_table.specs.declared.marks.Mark.{Mark}
+use Rattle.crack_table.specs.declared.marks.Mark.TheVariants.{Unnamed, Met, Failed}
+use Rattle.crack_table.specs.Cover.{at, names, has_place, AllMet, IsLeastUnmet, first_stranger, first_late, is_late, Rises, IsFault, place_of, Covers}
+use Rattle.crack_table.specs.Marks.{MarkIs, MarkIsAt, Marked, IsFirstOpen}
+
+met_at : (e : Entry) (o : Option Mark) (named : List Receipt) → MarkIsAt (Some e) o named → ((k : Mark) → o ≡ Some k → k ≡ Met) → map entry_of named ≡ e ∷ []
+met_at e None named is all = absurd is
+met_at e (Some m) named is all = let P : Mark → Type 0 = λ k. MarkIs k e named in subst P (all m refl) is
+
+pub met_all : (hs : List (List Entry)) (ms : List (List Mark)) (rs : List Receipt) → Marked hs ms rs → ((q n : ℕ) (k : Mark) → at ms q n ≡ Some k → k ≡ Met) → AllMet hs rs
+met_all hs ms rs marked all p n e is = met_at e (at ms p n) (filter (names p n) rs) (rw is at (marked p n)) (all p n)
+
+entry_there : (o : Option Entry) (m : Mark) (named : List Receipt) → MarkIsAt o (Some m) named → m ≢ Met → (e : Entry) × (o ≡ Some e) × (map entry_of named ≢ e ∷ [])
+entry_there None m named is ne = absurd is
+entry_there (Some e) Unnamed named is ne = (e, refl, λ h. no_empty named e is h)
+  where
+    no_empty : (named : List Receipt) (e : Entry) → named ≡ [] → map entry_of named ≡ e ∷ [] → ⊥
+    no_empty [] e is h = cc
+    no_empty (x ∷ xs) e is h = cc
+entry_there (Some e) Met named is ne = absurd (ne refl)
+entry_there (Some e) Failed named is ne = (e, refl, is.1)
+
+pub unmet_least : (hs : List (List Entry)) (ms : List (List Mark)) (rs : List Receipt) (place : ℕ × ℕ) → Marked hs ms rs → IsFirstOpen ms place → IsLeastUnmet hs rs place.0 place.1
+unmet_least hs ms rs place marked first =
+    let there = entry_there (at hs place.0 place.1) first.0 (filter (names place.0 place.1) rs) (rw first.1 at (marked place.0 place.1)) first.2 in (
+      there.0,
+      there.1,
+      there.2,
+      λ q m d before is. met_at d (at ms q m) (filter (names q m) rs) (rw is at (marked q m)) (λ k k_is. first.3 q m k before k_is),
+    )
+
+tail_none : (b : Bool) (r : Receipt) (o : Option Receipt) → cond (not b) (Some r) o ≡ None → (b ≡ true) × (o ≡ None)
+tail_none true r o is = (refl, is)
+tail_none false r o is = cc
+
+pub all_placed : (hs : List (List Entry)) (rs : List Receipt) → first_stranger hs rs ≡ None → All (λ r. has_place hs r ≡ true) rs
+all_placed hs [] none = All-nil (λ r. has_place hs r ≡ true)
+all_placed hs (r ∷ rs) none =
+    let t = tail_none (has_place hs r) r (first_stranger hs rs) none in
+    All-cons (λ r. has_place hs r ≡ true) r rs t.0 (all_placed hs rs t.1)
+
+or_parts : (a b : Bool) → (a || b) ≡ false → (a ≡ false) × (b ≡ false)
+or_parts true b is = cc
+or_parts false b is = (refl, is)
+
+none_at : {X : Type 0} (p : X → Bool) (xs : List X) (k : ℕ) (d : X) → k < length xs → list_any p xs ≡ false → p (get_or xs k d) ≡ false
+none_at p [] k d lt none = absurd (omega arith)
+none_at p (x ∷ xs) zero d lt none = (or_parts (p x) (list_any p xs) none).0
+none_at p (x ∷ xs) (suc k) d lt none = none_at p xs k d (omega arith) (or_parts (p x) (list_any p xs) none).1
+
+not_late : (a r : Receipt) → is_late a r ≡ false → Rises a r
+not_late a r is w p = grind (arith, nat_tests)
+
+if_none : (b : Bool) (r : Receipt) (o : Option Receipt) → (if b then Some r else o) ≡ None → (b ≡ false) × (o ≡ None)
+if_none true r o is = cc
+if_none false r o is = (refl, is)
+
+pub all_rise : (done rs : List Receipt) → first_late done rs ≡ None → AllPairs Rises done → AllPairs Rises (done ++ rs)
+all_rise done [] none rises = rw (append-nil done) rises
+all_rise done (r ∷ rs) none rises =
+    let t = if_none (list_any (λ a. is_late a r) done) r (first_late (done ++ r ∷ []) rs) none in
+    let P : List Receipt → Type 0 = λ l. AllPairs Rises l in
+    subst P (append_assoc done (r ∷ []) rs) (all_rise (done ++ r ∷ []) rs t.1 (all_pairs_push Rises done r rises (λ k d lt. not_late (get_or done k d) r (none_at (λ a. is_late a r) done k d lt t.0))))
+
+pub none_rise : (rs : List Receipt) → first_late [] rs ≡ None → AllPairs Rises rs
+none_rise rs none = all_rise [] rs none (λ i j d lt lt2. absurd (omega arith))
+
+from_map : (o : Option Receipt) (place : ℕ × ℕ) → Some place ≡ option_map place_of o → (r : Receipt) × (o ≡ Some r) × (r.part ≡ place.0) × (r.position ≡ place.1)
+from_map None place is = cc
+from_map (Some r) place is = let e : place ≡ place_of r = cc in (r, refl, sym (ap (λ p. p.0) e), sym (ap (λ p. p.1) e))
+
+pub stranger_fault : (hs : List (List Entry)) (rs : List Receipt) (place : ℕ × ℕ) → AllMet hs rs → Some place ≡ option_map place_of (first_stranger hs rs) → IsFault hs rs place.0 place.1
+stranger_fault hs rs place met is = inr (inl (met, from_map (first_stranger hs rs) place is))
+
+pub late_fault : (hs : List (List Entry)) (rs : List Receipt) (place : ℕ × ℕ) → AllMet hs rs → first_stranger hs rs ≡ None → Some place ≡ option_map place_of (first_late [] rs) → IsFault hs rs place.0 place.1
+late_fault hs rs place met none is = inr (inr (met, none, from_map (first_late [] rs) place is))
+
+found_absurd : (b : Bool) (r s : Receipt) (o : Option Receipt) → b ≡ true → cond (not b) (Some s) o ≡ Some r → o ≡ Some r
+found_absurd true r s o b_is is = is
+found_absurd false r s o b_is is = cc
+
+stranger_absurd : (hs : List (List Entry)) (rs : List Receipt) (r : Receipt) → first_stranger hs rs ≡ Some r → All (λ r. has_place hs r ≡ true) rs → ⊥
+stranger_absurd hs [] r is all = cc
+stranger_absurd hs (s ∷ ss) r is all =
+    stranger_absurd hs ss r (found_absurd (has_place hs s) r s (first_stranger hs ss) (All-head (λ r. has_place hs r ≡ true) s ss all) is) (All-tail (λ r. has_place hs r ≡ true) s ss all)
+
+late_positions : (a x : Receipt) → is_late a x ≡ true → Rises a x → ⊥
+late_positions a x late rises =
+    let w : a.worker ≡ x.worker = grind (arith, nat_tests) in
+    let p : a.part ≡ x.part = grind (arith, nat_tests) in
+    let lt : a.position < x.position = rises w p in
+    grind (arith, nat_tests, lt)
+
+late_here : (done : List Receipt) (x : Receipt) (rs : List Receipt) → list_any (λ a. is_late a x) done ≡ true → AllPairs Rises (done ++ x ∷ rs) → ⊥
+late_here done x rs late rises =
+    let some = Any-from_list_any (λ a. is_late a x) done late in
+    let k = some.0 in
+    let pair : Rises (get_or (done ++ x ∷ rs) k x) (get_or (done ++ x ∷ rs) (length done) x) = rises k (length done) x some.2 (rw length-append (omega arith)) in
+    let first : get_or (done ++ x ∷ rs) k x ≡ get_or done k x = get_or_append_left done (x ∷ rs) x k some.2 in
+    let second : get_or (done ++ x ∷ rs) (length done) x ≡ x = get_or_at done x rs x (length done) refl in
+    let default : get_or done k x ≡ some.1 = get_or_default done k x some.1 some.2 ∙ some.3 in
+    late_positions some.1 x some.4 (rw (first, second, default) at pair)
+
+if_some : (b : Bool) (r x : Receipt) (o : Option Receipt) → (if b then Some x else o) ≡ Some r → (b ≡ true) ⊎ (o ≡ Some r)
+if_some true r x o is = inl refl
+if_some false r x o is = inr is
+
+late_absurd : (done rs : List Receipt) (r : Receipt) → first_late done rs ≡ Some r → AllPairs Rises (done ++ rs) → ⊥
+late_absurd done [] r is rises = cc
+late_absurd done (x ∷ rs) r is rises =
+    let P : List Receipt → Type 0 = λ l. AllPairs Rises l in
+    ⊎_elim
+    (λ here. late_here done x rs here rises)
+    (λ later. late_absurd (done ++ x ∷ []) rs r later (subst P (sym (append_assoc done (x ∷ []) rs)) rises))
+    (if_some (list_any (λ a. is_late a x) done) r x (first_late (done ++ x ∷ []) rs) is)
+
+-- where a place is at fault the receipts don't cover the histories
+pub fault_uncovered : (hs : List (List Entry)) (rs : List Receipt) (p n : ℕ) → IsFault hs rs p n → Covers hs rs → ⊥
+fault_uncovered hs rs p n fault covers =
+    ⊎_elim
+    (λ unmet. unmet.2 (covers.met p n unmet.0 unmet.1))
+    (λ other. ⊎_elim
+    (λ strange. stranger_absurd hs rs strange.1.0 strange.1.1 covers.placed)
+    (λ late. late_absurd [] rs late.2.0 late.2.1 covers.rising)
+    other)
+    fault

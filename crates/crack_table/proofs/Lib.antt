@@ -1,0 +1,10 @@
+mod Places
+mod Marking
+mod Opens
+mod Lates
+mod Conclusions
+mod Counting
+mod Totals
+mod Missing
+mod Refusing
+mod Others

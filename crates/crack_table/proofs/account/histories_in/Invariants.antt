@@ -1,0 +1,6 @@
+use Rattle.std.proofs.Common.{◌≡◌, map, take}
+use Rattle.crack_table.specs.Gather.{histories_of}
+use Rattle.crack_table.proofs.account.histories_in.Given as goal
+
+abbrev pub invariant-parts : goal.invariant-parts
+invariant-parts l = map (λ h. h.now) l.histories.items ≡ histories_of (take l.part-index l.parts.items)

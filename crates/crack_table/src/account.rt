@@ -1,0 +1,159 @@
+//! Whether partitions and workers come to one account.
+ghost use Rattle.std.specs.Prelude.{◌≡◌, ◌+◌, ◌<◌, ◌≤◌, ◌^◌, length, map, sum_by, All, IfOk, IfErr, OnOk, IfSome, IfNone, IsTrue, ◌↔◌};
+ghost use Rattle.std.specs.List.{flat_map};
+ghost use Rattle.crack_plain.specs.Totals.{accepted, inserted, deleted};
+ghost use Rattle.crack_part.specs.Parts.{IsSound};
+ghost use Rattle.crack_core.specs.Receipts.{BookState, entries_of};
+ghost use Rattle.crack_core.specs.Opening.{AreParts};
+ghost use Rattle.crack_core.specs.Routes.{AreSplits};
+ghost use Rattle.crack_table.specs.Cover.{Covers};
+ghost use Rattle.crack_table.specs.Gather.{histories_of, receipts_of, IsTables, IsFirstOther, AreShares, AreTotals, MayNotAgree};
+
+use crate::covering::cover;
+use crate::worker::Worker;
+use crack_core::{Receipt, keys_at};
+use crack_part::Partition;
+use crack_row::{Bound, Entry, Refusal};
+use std::alloc::{AllocError, Global};
+
+/// The sums of the workers' shares, and how many rows are left.
+#[derive(Clone, Copy, Drop)]
+pub(crate) struct Sums {
+    pub(crate) accepted: u64,
+    pub(crate) inserted: u64,
+    pub(crate) deleted: u64,
+    pub(crate) held: u64,
+}
+
+/// The sums where the partitions are those of the splits and the limit, and the workers' receipts cover their histories.
+/// Refused with 16 at the first partition that is another, or as `cover` is; with 8 where it finds no memory.
+pub(crate) fn account(
+    alloc: Global,
+    splits: &[Bound],
+    limit: u64,
+    parts: &Vec<Partition>,
+    workers: &Vec<Worker>,
+) -> Result<Sums, Refusal>
+    requires count { length parts.now.items ≡ length splits.now + 1 }
+    requires rising { AreSplits splits.now }
+    ensures parts { OnOk result (AreParts splits.now limit parts.now.items) }
+    ensures covered { OnOk result (Covers (histories_of parts.now.items) (receipts_of workers.now.items)) }
+    ensures shares { IfOk result (λ s. AreShares workers.now.items s.accepted s.inserted s.deleted) }
+    ensures totals { IfOk result (λ s. AreTotals parts.now.items s.accepted s.inserted s.deleted s.held) }
+    ensures causes { IfErr result (MayNotAgree splits.now limit workers.now.items) }
+{
+    facts(parts);
+    if let Some(part) = first_other(splits, limit, parts) {
+        return Err(Refusal::StrangeReceipt { part, position: 0 });
+    }
+    let histories = histories_in(alloc, parts)?;
+    let receipts = receipts_in(alloc, workers)?;
+    match cover(alloc, histories.as_slice(), receipts.as_slice()) {
+        Ok(()) => Ok(sums_of(parts, workers)),
+        Err(refusal) => Err(refusal),
+    }
+}
+
+/// States what is true of every partition, and does nothing: O(partitions).
+fn facts(parts: &Vec<Partition>)
+    ensures { All IsSound parts.now.items }
+{
+    'parts: for part in parts {
+        part.facts();
+    }
+}
+
+/// The first partition whose keys or limit are others.
+fn first_other(splits: &[Bound], limit: u64, parts: &Vec<Partition>) -> Option<u32>
+    requires count { length parts.now.items ≡ length splits.now + 1 }
+    requires rising { AreSplits splits.now }
+    requires sound { All IsSound parts.now.items }
+    ensures none { IfNone result (AreParts splits.now limit parts.now.items) }
+    ensures some { IfSome result (IsFirstOther splits.now limit parts.now.items) }
+{
+    'parts: for (part, partition) in parts.iter().enumerate() {
+        if !is_tables(splits, limit, part, partition) {
+            return Some(part as u32);
+        }
+    }
+    None
+}
+
+/// Whether a partition has the keys of its number and this limit.
+fn is_tables(splits: &[Bound], limit: u64, part: usize, partition: &Partition) -> bool
+    requires rising { AreSplits splits.now }
+    requires there { part ≤ length splits.now }
+    ensures { IsTrue result ↔ IsTables splits.now limit part partition.now }
+{
+    partition.keys() == keys_at(splits, part) && partition.limit() == limit
+}
+
+/// The histories of partitions.
+fn histories_in<'a>(
+    alloc: Global,
+    parts: &'a Vec<Partition>,
+) -> Result<Vec<&'a [Entry]>, AllocError>
+    ensures { IfOk result (λ v. map (λ h. h.now) v.items ≡ histories_of parts.now.items) }
+{
+    let mut histories = Vec::with_capacity(alloc, parts.len())?;
+    'parts: for part in parts {
+        histories.push(part.history())?;
+    }
+    Ok(histories)
+}
+
+/// The receipts of workers, a list for each.
+fn receipts_in<'a>(
+    alloc: Global,
+    workers: &'a Vec<Worker>,
+) -> Result<Vec<&'a [Receipt]>, AllocError>
+    ensures { IfOk result (λ v. flat_map (λ r. r.now) v.items ≡ receipts_of workers.now.items) }
+{
+    let mut receipts = Vec::with_capacity(alloc, workers.len())?;
+    'workers: for worker in workers {
+        receipts.push(worker.book().receipts())?;
+    }
+    Ok(receipts)
+}
+
+/// The sums of the shares of workers whose receipts cover the histories of partitions: O(workers).
+fn sums_of(parts: &Vec<Partition>, workers: &Vec<Worker>) -> Sums
+    requires covered { Covers (histories_of parts.now.items) (receipts_of workers.now.items) }
+    requires sound { All IsSound parts.now.items }
+    requires few { length parts.now.items ≤ 64 }
+    ensures shares { AreShares workers.now.items result.accepted result.inserted result.deleted }
+    ensures totals { AreTotals parts.now.items result.accepted result.inserted result.deleted result.held }
+{
+    let inserted = inserted_by(workers);
+    let deleted = deleted_by(workers);
+    Sums {
+        accepted: accepted_by(workers),
+        inserted,
+        deleted,
+        held: inserted - deleted,
+    }
+}
+
+/// How many commands workers were answered.
+fn accepted_by(workers: &Vec<Worker>) -> u64
+    requires { sum_by (λ (w : BookState). accepted (entries_of w.receipts)) workers.now.items < 2 ^ 64 }
+    ensures { result ≡ sum_by (λ (w : BookState). accepted (entries_of w.receipts)) workers.now.items }
+{
+    workers.iter().map(|worker| worker.book().accepted()).sum()
+}
+
+/// How many rows workers placed.
+fn inserted_by(workers: &Vec<Worker>) -> u64
+    requires { sum_by (λ (w : BookState). inserted (entries_of w.receipts)) workers.now.items < 2 ^ 64 }
+    ensures { result ≡ sum_by (λ (w : BookState). inserted (entries_of w.receipts)) workers.now.items }
+{
+    workers.iter().map(|worker| worker.book().inserted()).sum()
+}
+
+/// How many rows workers took out.
+fn deleted_by(workers: &Vec<Worker>) -> u64
+    requires { sum_by (λ (w : BookState). deleted (entries_of w.receipts)) workers.now.items < 2 ^ 64 }
+    ensures { result ≡ sum_by (λ (w : BookState). deleted (entries_of w.receipts)) workers.now.items }
+{
+    workers.iter().map(|worker| worker.book().deleted()).sum()
+}

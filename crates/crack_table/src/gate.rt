@@ -1,0 +1,42 @@
+//! What a command waits for under a lock.
+ghost use Rattle.std.specs.Prelude.{◌≡◌, ◌<◌, ℕ, IfErr};
+ghost use Rattle.std.specs.Bool.{OnFalse};
+
+use crate::GATE_TURNS;
+use crack_row::Refusal;
+
+/// What is asked, while a partition's lock is held, whether a command may go on. A server or a test hangs what it waits for on it.
+pub trait Gate {
+    /// When it may say no: at this partition, at this turn.
+    ghost may_refuse: { Self → ℕ → ℕ → Type 0 };
+
+    /// Whether a command may go on. It is asked under the lock of partition `part`, with turn 0, 1, .. until it says yes,
+    /// at most `GATE_TURNS` times in one call.
+    fn inside(&self, part: u32, turn: u32) -> bool
+        ensures { OnFalse result (may_refuse self.now part turn) };
+}
+
+/// A gate that says yes at once.
+#[derive(Clone, Copy, Drop, Debug)]
+pub struct OpenGate;
+
+impl Gate for OpenGate {
+    ghost may_refuse = { λ gate part turn. ⊥ };
+
+    fn inside(&self, _part: u32, _turn: u32) -> bool {
+        true
+    }
+}
+
+/// Asks a gate until it says yes. Refused with 7 where it says no at each turn.
+pub(crate) fn pass<G: Gate>(gate: &G, part: u32) -> Result<(), Refusal>
+    ensures cause { IfErr result (λ e. e ≡ Refusal.GateGaveUp) }
+    ensures turns { IfErr result (λ _. (turn : ℕ) → turn < 1000 → G.may_refuse gate.now part turn) }
+{
+    'turns: for turn in 0..GATE_TURNS {
+        if gate.inside(part, turn) {
+            return Ok(());
+        }
+    }
+    Err(Refusal::GateGaveUp)
+}

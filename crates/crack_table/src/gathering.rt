@@ -1,0 +1,149 @@
+//! The end of a table: its workers come together.
+ghost use Rattle.std.specs.Prelude.{◌≡◌, ◌+◌, ◌≤◌, ◌==◌, length, IfOk, IfErr, OnOk, OnErr, vec_len, if◌then◌else◌};
+ghost use Rattle.std.specs.List.{list_any};
+ghost use Rattle.crack_core.specs.Receipts.{BookState};
+ghost use Rattle.crack_core.specs.Opening.{AreParts};
+ghost use Rattle.crack_core.specs.Routes.{AreSplits};
+ghost use Rattle.crack_table.specs.Cover.{Covers};
+ghost use Rattle.crack_table.specs.Gather.{missing_below, histories_of, receipts_of, AreShares, AreTotals, MayNotAgree, MayNotGather};
+
+use crate::account::account;
+use crate::locks::{lock, unlock};
+use crate::table::Table;
+use crate::worker::Worker;
+use crack_part::Partition;
+use crack_row::{Bound, Refusal};
+use std::alloc::Global;
+use std::sync::Mutex;
+
+/// What all workers did, and the partitions with their histories.
+#[derive(Drop)]
+pub struct Closed {
+    /// How many commands were answered.
+    pub accepted: u64,
+    /// How many rows were placed.
+    pub inserted: u64,
+    /// How many rows were taken out.
+    pub deleted: u64,
+    /// How many rows are left.
+    pub held: u64,
+    /// The partitions, by their numbers.
+    pub parts: Vec<Partition>,
+}
+
+/// Why workers weren't gathered, with the table and the workers as they were.
+#[derive(Drop)]
+pub struct GatherRefused {
+    pub refusal: Refusal,
+    pub table: Table,
+    pub workers: Vec<Worker>,
+}
+
+/// Ends a table whose workers all come back: their receipts are found to be the entries of the histories, one by one.
+/// Refused, in this order: with 15, one bit for each missing number, where a worker of the table isn't there; with 8 where it finds no memory;
+/// with 16 at the first partition that isn't the table's, and as `cover` is. Then the table and the workers are handed back.
+/// O(entries + receipts), but for a logarithm of the workers and partitions.
+pub fn gather(alloc: Global, table: Table, workers: Vec<Worker>) -> Result<Closed, GatherRefused>
+    ensures all { OnOk result (missing_below workers.items table.workers ≡ 0) }
+    ensures parts { IfOk result (λ c. AreParts table.splits table.limit c.parts.items) }
+    ensures covered { IfOk result (λ c. Covers (histories_of c.parts.items) (receipts_of workers.items)) }
+    ensures shares { IfOk result (λ c. AreShares workers.items c.accepted c.inserted c.deleted) }
+    ensures totals { IfOk result (λ c. AreTotals c.parts.items c.accepted c.inserted c.deleted c.held) }
+
+    ensures table { IfErr result (λ e. e.table ≡ table) }
+    ensures workers { IfErr result (λ e. e.workers.items ≡ workers.items) }
+    ensures causes { IfErr result (λ e. MayNotGather table workers.items e.refusal) }
+{
+    let missing = missing_workers(&workers, table.workers());
+    if missing != 0 {
+        return Err(GatherRefused {
+            refusal: Refusal::WorkersMissing { missing },
+            table,
+            workers,
+        });
+    }
+    let Table {
+        mut locks,
+        splits,
+        limit,
+        workers: count,
+    } = table;
+    match close(alloc, &mut locks, &splits, limit, &workers) {
+        Ok(closed) => Ok(closed),
+        Err(refusal) => Err(GatherRefused {
+            refusal,
+            table: Table {
+                locks,
+                splits,
+                limit,
+                workers: count,
+            },
+            workers,
+        }),
+    }
+}
+
+/// Takes the partitions out of their locks, and finds whether they and the workers come to one account; else there are as many locks again.
+fn close(
+    alloc: Global,
+    locks: &mut Vec<Mutex<Partition>>,
+    splits: &[Bound],
+    limit: u64,
+    workers: &Vec<Worker>,
+) -> Result<Closed, Refusal>
+    requires all { vec_len locks.old ≡ length splits.now + 1 }
+    requires rising { AreSplits splits.now }
+    ensures parts { IfOk result (λ c. AreParts splits.now limit c.parts.items) }
+    ensures covered { IfOk result (λ c. Covers (histories_of c.parts.items) (receipts_of workers.now.items)) }
+    ensures shares { IfOk result (λ c. AreShares workers.now.items c.accepted c.inserted c.deleted) }
+    ensures totals { IfOk result (λ c. AreTotals c.parts.items c.accepted c.inserted c.deleted c.held) }
+    ensures locked { OnErr result (vec_len locks.new ≡ vec_len locks.old) }
+    ensures causes { IfErr result (MayNotAgree splits.now limit workers.now.items) }
+{
+    let mut parts = Vec::with_capacity(alloc, locks.len())?;
+    unlock(locks, &mut parts);
+    match account(alloc, splits, limit, &parts, workers) {
+        Ok(sums) => Ok(Closed {
+            accepted: sums.accepted,
+            inserted: sums.inserted,
+            deleted: sums.deleted,
+            held: sums.held,
+            parts,
+        }),
+        Err(refusal) => {
+            lock(&mut parts, locks);
+            Err(refusal)
+        }
+    }
+}
+
+/// One bit for each of so many workers that isn't there.
+fn missing_workers(workers: &Vec<Worker>, count: u64) -> u64
+    requires { count ≤ 64 }
+    ensures { result ≡ missing_below workers.now.items count }
+{
+    let mut missing = 0u64;
+    let mut bit = 1u128;
+    'numbers: for number in 0..count {
+        missing += bit_unless(has_worker(workers, number), bit as u64);
+        bit *= 2;
+    }
+    missing
+}
+
+/// The bit, unless the worker is there.
+fn bit_unless(is_there: bool, bit: u64) -> u64
+    ensures is { result ≡ (if is_there then 0 else bit) }
+    ensures small { result ≤ bit }
+{
+    if is_there { 0 } else { bit }
+}
+
+/// Whether one of the workers has this number.
+fn has_worker(workers: &Vec<Worker>, number: u64) -> bool
+    ensures { result ≡ list_any (λ (w : BookState). w.worker == number) workers.now.items }
+{
+    workers
+        .iter()
+        .any(|worker| u64::from(worker.book().worker()) == number)
+}

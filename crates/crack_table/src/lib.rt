@@ -1,0 +1,24 @@
+//! A table of partitions, each under a lock of its own; the workers that ask it, each with its receipts; and whether these cover the histories.
+#![tactic(auto)]
+
+mod account;
+pub mod covering;
+pub mod gate;
+pub mod gathering;
+mod locks;
+mod marks;
+mod order;
+pub mod table;
+pub mod worker;
+
+pub use covering::cover;
+pub use gate::{Gate, OpenGate};
+pub use gathering::{Closed, GatherRefused, gather};
+pub use table::Table;
+pub use worker::Worker;
+
+/// The greatest number of workers that a table may have.
+pub const MOST_WORKERS: u64 = 64;
+
+/// How often a gate is asked in one call, at most.
+pub const GATE_TURNS: u32 = 1000;

@@ -1,0 +1,67 @@
+//! A mark for each place of a history.
+ghost use Rattle.std.specs.Prelude.{◌≡◌, ◌<◌, ℕ, length, replicate, IfOk, slice_get, slice_set, Some, MatchOption};
+ghost use Rattle.crack_table.specs.declared.marks.Mark.{Mark};
+ghost use Rattle.crack_table.specs.declared.marks.Mark.TheVariants.{Unnamed, Met};
+ghost use Rattle.crack_table.specs.Marks.{IsOpenIn, mark_after};
+
+use std::alloc::{AllocError, Global};
+use std::marker::Model;
+
+/// What the receipts so far say of a place.
+#[derive(Clone, Copy, PartialEq, Eq, Debug, Drop)]
+pub(crate) enum Mark {
+    /// None names it.
+    Unnamed,
+    /// One names it, with its entry.
+    Met,
+    /// One names it with another entry, or several name it.
+    Failed,
+}
+
+/// The marks of a history. Contracts see the list.
+#[derive(Drop)]
+pub(crate) struct MarkRow {
+    marks: Vec<Mark>,
+}
+
+impl Model for MarkRow {
+    ghost use Rattle.std.specs.Prelude.{List};
+    ghost use Rattle.crack_table.specs.declared.marks.Mark.{Mark};
+
+    ghost Value = { List Mark };
+
+    ghost view = { λ r. r.marks.items };
+}
+
+impl MarkRow {
+    /// A row of so many places that none names: O(places).
+    pub(crate) fn new(alloc: Global, count: usize) -> Result<MarkRow, AllocError>
+        ensures { IfOk result (λ r. r ≡ replicate count Unnamed) }
+    {
+        let marks = vec![in alloc; Mark::Unnamed; count]?;
+        Ok(MarkRow { marks })
+    }
+
+    /// Notes one more receipt of a place, by whether its entry is the place's.
+    pub(crate) fn note(&mut self, place: usize, same: bool)
+        requires { place < length self.old }
+        ensures { (m : Mark) → slice_get self.old place ≡ Some m → self.new ≡ slice_set self.old place (mark_after m same) }
+    {
+        self.marks[place] = match self.marks[place] {
+            Mark::Unnamed if same => Mark::Met,
+            _ => Mark::Failed,
+        };
+    }
+
+    /// The first place whose mark isn't `Met`: O(places).
+    pub(crate) fn first_open(&self) -> Option<usize>
+        ensures { MatchOption result ((n : ℕ) (m : Mark) → slice_get self.now n ≡ Some m → m ≡ Met) (IsOpenIn self.now) }
+    {
+        'places: for (place, mark) in self.marks.iter().enumerate() {
+            if *mark != Mark::Met {
+                return Some(place);
+            }
+        }
+        None
+    }
+}

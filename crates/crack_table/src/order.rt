@@ -1,0 +1,56 @@
+//! Whether the receipts of one worker in one partition rise.
+ghost use Rattle.std.specs.Prelude.{◌≡◌, List, [], ◌++◌, IfOk, None};
+ghost use Rattle.std.specs.BTreeMap.{get};
+ghost use Rattle.std.specs.List.{flat_map};
+ghost use Rattle.std.specs.Option.{option_map};
+ghost use Rattle.crack_core.specs.declared.receipt.Receipt.{Receipt};
+ghost use Rattle.crack_table.specs.Cover.{place_of, first_late};
+ghost use Rattle.crack_table.specs.Marks.{Tracks, pair_cmp, is_late_at};
+
+use crack_core::Receipt;
+use std::alloc::{AllocError, Global};
+use std::collections::BTreeMap;
+
+/// The place of the first receipt that isn't above an earlier one of its worker in its partition.
+pub(crate) fn first_late(
+    alloc: Global,
+    receipts: &[&[Receipt]],
+) -> Result<Option<(u32, u64)>, AllocError>
+    ensures { IfOk result (λ o. o ≡ option_map place_of (first_late [] (flat_map (λ r. r.now) receipts.now))) }
+{
+    let mut last = BTreeMap::new(alloc);
+    'lists: for list in receipts {
+        let late = first_late_in(&mut last, list)?;
+        if late.is_some() {
+            return Ok(late);
+        }
+    }
+    Ok(None)
+}
+
+/// The same for one list, where the last position of each worker in each partition is kept.
+fn first_late_in(
+    last: &mut BTreeMap<(u32, u32), u64>,
+    list: &[Receipt],
+) -> Result<Option<(u32, u64)>, AllocError>
+    ensures late { IfOk result (λ o. (done : List Receipt) → Tracks (get pair_cmp last.old) done → o ≡ option_map place_of (first_late done list.now)) }
+    ensures tracks { IfOk result (λ o. (done : List Receipt) → Tracks (get pair_cmp last.old) done → o ≡ None → Tracks (get pair_cmp last.new) (done ++ list.now)) }
+{
+    'list: for receipt in list {
+        let before = last.insert((receipt.worker, receipt.part), receipt.position)?;
+        if is_late_at(before, receipt.position) {
+            return Ok(Some((receipt.part, receipt.position)));
+        }
+    }
+    Ok(None)
+}
+
+/// Whether a position isn't above the last one, if there is one.
+fn is_late_at(last: Option<u64>, position: u64) -> bool
+    ensures { result ≡ is_late_at last position }
+{
+    match last {
+        Some(last) => position <= last,
+        None => false,
+    }
+}

@@ -1,0 +1,126 @@
+//! Tables.
+ghost use Rattle.std.specs.Prelude.{◌≡◌, ◌+◌, ◌<◌, ◌≤◌, length, IfOk, IfErr, OnOk, vec_len, None, Some};
+ghost use Rattle.crack_part.specs.Parts.{IsLimit};
+ghost use Rattle.crack_core.specs.Routes.{AreSplits};
+ghost use Rattle.crack_table.specs.Opening.{table_fault, MayNotOpen};
+ghost use Rattle.crack_table.specs.Tables.{AreNew};
+
+use crate::MOST_WORKERS;
+use crate::locks::lock;
+use crate::worker::Worker;
+use crack_core::{limit_fault, open_partitions, splits_fault};
+use crack_part::Partition;
+use crack_row::{Bound, Refusal};
+use std::alloc::{AllocError, Global};
+use std::marker::Model;
+use std::sync::Mutex;
+
+/// Partitions, each under a lock of its own. Many threads may share it, and its workers ask it.
+/// Contracts see with what it was opened; nothing is known of what stands behind a lock but its partition's own fact.
+#[derive(Drop)]
+pub struct Table {
+    pub(crate) locks: Vec<Mutex<Partition>>,
+    pub(crate) splits: Vec<Bound>,
+    pub(crate) limit: u64,
+    pub(crate) workers: u64,
+}
+
+impl Model for Table {
+    ghost use Rattle.std.specs.Prelude.{vec_len};
+    ghost use Rattle.crack_table.specs.Tables.{TableState, IsTable};
+
+    ghost Value = { TableState };
+
+    ghost view = { λ t. record { splits = t.splits.items; limit = t.limit; workers = t.workers } };
+
+    ghost invariant = { λ t. IsTable t.splits.items t.limit t.workers (vec_len t.locks) };
+}
+
+impl Table {
+    /// A table without rows, and its workers, numbered from 0: each split ends one partition and begins the next, and each partition's history
+    /// may have `limit` entries. Refused, in this order: with 11 where the splits don't rise strictly or one isn't 1 to `GREATEST_KEY`, with 12
+    /// where there are more than `MOST_SPLITS` of crack_core, with 13 where there aren't 1 to `MOST_WORKERS` workers, with 14 where the limit isn't 1 to
+    /// `GREATEST_LIMIT`, with 8 where it finds no memory. O(partitions + workers).
+    pub fn open(
+        alloc: Global,
+        splits: &[Bound],
+        limit: u64,
+        workers: u64,
+    ) -> Result<(Table, Vec<Worker>), Refusal>
+        ensures table { IfOk result (λ opened. opened.0 ≡ record { splits = splits.now; limit = limit; workers = workers }) }
+        ensures count { IfOk result (λ opened. vec_len opened.1 ≡ workers) }
+        ensures workers { IfOk result (λ opened. AreNew opened.1.items) }
+        ensures none { OnOk result (table_fault splits.now limit workers ≡ None) }
+        ensures fault { IfErr result (MayNotOpen splits.now limit workers) }
+    {
+        if let Some(refusal) = fault(splits, limit, workers) {
+            return Err(refusal);
+        }
+        let locks = locks_of(alloc, splits, limit)?;
+        let splits = Vec::from_slice(alloc, splits)?;
+        let hands = hire(alloc, workers)?;
+        let table = Table {
+            locks,
+            splits,
+            limit,
+            workers,
+        };
+        Ok((table, hands))
+    }
+
+    /// Where one partition ends and the next begins. Takes no lock and no memory.
+    pub fn splits(&self) -> &[Bound]
+        ensures value { result.now ≡ self.now.splits }
+        ensures rising { AreSplits result.now }
+    {
+        self.splits.as_slice()
+    }
+
+    /// How many workers it was opened with. Takes no lock.
+    pub(crate) fn workers(&self) -> u64
+        ensures value { result ≡ self.now.workers }
+        ensures few { result ≤ 64 }
+    {
+        self.workers
+    }
+}
+
+/// The first fault of an opening.
+fn fault(splits: &[Bound], limit: u64, workers: u64) -> Option<Refusal>
+    ensures value { result ≡ table_fault splits.now limit workers }
+    ensures good { result ≡ None → AreSplits splits.now × IsLimit limit × (workers ≤ 64) }
+{
+    if let Some(refusal) = splits_fault(splits) {
+        return Some(refusal);
+    }
+    if workers == 0 || workers > MOST_WORKERS {
+        return Some(Refusal::BadWorkerCount);
+    }
+    limit_fault(limit)
+}
+
+/// The partitions of splits, each behind a lock.
+fn locks_of(alloc: Global, splits: &[Bound], limit: u64) -> Result<Vec<Mutex<Partition>>, Refusal>
+    requires splits { AreSplits splits.now }
+    requires limit { IsLimit limit }
+    ensures all { IfOk result (λ locks. vec_len locks ≡ length splits.now + 1) }
+    ensures err { IfErr result (λ e. e ≡ Refusal.OutOfMemory) }
+{
+    let mut locks = Vec::with_capacity(alloc, splits.len() + 1)?;
+    let mut parts = open_partitions(alloc, splits, limit)?;
+    lock(&mut parts, &mut locks);
+    Ok(locks)
+}
+
+/// Workers numbered from 0, so many.
+fn hire(alloc: Global, count: u64) -> Result<Vec<Worker>, AllocError>
+    requires few { count ≤ 64 }
+    ensures count { IfOk result (λ workers. vec_len workers ≡ count) }
+    ensures new { IfOk result (λ workers. AreNew workers.items) }
+{
+    let mut workers = Vec::new(alloc);
+    'numbers: for number in 0..count {
+        workers.push(Worker::new(alloc, number as u32))?;
+    }
+    Ok(workers)
+}

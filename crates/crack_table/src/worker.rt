@@ -1,0 +1,104 @@
+//! Workers.
+ghost use Rattle.std.specs.Prelude.{◌≡◌, ◌<◌, ◌≤◌, ℕ, [], ◌∷◌, ◌++◌, length, Err, IfOk, IfErr, OnErr, OnOk};
+ghost use Rattle.crack_row.specs.Layouts.{IsLayout};
+ghost use Rattle.crack_row.specs.Ranges.{Range};
+ghost use Rattle.crack_plain.specs.Plain.{IsSmall};
+ghost use Rattle.crack_table.specs.Asking.{MayRefuse, with_limit};
+
+use crate::gate::{Gate, pass};
+use crate::table::Table;
+use crack_core::Book;
+use crack_row::{Command, Layout, Policy, Refusal, Reply};
+use std::alloc::Global;
+use std::marker::Model;
+use std::sync::Wait;
+
+/// One who asks a table, with its book. Contracts see the book.
+#[derive(Drop)]
+pub struct Worker {
+    book: Book,
+}
+
+impl Model for Worker {
+    ghost use Rattle.crack_core.specs.Receipts.{BookState};
+
+    ghost Value = { BookState };
+
+    ghost view = { λ w. w.book };
+}
+
+impl Worker {
+    /// The worker of this number, who has asked nothing yet. Takes no memory.
+    pub(crate) fn new(alloc: Global, number: u32) -> Worker
+        ensures worker { result.worker ≡ number }
+        ensures empty { result.receipts ≡ [] }
+    {
+        Worker {
+            book: Book::new(alloc, number),
+        }
+    }
+
+    /// Its number, its receipts in the order in which it asked, and its shares. Takes no lock and no memory.
+    pub fn book(&self) -> &Book
+        ensures { result.now ≡ self.now }
+    {
+        &self.book
+    }
+
+    /// Asks partition `part` of a table, under its lock, which it may wait for.
+    /// Refused, in this order: with 5 where there is no such partition; with 8 where there is no memory for its receipt; under the lock with 7
+    /// where the gate says no at each turn; then as `Partition::apply` is, with 4, 6 and 8. After each refusal the book is as it was.
+    /// Besides what `Partition::apply` takes it is O(1), amortised, and the gate's turns.
+    pub fn ask<R: Wait, G: Gate>(
+        &mut self,
+        rt: &R,
+        table: &Table,
+        gate: &G,
+        part: u32,
+        command: Command,
+        policy: Policy,
+    ) -> Result<Reply, Refusal>
+        ensures receipt { IfOk result (λ reply. (position : ℕ) × (self.new.receipts ≡ self.old.receipts ++ record { part = part; position = position; worker = self.old.worker; command = command; reply = reply } ∷ [])) }
+        ensures worker { self.new.worker ≡ self.old.worker }
+        ensures small { IfOk result IsSmall }
+        ensures there { OnOk result (part ≤ length table.now.splits) }
+        ensures err { OnErr result (self.new.receipts ≡ self.old.receipts) }
+        ensures causes { IfErr result (MayRefuse table.now (G.may_refuse gate.now part) part command) }
+        ensures nowhere { length table.now.splits < part → (result ≡ Err Refusal.NoSuchPartition) × (self.new ≡ self.old) }
+    {
+        let Some(lock) = table.locks.get(part as usize) else {
+            return Err(Refusal::NoSuchPartition);
+        };
+        self.book.reserve()?;
+        let mut partition = lock.lock(rt);
+        pass(gate, part)?;
+        self.book
+            .ask(part, &mut partition, command, policy)
+            .map_err(|refusal| with_limit(refusal, table.limit))
+    }
+
+    /// What stands where in partition `part` of a table, read under its lock, which it may wait for. It cracks and merges nothing, and isn't kept.
+    /// Refused with 5 where there is no such partition, and with 8 where it finds no memory. O(pieces).
+    pub fn layout<R: Wait>(&self, rt: &R, table: &Table, part: u32) -> Result<Layout, Refusal>
+        ensures equations { IfOk result (λ layout. (ends : Range) × IsLayout ends layout) }
+        ensures there { OnOk result (part ≤ length table.now.splits) }
+        ensures nowhere { length table.now.splits < part → result ≡ Err Refusal.NoSuchPartition }
+        ensures err { part ≤ length table.now.splits → IfErr result (λ e. e ≡ Refusal.OutOfMemory) }
+    {
+        let Some(lock) = table.locks.get(part as usize) else {
+            return Err(Refusal::NoSuchPartition);
+        };
+        let partition = lock.lock(rt);
+        partition.layout()
+    }
+}
+
+/// A refusal with the table's limit where it tells of a full history: a lock tells nothing of its partition's own.
+fn with_limit(refusal: Refusal, limit: u64) -> Refusal
+    ensures { result ≡ with_limit limit refusal }
+{
+    match refusal {
+        Refusal::HistoryFull { .. } => Refusal::HistoryFull { length: limit },
+        other => other,
+    }
+}
