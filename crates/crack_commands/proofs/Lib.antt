@@ -1,3 +1,4 @@
+pub mod Bits
 pub mod Numbers
 pub mod Sending
 pub mod Splitting

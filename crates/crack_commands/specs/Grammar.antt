@@ -6,7 +6,7 @@ use Rattle.crack_row.specs.Ranges.{Range}
 use Rattle.crack_row.specs.declared.TheConstants.{GREATEST_KEY, GREATEST_PAYLOAD, GREATEST_BOUND}
 use Rattle.crack_row.specs.declared.RowNo.{RowNo}
 use Rattle.crack_row.specs.declared.command.Policy.{Policy as Merging}
-use Rattle.crack_row.specs.declared.command.Policy.TheVariants.{Complete, Gradual}
+use Rattle.crack_row.specs.declared.command.Policy.TheVariants.{Complete, Gradual, Ripple}
 use Rattle.crack_row.specs.declared.refusal.Refusal.{Refusal}
 use Rattle.crack_row.specs.declared.refusal.Refusal.TheVariants.{BadStatement, BadRange}
 use Rattle.crack_commands.specs.declared.words.TheConstants.{MOST_DIGITS, GREATEST_PART, GREATEST_SERIAL}
@@ -156,7 +156,8 @@ layout_of arguments = made Layout (number_up_to GREATEST_PART (only_word argumen
 
 -- the policy of this name
 abbrev pub policy_named : List ℕ → Option Merging
-policy_named name = if bytes_eq name (codes "complete") then Some Complete else if bytes_eq name (codes "gradual") then Some Gradual else None
+policy_named name =
+    if bytes_eq name (codes "complete") then Some Complete else if bytes_eq name (codes "gradual") then Some Gradual else if bytes_eq name (codes "ripple") then Some Ripple else None
 
 -- `policy NAME`
 abbrev pub policy_of : List (List ℕ) → Reading

@@ -1,17 +1,18 @@
 -- The texts of replies, layouts and refusals, in lines.
-use Rattle.std.specs.Prelude.{ℕ, ◌<◌, List, [], ◌++◌, length, take, Option, codes, decimal}
+use Rattle.std.specs.Prelude.{ℕ, zero, suc, ◌<◌, ◌==◌, Bool, List, [], ◌++◌, length, take, Option, codes, decimal, if◌then◌else◌}
 use Rattle.std.specs.List.{flat_map}
+use Rattle.std.specs.Int.{bit_at}
 use Rattle.std.specs.Io.KnownBytes.{Appends}
 use Rattle.crack_row.specs.declared.Row.{Row}
 use Rattle.crack_row.specs.declared.Serial.{Serial}
 use Rattle.crack_row.specs.declared.command.Policy.{Policy}
-use Rattle.crack_row.specs.declared.command.Policy.TheVariants.{Complete, Gradual}
+use Rattle.crack_row.specs.declared.command.Policy.TheVariants.{Complete, Gradual, Ripple}
 use Rattle.crack_row.specs.declared.command.Reply.{Reply}
 use Rattle.crack_row.specs.declared.command.Reply.TheVariants.{Placed, Gone, Changed, NoRow, Counted, Summed, Rows}
 use Rattle.crack_row.specs.declared.layout.Layout.{Layout}
 use Rattle.crack_row.specs.declared.layout.PieceSize.{PieceSize}
 use Rattle.crack_row.specs.declared.refusal.Refusal.{Refusal}
-use Rattle.crack_row.specs.declared.refusal.Refusal.TheVariants.{HistoryFull}
+use Rattle.crack_row.specs.declared.refusal.Refusal.TheVariants.{HistoryFull, WorkersMissing, StrangeReceipt, BadRecord}
 use Rattle.crack_row.specs.Refusals.{code_of}
 
 -- a row that was placed
@@ -77,15 +78,40 @@ layout_text part layout = layout_head part layout ++ flat_map piece_text layout.
 abbrev pub policy_text : Policy → List ℕ
 policy_text Complete = codes "policy complete\n"
 policy_text Gradual = codes "policy gradual\n"
+policy_text Ripple = codes "policy ripple\n"
 
--- what a refusal carries, behind a space
+-- a number behind a space
+abbrev pub field_text : ℕ → List ℕ
+field_text number = codes " " ++ decimal number
+
+-- whether the bit of this number is set
+abbrev pub has_bit : ℕ → ℕ → Bool
+has_bit bits number = bit_at bits number == 1
+
+-- the number of a bit, where it is set
+abbrev pub bit_text : ℕ → ℕ → List ℕ
+bit_text bits number = if has_bit bits number then field_text number else []
+
+-- the numbers below a count whose bits are set, rising
+unfoldable pub bits_text : ℕ → ℕ → List ℕ
+bits_text bits zero = []
+bits_text bits (suc number) = bits_text bits number ++ bit_text bits number
+
+-- what a refusal carries: the length of a full history, the numbers of missing workers, a partition and a position, or a record's number
 abbrev pub carried_text : Refusal → List ℕ
-carried_text (HistoryFull entries) = codes " " ++ decimal entries
+carried_text (HistoryFull entries) = field_text entries
+carried_text (WorkersMissing missing) = bits_text missing 64
+carried_text (StrangeReceipt part position) = field_text part ++ field_text position
+carried_text (BadRecord number) = field_text number
 carried_text _ = []
 
--- a refusal's number, and what it carries
+-- the line of a refusal's number and of what it carries
+abbrev pub refused_text : ℕ → List ℕ → List ℕ
+refused_text code carried = codes "refused " ++ decimal code ++ carried ++ codes "\n"
+
+-- the line of a refusal
 abbrev pub refusal_text : Refusal → List ℕ
-refusal_text refusal = codes "refused " ++ decimal (code_of refusal) ++ carried_text refusal ++ codes "\n"
+refusal_text refusal = refused_text (code_of refusal) (carried_text refusal)
 
 -- of the text a front is written that is shorter than it
 abbrev pub AppendsFront : Option (List ℕ) → Option (List ℕ) → List ℕ → Type 0

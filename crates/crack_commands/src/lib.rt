@@ -6,7 +6,10 @@ pub mod statement;
 pub mod text;
 mod words;
 
+pub use output::send;
 pub use statement::{Statement, parse_statement};
 pub use text::{
-    policy_line, write_head, write_layout, write_refusal, write_reply, write_row, write_text,
+    policy_line, write_count, write_each_row, write_head, write_layout, write_refusal, write_reply,
+    write_row, write_sum, write_text,
 };
+pub use words::read_number_up_to;

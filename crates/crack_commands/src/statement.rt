@@ -206,6 +206,8 @@ fn policy_named(name: &[u8]) -> Option<Policy>
         Some(Policy::Complete)
     } else if name == b"gradual".as_slice() {
         Some(Policy::Gradual)
+    } else if name == b"ripple".as_slice() {
+        Some(Policy::Ripple)
     } else {
         None
     }

@@ -1,9 +1,9 @@
 //! The texts of replies, layouts and refusals, to a writer.
-ghost use Rattle.std.specs.Prelude.{◌≡◌, ◌+◌, ◌≤◌, ◌++◌, true, length, decimal, codes, IfErr, OnOk};
+ghost use Rattle.std.specs.Prelude.{◌≡◌, ◌+◌, ◌<◌, ◌≤◌, ◌++◌, true, length, decimal, codes, IfErr, OnOk};
 ghost use Rattle.std.specs.Io.KnownBytes.{Appends};
 ghost use Rattle.crack_row.specs.Devices.{device, has_failed};
 ghost use Rattle.std.specs.List.{flat_map};
-ghost use Rattle.crack_commands.specs.Texts.{reply_text, placed_text, gone_text, count_text, sum_text, rows_text, head_text, row_text, layout_text, layout_head, two_fields, piece_text, policy_text, refusal_text, carried_text, AppendsFront};
+ghost use Rattle.crack_commands.specs.Texts.{reply_text, placed_text, gone_text, count_text, sum_text, rows_text, head_text, row_text, layout_text, layout_head, two_fields, piece_text, policy_text, refusal_text, refused_text, field_text, has_bit, bit_text, bits_text, AppendsFront};
 
 use crate::output::send;
 use arrayvec::ArrayVec;
@@ -17,6 +17,7 @@ const TEXT_BYTES: usize = 96;
 type Text = ArrayVec<u8, TEXT_BYTES>;
 
 /// Writes a partition's reply: a line, and for rows a line for each of them, a row at a time.
+#[inline(always)]
 pub fn write_reply<W: Write>(
     part: u32,
     reply: &Reply,
@@ -39,6 +40,7 @@ pub fn write_reply<W: Write>(
 }
 
 /// Writes the line of a row that was placed.
+#[inline(always)]
 fn write_placed<W: Write>(part: u32, serial: Serial, writer: &mut Watched<W>) -> Result<(), Refusal>
     ensures ok { OnOk result (Appends (W.contents (device writer.old)) (W.contents (device writer.new)) (placed_text part serial)) }
     ensures unfailed { OnOk result (has_failed writer.new ≡ has_failed writer.old) }
@@ -71,7 +73,7 @@ fn write_gone<W: Write>(row: &Row, writer: &mut Watched<W>) -> Result<(), Refusa
 }
 
 /// Writes the line of a count.
-fn write_count<W: Write>(count: u64, writer: &mut Watched<W>) -> Result<(), Refusal>
+pub fn write_count<W: Write>(count: u64, writer: &mut Watched<W>) -> Result<(), Refusal>
     ensures ok { OnOk result (Appends (W.contents (device writer.old)) (W.contents (device writer.new)) (count_text count)) }
     ensures unfailed { OnOk result (has_failed writer.new ≡ has_failed writer.old) }
     ensures err { IfErr result (λ e. (e ≡ Refusal.WriteFault) × (has_failed writer.new ≡ true)) }
@@ -85,7 +87,7 @@ fn write_count<W: Write>(count: u64, writer: &mut Watched<W>) -> Result<(), Refu
 }
 
 /// Writes the line of a sum.
-fn write_sum<W: Write>(sum: u128, writer: &mut Watched<W>) -> Result<(), Refusal>
+pub fn write_sum<W: Write>(sum: u128, writer: &mut Watched<W>) -> Result<(), Refusal>
     ensures ok { OnOk result (Appends (W.contents (device writer.old)) (W.contents (device writer.new)) (sum_text sum)) }
     ensures unfailed { OnOk result (has_failed writer.new ≡ has_failed writer.old) }
     ensures err { IfErr result (λ e. (e ≡ Refusal.WriteFault) × (has_failed writer.new ≡ true)) }
@@ -110,7 +112,11 @@ fn write_rows<W: Write>(part: u32, rows: &[Row], writer: &mut Watched<W>) -> Res
 }
 
 /// Writes a line for each of the rows.
-fn write_each_row<W: Write>(part: u32, rows: &[Row], writer: &mut Watched<W>) -> Result<(), Refusal>
+pub fn write_each_row<W: Write>(
+    part: u32,
+    rows: &[Row],
+    writer: &mut Watched<W>,
+) -> Result<(), Refusal>
     ensures ok { OnOk result (Appends (W.contents (device writer.old)) (W.contents (device writer.new)) (flat_map (row_text part) rows.now)) }
     ensures unfailed { OnOk result (has_failed writer.new ≡ has_failed writer.old) }
     ensures err { IfErr result (λ e. (e ≡ Refusal.WriteFault) × (has_failed writer.new ≡ true)) }
@@ -255,12 +261,98 @@ pub fn write_refusal<W: Write>(refusal: &Refusal, writer: &mut Watched<W>) -> Re
     ensures err { IfErr result (λ e. (e ≡ Refusal.WriteFault) × (has_failed writer.new ≡ true)) }
     ensures front { IfErr result (λ _. AppendsFront (W.contents (device writer.old)) (W.contents (device writer.new)) (refusal_text refusal.now)) }
 {
+    let code = refusal.code();
+    match refusal {
+        Refusal::HistoryFull { length } => write_refused(code, &[*length], writer),
+        Refusal::BadRecord { number } => write_refused(code, &[*number], writer),
+        Refusal::WorkersMissing { missing } => write_missing(code, *missing, writer),
+        Refusal::StrangeReceipt { part, position } => {
+            write_refused(code, &[*part as u64, *position], writer)
+        }
+        _ => write_refused(code, &[], writer),
+    }
+}
+
+/// Writes the line of a refusal that carries these numbers, at most two.
+fn write_refused<W: Write>(
+    code: u32,
+    numbers: &[u64],
+    writer: &mut Watched<W>,
+) -> Result<(), Refusal>
+    requires { length numbers.now ≤ 2 }
+    ensures ok { OnOk result (Appends (W.contents (device writer.old)) (W.contents (device writer.new)) (refused_text code (flat_map field_text numbers.now))) }
+    ensures unfailed { OnOk result (has_failed writer.new ≡ has_failed writer.old) }
+    ensures err { IfErr result (λ e. (e ≡ Refusal.WriteFault) × (has_failed writer.new ≡ true)) }
+    ensures front { IfErr result (λ _. AppendsFront (W.contents (device writer.old)) (W.contents (device writer.new)) (refused_text code (flat_map field_text numbers.now))) }
+{
     let mut text = Text::new();
     push(&mut text, b"refused ");
-    push_number(&mut text, refusal.code() as u64);
-    push_carried(&mut text, refusal);
+    push_number(&mut text, code as u64);
+    push_fields(&mut text, numbers);
     push(&mut text, b"\n");
     send(writer, text.as_slice())
+}
+
+/// Writes the line of a refusal that carries the numbers of missing workers, a number at a time: all of them pass a text.
+fn write_missing<W: Write>(code: u32, missing: u64, writer: &mut Watched<W>) -> Result<(), Refusal>
+    ensures ok { OnOk result (Appends (W.contents (device writer.old)) (W.contents (device writer.new)) (refused_text code (bits_text missing 64))) }
+    ensures unfailed { OnOk result (has_failed writer.new ≡ has_failed writer.old) }
+    ensures err { IfErr result (λ e. (e ≡ Refusal.WriteFault) × (has_failed writer.new ≡ true)) }
+    ensures front { IfErr result (λ _. AppendsFront (W.contents (device writer.old)) (W.contents (device writer.new)) (refused_text code (bits_text missing 64))) }
+{
+    write_code(code, writer)?;
+    write_bits(missing, writer)?;
+    send(writer, b"\n")
+}
+
+/// Writes the begin of a refusal's line.
+fn write_code<W: Write>(code: u32, writer: &mut Watched<W>) -> Result<(), Refusal>
+    ensures ok { OnOk result (Appends (W.contents (device writer.old)) (W.contents (device writer.new)) (codes "refused " ++ decimal code)) }
+    ensures unfailed { OnOk result (has_failed writer.new ≡ has_failed writer.old) }
+    ensures err { IfErr result (λ e. (e ≡ Refusal.WriteFault) × (has_failed writer.new ≡ true)) }
+    ensures front { IfErr result (λ _. AppendsFront (W.contents (device writer.old)) (W.contents (device writer.new)) (codes "refused " ++ decimal code)) }
+{
+    let mut text = Text::new();
+    push(&mut text, b"refused ");
+    push_number(&mut text, code as u64);
+    send(writer, text.as_slice())
+}
+
+/// Writes the numbers of the bits that are set.
+fn write_bits<W: Write>(bits: u64, writer: &mut Watched<W>) -> Result<(), Refusal>
+    ensures ok { OnOk result (Appends (W.contents (device writer.old)) (W.contents (device writer.new)) (bits_text bits 64)) }
+    ensures unfailed { OnOk result (has_failed writer.new ≡ has_failed writer.old) }
+    ensures err { IfErr result (λ e. (e ≡ Refusal.WriteFault) × (has_failed writer.new ≡ true)) }
+    ensures front { IfErr result (λ _. AppendsFront (W.contents (device writer.old)) (W.contents (device writer.new)) (bits_text bits 64)) }
+{
+    'numbers: for number in 0..64u32 {
+        write_bit(bits, number, writer)?;
+    }
+    Ok(())
+}
+
+/// Writes the number of a bit, where it is set.
+fn write_bit<W: Write>(bits: u64, number: u32, writer: &mut Watched<W>) -> Result<(), Refusal>
+    requires { number < 64 }
+    ensures ok { OnOk result (Appends (W.contents (device writer.old)) (W.contents (device writer.new)) (bit_text bits number)) }
+    ensures unfailed { OnOk result (has_failed writer.new ≡ has_failed writer.old) }
+    ensures err { IfErr result (λ e. (e ≡ Refusal.WriteFault) × (has_failed writer.new ≡ true)) }
+    ensures front { IfErr result (λ _. AppendsFront (W.contents (device writer.old)) (W.contents (device writer.new)) (bit_text bits number)) }
+{
+    let mut text = Text::new();
+    if has_bit(bits, number) {
+        push_field(&mut text, number as u64);
+    }
+    send(writer, text.as_slice())
+}
+
+/// Whether the bit of this number is set.
+#[tactic(auto, using(std::proofs::lemmas::Nat::Bits::shr_and_one))]
+fn has_bit(bits: u64, number: u32) -> bool
+    requires { number < 64 }
+    ensures { result ≡ has_bit bits number }
+{
+    (bits >> number) & 1 == 1
 }
 
 /// Writes bytes and a line feed.
@@ -281,19 +373,30 @@ pub fn policy_line(policy: Policy) -> &'static [u8]
     match policy {
         Policy::Complete => b"policy complete",
         Policy::Gradual => b"policy gradual",
+        Policy::Ripple => b"policy ripple",
     }
 }
 
-/// Adds what a refusal carries, behind a space.
-fn push_carried(text: &mut Text, refusal: &Refusal)
+/// Adds at most two numbers, each behind a space.
+fn push_fields(text: &mut Text, numbers: &[u64])
+    requires few { length numbers.now ≤ 2 }
+    requires room { length text.old.items + 42 ≤ TEXT_BYTES }
+    ensures value { text.new.items ≡ text.old.items ++ flat_map field_text numbers.now }
+    ensures within { length text.new.items ≤ length text.old.items + 42 }
+{
+    'numbers: for number in numbers {
+        push_field(text, *number);
+    }
+}
+
+/// Adds a number behind a space.
+fn push_field(text: &mut Text, number: u64)
     requires { length text.old.items + 21 ≤ TEXT_BYTES }
-    ensures value { text.new.items ≡ text.old.items ++ carried_text refusal.now }
+    ensures digits { text.new.items ≡ text.old.items ++ field_text number }
     ensures few { length text.new.items ≤ length text.old.items + 21 }
 {
-    if let Refusal::HistoryFull { length } = refusal {
-        push(text, b" ");
-        push_number(text, *length);
-    }
+    push(text, b" ");
+    push_number(text, number);
 }
 
 /// Adds a number in decimal: 20 digits at most.

@@ -81,8 +81,15 @@ pub fn read_row_number(word: &[u8]) -> Option<RowNo>
 pub fn read_part(word: &[u8]) -> Option<u32>
     ensures { result ≡ number_up_to GREATEST_PART word.now }
 {
+    read_number_up_to(GREATEST_PART, word)
+}
+
+/// The number that a word is, if it is one that is at most the greatest.
+pub fn read_number_up_to(greatest: u32, word: &[u8]) -> Option<u32>
+    ensures { result ≡ number_up_to greatest word.now }
+{
     match read_number(word) {
-        Some(number) if number <= GREATEST_PART as u128 => Some(number as u32),
+        Some(number) if number <= greatest as u128 => Some(number as u32),
         _ => None,
     }
 }
