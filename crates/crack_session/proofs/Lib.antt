@@ -1,9 +1,9 @@
+pub mod Asking
 pub mod Feeds
 pub mod Finishing
 pub mod Following
 pub mod Going
+pub mod Joining
 pub mod Ranges
 pub mod Reading
-pub mod Replying
-pub mod Responding
 pub mod WholeLines

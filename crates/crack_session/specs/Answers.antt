@@ -1,19 +1,26 @@
 -- What a session answers to a statement.
-use Rattle.std.specs.Prelude.{◌≡◌, ℕ, Bool, false, List, Result, Ok, Err, codes, slice_get}
+use Rattle.std.specs.Prelude.{◌≡◌, ℕ, Bool, true, false, List, [], ◌∷◌, ◌++◌, ◌⊎◌, Result, Ok, Err, codes, slice_get}
+use Rattle.crack_row.specs.Ranges.{Range}
 use Rattle.crack_row.specs.declared.Bound.{Bound}
 use Rattle.crack_row.specs.declared.command.Command.{Command}
-use Rattle.crack_row.specs.declared.command.Command.TheVariants.{Insert as AskInsert, Delete as AskDelete, Update as AskUpdate, Count as AskCount, Sum as AskSum, Select as AskSelect}
+use Rattle.crack_row.specs.declared.command.Command.TheVariants.{Insert as AskInsert, Delete as AskDelete, Update as AskUpdate}
 use Rattle.crack_row.specs.declared.command.Reply.{Reply}
 use Rattle.crack_row.specs.declared.layout.Layout.{Layout as PartLayout}
 use Rattle.crack_row.specs.declared.refusal.Refusal.{Refusal}
+use Rattle.crack_row.specs.declared.refusal.Refusal.TheVariants.{HistoryFull, OutOfMemory}
 use Rattle.crack_plain.specs.Plain.{Table}
 use Rattle.crack_commands.specs.Grammar.{Reading}
-use Rattle.crack_commands.specs.Texts.{reply_text, layout_text, policy_text, refusal_text}
+use Rattle.crack_commands.specs.Texts.{reply_text, count_text, sum_text, layout_text, policy_text, refusal_text}
 use Rattle.crack_commands.specs.declared.statement.Statement.{Statement}
 use Rattle.crack_commands.specs.declared.statement.Statement.TheVariants.{Insert, Delete, Update, Count, Sum, Select, Layout, Policy, Quit}
 use Rattle.crack_session.specs.declared.answer.Answer.{Answer}
-use Rattle.crack_session.specs.declared.answer.Answer.TheVariants.{Replied, Laid, Set, Refused, Bye}
-use Rattle.crack_session.specs.Desks.{keys_at, expected_at, IsOutcome, IsLayoutOutcome, tables_after, is_short}
+use Rattle.crack_session.specs.declared.answer.Answer.TheVariants.{Replied, Counted, Summed, Listed, Laid, Set, Refused, Bye}
+use Rattle.crack_session.specs.declared.query.PartReply.{PartReply}
+use Rattle.crack_session.specs.declared.query.Query.{Query}
+use Rattle.crack_session.specs.declared.query.Query.TheVariants.{Count as AsksCount, Sum as AsksSum, Select as AsksSelect}
+use Rattle.crack_session.specs.Queries.{asking, joined_or, lists_text}
+use Rattle.crack_core.specs.Routes.{keys_at, route, parts_of}
+use Rattle.crack_core.specs.Steps.{expected_at, IsOutcome, IsLayoutOutcome, tables_after}
 
 -- what a partition replied, or why it didn't
 abbrev pub answered : ℕ → Result Reply Refusal → Answer
@@ -27,6 +34,36 @@ pub record IsAsked (limit : ℕ) (splits : List Bound) (tables : List Table) (pa
   pub answer_is : answer ≡ answered part outcome
   pub new_is : new ≡ tables_after tables part command outcome
 
+-- Several partitions are asked in turn, each for its part of a range: their replies, or the first refusal, and the partitions afterwards.
+pub data AsksInTurn (limit : ℕ) (splits : List Bound) (query : Query) (tables : List Table) : List (ℕ × Range) → Result (List PartReply) Refusal → List Table → Type 0 where
+  -- none is asked yet
+  begins : AsksInTurn limit splits query tables [] (Ok []) tables
+  -- behind those that replied, the next one replies
+  replies : (parts : List (ℕ × Range)) (part : ℕ × Range) (said : List PartReply) (reply : Reply) (between : List Table)
+      → AsksInTurn limit splits query tables parts (Ok said) between
+      → IsOutcome (expected_at limit splits between part.0 (asking query part.1)) (Ok reply)
+      → AsksInTurn limit splits query tables (parts ++ part ∷ []) (Ok (said ++ record { part = part.0; reply = reply } ∷ [])) (tables_after between part.0 (asking query part.1) (Ok reply))
+  -- behind those that replied, the next one refuses, and those behind it aren't asked
+  refuses : (parts : List (ℕ × Range)) (part : ℕ × Range) (behind : List (ℕ × Range)) (said : List PartReply) (e : Refusal) (between : List Table)
+      → AsksInTurn limit splits query tables parts (Ok said) between
+      → IsOutcome (expected_at limit splits between part.0 (asking query part.1)) (Err e)
+      → AsksInTurn limit splits query tables (parts ++ part ∷ behind) (Err e) between
+
+-- Several partitions are asked in turn, and what they reply is joined.
+pub record IsJoined (limit : ℕ) (splits : List Bound) (tables : List Table) (query : Query) (parts : List (ℕ × Range)) (answer : Answer) (new : List Table) : Type 0 where
+  pub outcome : Result (List PartReply) Refusal
+  pub asked : AsksInTurn limit splits query tables parts outcome new
+  pub answer_is : answer ≡ joined_or query outcome
+
+-- Several partitions are asked: in turn, or none of them, where no memory is found for their replies.
+abbrev pub AsksSeveral : ℕ → List Bound → List Table → Query → List (ℕ × Range) → Answer → List Table → Type 0
+AsksSeveral limit splits tables query parts answer new = IsJoined limit splits tables query parts answer new ⊎ ((answer ≡ Refused OutOfMemory) × (new ≡ tables))
+
+-- These parts of a range are asked: one alone as by any command.
+abbrev pub AsksParts : ℕ → List Bound → List Table → Query → List (ℕ × Range) → Answer → List Table → Type 0
+AsksParts limit splits tables query (part ∷ []) answer new = IsAsked limit splits tables part.0 (asking query part.1) answer new
+AsksParts limit splits tables query parts answer new = AsksSeveral limit splits tables query parts answer new
+
 -- how a partition was laid out, or why it wasn't
 abbrev pub laid : ℕ → Result PartLayout Refusal → Answer
 laid part (Ok layout) = Laid part layout
@@ -38,14 +75,15 @@ pub record IsLaidOut (splits : List Bound) (tables : List Table) (part : ℕ) (a
   pub comes_out : IsLayoutOutcome (keys_at splits part) (slice_get tables part) outcome
   pub answer_is : answer ≡ laid part outcome
 
--- an answer to a statement, and the partitions afterwards: a row's partition is asked, and for all else partition 0
+-- an answer to a statement, and the partitions afterwards: the partition that holds a row's key or that its number names is asked, and for
+-- a range those that hold a part of it
 abbrev pub IsAnswerTo : ℕ → List Bound → List Table → Statement → Answer → List Table → Type 0
-IsAnswerTo limit splits tables (Insert key payload) answer new = IsAsked limit splits tables 0 (AskInsert key payload) answer new
+IsAnswerTo limit splits tables (Insert key payload) answer new = IsAsked limit splits tables (route splits key.0) (AskInsert key payload) answer new
 IsAnswerTo limit splits tables (Delete row) answer new = IsAsked limit splits tables row.part (AskDelete row.serial) answer new
 IsAnswerTo limit splits tables (Update row key payload) answer new = IsAsked limit splits tables row.part (AskUpdate row.serial key payload) answer new
-IsAnswerTo limit splits tables (Count range) answer new = IsAsked limit splits tables 0 (AskCount range) answer new
-IsAnswerTo limit splits tables (Sum range) answer new = IsAsked limit splits tables 0 (AskSum range) answer new
-IsAnswerTo limit splits tables (Select range) answer new = IsAsked limit splits tables 0 (AskSelect range) answer new
+IsAnswerTo limit splits tables (Count range) answer new = AsksParts limit splits tables AsksCount (parts_of splits range) answer new
+IsAnswerTo limit splits tables (Sum range) answer new = AsksParts limit splits tables AsksSum (parts_of splits range) answer new
+IsAnswerTo limit splits tables (Select range) answer new = AsksParts limit splits tables AsksSelect (parts_of splits range) answer new
 IsAnswerTo limit splits tables (Layout part) answer new = IsLaidOut splits tables part answer × (new ≡ tables)
 IsAnswerTo limit splits tables (Policy policy) answer new = (answer ≡ Set policy) × (new ≡ tables)
 IsAnswerTo limit splits tables Quit answer new = (answer ≡ Bye) × (new ≡ tables)
@@ -55,6 +93,12 @@ abbrev pub IsAnswer : ℕ → List Bound → List Table → Reading → Answer �
 IsAnswer limit splits tables (Err e) answer new = (answer ≡ Refused e) × (new ≡ tables)
 IsAnswer limit splits tables (Ok statement) answer new = IsAnswerTo limit splits tables statement answer new
 
+-- a refusal for want of room: the history is full, or no memory was found
+abbrev pub is_short : Refusal → Bool
+is_short (HistoryFull entries) = true
+is_short OutOfMemory = true
+is_short _ = false
+
 -- whether it is a refusal for want of room
 abbrev pub is_short_answer : Answer → Bool
 is_short_answer (Refused e) = is_short e
@@ -63,6 +107,9 @@ is_short_answer _ = false
 -- the text of an answer
 unfoldable pub answer_text : Answer → List ℕ
 answer_text (Replied part reply) = reply_text part reply
+answer_text (Counted total) = count_text total
+answer_text (Summed total) = sum_text total
+answer_text (Listed total lists) = lists_text total lists
 answer_text (Laid part layout) = layout_text part layout
 answer_text (Set policy) = policy_text policy
 answer_text (Refused e) = refusal_text e

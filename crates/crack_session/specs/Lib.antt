@@ -1,6 +1,6 @@
 pub mod Answers
-pub mod Desks
 pub mod Lines
+pub mod Queries
 pub mod Readings
 pub mod Responses
 pub mod Served

@@ -1,15 +1,25 @@
 //! Answers to statements.
-ghost use Rattle.std.specs.Prelude.{◌≡◌, ◌<◌, List, Some, true, length, IfErr, OnOk};
+ghost use Rattle.std.specs.Prelude.{◌≡◌, ◌+◌, ◌<◌, ◌≤◌, ℕ, List, [], Some, Ok, true, length, All, IfErr, OnOk, Err, vec_len, vec_capacity};
+ghost use Rattle.std.specs.List.{flat_map};
+ghost use Rattle.std.specs.Io.KnownBytes.{Appends};
 ghost use Rattle.crack_row.specs.Devices.{device, has_failed};
-ghost use Rattle.crack_plain.specs.Plain.{Table};
-ghost use Rattle.crack_session.specs.Answers.{IsAnswer, IsAnswerTo, IsAsked, IsLaidOut, is_short_answer, answer_text};
+ghost use Rattle.crack_row.specs.Ranges.{Range};
+ghost use Rattle.crack_plain.specs.Plain.{Table, IsSmall};
+ghost use Rattle.crack_core.specs.Routes.{route, parts_of};
+ghost use Rattle.crack_session.specs.Queries.{list_text, lists_text};
+ghost use Rattle.crack_session.specs.Answers.{IsAnswer, IsAnswerTo, IsAsked, AsksInTurn, AsksSeveral, AsksParts, IsLaidOut, is_short_answer, answer_text};
+ghost use Rattle.crack_commands.specs.Texts.{AppendsFront};
 ghost use Rattle.crack_session.specs.Responses.{Sends};
 
 use crate::desk::Desk;
+use crate::query::{PartReply, Query, ReplyList, joined};
 use crack_commands::{
-    Statement, policy_line, write_layout, write_refusal, write_reply, write_text,
+    Statement, policy_line, write_count, write_each_row, write_head, write_layout, write_refusal,
+    write_reply, write_sum, write_text,
 };
-use crack_row::{Command, Layout, Policy, Refusal, Reply, Watched};
+use crack_core::{only_part, parts_of, route};
+use crack_row::{Command, Key, KeyRange, Layout, Policy, Refusal, Reply, Watched};
+use std::alloc::Global;
 use std::io::Write;
 
 /// What a statement is answered.
@@ -17,6 +27,12 @@ use std::io::Write;
 pub enum Answer {
     /// A partition replied.
     Replied { part: u32, reply: Reply },
+    /// Several partitions counted rows: so many in all.
+    Counted(u64),
+    /// Several partitions added up payloads: the sum of all.
+    Summed(u128),
+    /// Several partitions listed rows: so many in all.
+    Listed { total: u64, lists: ReplyList },
     /// What stands where in a partition.
     Laid { part: u32, layout: Layout },
     /// The session's policy from now on.
@@ -47,6 +63,9 @@ impl Answer {
     {
         match self {
             Answer::Replied { part, reply } => write_reply(*part, reply, writer),
+            Answer::Counted(total) => write_count(*total, writer),
+            Answer::Summed(total) => write_sum(*total, writer),
+            Answer::Listed { total, lists } => write_lists(*total, lists.as_slice(), writer),
             Answer::Laid { part, layout } => write_layout(*part, layout, writer),
             Answer::Set(policy) => write_text(policy_line(*policy), writer),
             Answer::Refused(refusal) => write_refusal(refusal, writer),
@@ -55,8 +74,48 @@ impl Answer {
     }
 }
 
+/// Writes the lists of several partitions: how many rows there are in all, and then each row.
+#[inline(never)]
+fn write_lists<W: Write>(
+    total: u64,
+    lists: &[PartReply],
+    writer: &mut Watched<W>,
+) -> Result<(), Refusal>
+    ensures ok { OnOk result (Appends (W.contents (device writer.old)) (W.contents (device writer.new)) (lists_text total lists.now)) }
+    ensures unfailed { OnOk result (has_failed writer.new ≡ has_failed writer.old) }
+    ensures err { IfErr result (λ e. (e ≡ Refusal.WriteFault) × (has_failed writer.new ≡ true)) }
+    ensures front { IfErr result (λ _. AppendsFront (W.contents (device writer.old)) (W.contents (device writer.new)) (lists_text total lists.now)) }
+{
+    write_head(total, writer)?;
+    write_each_list(lists, writer)
+}
+
+/// Writes the rows of several partitions, one partition behind the other.
+fn write_each_list<W: Write>(lists: &[PartReply], writer: &mut Watched<W>) -> Result<(), Refusal>
+    ensures ok { OnOk result (Appends (W.contents (device writer.old)) (W.contents (device writer.new)) (flat_map list_text lists.now)) }
+    ensures unfailed { OnOk result (has_failed writer.new ≡ has_failed writer.old) }
+    ensures err { IfErr result (λ e. (e ≡ Refusal.WriteFault) × (has_failed writer.new ≡ true)) }
+    ensures front { IfErr result (λ _. AppendsFront (W.contents (device writer.old)) (W.contents (device writer.new)) (flat_map list_text lists.now)) }
+{
+    'lists: for list in lists {
+        write_list(list, writer)?;
+    }
+    Ok(())
+}
+
+/// Writes the rows of one partition.
+fn write_list<W: Write>(list: &PartReply, writer: &mut Watched<W>) -> Result<(), Refusal>
+    ensures ok { OnOk result (Appends (W.contents (device writer.old)) (W.contents (device writer.new)) (list_text list.now)) }
+    ensures unfailed { OnOk result (has_failed writer.new ≡ has_failed writer.old) }
+    ensures err { IfErr result (λ e. (e ≡ Refusal.WriteFault) × (has_failed writer.new ≡ true)) }
+    ensures front { IfErr result (λ _. AppendsFront (W.contents (device writer.old)) (W.contents (device writer.new)) (list_text list.now)) }
+{
+    write_each_row(list.part, list.rows(), writer)
+}
+
 /// Answers what a line says.
 pub fn answer_reading<D: Desk>(
+    alloc: Global,
     desk: &mut D,
     policy: Policy,
     reading: Result<Statement, Refusal>,
@@ -67,21 +126,28 @@ pub fn answer_reading<D: Desk>(
     ensures limit { D.limit desk.new ≡ D.limit desk.old }
 {
     match reading {
-        Ok(statement) => answer_statement(desk, policy, statement),
+        Ok(statement) => answer_statement(alloc, desk, policy, statement),
         Err(refusal) => Answer::Refused(refusal),
     }
 }
 
-/// Answers a statement: a delete and an update by the partition that their row number names, all else that asks a
-/// partition by partition 0.
-fn answer_statement<D: Desk>(desk: &mut D, policy: Policy, statement: Statement) -> Answer
+/// Answers a statement: an insert by the partition that holds its key, a delete and an update by the partition that their
+/// row number names, and what is asked of a range by each partition that holds a part of it.
+fn answer_statement<D: Desk>(
+    alloc: Global,
+    desk: &mut D,
+    policy: Policy,
+    statement: Statement,
+) -> Answer
     ensures is { (tables : List Table) → D.tables desk.old ≡ Some tables → (new : List Table)
         × IsAnswerTo (D.limit desk.old) (D.splits desk.old) tables statement result new × (D.tables desk.new ≡ Some new) }
     ensures splits { D.splits desk.new ≡ D.splits desk.old }
     ensures limit { D.limit desk.new ≡ D.limit desk.old }
 {
     let (part, command) = match statement {
-        Statement::Insert { key, payload } => (0, Command::Insert { key, payload }),
+        Statement::Insert { key, payload } => {
+            (part_of(desk, key), Command::Insert { key, payload })
+        }
         Statement::Delete(row) => {
             let serial = row.serial;
             (row.part, Command::Delete { serial })
@@ -95,9 +161,9 @@ fn answer_statement<D: Desk>(desk: &mut D, policy: Policy, statement: Statement)
             };
             (row.part, command)
         }
-        Statement::Count(range) => (0, Command::Count(range)),
-        Statement::Sum(range) => (0, Command::Sum(range)),
-        Statement::Select(range) => (0, Command::Select(range)),
+        Statement::Count(range) => return ask_range(alloc, desk, policy, Query::Count, range),
+        Statement::Sum(range) => return ask_range(alloc, desk, policy, Query::Sum, range),
+        Statement::Select(range) => return ask_range(alloc, desk, policy, Query::Select, range),
         Statement::Layout(part) => return lay_out(desk, part),
         Statement::Policy(next) => return Answer::Set(next),
         Statement::Quit => return Answer::Bye,
@@ -105,7 +171,16 @@ fn answer_statement<D: Desk>(desk: &mut D, policy: Policy, statement: Statement)
     ask_part(desk, policy, part, command)
 }
 
+/// The partition that holds a key.
+#[inline(always)]
+pub fn part_of<D: Desk>(desk: &D, key: Key) -> u32
+    ensures { result ≡ route (D.splits desk.now) key.0 }
+{
+    route(desk.splits(), key)
+}
+
 /// Asks one partition.
+#[inline(never)]
 fn ask_part<D: Desk>(desk: &mut D, policy: Policy, part: u32, command: Command) -> Answer
     ensures is { (tables : List Table) → D.tables desk.old ≡ Some tables → (new : List Table)
         × IsAsked (D.limit desk.old) (D.splits desk.old) tables part command result new × (D.tables desk.new ≡ Some new) }
@@ -116,6 +191,83 @@ fn ask_part<D: Desk>(desk: &mut D, policy: Policy, part: u32, command: Command) 
         Ok(reply) => Answer::Replied { part, reply },
         Err(refusal) => Answer::Refused(refusal),
     }
+}
+
+/// Asks each partition that holds a part of a range. Takes no memory where that is one alone.
+fn ask_range<D: Desk>(
+    alloc: Global,
+    desk: &mut D,
+    policy: Policy,
+    query: Query,
+    range: KeyRange,
+) -> Answer
+    ensures is { (tables : List Table) → D.tables desk.old ≡ Some tables → (new : List Table)
+        × AsksParts (D.limit desk.old) (D.splits desk.old) tables query (parts_of (D.splits desk.old) range) result new × (D.tables desk.new ≡ Some new) }
+    ensures splits { D.splits desk.new ≡ D.splits desk.old }
+    ensures limit { D.limit desk.new ≡ D.limit desk.old }
+{
+    if let Some(part) = only_part(desk.splits(), range) {
+        return ask_part(desk, policy, part, query.over(range));
+    }
+    match parts_of(alloc, desk.splits(), range) {
+        Ok(parts) => ask_several(alloc, desk, policy, query, parts.as_slice()),
+        Err(refusal) => Answer::Refused(refusal),
+    }
+}
+
+/// Asks several partitions, once there is room for their replies, and joins these.
+fn ask_several<D: Desk>(
+    alloc: Global,
+    desk: &mut D,
+    policy: Policy,
+    query: Query,
+    parts: &[(u32, KeyRange)],
+) -> Answer
+    requires { length parts.now ≤ 64 }
+    ensures is { (tables : List Table) → D.tables desk.old ≡ Some tables → (new : List Table)
+        × AsksSeveral (D.limit desk.old) (D.splits desk.old) tables query parts.now result new × (D.tables desk.new ≡ Some new) }
+    ensures splits { D.splits desk.new ≡ D.splits desk.old }
+    ensures limit { D.limit desk.new ≡ D.limit desk.old }
+{
+    match Vec::with_capacity(alloc, parts.len()) {
+        Ok(mut replies) => match ask_each(desk, policy, query, parts, &mut replies) {
+            Ok(()) => joined(query, replies),
+            Err(refusal) => Answer::Refused(refusal),
+        },
+        Err(_) => Answer::Refused(Refusal::OutOfMemory),
+    }
+}
+
+/// Asks one partition after the other, until one refuses.
+#[inline(never)]
+fn ask_each<D: Desk>(
+    desk: &mut D,
+    policy: Policy,
+    query: Query,
+    parts: &[(u32, KeyRange)],
+    replies: &mut Vec<PartReply>,
+) -> Result<(), Refusal>
+    requires none { replies.old.items ≡ [] }
+    requires room { length parts.now ≤ vec_capacity replies.old }
+    ensures replied { OnOk result ((tables : List Table) → D.tables desk.old ≡ Some tables → (new : List Table)
+        × AsksInTurn (D.limit desk.old) (D.splits desk.old) query tables parts.now (Ok replies.new.items) new × (D.tables desk.new ≡ Some new)) }
+    ensures refused { IfErr result (λ e. (tables : List Table) → D.tables desk.old ≡ Some tables → (new : List Table)
+        × AsksInTurn (D.limit desk.old) (D.splits desk.old) query tables parts.now (Err e) new × (D.tables desk.new ≡ Some new)) }
+    ensures small { All (λ (r : PartReply). IsSmall r.reply) replies.new.items }
+    ensures few { length replies.new.items ≤ length parts.now }
+    ensures splits { D.splits desk.new ≡ D.splits desk.old }
+    ensures limit { D.limit desk.new ≡ D.limit desk.old }
+{
+    'parts: for part in parts {
+        match desk.ask(part.0, query.over(part.1), policy) {
+            Ok(reply) => replies.push_reserved(PartReply {
+                part: part.0,
+                reply,
+            }),
+            Err(refusal) => return Err(refusal),
+        }
+    }
+    Ok(())
 }
 
 /// Says what stands where in one partition.

@@ -1,7 +1,8 @@
 //! Who answers commands.
 ghost use Rattle.std.specs.Prelude.{◌≡◌, ℕ, ◌+◌, List, length, All, is_ok, Some, IfOk, slice_get, if◌then◌else◌};
-ghost use Rattle.crack_plain.specs.Plain.{Table, IsNumbered};
-ghost use Rattle.crack_session.specs.Desks.{keys_at, expected_at, IsOutcome, IsLayoutOutcome, tables_after, IsSmall};
+ghost use Rattle.crack_plain.specs.Plain.{Table, IsNumbered, IsSmall};
+ghost use Rattle.crack_core.specs.Routes.{AreSplits, keys_at};
+ghost use Rattle.crack_core.specs.Steps.{expected_at, IsOutcome, IsLayoutOutcome, tables_after};
 
 use crack_row::{Bound, Command, Layout, Policy, Refusal, Reply};
 
@@ -49,6 +50,7 @@ pub trait Desk {
     /// Where one partition ends and the next begins. Takes no memory.
     fn splits(&self) -> &[Bound]
         ensures value { result.now ≡ splits self.now }
+        ensures are { AreSplits (splits self.now) }
         ensures partitions { (known : List Table) → tables self.now ≡ Some known →
             length known ≡ length (splits self.now) + 1 }
         ensures numbered { (known : List Table) → tables self.now ≡ Some known →

@@ -2,16 +2,16 @@
 #![tactic(auto)]
 
 mod answer;
+mod core_desk;
 pub mod desk;
 mod input;
 mod line;
-pub mod one_desk;
 mod output;
 mod plain_desk;
+mod query;
 pub mod session;
 
 pub use desk::Desk;
-pub use one_desk::OneDesk;
 pub use session::{End, Fault, How, serve};
 
 /// The greatest length of a statement's line, in bytes, without its line feed and one carriage return.

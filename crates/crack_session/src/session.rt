@@ -1,19 +1,20 @@
 //! A session: the statements of a reader, answered to a writer.
-ghost use Rattle.std.specs.Prelude.{◌≡◌, ℕ, ◌+◌, ◌<◌, ◌≤◌, ◌⊎◌, ◌^◌, ◌-◌, true, List, length, min, is_ok, IfOk, IfErr, OnErr, OnOk, None, Some, if◌then◌else◌};
+ghost use Rattle.std.specs.Prelude.{◌≡◌, ℕ, ◌+◌, ◌<◌, ◌≤◌, ◌⊎◌, ◌^◌, ◌-◌, true, List, length, min, is_ok, Ok, IfOk, IfErr, IfSome, OnErr, OnOk, None, Some, if◌then◌else◌};
 ghost use Rattle.std.specs.Io.KnownBytes.{Keeps};
 ghost use Rattle.crack_row.specs.Devices.{device, has_failed, reads_of};
 ghost use Rattle.crack_plain.specs.Plain.{Table};
 ghost use Rattle.crack_session.specs.Served.{IsCounted, IsServed, IsDone, IsCutOff};
-ghost use Rattle.crack_session.specs.Responses.{IsResponse, marked, policy_after};
-ghost use Rattle.crack_session.specs.Answers.{is_short_answer};
+ghost use Rattle.crack_session.specs.Responses.{IsResponse, Sends, marked, policy_after};
+ghost use Rattle.crack_session.specs.Answers.{is_short_answer, answer_text};
 
-use crate::answer::{Answer, answer_reading};
+use crate::answer::{Answer, answer_reading, part_of};
 use crate::desk::Desk;
 use crate::input::{LineReader, next_line};
 use crate::line::{read_line, says_quit};
 use crate::output::flush;
-use crack_commands::Statement;
-use crack_row::{Policy, Refusal, Watched};
+use crack_commands::{Statement, write_reply};
+use crack_row::{Command, Key, Payload, Policy, Refusal, Reply, Watched};
+use std::alloc::Global;
 use std::io::{Read, Write};
 
 /// How a session ended.
@@ -91,8 +92,10 @@ impl Progress {
     }
 }
 
-/// Answers what a line says, and writes the text.
+/// Answers what a line says, and writes the text. An insert, the statement that is met most, has a path of its own.
+#[inline(always)]
 fn respond<D: Desk, W: Write>(
+    alloc: Global,
     desk: &mut D,
     reading: Result<Statement, Refusal>,
     progress: &mut Progress,
@@ -108,8 +111,136 @@ fn respond<D: Desk, W: Write>(
     ensures unfailed { OnOk result (has_failed writer.new ≡ has_failed writer.old) }
     ensures err { IfErr result (λ e. (e ≡ Refusal.WriteFault) × (has_failed writer.new ≡ true)) }
 {
-    let answer = answer_reading(desk, progress.policy, reading);
-    progress.note(&answer);
+    if let Some((key, payload)) = inserted(&reading) {
+        return respond_to_insert(desk, key, payload, progress, writer);
+    }
+    respond_to_any(alloc, desk, reading, progress, writer)
+}
+
+/// Answers what any line says, and writes the text.
+#[inline(never)]
+fn respond_to_any<D: Desk, W: Write>(
+    alloc: Global,
+    desk: &mut D,
+    reading: Result<Statement, Refusal>,
+    progress: &mut Progress,
+    writer: &mut Watched<W>,
+) -> Result<(), Refusal>
+    requires { progress.old.statements + 1 < 2 ^ 64 }
+    ensures count { progress.new.statements ≡ (if is_ok result then progress.old.statements + 1 else progress.old.statements) }
+    ensures responds { (tables : List Table) → D.tables desk.old ≡ Some tables →
+        IsResponse (D.limit desk.old) (D.splits desk.old) tables reading progress.old progress.new result
+        (D.tables desk.new) (W.contents (device writer.old)) (W.contents (device writer.new)) }
+    ensures splits { D.splits desk.new ≡ D.splits desk.old }
+    ensures limit { D.limit desk.new ≡ D.limit desk.old }
+    ensures unfailed { OnOk result (has_failed writer.new ≡ has_failed writer.old) }
+    ensures err { IfErr result (λ e. (e ≡ Refusal.WriteFault) × (has_failed writer.new ≡ true)) }
+{
+    let answer = answer_reading(alloc, desk, progress.policy, reading);
+    tell(&answer, progress, writer)
+}
+
+/// The key and the payload of the row that an insert brings; none where the line says anything else.
+#[inline(always)]
+fn inserted(reading: &Result<Statement, Refusal>) -> Option<(Key, Payload)>
+    ensures { IfSome result (λ row. reading.now ≡ Ok (Statement.Insert row.0 row.1)) }
+{
+    match reading {
+        Ok(statement) => match statement {
+            Statement::Insert { key, payload } => Some((*key, *payload)),
+            _ => None,
+        },
+        Err(_) => None,
+    }
+}
+
+/// Answers an insert, and writes the text. It asks in place, by a command that is known to be an insert, and its reply is no `Answer` before
+/// it is written.
+#[inline(always)]
+fn respond_to_insert<D: Desk, W: Write>(
+    desk: &mut D,
+    key: Key,
+    payload: Payload,
+    progress: &mut Progress,
+    writer: &mut Watched<W>,
+) -> Result<(), Refusal>
+    requires { progress.old.statements + 1 < 2 ^ 64 }
+    ensures count { progress.new.statements ≡ (if is_ok result then progress.old.statements + 1 else progress.old.statements) }
+    ensures responds { (tables : List Table) → D.tables desk.old ≡ Some tables →
+        IsResponse (D.limit desk.old) (D.splits desk.old) tables (Ok (Statement.Insert key payload)) progress.old progress.new result
+        (D.tables desk.new) (W.contents (device writer.old)) (W.contents (device writer.new)) }
+    ensures splits { D.splits desk.new ≡ D.splits desk.old }
+    ensures limit { D.limit desk.new ≡ D.limit desk.old }
+    ensures unfailed { OnOk result (has_failed writer.new ≡ has_failed writer.old) }
+    ensures err { IfErr result (λ e. (e ≡ Refusal.WriteFault) × (has_failed writer.new ≡ true)) }
+{
+    let part = part_of(desk, key);
+    match desk.ask(part, Command::Insert { key, payload }, progress.policy) {
+        Ok(reply) => tell_reply(part, &reply, progress, writer),
+        Err(refusal) => tell_refusal(refusal, progress, writer),
+    }
+}
+
+/// Writes the text of a reply, and counts it. It is no want of room, and sets no policy.
+#[inline(always)]
+#[tactic(auto, unfolding(crate::specs::Answers::answer_text))]
+fn tell_reply<W: Write>(
+    part: u32,
+    reply: &Reply,
+    progress: &mut Progress,
+    writer: &mut Watched<W>,
+) -> Result<(), Refusal>
+    requires { progress.old.statements + 1 < 2 ^ 64 }
+    ensures count { progress.new.statements ≡ (if is_ok result then progress.old.statements + 1 else progress.old.statements) }
+    ensures short { progress.new.first_short ≡ progress.old.first_short }
+    ensures policy { progress.new.policy ≡ progress.old.policy }
+    ensures sends { Sends (answer_text (Answer.Replied part reply.now)) result (W.contents (device writer.old)) (W.contents (device writer.new)) }
+    ensures unfailed { OnOk result (has_failed writer.new ≡ has_failed writer.old) }
+    ensures err { IfErr result (λ e. (e ≡ Refusal.WriteFault) × (has_failed writer.new ≡ true)) }
+{
+    match write_reply(part, reply, writer) {
+        Ok(()) => {
+            progress.statements += 1;
+            Ok(())
+        }
+        Err(refusal) => Err(refusal),
+    }
+}
+
+/// Tells a refusal. It stands apart, so that where a reply is told no room for an answer is cleared.
+#[inline(never)]
+fn tell_refusal<W: Write>(
+    refusal: Refusal,
+    progress: &mut Progress,
+    writer: &mut Watched<W>,
+) -> Result<(), Refusal>
+    requires { progress.old.statements + 1 < 2 ^ 64 }
+    ensures count { progress.new.statements ≡ (if is_ok result then progress.old.statements + 1 else progress.old.statements) }
+    ensures short { progress.new.first_short ≡ marked progress.old.first_short (progress.old.statements + 1) (is_short_answer (Answer.Refused refusal)) }
+    ensures policy { progress.new.policy ≡ policy_after progress.old.policy (Answer.Refused refusal) }
+    ensures sends { Sends (answer_text (Answer.Refused refusal)) result (W.contents (device writer.old)) (W.contents (device writer.new)) }
+    ensures unfailed { OnOk result (has_failed writer.new ≡ has_failed writer.old) }
+    ensures err { IfErr result (λ e. (e ≡ Refusal.WriteFault) × (has_failed writer.new ≡ true)) }
+{
+    tell(&Answer::Refused(refusal), progress, writer)
+}
+
+/// Tells an answer: notes it, writes its text, and counts it.
+#[inline(always)]
+fn tell<W: Write>(
+    answer: &Answer,
+    progress: &mut Progress,
+    writer: &mut Watched<W>,
+) -> Result<(), Refusal>
+    requires { progress.old.statements + 1 < 2 ^ 64 }
+    ensures count { progress.new.statements ≡ (if is_ok result then progress.old.statements + 1 else progress.old.statements) }
+    ensures short { progress.new.first_short ≡ marked progress.old.first_short (progress.old.statements + 1) (is_short_answer answer.now) }
+    ensures policy { progress.new.policy ≡ policy_after progress.old.policy answer.now }
+    ensures sends { Sends (answer_text answer.now) result (W.contents (device writer.old)) (W.contents (device writer.new)) }
+    ensures unfailed { OnOk result (has_failed writer.new ≡ has_failed writer.old) }
+    ensures err { IfErr result (λ e. (e ≡ Refusal.WriteFault) × (has_failed writer.new ≡ true)) }
+{
+    progress.note(answer);
     match answer.write(writer) {
         Ok(()) => {
             progress.statements += 1;
@@ -134,12 +265,15 @@ fn finish<W: Write>(writer: &mut Watched<W>, progress: Progress, how: How) -> Re
 }
 
 /// Answers the statements of a reader, each whole line before it reads again, until its input ends or a statement
-/// is `quit`; what was read beyond that is dropped. A delete or update goes to the partition that its row number names, a
-/// layout to the one that it names, all else to partition 0 of the desk. The desk is asked by `policy` until a statement names another.
+/// is `quit`; what was read beyond that is dropped. An insert goes to the partition that holds its key, a delete or update to the one that
+/// its row number names, a layout to the one that it names. A range is asked of each partition that holds a part of it, in rising order: counts and
+/// sums are added, and rows are listed partition by partition, without a copy. The first refusal is the reply. The desk is asked by `policy` until a statement names another.
 /// What is written is handed on by a flush before each read and at the end: behind a buffer that holds the replies
 /// to one read there is at most one write more than reads. Rows and pieces are written one at a time.
-/// Takes no memory but what the desk takes, none for a line, so it is never cut off by 8.
+/// Takes no memory but what the desk takes, and for the replies of several partitions to one statement; none for a line, so it is
+/// never cut off by 8.
 pub fn serve<D: Desk, R: Read, W: Write>(
+    alloc: Global,
     desk: &mut D,
     policy: Policy,
     reader: &mut Watched<R>,
@@ -187,7 +321,7 @@ pub fn serve<D: Desk, R: Read, W: Write>(
             Ok(true) => {}
         }
         if let Some(reading) = read_line(input.line()) {
-            if let Err(refusal) = respond(desk, reading, &mut progress, writer) {
+            if let Err(refusal) = respond(alloc, desk, reading, &mut progress, writer) {
                 return Err(progress.fault(refusal));
             }
             if says_quit(&reading) {

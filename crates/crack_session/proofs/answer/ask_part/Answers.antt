@@ -1,5 +1,5 @@
 use Rattle.std.proofs.Common.{Ok, refl}
-use Rattle.crack_session.specs.Desks.{tables_after}
+use Rattle.crack_core.specs.Steps.{tables_after}
 use Rattle.crack_session.proofs.answer.ask_part.Goals as goal
 
 pub returns-in-Ok-clause-is : goal.returns-in-Ok-clause-is

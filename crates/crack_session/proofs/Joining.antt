@@ -1,0 +1,53 @@
+-- Replies that are joined.
+use Rattle.std.proofs.Common.{◌≡◌, ℕ, ◌+◌, ◌*◌, ◌<◌, ◌≤◌, ◌^◌, List, ◌++◌, Option, length, take, get_or, subst, sym, ap, ◌∙◌, arith}
+use Rattle.std.specs.Prelude.{All}
+use Rattle.std.specs.List.{flat_map}
+use Rattle.std.specs.Io.KnownBytes.{Appends}
+use Rattle.std.proofs.lemmas.List.Sums.{sum_by-le}
+use Rattle.crack_row.specs.declared.command.Reply.{Reply}
+use Rattle.crack_row.specs.declared.command.Reply.TheVariants.{Placed, Gone, Changed, NoRow, Counted, Summed, Rows}
+use Rattle.crack_commands.specs.Texts.{AppendsFront}
+use Rattle.crack_commands.proofs.Sending.{front_within, texts_more}
+use Rattle.crack_session.specs.declared.query.PartReply.{PartReply}
+use Rattle.crack_plain.specs.Plain.{IsSmall}
+use Rattle.crack_session.specs.Queries.{counted, summed, rows_told, sum_told, list_text}
+
+-- what a small reply counts or lists
+counted-small : (r : Reply) → IsSmall r → counted r ≤ 4294967295
+counted-small (Placed serial) small = omega arith
+counted-small (Gone row) small = omega arith
+counted-small Changed small = omega arith
+counted-small NoRow small = omega arith
+counted-small (Counted count) small = omega (arith, small)
+counted-small (Summed sum) small = omega arith
+counted-small (Rows rows) small = omega (arith, small)
+
+-- what a small reply sums up
+summed-small : (r : Reply) → IsSmall r → summed r ≤ 79228162514264337593543950335
+summed-small (Placed serial) small = omega arith
+summed-small (Gone row) small = omega arith
+summed-small Changed small = omega arith
+summed-small NoRow small = omega arith
+summed-small (Counted count) small = omega arith
+summed-small (Summed sum) small = omega (arith, small)
+summed-small (Rows rows) small = omega arith
+
+-- few small replies fit together
+pub rows_told-fit : (replies : List PartReply) → All (λ (r : PartReply). IsSmall r.reply) replies → length replies ≤ 64 → rows_told replies < 2 ^ 64
+rows_told-fit replies small few =
+    let most = sum_by-le (λ (r : PartReply). counted r.reply) 4294967295 replies (λ i d below. counted-small _ (small i d below)) in
+    omega (arith, most, few)
+
+pub sum_told-fit : (replies : List PartReply) → All (λ (r : PartReply). IsSmall r.reply) replies → length replies ≤ 64 → sum_told replies < 2 ^ 128
+sum_told-fit replies small few =
+    let most = sum_by-le (λ (r : PartReply). summed r.reply) 79228162514264337593543950335 replies (λ i d below. summed-small _ (small i d below)) in
+    omega (arith, most, few)
+
+-- one list more is written
+pub lists_more : (lists : List PartReply) (i : ℕ) (list : PartReply) → i < length lists → list ≡ get_or lists i list → flat_map list_text (take (i + 1) lists) ≡ flat_map list_text (take i lists) ++ list_text list
+lists_more lists i list below at = texts_more list_text lists i list below ∙ ap (λ (l : PartReply). flat_map list_text (take i lists) ++ list_text l) (sym at)
+
+-- where the writer fails within a list
+pub lists_within : (lists : List PartReply) (i : ℕ) (list : PartReply) (a b c : Option (List ℕ)) → i < length lists → list ≡ get_or lists i list → Appends a b (flat_map list_text (take i lists)) → AppendsFront b c (list_text list) → AppendsFront a c (flat_map list_text lists)
+lists_within lists i list a b c below at sent cut =
+    front_within list_text lists i list a b c below sent (subst (λ (l : PartReply). AppendsFront b c (list_text l)) at cut)

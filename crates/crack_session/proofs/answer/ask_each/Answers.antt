@@ -1,0 +1,43 @@
+use Rattle.std.proofs.Common.{◌≡◌, ◌∙◌, ◌+◌, List, Ok, Err, length, arith, sym, ap, refl}
+use Rattle.std.specs.Prelude.{All}
+use Rattle.std.proofs.lemmas.List.Elements.{All-nil, All-push}
+use Rattle.crack_session.specs.Answers.{begins}
+use Rattle.crack_plain.specs.Plain.{IsSmall}
+use Rattle.crack_session.specs.declared.query.PartReply.{PartReply}
+use Rattle.crack_session.proofs.Asking.{AsksInTurn-more, AsksInTurn-stops}
+use Rattle.crack_session.proofs.answer.ask_each.Goals as goal
+
+pub parts-init : goal.parts-init
+parts-init g c = record {
+  asked = λ tables e. (tables, rw c.requires.none begins, e);
+  small = rw c.requires.none (All-nil _);
+  count = let none = ap length c.requires.none in omega (arith, none);
+  room = c.requires.room;
+  splits = refl;
+  limit = refl;
+}
+
+pub returns-in-Err-clause-refused : goal.returns-in-Err-clause-refused
+returns-in-Err-clause-refused g c = λ tables e.
+    let was = c.parts.invariant.asked tables e in (
+      was.0,
+      AsksInTurn-stops c.args.query tables c.args.parts.now c.parts.part-index c.part-item.result c.over.result c.parts.replies.items c.in-Err.refusal was.0
+          c.parts-test.true c.part-item.is c.over.ensures was.1 (rw (c.parts.invariant.limit, c.parts.invariant.splits) at c.in-Err.ensures.outcome was.0 was.2),
+      c.in-Err.ensures.after was.0 was.2,
+    )
+
+pub parts-preserved : goal.parts-preserved
+parts-preserved g c = record {
+  asked = λ tables e.
+      let was = c.parts.invariant.asked tables e in (
+        _,
+        AsksInTurn-more c.args.query tables c.args.parts.now c.parts.part-index c.part-item.result c.over.result c.parts.replies.items _ c.in-Ok.reply was.0
+            c.parts-test.true c.part-item.is c.over.ensures c.push_reserved.ensures.items was.1 (rw (c.parts.invariant.limit, c.parts.invariant.splits) at c.in-Ok.ensures.outcome was.0 was.2),
+        c.in-Ok.ensures.after was.0 was.2,
+      );
+  small = rw c.push_reserved.ensures.items (All-push (λ (r : PartReply). IsSmall r.reply) c.parts.replies.items _ c.parts.invariant.small c.in-Ok.ensures.small);
+  count = let len = c.push_reserved.ensures.len in omega (arith, len, c.parts.invariant.count);
+  room = let same = c.push_reserved.ensures.capacity in omega (arith, same, c.parts.invariant.room);
+  splits = c.ask.ensures.splits ∙ c.parts.invariant.splits;
+  limit = c.ask.ensures.limit ∙ c.parts.invariant.limit;
+}

@@ -1,0 +1,5 @@
+use Rattle.std.proofs.Common.{rules}
+use Rattle.crack_session.proofs.core_desk.CoreDesk.layout.Goals as goal
+
+pub returns : goal.returns
+returns c = search rules

@@ -1,0 +1,5 @@
+use Rattle.std.proofs.Common.{rules}
+use Rattle.crack_session.proofs.plain_desk.PlainTableDesk.ask.Goals as goal
+
+pub returns : goal.returns
+returns c = search rules
