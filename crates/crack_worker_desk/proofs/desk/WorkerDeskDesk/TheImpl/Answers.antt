@@ -1,0 +1,20 @@
+-- A desk's clauses of a table that is known say nothing here: it isn't known.
+use Rattle.std.proofs.Common.{◌≡◌, Some, None, is_some, ap}
+use Rattle.std.proofs.lemmas.Bool.{false≢true}
+use Rattle.crack_worker_desk.proofs.desk.WorkerDeskDesk.TheImpl.Goals as goal
+
+unknown : {X : Type 0} {P : Type 0} (x : X) → None ≡ Some x → P
+unknown x known = absurd (false≢true (ap is_some known))
+
+pub ask-tells : goal.ask-tells
+ask-tells g c = record {
+  outcome = λ tables known. unknown tables known;
+  after = λ tables known. unknown tables known;
+  small = c.ensures.small;
+  splits = ap (λ t. t.splits) c.ensures.table;
+  limit = ap (λ t. t.limit) c.ensures.table;
+  receipts = c.ensures.receipts;
+}
+
+pub layout-tells : goal.layout-tells
+layout-tells g c tables known = unknown tables known
