@@ -1,0 +1,4 @@
+pub mod Exporting
+pub mod Fields
+pub mod Loading
+pub mod Within

@@ -1,0 +1,107 @@
+-- How a load goes on, one record after another.
+use Rattle.std.proofs.Common.{◌≡◌, ℕ, ◌+◌, ◌==◌, ◌&&◌, ◌⊎◌, Bool, true, false, cond, Option, Some, List, [], ◌∷◌, ◌++◌, length, map, refl, sym, ap, ◌∙◌, inl, inr, arith, length-append}
+use Rattle.std.proofs.lemmas.List.{map-append}
+use Rattle.std.proofs.lemmas.Bool.{ne_eqb}
+use Rattle.csv.specs.Reading.{Reached, source_of, strip_bom, reader_state}
+use Rattle.csv.specs.declared.parser.State.TheVariants as st
+use Rattle.csv.specs.declared.reader.Reader.{Reader}
+use Rattle.crack_row.specs.declared.Bound.{Bound}
+use Rattle.crack_row.specs.declared.refusal.Refusal.{Refusal}
+use Rattle.crack_row.specs.declared.refusal.Refusal.TheVariants.{ReadFault, OutOfMemory}
+use Rattle.crack_plain.specs.Plain.{Table}
+use Rattle.crack_csv.specs.declared.record.NewRow.{NewRow}
+use Rattle.crack_csv.specs.Records.{Fields, is_header, is_header_behind, without_header, new_row_of, IsBehind, AreAllOf}
+use Rattle.crack_csv.specs.Loads.{with_row, with_rows, BringsRow, AreInserted, IsLoaded, IsCause, IsCutShort}
+
+without_header-more : (header : Bool) (first : Fields) (records : List Fields) (fields : Fields) → cond header (records ++ fields ∷ []) (first ∷ (records ++ fields ∷ [])) ≡ cond header records (first ∷ records) ++ fields ∷ []
+without_header-more true first records fields = refl
+without_header-more false first records fields = refl
+
+-- behind others, a record that is no header is to be inserted
+without_header-push : (records : List Fields) (fields : Fields) → is_header_behind records fields ≡ false → without_header (records ++ fields ∷ []) ≡ without_header records ++ fields ∷ []
+without_header-push [] fields e = rw e refl
+without_header-push (first ∷ records) fields e = without_header-more (is_header first) first records fields
+
+with_rows-push : (splits : List Bound) (tables : List Table) (rows : List NewRow) (row : NewRow) → with_rows splits tables (rows ++ row ∷ []) ≡ with_row splits (with_rows splits tables rows) row
+with_rows-push splits tables [] row = refl
+with_rows-push splits tables (first ∷ rows) row = with_rows-push splits (with_row splits tables first) rows row
+
+-- one more row is inserted
+AreInserted-push : {splits : List Bound} {tables : List Table} {count : ℕ} {left : Option (List Table)} (records : List Fields) (fields : Fields) (left' : Option (List Table)) (was : AreInserted splits tables records count left) → is_header_behind records fields ≡ false → BringsRow splits (with_rows splits tables was.rows) fields left' → AreInserted splits tables (records ++ fields ∷ []) (count + 1) left'
+AreInserted-push {splits} {tables} records fields left' was plain brings = record {
+  rows = was.rows ++ brings.0 ∷ [];
+  are = ap (map new_row_of) (without_header-push records fields plain) ∙ map-append new_row_of (without_header records) (fields ∷ [])
+      ∙ ap (λ (z : List (Option NewRow)). z ++ new_row_of fields ∷ []) was.are ∙ ap (λ (o : Option NewRow). map Some was.rows ++ o ∷ []) brings.1
+      ∙ sym (map-append Some was.rows (brings.0 ∷ []));
+  count_is = let l = length-append was.rows (brings.0 ∷ []) in let c = was.count_is in omega (arith, l, c);
+  left_is = brings.2 ∙ ap Some (sym (with_rows-push splits tables was.rows brings.0));
+}
+
+-- a header is skipped
+AreInserted-header : {splits : List Bound} {tables : List Table} {count : ℕ} {left : Option (List Table)} (records : List Fields) (fields : Fields) (number : ℕ) → length records + 1 ≡ number → (number == 1 && is_header fields) ≡ true → AreInserted splits tables records count left → AreInserted splits tables (records ++ fields ∷ []) count left
+AreInserted-header [] fields number n header was = record { rows = was.rows; are = (let is : is_header fields ≡ true = rw (← n) at header in rw is was.are); count_is = was.count_is; left_is = was.left_is }
+AreInserted-header (first ∷ records) fields number n header was = absurd (let other : (number == 1) ≡ false = ne_eqb number 1 (λ one. omega (arith, n, one)) in cc (rw other at header))
+
+-- a record is no header unless it is the first
+no_header : (records : List Fields) (fields : Fields) (number : ℕ) → length records + 1 ≡ number → (number == 1 && is_header fields) ≡ false → is_header_behind records fields ≡ false
+no_header [] fields number n e = rw (← n) at e
+no_header (first ∷ records) fields number n e = refl
+
+-- A reader stands before the record of this number, and the rows of the records before it are inserted.
+pub record Going {R : Type 0} (remaining : R → Option (List ℕ)) (reader : Reader R) (splits : List Bound) (tables : List Table) (bytes : List ℕ) (number loaded : ℕ) (left : Option (List Table)) : Type 0 where
+  pub records : List Fields
+  pub behind : IsBehind remaining reader (strip_bom bytes) records
+  pub inserted : AreInserted splits tables records loaded left
+  pub count : length records + 1 ≡ number
+
+-- what reading one more record does
+abbrev pub ReadsOne : {R : Type 0} → (R → Option (List ℕ)) → Reader R → Reader R → Fields → Type 0
+ReadsOne remaining old new fields = (text : List ℕ) (records : List Fields) → IsBehind remaining old text records → IsBehind remaining new text (records ++ fields ∷ [])
+
+pub Going-start : {R : Type 0} (remaining : R → Option (List ℕ)) (reader : Reader R) (splits : List Bound) (tables : List Table) (bytes : List ℕ) (left : Option (List Table)) → source_of remaining reader ≡ Some (strip_bom bytes) → reader_state reader ≡ st.StartRecord → left ≡ Some tables → Going remaining reader splits tables bytes 1 0 left
+unfolding Reached
+Going-start remaining reader splits tables bytes left source state known = record {
+  records = [];
+  behind = record { rest = strip_bom bytes; left = source; reached = (sym state, refl) };
+  inserted = record { rows = []; are = refl; count_is = refl; left_is = known };
+  count = refl;
+}
+
+pub Going-header : {R : Type 0} {remaining : R → Option (List ℕ)} {old : Reader R} {splits : List Bound} {tables : List Table} {bytes : List ℕ} {number loaded : ℕ} {left : Option (List Table)} (new : Reader R) (fields : Fields) → Going remaining old splits tables bytes number loaded left → ReadsOne remaining old new fields → (number == 1 && is_header fields) ≡ true → Going remaining new splits tables bytes (number + 1) loaded left
+Going-header new fields g reads header = record {
+  records = g.records ++ fields ∷ [];
+  behind = reads _ g.records g.behind;
+  inserted = AreInserted-header g.records fields _ g.count header g.inserted;
+  count = let l = length-append g.records (fields ∷ []) in let c = g.count in omega (arith, l, c);
+}
+
+pub Going-row : {R : Type 0} {remaining : R → Option (List ℕ)} {old : Reader R} {splits : List Bound} {tables : List Table} {bytes : List ℕ} {number loaded : ℕ} {left : Option (List Table)} (new : Reader R) (fields : Fields) (left' : Option (List Table)) → Going remaining old splits tables bytes number loaded left → ReadsOne remaining old new fields → (number == 1 && is_header fields) ≡ false → ((known : List Table) → left ≡ Some known → BringsRow splits known fields left') → Going remaining new splits tables bytes (number + 1) (loaded + 1) left'
+Going-row new fields left' g reads plain brings = record {
+  records = g.records ++ fields ∷ [];
+  behind = reads _ g.records g.behind;
+  inserted = AreInserted-push g.records fields left' g.inserted (no_header g.records fields _ g.count plain) (brings _ g.inserted.left_is);
+  count = let l = length-append g.records (fields ∷ []) in let c = g.count in omega (arith, l, c);
+}
+
+pub Going-end : {R : Type 0} {remaining : R → Option (List ℕ)} {old : Reader R} {splits : List Bound} {tables : List Table} {bytes : List ℕ} {number loaded : ℕ} {left : Option (List Table)} → Going remaining old splits tables bytes number loaded left → ((text : List ℕ) (records : List Fields) → IsBehind remaining old text records → AreAllOf text records) → IsLoaded splits tables bytes loaded left
+Going-end g ends = record { records = g.records; all = ends _ g.records g.behind; inserted = g.inserted }
+
+pub Going-unread : {R : Type 0} {remaining : R → Option (List ℕ)} {old : Reader R} {splits : List Bound} {tables : List Table} {bytes : List ℕ} {number loaded : ℕ} {left : Option (List Table)} (limit : ℕ) (e : Refusal) → Going remaining old splits tables bytes number loaded left → (e ≡ ReadFault) ⊎ (e ≡ OutOfMemory) → IsCutShort limit splits tables bytes (record { refusal = e; loaded = loaded }) left
+Going-unread limit e g cause = inl (record {
+  records = g.records;
+  first = (_, g.behind.rest, g.behind.reached);
+  inserted = g.inserted;
+  cause = cause;
+})
+
+pub Going-refused : {R : Type 0} {remaining : R → Option (List ℕ)} {old : Reader R} {splits : List Bound} {tables : List Table} {bytes : List ℕ} {number loaded : ℕ} {left : Option (List Table)} (limit : ℕ) (e : Refusal) (new : Reader R) (fields : Fields) (left' : Option (List Table)) → Going remaining old splits tables bytes number loaded left → ReadsOne remaining old new fields → (number == 1 && is_header fields) ≡ false → ((known : List Table) → left ≡ Some known → left' ≡ Some known) → ((known : List Table) → left ≡ Some known → IsCause limit splits known loaded number fields e) → IsCutShort limit splits tables bytes (record { refusal = e; loaded = loaded }) left'
+Going-refused {loaded = loaded} limit e new fields left' g reads plain kept cause =
+    let behind = reads _ g.records g.behind in
+    inr (record {
+      records = g.records;
+      fields = fields;
+      first = (_, behind.rest, behind.reached);
+      inserted = record { rows = g.inserted.rows; are = g.inserted.are; count_is = g.inserted.count_is; left_is = kept _ g.inserted.left_is };
+      no_header = no_header g.records fields _ g.count plain;
+      cause = rw g.count (cause _ g.inserted.left_is);
+    })

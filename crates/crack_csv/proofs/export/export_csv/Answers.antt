@@ -1,0 +1,20 @@
+use Rattle.std.proofs.Common.{◌≡◌, ◌∙◌, ap, length, arith}
+use Rattle.crack_csv.proofs.Exporting.{Exporting-more, Exporting-end, keeps_appends}
+use Rattle.crack_csv.proofs.export.export_csv.Goals as goal
+
+pub parts-preserved : goal.parts-preserved
+parts-preserved g c = record {
+  exporting = λ tables e. Exporting-more c.in-Ok.rows _ _ (c.parts.invariant.exporting tables e) (rw (c.parts.invariant.splits) at c.in-Ok.ensures.exported);
+  few = let small = c.in-Ok.ensures.small in let few = c.parts.invariant.few in omega (arith, small, few);
+  unfailed = c.in-Ok.ensures.unfailed ∙ c.parts.invariant.unfailed;
+  receipts = let more = c.in-Ok.ensures.receipts in let was = c.parts.invariant.receipts in omega (arith, more, was);
+  splits = c.export_part.ensures.splits ∙ c.parts.invariant.splits;
+  limit = c.export_part.ensures.limit ∙ c.parts.invariant.limit;
+}
+
+pub returns-in-Ok-flush-clause-exported : goal.returns-in-Ok-flush-clause-exported
+returns-in-Ok-flush-clause-exported g c = λ tables e.
+    let all : c.parts.part ≡ length tables =
+    let cuts = ap length c.splits.ensures.value in let few = c.splits.ensures.partitions tables e in let ends = c.parts-test.false in let within = c.parts.auto.part-end in
+    omega (arith, cuts, few, ends, within) in
+    Exporting-end _ (c.parts.invariant.exporting tables e) all (keeps_appends _ _ c.flush.ensures.bytes)

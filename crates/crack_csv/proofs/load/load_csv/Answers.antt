@@ -1,0 +1,76 @@
+use Rattle.std.proofs.Common.{◌∙◌, sym, ap, refl, inl, inr, arith}
+use Rattle.csv.specs.Reading.{builder_config, builder_is_flexible, builder_names_headers, builder_trim}
+use Rattle.csv.specs.Records.{fields_of}
+use Rattle.crack_row.specs.declared.refusal.Refusal.TheVariants.{ReadFault}
+use Rattle.crack_csv.proofs.Loading.{Going-start, Going-header, Going-row, Going-end, Going-unread, Going-refused}
+use Rattle.crack_csv.proofs.load.load_csv.Goals as goal
+
+pub records-init : goal.records-init
+records-init g c =
+    let from = c.from_reader-source.ensures in
+    let flexible = c.flexible.ensures in
+    let none = c.has_headers.ensures in
+    record {
+      going = λ bytes tables e f. Going-start _ _ _ tables bytes _ (rw e at from.source) from.state f;
+      ready = record {
+        config = from.config ∙ ap builder_config flexible ∙ ap builder_config none ∙ c.new.ensures.config;
+        trim = from.trim ∙ ap builder_trim flexible ∙ ap builder_trim none ∙ c.new.ensures.trim;
+        flexible = from.flexible ∙ ap builder_is_flexible flexible;
+        ready = inr (inr (from.has_headers ∙ ap builder_names_headers flexible ∙ ap builder_names_headers none, from.headers));
+      };
+      few = omega arith;
+      receipts = omega arith;
+      splits = refl;
+      limit = refl;
+    }
+
+pub returns-in-Ok-false-clause-loaded : goal.returns-in-Ok-false-clause-loaded
+returns-in-Ok-false-clause-loaded g c = λ bytes tables e f.
+    Going-end (c.records.invariant.going bytes tables e f) (c.in-Ok-false.ensures.end c.in-Ok-false.field-0-test)
+
+pub returns-in-Err-clause-cut_short : goal.returns-in-Err-clause-cut_short
+returns-in-Err-clause-cut_short g c = λ bytes tables e f.
+    Going-unread _ c.in-Err.refusal (c.records.invariant.going bytes tables e f) c.in-Err.ensures.err
+
+pub records-preserved-then-is_header_at : goal.records-preserved-then-is_header_at
+records-preserved-then-is_header_at g c = record {
+  going = λ bytes tables e f. Going-header c.read_next.new.reader (fields_of c.read_next.new.fields) (c.records.invariant.going bytes tables e f)
+      (c.in-Ok-true.ensures.more c.in-Ok-true.field-0-test) (sym c.is_header_at.ensures ∙ c.if-is_header_at.true);
+  ready = c.in-Ok-true.ensures.ready c.in-Ok-true.field-0-test;
+  few = c.records.invariant.few;
+  receipts = c.records.invariant.receipts;
+  splits = c.records.invariant.splits;
+  limit = c.records.invariant.limit;
+}
+
+pub returns-then-loaded-eq-MOST_RECORDS-clause-cut_short : goal.returns-then-loaded-eq-MOST_RECORDS-clause-cut_short
+returns-then-loaded-eq-MOST_RECORDS-clause-cut_short g c = λ bytes tables e f.
+    Going-refused _ ReadFault c.read_next.new.reader (fields_of c.read_next.new.fields) _ (c.records.invariant.going bytes tables e f)
+    (c.in-Ok-true.ensures.more c.in-Ok-true.field-0-test) (sym c.is_header_at.ensures ∙ c.if-is_header_at.false)
+    (λ known h. h) (λ known h. inl (let all = c.if-loaded-eq-MOST_RECORDS.true in omega (arith, all), refl))
+
+pub returns-in-Err-insert_record-clause-cut_short : goal.returns-in-Err-insert_record-clause-cut_short
+returns-in-Err-insert_record-clause-cut_short g c = λ bytes tables e f.
+    Going-refused _ c.in-Err-insert_record.refusal c.read_next.new.reader (fields_of c.read_next.new.fields) _ (c.records.invariant.going bytes tables e f)
+    (c.in-Ok-true.ensures.more c.in-Ok-true.field-0-test) (sym c.is_header_at.ensures ∙ c.if-is_header_at.false)
+    c.in-Err-insert_record.ensures.kept
+    (λ known h. inr (
+      let few = c.records.invariant.few in let more = c.if-loaded-eq-MOST_RECORDS.false in omega (arith, few, more),
+      rw (c.records.invariant.limit, c.records.invariant.splits) at c.in-Err-insert_record.ensures.refused known h,
+    ))
+
+pub returns-clause-cut_short : goal.returns-clause-cut_short
+returns-clause-cut_short g c = λ bytes tables e f. Going-unread _ ReadFault (c.records.invariant.going bytes tables e f) (inl refl)
+
+pub records-preserved : goal.records-preserved
+records-preserved g c = record {
+  going = λ bytes tables e f.
+      Going-row c.read_next.new.reader (fields_of c.read_next.new.fields) _ (c.records.invariant.going bytes tables e f)
+      (c.in-Ok-true.ensures.more c.in-Ok-true.field-0-test) (sym c.is_header_at.ensures ∙ c.if-is_header_at.false)
+      (rw (c.records.invariant.splits) at c.in-Ok.ensures.inserted);
+  ready = c.in-Ok-true.ensures.ready c.in-Ok-true.field-0-test;
+  few = let few = c.records.invariant.few in let more = c.if-loaded-eq-MOST_RECORDS.false in omega (arith, few, more);
+  receipts = let more = c.in-Ok.ensures.receipts in let was = c.records.invariant.receipts in omega (arith, more, was);
+  splits = c.insert_record.ensures.splits ∙ c.records.invariant.splits;
+  limit = c.insert_record.ensures.limit ∙ c.records.invariant.limit;
+}

@@ -1,0 +1,133 @@
+//! Exports rows as CSV.
+ghost use Rattle.std.specs.Prelude.{◌≡◌, ◌+◌, ◌≤◌, ◌<◌, ◌^◌, ◌⊎◌, ◌++◌, List, Some, length, IfOk, IfErr, OnOk};
+ghost use Rattle.std.specs.List.{flat_map};
+ghost use Rattle.std.specs.Io.KnownBytes.{Appends, Keeps};
+ghost use Rattle.crack_row.specs.Devices.{device, has_failed};
+ghost use Rattle.crack_plain.specs.Plain.{Table};
+ghost use Rattle.crack_core.specs.Steps.{tables_of};
+ghost use Rattle.crack_session.specs.Queries.{listed};
+ghost use Rattle.crack_csv.specs.Exports.{header_text, record_text, rows_from, all_rows, IsExported, IsPartExported};
+
+use crate::text::{header_text, rows_text};
+use crack_commands::send;
+use crack_core::{Core, keys_at};
+use crack_row::{Command, Policy, Refusal, Reply, Row, Watched};
+use crack_session::Desk;
+use std::alloc::Global;
+use std::io::Write;
+
+/// The records of so many rows stand in memory at once.
+const BATCH_ROWS: usize = 256;
+
+/// Writes the header `key,payload` and then a record for each row, and says how many rows there were; records end with a
+/// line feed. Each partition is asked for a list of all its rows, which its history keeps. What is written is handed on at the end.
+/// The first refusal ends the export: 6, 7 or 8 of a partition, 8 for the text of a batch of rows, or 18. The list of one
+/// partition's rows stands in memory, and the text of a batch of them.
+pub fn export_csv<D: Desk, W: Write>(
+    alloc: Global,
+    desk: &mut D,
+    policy: Policy,
+    writer: &mut Watched<W>,
+) -> Result<u64, Refusal>
+    ensures exported { IfOk result (λ count. (tables : List Table) → D.tables desk.old ≡ Some tables →
+        IsExported (D.splits desk.old) tables count (D.tables desk.new) (W.contents (device writer.old)) (W.contents (device writer.new))) }
+    ensures unfailed { OnOk result (has_failed writer.new ≡ has_failed writer.old) }
+    ensures receipts { OnOk result (D.receipts desk.new ≡ D.receipts desk.old + length (D.splits desk.old) + 1) }
+    ensures splits { D.splits desk.new ≡ D.splits desk.old }
+    ensures limit { D.limit desk.new ≡ D.limit desk.old }
+{
+    write_header(alloc, writer)?;
+    let parts = desk.splits().len() as u32 + 1;
+    let mut count = 0;
+    'parts: for part in 0..parts {
+        match export_part(alloc, desk, policy, part, writer) {
+            Ok(rows) => count += rows,
+            Err(refusal) => return Err(refusal),
+        }
+    }
+    match writer.flush() {
+        Ok(()) => Ok(count),
+        Err(_) => Err(Refusal::WriteFault),
+    }
+}
+
+/// The keys of a core's rows are those of their partitions: an export of it leaves no row out. Does nothing.
+pub fn leaves_no_row_out(core: &Core)
+    ensures { rows_from core.now.splits 0 (tables_of core.now.parts) ≡ all_rows (tables_of core.now.parts) }
+{
+    core.facts();
+}
+
+/// Asks one partition for all its rows, and writes a record for each.
+fn export_part<D: Desk, W: Write>(
+    alloc: Global,
+    desk: &mut D,
+    policy: Policy,
+    part: u32,
+    writer: &mut Watched<W>,
+) -> Result<u64, Refusal>
+    requires { part ≤ length (D.splits desk.old) }
+    ensures exported { IfOk result (λ count. (tables : List Table) → D.tables desk.old ≡ Some tables →
+        IsPartExported (D.splits desk.old) tables part count (D.tables desk.new) (W.contents (device writer.old)) (W.contents (device writer.new))) }
+    ensures small { IfOk result (λ count. count < 2 ^ 32) }
+    ensures unfailed { OnOk result (has_failed writer.new ≡ has_failed writer.old) }
+    ensures receipts { OnOk result (D.receipts desk.new ≡ D.receipts desk.old + 1) }
+    ensures splits { D.splits desk.new ≡ D.splits desk.old }
+    ensures limit { D.limit desk.new ≡ D.limit desk.old }
+{
+    let keys = keys_at(desk.splits(), part as usize);
+    match desk.ask(part, Command::Select(keys), policy) {
+        Ok(reply) => {
+            let rows = listed(&reply);
+            write_rows(alloc, rows, writer)?;
+            Ok(rows.len() as u64)
+        }
+        Err(refusal) => Err(refusal),
+    }
+}
+
+/// The rows that a reply lists.
+fn listed(reply: &Reply) -> &[Row]
+    ensures { result.now ≡ listed reply.now }
+{
+    match reply {
+        Reply::Rows(rows) => rows.as_slice(),
+        _ => &[],
+    }
+}
+
+/// Writes the header.
+fn write_header<W: Write>(alloc: Global, writer: &mut Watched<W>) -> Result<(), Refusal>
+    ensures text { OnOk result (Appends (W.contents (device writer.old)) (W.contents (device writer.new)) header_text) }
+    ensures unfailed { OnOk result (has_failed writer.new ≡ has_failed writer.old) }
+{
+    let text = header_text(alloc)?;
+    send(writer, text.as_slice())
+}
+
+/// Writes a record for each of the rows, the text of a batch of them at a time.
+fn write_rows<W: Write>(alloc: Global, rows: &[Row], writer: &mut Watched<W>) -> Result<(), Refusal>
+    ensures text { OnOk result (Appends (W.contents (device writer.old)) (W.contents (device writer.new)) (flat_map record_text rows.now)) }
+    ensures unfailed { OnOk result (has_failed writer.new ≡ has_failed writer.old) }
+{
+    let mut done = 0;
+    'batches: while done < rows.len() {
+        let end = rows.len().min(done.saturating_add(BATCH_ROWS));
+        write_batch(alloc, &rows[done..end], writer)?;
+        done = end;
+    }
+    Ok(())
+}
+
+/// Writes a record for each of the rows, all at once.
+fn write_batch<W: Write>(
+    alloc: Global,
+    rows: &[Row],
+    writer: &mut Watched<W>,
+) -> Result<(), Refusal>
+    ensures text { OnOk result (Appends (W.contents (device writer.old)) (W.contents (device writer.new)) (flat_map record_text rows.now)) }
+    ensures unfailed { OnOk result (has_failed writer.new ≡ has_failed writer.old) }
+{
+    let text = rows_text(alloc, rows)?;
+    send(writer, text.as_slice())
+}

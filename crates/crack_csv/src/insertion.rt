@@ -1,0 +1,58 @@
+//! The insertion of a record's row.
+ghost use Rattle.std.specs.Prelude.{◌≡◌, ◌+◌, List, Some, Err, is_ok, IfErr, OnOk, if◌then◌else◌};
+ghost use Rattle.csv.specs.Records.{fields_of};
+ghost use Rattle.crack_plain.specs.Plain.{Table};
+ghost use Rattle.crack_core.specs.Routes.{route};
+ghost use Rattle.crack_core.specs.Steps.{expected_at, IsOutcome};
+ghost use Rattle.crack_csv.specs.Records.{new_row_of};
+ghost use Rattle.crack_csv.specs.Loads.{insertion, with_row, BringsRow, Refuses};
+
+use crate::record::{NewRow, new_row};
+use crack_core::route;
+use crack_row::{Command, Policy, Refusal};
+use crack_session::Desk;
+use csv::ByteRecord;
+
+/// Inserts the row of the record of this number. Refused with 19 where it brings none, and else as the partition of its key refuses.
+pub fn insert_record<D: Desk>(
+    desk: &mut D,
+    policy: Policy,
+    number: u64,
+    fields: &ByteRecord,
+) -> Result<(), Refusal>
+    ensures inserted { OnOk result ((tables : List Table) → D.tables desk.old ≡ Some tables →
+        BringsRow (D.splits desk.old) tables (fields_of fields.now) (D.tables desk.new)) }
+    ensures kept { IfErr result (λ _. (tables : List Table) → D.tables desk.old ≡ Some tables → D.tables desk.new ≡ Some tables) }
+    ensures refused { IfErr result (λ e. (tables : List Table) → D.tables desk.old ≡ Some tables →
+        Refuses (D.limit desk.old) (D.splits desk.old) tables number (new_row_of (fields_of fields.now)) e) }
+    ensures splits { D.splits desk.new ≡ D.splits desk.old }
+    ensures limit { D.limit desk.new ≡ D.limit desk.old }
+    ensures receipts { D.receipts desk.new ≡ (if is_ok result then D.receipts desk.old + 1 else D.receipts desk.old) }
+{
+    match new_row(fields) {
+        Some(row) => insert_row(desk, policy, row),
+        None => Err(Refusal::BadRecord { number }),
+    }
+}
+
+/// Inserts a row into the partition of its key.
+fn insert_row<D: Desk>(desk: &mut D, policy: Policy, row: NewRow) -> Result<(), Refusal>
+    ensures inserted { OnOk result ((tables : List Table) → D.tables desk.old ≡ Some tables →
+        D.tables desk.new ≡ Some (with_row (D.splits desk.old) tables row)) }
+    ensures kept { IfErr result (λ _. (tables : List Table) → D.tables desk.old ≡ Some tables → D.tables desk.new ≡ Some tables) }
+    ensures refused { IfErr result (λ e. (tables : List Table) → D.tables desk.old ≡ Some tables →
+        IsOutcome (expected_at (D.limit desk.old) (D.splits desk.old) tables (route (D.splits desk.old) row.key.0) (insertion row)) (Err e)) }
+    ensures splits { D.splits desk.new ≡ D.splits desk.old }
+    ensures limit { D.limit desk.new ≡ D.limit desk.old }
+    ensures receipts { D.receipts desk.new ≡ (if is_ok result then D.receipts desk.old + 1 else D.receipts desk.old) }
+{
+    let part = route(desk.splits(), row.key);
+    let command = Command::Insert {
+        key: row.key,
+        payload: row.payload,
+    };
+    match desk.ask(part, command, policy) {
+        Ok(_) => Ok(()),
+        Err(refusal) => Err(refusal),
+    }
+}

@@ -1,0 +1,74 @@
+//! Loads rows from CSV.
+ghost use Rattle.std.specs.Prelude.{◌≡◌, ◌+◌, ◌≤◌, ℕ, List, Some, IfOk, IfErr};
+ghost use Rattle.crack_plain.specs.Plain.{Table};
+ghost use Rattle.crack_csv.specs.Loads.{IsLoaded, IsCutShort};
+
+use crate::MOST_RECORDS;
+use crate::insertion::insert_record;
+use crate::record::{is_header_at, read_next};
+use crack_row::{Policy, Refusal};
+use crack_session::Desk;
+use csv::{ByteRecord, ReaderBuilder};
+use std::alloc::Global;
+use std::io::Read;
+
+/// A load that was cut short. The rows that it inserted stay.
+#[derive(Clone, Copy, PartialEq, Eq, Debug)]
+pub struct LoadFault {
+    /// 6, 7, 8, 17 or 19.
+    pub refusal: Refusal,
+    /// How many rows were inserted.
+    pub loaded: u64,
+}
+
+/// Inserts the row of each record that a reader's bytes are read as, in order, each into the partition of its key, and says how many.
+/// A first record of the fields `key` and `payload` is a header, which is skipped. Records are read with commas and double
+/// quotes; a record of other than two fields, or with a field that isn't a number of 1 to 20 digits in range, is refused with 19.
+/// A reader that fails is refused with 17, and so is one record more than `MOST_RECORDS`. One record at a time stands in memory.
+pub fn load_csv<D: Desk, R: Read + Drop>(
+    alloc: Global,
+    desk: &mut D,
+    policy: Policy,
+    reader: R,
+) -> Result<u64, LoadFault>
+    // All records that the bytes have are inserted.
+    ensures loaded { IfOk result (λ count. (bytes : List ℕ) (tables : List Table) →
+        R.remaining reader ≡ Some bytes → D.tables desk.old ≡ Some tables →
+        IsLoaded (D.splits desk.old) tables bytes count (D.tables desk.new)) }
+    // The first of them are, up to where the reader failed, or up to one that is refused.
+    ensures cut_short { IfErr result (λ fault. (bytes : List ℕ) (tables : List Table) →
+        R.remaining reader ≡ Some bytes → D.tables desk.old ≡ Some tables →
+        IsCutShort (D.limit desk.old) (D.splits desk.old) tables bytes fault (D.tables desk.new)) }
+    ensures few { IfOk result (λ count. count ≤ MOST_RECORDS) }
+    ensures receipts { IfOk result (λ count. D.receipts desk.new ≡ D.receipts desk.old + count) }
+    ensures receipts_of_fault { IfErr result (λ fault. D.receipts desk.new ≡ D.receipts desk.old + fault.loaded) }
+    ensures splits { D.splits desk.new ≡ D.splits desk.old }
+    ensures limit { D.limit desk.new ≡ D.limit desk.old }
+{
+    let mut source = ReaderBuilder::new()
+        .has_headers(false)
+        .flexible(true)
+        .from_reader(alloc, reader);
+    let mut fields = ByteRecord::new(alloc);
+    let mut loaded = 0;
+    'records: for number in 1..MOST_RECORDS + 3 {
+        match read_next(&mut source, &mut fields) {
+            Ok(true) => {}
+            Ok(false) => return Ok(loaded),
+            Err(refusal) => return Err(LoadFault { refusal, loaded }),
+        }
+        if is_header_at(number, &fields) {
+            continue;
+        }
+        if loaded == MOST_RECORDS {
+            let refusal = Refusal::ReadFault;
+            return Err(LoadFault { refusal, loaded });
+        }
+        match insert_record(desk, policy, number, &fields) {
+            Ok(()) => loaded += 1,
+            Err(refusal) => return Err(LoadFault { refusal, loaded }),
+        }
+    }
+    let refusal = Refusal::ReadFault;
+    Err(LoadFault { refusal, loaded })
+}

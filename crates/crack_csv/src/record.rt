@@ -1,0 +1,82 @@
+//! Records of CSV: what they say, and how they are read.
+ghost use Rattle.std.specs.Prelude.{◌≡◌, ◌≢◌, ◌⊎◌, ◌++◌, ◌∷◌, ◌==◌, ◌&&◌, [], ℕ, List, true, false, length, IfOk, IfErr, IfSome, IfNone};
+ghost use Rattle.csv.specs.Reading.{AreRecords};
+ghost use Rattle.csv.specs.Records.{fields_of};
+ghost use Rattle.csv.specs.declared.parser.State.TheVariants as st;
+ghost use Rattle.crack_csv.specs.Records.{Fields, is_header, new_row_of, IsReady, IsBehind, AreAllOf};
+
+use crack_commands::read_number_up_to;
+use crack_row::{GREATEST_KEY, GREATEST_PAYLOAD, Key, Payload, Refusal};
+use csv::{ByteRecord, ErrorKind, Reader};
+use std::io::Read;
+
+/// What is inserted for a record.
+#[derive(Clone, Copy, PartialEq, Eq, Debug)]
+pub struct NewRow {
+    pub key: Key,
+    pub payload: Payload,
+}
+
+/// The row that a record brings: it has just two fields, a key and a payload, both numbers in range.
+pub fn new_row(fields: &ByteRecord) -> Option<NewRow>
+    ensures { result ≡ new_row_of (fields_of fields.now) }
+{
+    let (key, payload) = two_fields(fields)?;
+    let key = Key(read_number_up_to(GREATEST_KEY, key)?);
+    let payload = Payload(read_number_up_to(GREATEST_PAYLOAD, payload)?);
+    Some(NewRow { key, payload })
+}
+
+/// Whether the record of this number, from 1, is a header.
+pub fn is_header_at(number: u64, fields: &ByteRecord) -> bool
+    ensures { result ≡ (number == 1 && is_header (fields_of fields.now)) }
+{
+    number == 1 && is_header(fields)
+}
+
+/// Whether a record's fields are the names of the two fields.
+fn is_header(fields: &ByteRecord) -> bool
+    ensures { result ≡ is_header (fields_of fields.now) }
+{
+    match two_fields(fields) {
+        Some((key, payload)) => key == b"key".as_slice() && payload == b"payload".as_slice(),
+        None => false,
+    }
+}
+
+/// The fields of a record, where there are just two.
+fn two_fields(fields: &ByteRecord) -> Option<(&[u8], &[u8])>
+    ensures some { IfSome result (λ pair. fields_of fields.now ≡ pair.0.now ∷ pair.1.now ∷ []) }
+    ensures none { IfNone result (length (fields_of fields.now) ≢ 2) }
+{
+    let Some(first) = fields.get(0) else {
+        return None;
+    };
+    let Some(second) = fields.get(1) else {
+        return None;
+    };
+    if fields.len() == 2 {
+        Some((first, second))
+    } else {
+        None
+    }
+}
+
+/// Reads the next record, if there is one. Refused with 17 where the reader failed, and with 8 where no memory was found.
+pub fn read_next<R: Read>(reader: &mut Reader<R>, fields: &mut ByteRecord) -> Result<bool, Refusal>
+    requires { IsReady reader.old }
+    ensures ready { IfOk result (λ found. found ≡ true → IsReady reader.new) }
+    ensures more { IfOk result (λ found. found ≡ true → (text : List ℕ) (records : List Fields) →
+        IsBehind R.remaining reader.old text records → IsBehind R.remaining reader.new text (records ++ fields_of fields.new ∷ [])) }
+    ensures end { IfOk result (λ found. found ≡ false → (text : List ℕ) (records : List Fields) →
+        IsBehind R.remaining reader.old text records → AreAllOf text records) }
+    ensures err { IfErr result (λ e. (e ≡ Refusal.ReadFault) ⊎ (e ≡ Refusal.OutOfMemory)) }
+{
+    match reader.read_byte_record(fields) {
+        Ok(found) => Ok(found),
+        Err(error) => match error.kind() {
+            ErrorKind::OutOfMemory => Err(Refusal::OutOfMemory),
+            _ => Err(Refusal::ReadFault),
+        },
+    }
+}
