@@ -1,0 +1,111 @@
+//! The input of a batch: read whole, judged, and divided among its workers.
+ghost use Rattle.std.specs.Prelude.{◌≡◌, ◌<◌, length, vec_len, IfOk};
+
+use crate::MOST_INPUT_BYTES;
+use crack_row::{Refusal, Watched};
+use memchr::memchr;
+use std::alloc::{AllocError, Global};
+use std::io::Read;
+
+/// How many digits a number has, at most.
+const NUMBER_DIGITS: usize = 20;
+
+/// The whole input. Refused with 17 where the reader fails, or gives more than `MOST_INPUT_BYTES`, and with 8 where it finds no memory.
+pub(crate) fn read_input<R: Read>(alloc: Global, reader: &mut R) -> Result<Vec<u8>, Refusal> {
+    let mut bytes = Vec::new(alloc);
+    let mut watched = Watched::new(reader);
+    let read = (&mut watched)
+        .take(MOST_INPUT_BYTES + 1)
+        .read_to_end(&mut bytes);
+    match read {
+        Ok(count) if count as u64 <= MOST_INPUT_BYTES => Ok(bytes),
+        Err(_) if !watched.failed() => Err(Refusal::OutOfMemory),
+        _ => Err(Refusal::ReadFault),
+    }
+}
+
+/// Each worker's statements, in order, each with a line feed. The number in front of a line that isn't blank says whose it is, counted
+/// around the workers. Refused with 1 where a line has none, and with 8 where it finds no memory.
+pub(crate) fn divide(alloc: Global, input: &[u8], workers: usize) -> Result<Vec<Vec<u8>>, Refusal>
+    requires { 0 < workers }
+{
+    let mut shares = empty_shares(alloc, workers)?;
+    let mut rest = input;
+    'lines: while !rest.is_empty() {
+        let (line, behind) = first_line(rest);
+        rest = behind;
+        if !is_blank(line) {
+            deal(&mut shares, line)?;
+        }
+    }
+    Ok(shares)
+}
+
+/// Shares of nothing, so many.
+fn empty_shares(alloc: Global, workers: usize) -> Result<Vec<Vec<u8>>, AllocError>
+    ensures { IfOk result (λ shares. vec_len shares ≡ workers) }
+{
+    let mut shares = Vec::new(alloc);
+    'workers: for _ in 0..workers {
+        shares.push(Vec::new(alloc))?;
+    }
+    Ok(shares)
+}
+
+/// The first line, without its line feed, and what stands behind that.
+fn first_line(bytes: &[u8]) -> (&[u8], &[u8])
+    requires { 0 < length bytes.now }
+    ensures { length result.1.now < length bytes.now }
+{
+    match memchr(b'\n', bytes) {
+        Some(end) => (&bytes[..end], &bytes[end + 1..]),
+        None => (bytes, &[]),
+    }
+}
+
+/// Whether a line has nothing but spaces, and one carriage return at its end.
+fn is_blank(line: &[u8]) -> bool {
+    line.strip_suffix(b"\r")
+        .unwrap_or(line)
+        .iter()
+        .all(|byte| *byte == b' ')
+}
+
+/// Adds a line's statement to the share of the worker that its number names.
+fn deal(shares: &mut Vec<Vec<u8>>, line: &[u8]) -> Result<(), Refusal>
+    requires { 0 < vec_len shares.old }
+    ensures { vec_len shares.new ≡ vec_len shares.old }
+{
+    let Some((number, statement)) = numbered(line) else {
+        return Err(Refusal::BadStatement);
+    };
+    let worker = number as usize % shares.len();
+    let share = &mut shares[worker];
+    share.extend_from_slice(statement)?;
+    share.push(b'\n')?;
+    Ok(())
+}
+
+/// The number at the front of a line, and what stands behind it and one space.
+fn numbered(line: &[u8]) -> Option<(u32, &[u8])> {
+    let space = memchr(b' ', line)?;
+    let number = number_of(&line[..space])?;
+    Some((number, &line[space + 1..]))
+}
+
+/// The number that these digits write, where they are digits, as many as a number may have, and it has 32 bits.
+fn number_of(digits: &[u8]) -> Option<u32> {
+    if digits.is_empty() || digits.len() > NUMBER_DIGITS {
+        return None;
+    }
+    let mut number = 0u64;
+    'digits: for digit in digits {
+        if !digit.is_ascii_digit() {
+            return None;
+        }
+        number = number
+            .saturating_mul(10)
+            .saturating_add((*digit - b'0') as u64);
+    }
+    u32::try_from(number).ok()
+}

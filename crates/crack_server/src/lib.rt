@@ -1,0 +1,19 @@
+//! Workers of a table, each on a thread of its own: over the lines of a batch, and over TCP.
+#![tactic(auto)]
+
+pub mod batch;
+mod input;
+pub mod server;
+mod totals;
+
+pub use batch::run_batch;
+pub use server::run_server;
+
+/// How many bytes the input of a batch may have.
+pub const MOST_INPUT_BYTES: u64 = 67108864;
+
+/// How many bytes of replies are kept before they are written: room for the replies to one whole read, where none of them
+/// lists rows or pieces. Its 4096 bytes end at most one line that was begun before, which gets at most 27 bytes, as `gone` with
+/// the greatest numbers, and hold at most 2048 more statements; a line of 2 bytes gets the most for its length, the 10 of
+/// `refused 1`. The rows of a select and the pieces of a layout may be more: then what is kept is written, and the rest kept.
+pub const REPLY_BYTES: usize = 24576;

@@ -1,0 +1,87 @@
+//! Batches over memory.
+use crack_row::{Bound, Policy, Refusal};
+use crack_server::run_batch;
+use crack_table::{Gate, OpenGate};
+use std::alloc::Global;
+use std::sync::Wait;
+use std::sync::atomic::{AtomicBool, Ordering};
+use std::thread;
+use std::thread::Threads;
+
+/// A gate that says no to each of two partitions until the other has been inside. Before each no it gives way, long enough for the other
+/// thread to arrive.
+#[derive(Drop)]
+struct Meeting {
+    arrived: [AtomicBool; 2],
+}
+
+impl Gate for Meeting {
+    ghost may_refuse = { λ gate part turn. Unit {0} };
+
+    fn inside(&self, part: u32, _turn: u32) -> bool {
+        if part > 1 {
+            return true;
+        }
+        self.arrived[part as usize].store(true, Ordering::SeqCst);
+        if self.arrived[1 - part as usize].load(Ordering::SeqCst) {
+            return true;
+        }
+        'turns: for _ in 0..1000u32 {
+            thread::yield_now();
+        }
+        false
+    }
+}
+
+/// How a batch of two workers over the partitions below and from 100 ends, and what it writes.
+fn batch<H: Threads + Wait + Sync, G: Gate + Sync>(
+    rt: &H,
+    alloc: Global,
+    gate: &G,
+    input: &[u8],
+) -> (Result<(), Refusal>, Vec<u8>) {
+    let mut reader = input;
+    let mut output = Vec::new(alloc);
+    let ended = run_batch(
+        rt,
+        alloc,
+        &[Bound(100)],
+        10,
+        Policy::Ripple,
+        2,
+        gate,
+        &mut reader,
+        &mut output,
+    );
+    (ended, output)
+}
+
+#[test]
+fn lines_go_to_the_workers_of_their_numbers(rt: HostRuntime) {
+    let input = b"0 insert 50 5\n1 insert 150 6\n3 count 100 200\n";
+    let (ended, output) = batch(&rt, rt.alloc(), &OpenGate, input);
+    assert_eq!(rt; ended, Ok(()));
+    let wanted =
+        b"worker 0\nrow 0.0\nworker 1\nrow 1.0\ncount 1\naccepted 3 inserted 2 deleted 0 held 2\n";
+    assert_eq!(rt; output.as_slice(), wanted.as_slice());
+}
+
+#[test]
+fn a_line_without_a_number_refuses_the_batch(rt: HostRuntime) {
+    let (ended, output) = batch(&rt, rt.alloc(), &OpenGate, b"x insert 1 1\n");
+    assert_eq!(rt; ended, Err(Refusal::BadStatement));
+    assert!(rt; output.is_empty());
+}
+
+/// Workers that run one after the other, or under one lock, never meet: they are answered 7.
+#[test]
+fn two_workers_are_at_two_partitions_at_once(rt: HostRuntime) {
+    let gate = Meeting {
+        arrived: [AtomicBool::new(false), AtomicBool::new(false)],
+    };
+    let input = b"0 insert 50 1\n1 insert 150 1\n";
+    let (ended, output) = batch(&rt, rt.alloc(), &gate, input);
+    assert_eq!(rt; ended, Ok(()));
+    let wanted = b"worker 0\nrow 0.0\nworker 1\nrow 1.0\naccepted 2 inserted 2 deleted 0 held 2\n";
+    assert_eq!(rt; output.as_slice(), wanted.as_slice());
+}

@@ -1,0 +1,7 @@
+//! Tests that run batches and a server: what no clause says.
+#![tactic(auto)]
+
+#[cfg(test)]
+mod batches;
+#[cfg(test)]
+mod servers;
