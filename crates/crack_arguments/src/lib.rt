@@ -2,8 +2,8 @@
 #![tactic(auto)]
 
 use clap::error::ErrorKind;
-use clap::{Arg, ArgMatches, Command, value_parser};
-use crack_row::{GREATEST_LIMIT, Policy, Refusal};
+use clap::{Arg, ArgAction, ArgMatches, Command, value_parser};
+use crack_row::{Bound, GREATEST_LIMIT, Policy, Refusal};
 use std::alloc::{AllocError, Global};
 use thiserror::Error;
 
@@ -14,19 +14,44 @@ pub enum Request {
     Help(String),
     /// To serve standard input to standard output, over a table of one's own.
     Script(Opening),
+    /// To have workers serve the lines of standard input.
+    Batch(Staffed),
+    /// To have workers serve sessions over TCP.
+    Serve(Service),
+    /// To load CSV from standard input, and to export it to standard output.
+    Csv(Opening),
 }
 
 /// What a table is opened with. Its numbers are tested at the opening, which refuses them by their number.
-#[derive(Clone, Copy, Debug)]
+#[derive(Drop)]
 pub struct Opening {
+    /// Where the keys are parted: any numbers of 64 bits, in the order of the command line.
+    pub splits: Vec<Bound>,
     /// How many entries a partition's history may have: `GREATEST_LIMIT` where the command line doesn't say.
     pub limit: u64,
-    /// How pending rows are merged: `Policy::Gradual` where the command line doesn't say.
+    /// How pending rows are merged: `Policy::Ripple` where the command line doesn't say.
     pub policy: Policy,
 }
 
+/// What a table is opened with that has workers. Their number is tested at the opening, too.
+#[derive(Drop)]
+pub struct Staffed {
+    pub opening: Opening,
+    pub workers: u64,
+}
+
+/// What a server is started with.
+#[derive(Drop)]
+pub struct Service {
+    pub table: Staffed,
+    /// The port of 127.0.0.1 that it listens on, which isn't 0.
+    pub port: u16,
+    /// How many connections it serves.
+    pub sessions: u64,
+}
+
 /// The names that a policy goes by.
-static POLICIES: [&str; 2] = ["complete", "gradual"];
+static POLICIES: [&str; 3] = ["complete", "gradual", "ripple"];
 
 /// Why a command line makes no request. Its text is what standard error gets.
 #[derive(Drop, Debug, Error)]
@@ -60,11 +85,47 @@ fn policy_option<'a>(alloc: Global) -> Arg<'a> {
         .value_name("NAME")
         .value_parser(POLICIES.as_slice())
         .help(
-            "Which pending rows a query merges, until a statement says otherwise [default: gradual]",
+            "Which pending rows a query merges, until a statement says otherwise [default: ripple]",
         )
 }
 
-/// A subcommand with the options of every opening.
+fn split_values<'a>(alloc: Global) -> Arg<'a> {
+    Arg::new(alloc, "splits")
+        .value_name("SPLIT")
+        .action(ArgAction::Append)
+        .num_args(0..)
+        .value_parser(value_parser!(u64))
+        .help("Where the keys are parted, rising, each 1 to 4294967295; 63 at most")
+}
+
+fn workers_option<'a>(alloc: Global) -> Arg<'a> {
+    Arg::new(alloc, "workers")
+        .long("workers")
+        .value_name("W")
+        .required(true)
+        .value_parser(value_parser!(u64))
+        .help("How many workers there are, each on a thread of its own, 1 to 64")
+}
+
+fn port_option<'a>(alloc: Global) -> Arg<'a> {
+    Arg::new(alloc, "port")
+        .long("port")
+        .value_name("N")
+        .required(true)
+        .value_parser(value_parser!(u64))
+        .help("The port of 127.0.0.1 to listen on, 1 to 65535")
+}
+
+fn sessions_option<'a>(alloc: Global) -> Arg<'a> {
+    Arg::new(alloc, "sessions")
+        .long("sessions")
+        .value_name("N")
+        .required(true)
+        .value_parser(value_parser!(u64))
+        .help("How many connections are served before it ends")
+}
+
+/// A subcommand with the options and the splits of every opening.
 fn opening_command<'a>(
     alloc: Global,
     name: &'a str,
@@ -73,49 +134,122 @@ fn opening_command<'a>(
     Command::new(alloc, name)
         .about(about)
         .arg(limit_option(alloc))?
-        .arg(policy_option(alloc))
+        .arg(policy_option(alloc))?
+        .arg(split_values(alloc))
 }
 
-/// `all` with one more subcommand.
-fn with_opening<'a>(
-    alloc: Global,
-    all: Command<'a>,
-    name: &'a str,
-    about: &'a str,
-) -> Result<Command<'a>, AllocError> {
-    all.subcommand(opening_command(alloc, name, about)?)
-}
-
-/// The form of every command line.
-fn command_line<'a>(alloc: Global) -> Result<Command<'a>, AllocError> {
-    let all = Command::new(alloc, "crackd")
-        .about("An in-memory table that its queries put into order")
-        .subcommand_required(true);
-    with_opening(
+fn script_command<'a>(alloc: Global) -> Result<Command<'a>, AllocError> {
+    opening_command(
         alloc,
-        all,
         "script",
         "Answers the statements of standard input on standard output",
     )
 }
 
+fn batch_command<'a>(alloc: Global) -> Result<Command<'a>, AllocError> {
+    opening_command(
+        alloc,
+        "batch",
+        "Divides the numbered lines of standard input among workers, which answer them at the same time",
+    )?
+    .arg(workers_option(alloc))
+}
+
+fn serve_command<'a>(alloc: Global) -> Result<Command<'a>, AllocError> {
+    opening_command(
+        alloc,
+        "serve",
+        "Answers the statements of each connection to a port, as many at the same time as there are workers",
+    )?
+    .arg(port_option(alloc))?
+    .arg(workers_option(alloc))?
+    .arg(sessions_option(alloc))
+}
+
+fn csv_command<'a>(alloc: Global) -> Result<Command<'a>, AllocError> {
+    opening_command(
+        alloc,
+        "csv",
+        "Loads the CSV records of standard input, and writes the rows to standard output",
+    )
+}
+
+/// The form of every command line.
+fn command_line<'a>(alloc: Global) -> Result<Command<'a>, AllocError> {
+    Command::new(alloc, "crackd")
+        .about("An in-memory table that its queries put into order")
+        .subcommand_required(true)
+        .subcommand(script_command(alloc)?)?
+        .subcommand(batch_command(alloc)?)?
+        .subcommand(serve_command(alloc)?)?
+        .subcommand(csv_command(alloc)?)
+}
+
 fn policy_of(matches: &ArgMatches<'_>) -> Policy {
     match matches.get_str("policy") {
         Some("complete") => Policy::Complete,
-        _ => Policy::Gradual,
+        Some("gradual") => Policy::Gradual,
+        _ => Policy::Ripple,
     }
 }
 
-fn opening_of(matches: &ArgMatches<'_>) -> Opening {
-    Opening {
+fn splits_of(alloc: Global, matches: &ArgMatches<'_>) -> Result<Vec<Bound>, ArgumentsError> {
+    let mut splits = Vec::new(alloc);
+    if let Some(found) = matches.get_many::<u64>("splits") {
+        'splits: for split in found {
+            let Ok(split) = split else {
+                return Err(ArgumentsError::Bad);
+            };
+            if splits.push(Bound(split)).is_err() {
+                return Err(ArgumentsError::Refused(Refusal::OutOfMemory));
+            }
+        }
+    }
+    Ok(splits)
+}
+
+fn opening_of(alloc: Global, matches: &ArgMatches<'_>) -> Result<Opening, ArgumentsError> {
+    Ok(Opening {
+        splits: splits_of(alloc, matches)?,
         limit: matches.get_one::<u64>("limit").unwrap_or(GREATEST_LIMIT),
         policy: policy_of(matches),
+    })
+}
+
+/// The number of an option that has to be there.
+fn number_of(matches: &ArgMatches<'_>, name: &str) -> Result<u64, ArgumentsError> {
+    matches.get_one::<u64>(name).ok_or(ArgumentsError::Bad)
+}
+
+/// The port, where it is one: 1 to 65535.
+fn port_of(matches: &ArgMatches<'_>) -> Result<u16, ArgumentsError> {
+    match u16::try_from(number_of(matches, "port")?) {
+        Ok(port) if port > 0 => Ok(port),
+        _ => Err(ArgumentsError::Bad),
     }
 }
 
-fn request_of(matches: &ArgMatches<'_>) -> Result<Request, ArgumentsError> {
+fn staffed_of(alloc: Global, matches: &ArgMatches<'_>) -> Result<Staffed, ArgumentsError> {
+    Ok(Staffed {
+        workers: number_of(matches, "workers")?,
+        opening: opening_of(alloc, matches)?,
+    })
+}
+
+fn service_of(alloc: Global, matches: &ArgMatches<'_>) -> Result<Service, ArgumentsError> {
+    Ok(Service {
+        port: port_of(matches)?,
+        sessions: number_of(matches, "sessions")?,
+        table: staffed_of(alloc, matches)?,
+    })
+}
+
+fn request_of(alloc: Global, matches: &ArgMatches<'_>) -> Result<Request, ArgumentsError> {
     match matches.subcommand() {
-        Some(("script", found)) => Ok(Request::Script(opening_of(found))),
+        Some(("script", found)) => Ok(Request::Script(opening_of(alloc, found)?)),
+        Some(("batch", found)) => Ok(Request::Batch(staffed_of(alloc, found)?)),
+        Some(("serve", found)) => Ok(Request::Serve(service_of(alloc, found)?)),
+        Some(("csv", found)) => Ok(Request::Csv(opening_of(alloc, found)?)),
         _ => Err(ArgumentsError::Bad),
     }
 }
@@ -123,7 +257,7 @@ fn request_of(matches: &ArgMatches<'_>) -> Result<Request, ArgumentsError> {
 /// Reads the words of a command line, the program's name first.
 pub fn read(alloc: Global, words: &[String]) -> Result<Request, ArgumentsError> {
     match command_line(alloc)?.try_get_matches_from(words) {
-        Ok(matches) => request_of(&matches),
+        Ok(matches) => request_of(alloc, &matches),
         Err(error) => match error.kind() {
             ErrorKind::DisplayHelp => Ok(Request::Help(error.to_string(alloc)?)),
             ErrorKind::OutOfMemory => Err(ArgumentsError::Refused(Refusal::OutOfMemory)),

@@ -1,18 +1,19 @@
 //! The program `crackd`: reads its command line, and does what it asks for.
 #![tactic(auto)]
 
-use crack_arguments::{ArgumentsError, Opening, Request};
+use crack_arguments::{ArgumentsError, Opening, Request, Service, Staffed};
+use crack_core::Core;
+use crack_csv::{export_csv, load_csv};
 use crack_row::{Refusal, Watched};
-use crack_session::{OneDesk, serve};
-use std::io::{BufWriter, ErrorKind};
+use crack_server::{REPLY_BYTES, run_batch, run_server};
+use crack_session::serve;
+use crack_table::{OpenGate, Table};
+use std::io::{BufWriter, ErrorKind, Write};
+use std::net::{Ipv4Addr, Net, TcpListener, TcpStream};
 use std::process::ExitCode;
+use std::sync::Wait;
+use std::thread::Threads;
 use std::{env, io};
-
-/// How many bytes of replies are kept before they are written: room for the replies to one whole read, where none of them
-/// lists rows or pieces. Its 4096 bytes end at most one line that was begun before, which gets at most 27 bytes, as `gone` with
-/// the greatest numbers, and hold at most 2048 more statements; a line of 2 bytes gets the most for its length, the 10 of
-/// `refused 1`. The rows of a select and the pieces of a layout may be more: then what is kept is written, and the rest kept.
-const REPLY_BYTES: usize = 24576;
 
 /// What the command line asks for.
 fn request(rt: &HostRuntime) -> Result<Request, ArgumentsError> {
@@ -32,30 +33,117 @@ fn words(rt: &HostRuntime) -> io::Result<Vec<String>> {
 }
 
 /// Answers the statements of standard input on standard output.
-fn script(rt: &HostRuntime, opening: Opening) -> Result<(), Refusal> {
-    let mut desk = OneDesk::open(rt.alloc(), opening.limit)?;
+fn script(rt: &HostRuntime, opening: &Opening) -> Result<(), Refusal> {
+    let mut core = Core::open(rt.alloc(), opening.splits.as_slice(), opening.limit)?;
     let Ok(buffered) = BufWriter::with_capacity(rt.alloc(), REPLY_BYTES, rt.stdout()) else {
         return Err(Refusal::OutOfMemory);
     };
     let mut reader = Watched::new(rt.stdin());
     let mut writer = Watched::new(buffered);
-    match serve(&mut desk, opening.policy, &mut reader, &mut writer) {
+    match serve(
+        rt.alloc(),
+        &mut core,
+        opening.policy,
+        &mut reader,
+        &mut writer,
+    ) {
         Ok(_) => Ok(()),
         Err(fault) => Err(fault.refusal),
     }
 }
 
-/// Does what was asked for.
-fn perform(rt: &HostRuntime, request: &Request) -> Result<(), Refusal> {
+/// Loads the CSV records of standard input, and writes the rows to standard output.
+fn csv(rt: &HostRuntime, opening: &Opening) -> Result<(), Refusal> {
+    let mut core = Core::open(rt.alloc(), opening.splits.as_slice(), opening.limit)?;
+    if let Err(fault) = load_csv(rt.alloc(), &mut core, opening.policy, rt.stdin()) {
+        return Err(fault.refusal);
+    }
+    let mut writer = Watched::new(rt.stdout());
+    export_csv(rt.alloc(), &mut core, opening.policy, &mut writer)?;
+    Ok(())
+}
+
+/// Has workers serve the lines of standard input.
+fn batch<H: Threads + Wait + Sync>(
+    handle: &H,
+    rt: &HostRuntime,
+    staffed: &Staffed,
+) -> Result<(), Refusal> {
+    let Ok(mut writer) = BufWriter::with_capacity(rt.alloc(), REPLY_BYTES, rt.stdout()) else {
+        return Err(Refusal::OutOfMemory);
+    };
+    let opening = &staffed.opening;
+    run_batch(
+        handle,
+        rt.alloc(),
+        opening.splits.as_slice(),
+        opening.limit,
+        opening.policy,
+        staffed.workers,
+        &OpenGate,
+        &mut rt.stdin(),
+        &mut writer,
+    )
+}
+
+/// Has workers serve connections to a port.
+fn serve_port<H: Threads + Wait + Net<Listener = TcpListener, Stream = TcpStream> + Sync>(
+    handle: &H,
+    rt: &HostRuntime,
+    service: &Service,
+) -> Result<(), Refusal> {
+    let Staffed { opening, workers } = &service.table;
+    let (table, workers) = Table::open(
+        rt.alloc(),
+        opening.splits.as_slice(),
+        opening.limit,
+        *workers,
+    )?;
+    let Ok(listener) = TcpListener::bind(handle, (Ipv4Addr::LOCALHOST, service.port)) else {
+        return Err(Refusal::ReadFault);
+    };
+    let mut writer = rt.stdout();
+    announce(service.port, &mut writer)?;
+    run_server(
+        handle,
+        rt.alloc(),
+        &listener,
+        table,
+        workers,
+        opening.policy,
+        service.sessions,
+        &OpenGate,
+        &mut writer,
+    )
+}
+
+/// Tells which port is listened on.
+fn announce<W: Write>(port: u16, writer: &mut W) -> Result<(), Refusal> {
+    let line = writeln!(writer, "listening {port}");
+    if line.is_err() || writer.flush().is_err() {
+        return Err(Refusal::WriteFault);
+    }
+    Ok(())
+}
+
+/// Does what was asked for. Threads, waiting and sockets are the handle's.
+fn perform<H: Threads + Wait + Net<Listener = TcpListener, Stream = TcpStream> + Sync>(
+    handle: &H,
+    rt: &HostRuntime,
+    request: &Request,
+) -> Result<(), Refusal> {
     match request {
         Request::Help(text) => print!(rt; "{text}").map_err(|_| Refusal::WriteFault),
-        Request::Script(opening) => script(rt, *opening),
+        Request::Script(opening) => script(rt, opening),
+        Request::Batch(staffed) => batch(handle, rt, staffed),
+        Request::Serve(service) => serve_port(handle, rt, service),
+        Request::Csv(opening) => csv(rt, opening),
     }
 }
 
 fn main(rt: HostRuntime) -> ExitCode {
     match request(&rt) {
-        Ok(request) => match perform(&rt, &request) {
+        Ok(request) => match perform(&rt, &rt, &request) {
             Ok(()) => ExitCode::SUCCESS,
             Err(refusal) => {
                 let _ = eprintln!(rt; "crackd: {refusal}");
