@@ -2,6 +2,8 @@
 #![tactic(auto)]
 
 #[cfg(test)]
+mod book;
+#[cfg(test)]
 mod changes;
 #[cfg(test)]
 mod commands;
@@ -12,6 +14,12 @@ mod devices;
 #[cfg(test)]
 mod part;
 #[cfg(test)]
+mod partitions;
+#[cfg(test)]
 mod plain;
 #[cfg(test)]
+mod records;
+#[cfg(test)]
 mod session;
+#[cfg(test)]
+mod splits;

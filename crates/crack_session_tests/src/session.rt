@@ -1,12 +1,13 @@
 //! Sessions over memory, and over devices that fail, drip or count.
 use crate::desks::{Refusing, Starved};
 use crate::devices::{Clogged, Failing, Log, Sink, Source};
+use crack_core::Core;
 use crack_plain::PlainTable;
 use crack_row::{
     Command, GREATEST_BOUND, GREATEST_KEY, GREATEST_LIMIT, Key, KeyRange, Payload, Policy, Refusal,
     Reply, Serial, Watched,
 };
-use crack_session::{Desk, End, Fault, How, LINE_BYTES, OneDesk, serve};
+use crack_session::{Desk, End, Fault, How, LINE_BYTES, serve};
 use std::alloc::Global;
 use std::io::{BufWriter, Read, Write};
 use std::process::Abort;
@@ -14,18 +15,19 @@ use std::test::Fail;
 
 /// How a session ends. It promises nothing, so that no test carries all that `serve` promises.
 fn session<D: Desk, R: Read, W: Write>(
+    alloc: Global,
     desk: &mut D,
     reader: &mut Watched<R>,
     writer: &mut Watched<W>,
 ) -> Result<End, Fault> {
-    serve(desk, Policy::Complete, reader, writer)
+    serve(alloc, desk, Policy::Complete, reader, writer)
 }
 
 /// A session over memory, which is to end: how, and what it wrote.
 fn run<D: Desk + Drop>(alloc: Global, mut desk: D, input: &[u8]) -> Result<(End, Vec<u8>), Fail> {
     let mut reader = Watched::new(input);
     let mut writer = Watched::new(Vec::new(alloc));
-    let result = session(&mut desk, &mut reader, &mut writer);
+    let result = session(alloc, &mut desk, &mut reader, &mut writer);
     drop(desk);
     let text = writer.into_inner();
     let end = result.ok().ok_or("a fault")?;
@@ -33,7 +35,7 @@ fn run<D: Desk + Drop>(alloc: Global, mut desk: D, input: &[u8]) -> Result<(End,
 }
 
 /// How a session is to end, with no want of room.
-fn ends(how: How, statements: u64) -> End {
+pub fn ends(how: How, statements: u64) -> End {
     End {
         how,
         statements,
@@ -42,7 +44,7 @@ fn ends(how: How, statements: u64) -> End {
 }
 
 /// A session over memory that is to write these replies and end so.
-fn assert_run<D: Desk + Drop>(
+pub fn assert_run<D: Desk + Drop>(
     rt: &impl Abort,
     alloc: Global,
     desk: D,
@@ -74,7 +76,7 @@ fn assert_dripped<D: Desk + Drop>(
         log: &log,
     });
     let mut writer = Watched::new(Vec::new(alloc));
-    let result = session(&mut desk, &mut reader, &mut writer);
+    let result = session(alloc, &mut desk, &mut reader, &mut writer);
     drop(desk);
     assert_eq!(rt; result.ok(), Some(end));
     let told = writer.into_inner();
@@ -83,7 +85,7 @@ fn assert_dripped<D: Desk + Drop>(
     Ok(())
 }
 
-/// A session over one desk of this limit, however its bytes are cut.
+/// A session over one partition of this limit, however its bytes are cut.
 fn assert_script(
     rt: &impl Abort,
     alloc: Global,
@@ -92,9 +94,9 @@ fn assert_script(
     replies: &[u8],
     end: End,
 ) -> Result<(), Fail> {
-    let desk = OneDesk::open(alloc, limit)?;
+    let desk = Core::open(alloc, &[], limit)?;
     assert_run(rt, alloc, desk, input, replies, end)?;
-    let again = OneDesk::open(alloc, limit)?;
+    let again = Core::open(alloc, &[], limit)?;
     assert_dripped(rt, alloc, again, input, replies, end)
 }
 
@@ -295,7 +297,7 @@ fn bad_lines_are_refused(rt: HostRuntime) -> Result<(), Fail> {
         b"layout 0.0",
         b"layout 4294967296",
         b"policy",
-        b"policy ripple",
+        b"policy ripples",
         b"policy Gradual",
         b"policy gradual complete",
         b"x",
@@ -322,7 +324,9 @@ fn a_policy_holds_for_the_rest(rt: HostRuntime) -> Result<(), Fail> {
         "layout 0 rows 6 column 6 out 0 in 0 cells 6 free 0 pieces 3\npiece 0 15 1\npiece 15 25 2\npiece 25 4294967296 3\n";
     let some =
         "layout 0 rows 6 column 5 out 0 in 1 cells 6 free 0 pieces 3\npiece 0 15 1\npiece 15 25 2\npiece 25 4294967296 2\n";
-    for (name, layout) in [("complete", all), ("gradual", some)] {
+    let near =
+        "layout 0 rows 6 column 4 out 0 in 2 cells 6 free 0 pieces 3\npiece 0 15 1\npiece 15 25 2\npiece 25 4294967296 1\n";
+    for (name, layout) in [("complete", all), ("gradual", some), ("ripple", near)] {
         let input = format!(in rt.alloc(); "policy {name}\n{rows}{more}")?;
         let told = format!(in rt.alloc();
             "policy {name}\n{replies}row 0.4\nrow 0.5\ncount 2\n{layout}"
@@ -380,7 +384,7 @@ fn fail_the_third_reply<D: Desk + Drop>(
         fails_at: 2,
         bytes: Vec::new(alloc),
     });
-    let result = session(&mut desk, &mut reader, &mut writer);
+    let result = session(alloc, &mut desk, &mut reader, &mut writer);
     drop(desk);
     let fault = Fault {
         refusal: Refusal::WriteFault,
@@ -397,21 +401,21 @@ fn fail_the_third_reply<D: Desk + Drop>(
 
 #[test]
 fn writer_fails_in_the_third_reply(rt: HostRuntime) -> Result<(), Fail> {
-    let desk = OneDesk::open(rt.alloc(), GREATEST_LIMIT)?;
+    let desk = Core::open(rt.alloc(), &[], GREATEST_LIMIT)?;
     fail_the_third_reply(&rt, rt.alloc(), desk, b"row 0.0\nrow 0.1\n", None)
 }
 
 #[test]
 fn writer_fails_behind_a_want_of_room(rt: HostRuntime) -> Result<(), Fail> {
-    let desk = OneDesk::open(rt.alloc(), 1)?;
+    let desk = Core::open(rt.alloc(), &[], 1)?;
     fail_the_third_reply(&rt, rt.alloc(), desk, b"row 0.0\nrefused 6 1\n", Some(2))
 }
 
 /// A session whose writer takes bytes and can't hand them on.
-fn fail_the_flush<D: Desk + Drop>(rt: &impl Abort, mut desk: D) -> Result<(), Fail> {
+fn fail_the_flush<D: Desk + Drop>(rt: &impl Abort, alloc: Global, mut desk: D) -> Result<(), Fail> {
     let mut reader = Watched::new(b"".as_slice());
     let mut writer = Watched::new(Clogged);
-    let result = session(&mut desk, &mut reader, &mut writer);
+    let result = session(alloc, &mut desk, &mut reader, &mut writer);
     drop(desk);
     let fault = Fault {
         refusal: Refusal::WriteFault,
@@ -425,8 +429,8 @@ fn fail_the_flush<D: Desk + Drop>(rt: &impl Abort, mut desk: D) -> Result<(), Fa
 
 #[test]
 fn writer_fails_when_flushed(rt: HostRuntime) -> Result<(), Fail> {
-    let desk = OneDesk::open(rt.alloc(), GREATEST_LIMIT)?;
-    fail_the_flush(&rt, desk)
+    let desk = Core::open(rt.alloc(), &[], GREATEST_LIMIT)?;
+    fail_the_flush(&rt, rt.alloc(), desk)
 }
 
 /// A session whose reader fails in a line that was begun.
@@ -443,7 +447,7 @@ fn fail_the_reader<D: Desk + Drop>(
         log: &log,
     });
     let mut writer = Watched::new(Vec::new(alloc));
-    let result = session(&mut desk, &mut reader, &mut writer);
+    let result = session(alloc, &mut desk, &mut reader, &mut writer);
     drop(desk);
     let fault = Fault {
         refusal: Refusal::ReadFault,
@@ -460,7 +464,7 @@ fn fail_the_reader<D: Desk + Drop>(
 
 #[test]
 fn reader_fails_in_a_line(rt: HostRuntime) -> Result<(), Fail> {
-    let desk = OneDesk::open(rt.alloc(), GREATEST_LIMIT)?;
+    let desk = Core::open(rt.alloc(), &[], GREATEST_LIMIT)?;
     fail_the_reader(&rt, rt.alloc(), desk)
 }
 
@@ -493,6 +497,7 @@ fn assert_orderly(rt: &impl Abort, log: &Log, lines: usize) {
 /// A session of a desk and a writer whose reader gives so many bytes at a time, and which is to end.
 fn log_reads<D: Desk, W: Write>(
     rt: &impl Abort,
+    alloc: Global,
     desk: &mut D,
     writer: &mut Watched<W>,
     input: &[u8],
@@ -505,16 +510,16 @@ fn log_reads<D: Desk, W: Write>(
         fails: false,
         log,
     });
-    let result = session(desk, &mut reader, writer);
+    let result = session(alloc, desk, &mut reader, writer);
     assert!(rt; result.is_ok());
 }
 
 /// A session whose reader gives so many bytes at a time, and whose writer keeps so many before it writes.
 fn log_it(rt: &impl Abort, alloc: Global, input: &[u8], most: usize, room: usize, log: &Log) {
-    let mut desk = OneDesk::open(alloc, GREATEST_LIMIT).expect(rt, "a desk");
+    let mut desk = Core::open(alloc, &[], GREATEST_LIMIT).expect(rt, "a desk");
     let buffered = BufWriter::with_capacity(alloc, room, Sink { log });
     let mut writer = Watched::new(buffered.expect(rt, "a buffer"));
-    log_reads(rt, &mut desk, &mut writer, input, most, log);
+    log_reads(rt, alloc, &mut desk, &mut writer, input, most, log);
     drop(writer);
     drop(desk);
 }
@@ -602,7 +607,7 @@ fn ask_it<D: Desk>(rt: &impl Abort, desk: &mut D) -> Result<(), Fail> {
 
 #[test]
 fn desks(rt: HostRuntime) -> Result<(), Fail> {
-    let mut desk = OneDesk::open(rt.alloc(), GREATEST_LIMIT)?;
+    let mut desk = Core::open(rt.alloc(), &[], GREATEST_LIMIT)?;
     let told = ask_it(&rt, &mut desk);
     drop(desk);
     told?;
@@ -615,7 +620,7 @@ fn desks(rt: HostRuntime) -> Result<(), Fail> {
 #[test]
 fn a_desk_refuses_bad_limits(rt: HostRuntime) {
     for limit in [0, GREATEST_LIMIT + 1] {
-        let refused = OneDesk::open(rt.alloc(), limit).err();
+        let refused = Core::open(rt.alloc(), &[], limit).err();
         assert!(rt; matches!(refused, Some(Refusal::BadLimit)));
     }
 }

@@ -4,6 +4,7 @@ ghost use Rattle.crack_state.specs.Merge.{IsCracked};
 
 use crate::store::assert_piece_sizes;
 use crack_merge::{merge_complete, merge_gradual};
+use crack_ripple::merge_ripple;
 use crack_row::{GREATEST_BOUND, Key, KeyRange, Payload, Policy, Row, Serial};
 use crack_store::{MergeReport, Store};
 use std::alloc::Global;
@@ -91,6 +92,24 @@ fn gradual_at(rt: &impl Abort, store: Store, range: KeyRange) -> (Store, MergeRe
     }
 }
 
+/// Cracks at the ends of a range and merges at it, ripple.
+fn ripple_at(rt: &impl Abort, store: Store, range: KeyRange) -> (Store, MergeReport)
+    requires some { range.low < range.high }
+    requires low { store.keys.low ≡ 0 }
+    requires high { store.keys.high ≡ GREATEST_BOUND }
+    requires within { range.high ≤ GREATEST_BOUND }
+    ensures low { result.0.keys.low ≡ 0 }
+    ensures high { result.0.keys.high ≡ GREATEST_BOUND }
+    ensures cracked { IsCracked result.0 range }
+{
+    let mut store = store;
+    crack_between(rt, &mut store, range);
+    match merge_ripple(store, range) {
+        Ok(merged) => merged,
+        Err(_) => panic!(rt; "no memory"),
+    }
+}
+
 /// Cracks at the ends of a range and merges at it, under the policy.
 fn merge_at(rt: &impl Abort, store: Store, range: KeyRange, policy: Policy) -> (Store, MergeReport)
     requires some { range.low < range.high }
@@ -104,6 +123,7 @@ fn merge_at(rt: &impl Abort, store: Store, range: KeyRange, policy: Policy) -> (
     match policy {
         Policy::Complete => complete_at(rt, store, range),
         Policy::Gradual => gradual_at(rt, store, range),
+        Policy::Ripple => ripple_at(rt, store, range),
     }
 }
 
@@ -270,5 +290,77 @@ fn complete_takes_every_doomed_row_out(rt: HostRuntime) {
     };
     assert_eq!(rt; report, counted);
     assert_layout(&rt, &store, [1, 0], &[0, 1, 0]);
+    drop(store);
+}
+
+/// A store of all keys whose column has the keys 10 and 40, cracked at 20 and 30.
+fn apart(rt: &impl Abort, alloc: Global) -> Store
+    ensures low { result.keys.low ≡ 0 }
+    ensures high { result.keys.high ≡ GREATEST_BOUND }
+{
+    let mut store = Store::new(alloc, KeyRange::all());
+    insert(rt, &mut store, 10);
+    insert(rt, &mut store, 40);
+    let (mut store, _) = ripple_at(rt, store, KeyRange::all());
+    crack_between(rt, &mut store, KeyRange::new(20, 30).expect(rt, "a range"));
+    store
+}
+
+/// What ripple counts at keys from 10 up to 20, of one more row of the key 15.
+fn ripple_fifteen(rt: &impl Abort, store: Store) -> (Store, MergeReport)
+    requires low { store.keys.low ≡ 0 }
+    requires high { store.keys.high ≡ GREATEST_BOUND }
+    ensures low { result.0.keys.low ≡ 0 }
+    ensures high { result.0.keys.high ≡ GREATEST_BOUND }
+{
+    let mut store = store;
+    insert(rt, &mut store, 15);
+    ripple_at(rt, store, KeyRange::new(10, 20).expect(rt, "a range"))
+}
+
+#[test]
+fn ripple_evicts_the_row_in_the_way(rt: HostRuntime) {
+    let store = apart(&rt, rt.alloc());
+    let (store, report) = ripple_fifteen(&rt, store);
+    let counted = MergeReport {
+        put_in: 1,
+        evicted: 1,
+        moved: 1,
+        ..NONE_COUNTED
+    };
+    assert_eq!(rt; report, counted);
+    assert_layout(&rt, &store, [2, 1], &[0, 2, 0, 0]);
+    drop(store);
+}
+
+#[test]
+fn an_empty_piece_at_the_end_keeps_its_low_bound(rt: HostRuntime) {
+    let store = apart(&rt, rt.alloc());
+    let (mut store, _) = ripple_fifteen(&rt, store);
+    insert(&rt, &mut store, 25);
+    let (store, report) = ripple_at(&rt, store, KeyRange::new(20, 30).expect(&rt, "a range"));
+    let counted = MergeReport {
+        put_in: 1,
+        ..NONE_COUNTED
+    };
+    assert_eq!(rt; report, counted);
+    assert_layout(&rt, &store, [3, 1], &[0, 2, 1, 0]);
+    drop(store);
+}
+
+#[test]
+fn ripple_buries_the_doomed_row_in_the_way(rt: HostRuntime) {
+    let mut store = cracked(&rt, rt.alloc());
+    doom(&rt, &mut store, 2);
+    insert(&rt, &mut store, 17);
+    let (store, report) = ripple_at(&rt, store, KeyRange::new(15, 25).expect(&rt, "a range"));
+    let counted = MergeReport {
+        put_in: 1,
+        taken_out: 1,
+        moved: 1,
+        ..NONE_COUNTED
+    };
+    assert_eq!(rt; report, counted);
+    assert_layout(&rt, &store, [3, 0], &[1, 2, 0]);
     drop(store);
 }

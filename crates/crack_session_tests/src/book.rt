@@ -1,0 +1,46 @@
+//! A worker's book: a receipt of each answer.
+use crack_core::Book;
+use crack_part::Partition;
+use crack_row::{Command, GREATEST_LIMIT, Key, KeyRange, Payload, Policy, Refusal, Reply, Serial};
+use std::process::Abort;
+
+/// Asks for an insert, which the receipt tells.
+fn insert_first(
+    rt: &impl Abort,
+    book: &mut Book,
+    partition: &mut Partition,
+) -> Result<(), Refusal> {
+    book.reserve()?;
+    let insert = Command::Insert {
+        key: Key(7),
+        payload: Payload(70),
+    };
+    let reply = book.ask(2, partition, insert, Policy::Gradual)?;
+    assert!(rt; matches!(reply, Reply::Placed(Serial(0))));
+    assert_eq!(rt; book.receipts().len(), 1);
+    let receipt = &book.receipts()[0];
+    assert_eq!(rt;
+        [
+            u64::from(receipt.part),
+            receipt.position,
+            u64::from(receipt.worker)
+        ],
+        [2, 0, 3]
+    );
+    assert!(rt; matches!(receipt.reply, Reply::Placed(Serial(0))));
+    assert_eq!(rt;
+        [book.accepted(), book.inserted(), book.deleted()],
+        [1, 1, 0]
+    );
+    Ok(())
+}
+
+#[test]
+fn a_receipt_is_of_the_entry_that_was_kept(rt: HostRuntime) -> Result<(), Refusal> {
+    let mut partition = Partition::open(rt.alloc(), KeyRange::all(), GREATEST_LIMIT)?;
+    let mut book = Book::new(rt.alloc(), 3);
+    let told = insert_first(&rt, &mut book, &mut partition);
+    drop(book);
+    drop(partition);
+    told
+}

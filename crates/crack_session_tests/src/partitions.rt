@@ -1,0 +1,137 @@
+//! Partitions by key range that one thread asks: which a key or a range meets, what steps are answered, and what isn't opened.
+use crack_core::{Core, Step};
+use crack_row::{
+    Bound, Command, GREATEST_LIMIT, Key, KeyRange, Payload, Policy, Refusal, Reply, Serial,
+};
+use smallvec::SmallVec;
+use std::alloc::Global;
+use std::process::Abort;
+
+/// The parts of a range: its partitions, and the ends of its part in each.
+fn parts(core: &Core, low: u64, high: u64) -> Result<SmallVec<(u32, KeyRange), 8>, Refusal> {
+    core.parts_of(KeyRange::new(u128::from(low), u128::from(high))?)
+}
+
+/// Asserts which partition a part is of, and its ends.
+fn assert_part(rt: &impl Abort, part: (u32, KeyRange), wanted: [u64; 3]) {
+    let (number, range) = part;
+    assert_eq!(rt; [u64::from(number), range.low().0, range.high().0], wanted);
+}
+
+/// A range over three partitions is cut at their splits.
+fn cut_at_splits(rt: &impl Abort, core: &Core) -> Result<(), Refusal> {
+    let three = parts(core, 50, 201)?;
+    assert_eq!(rt; three.len(), 3);
+    assert_part(rt, three[0], [0, 50, 100]);
+    assert_part(rt, three[1], [1, 100, 200]);
+    assert_part(rt, three[2], [2, 200, 201]);
+    Ok(())
+}
+
+/// An empty range goes to the partition of its low end, and from the greatest bound to the last one.
+fn empty_goes_to_one(rt: &impl Abort, core: &Core) -> Result<(), Refusal> {
+    let at_split = parts(core, 100, 100)?;
+    assert_eq!(rt; at_split.len(), 1);
+    assert_part(rt, at_split[0], [1, 100, 100]);
+    let at_end = parts(core, 4294967296, 4294967296)?;
+    assert_eq!(rt; at_end.len(), 1);
+    assert_part(rt, at_end[0], [2, 4294967296, 4294967296]);
+    Ok(())
+}
+
+#[test]
+fn ranges_are_cut_at_splits(rt: HostRuntime) -> Result<(), Refusal> {
+    let core = Core::open(rt.alloc(), &[Bound(100), Bound(200)], GREATEST_LIMIT)?;
+    let told = cut_at_splits(&rt, &core);
+    let told_empty = empty_goes_to_one(&rt, &core);
+    let places = [
+        core.route(Key(99)),
+        core.route(Key(100)),
+        core.route(Key(200)),
+    ];
+    drop(core);
+    assert_eq!(rt; places, [0, 1, 2]);
+    told?;
+    told_empty
+}
+
+/// A step of worker 0 under the gradual merge.
+fn step(part: u32, command: Command) -> Step {
+    Step {
+        worker: 0,
+        part,
+        command,
+        policy: Policy::Gradual,
+    }
+}
+
+/// A step at a partition that isn't there is refused, and the next one is made.
+fn make_three(rt: &impl Abort, core: &mut Core) -> Result<(), Refusal> {
+    let insert = Command::Insert {
+        key: Key(7),
+        payload: Payload(70),
+    };
+    let count = Command::Count(KeyRange::all());
+    let results = core.run_steps(&[step(0, insert), step(7, count), step(0, count)])?;
+    assert_eq!(rt; results.len(), 3);
+    assert!(rt; matches!(results[0], Ok(Reply::Placed(Serial(0)))));
+    assert!(rt; matches!(results[1], Err(Refusal::NoSuchPartition)));
+    assert!(rt; matches!(results[2], Ok(Reply::Counted(1))));
+    assert_eq!(rt; core.accepted(), 2);
+    Ok(())
+}
+
+#[test]
+fn steps_are_made_one_after_the_other(rt: HostRuntime) -> Result<(), Refusal> {
+    let mut core = Core::open(rt.alloc(), &[], GREATEST_LIMIT)?;
+    let told = make_three(&rt, &mut core);
+    drop(core);
+    told
+}
+
+/// Each partition has the limit for itself.
+fn fill_each(rt: &impl Abort, core: &mut Core) -> Result<(), Refusal> {
+    let count = Command::Count(KeyRange::all());
+    core.step(step(0, count))?;
+    core.step(step(1, count))?;
+    let refused = core.step(step(1, count)).err();
+    assert!(rt; matches!(refused, Some(Refusal::HistoryFull { length: 1 })));
+    assert_eq!(rt; core.layout(1)?.pieces.as_slice().len(), 1);
+    assert!(rt; matches!(core.layout(2).err(), Some(Refusal::NoSuchPartition)));
+    Ok(())
+}
+
+#[test]
+fn each_partition_has_the_limit(rt: HostRuntime) -> Result<(), Refusal> {
+    let mut core = Core::open(rt.alloc(), &[Bound(100)], 1)?;
+    let told = fill_each(&rt, &mut core);
+    drop(core);
+    told
+}
+
+/// Why partitions aren't opened.
+fn refused(alloc: Global, splits: &[Bound], limit: u64) -> Option<Refusal> {
+    Core::open(alloc, splits, limit).err()
+}
+
+#[test]
+fn bad_splits_are_refused(rt: HostRuntime) {
+    let twice = refused(rt.alloc(), &[Bound(100), Bound(100)], 0);
+    assert!(rt; matches!(twice, Some(Refusal::BadSplits)));
+    let least = refused(rt.alloc(), &[Bound(0)], 1);
+    assert!(rt; matches!(least, Some(Refusal::BadSplits)));
+    let greatest = refused(rt.alloc(), &[Bound(4294967296)], 1);
+    assert!(rt; matches!(greatest, Some(Refusal::BadSplits)));
+    let limit = refused(rt.alloc(), &[Bound(4294967295)], 0);
+    assert!(rt; matches!(limit, Some(Refusal::BadLimit)));
+}
+
+#[test]
+fn too_many_splits_are_refused(rt: HostRuntime) {
+    let mut splits = [Bound(0); 64];
+    for place in 0..64 {
+        splits[place] = Bound(place as u64 + 1);
+    }
+    let many = refused(rt.alloc(), &splits, 0);
+    assert!(rt; matches!(many, Some(Refusal::TooManyPartitions)));
+}

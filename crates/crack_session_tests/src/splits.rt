@@ -1,0 +1,106 @@
+//! Sessions over several partitions.
+use crate::session::{assert_run, ends};
+use crack_core::Core;
+use crack_row::{Bound, GREATEST_LIMIT};
+use crack_session::{End, How};
+use std::alloc::Global;
+use std::process::Abort;
+use std::test::Fail;
+
+/// A session over the partitions between these splits, which is to write these replies.
+fn assert_split(
+    rt: &impl Abort,
+    alloc: Global,
+    splits: &[Bound],
+    input: &[u8],
+    replies: &[u8],
+    end: End,
+) -> Result<(), Fail> {
+    let core = Core::open(alloc, splits, GREATEST_LIMIT)?;
+    assert_run(rt, alloc, core, input, replies, end)
+}
+
+#[test]
+fn replies_of_two_partitions_are_joined(rt: HostRuntime) -> Result<(), Fail> {
+    assert_split(
+        &rt,
+        rt.alloc(),
+        &[Bound(100)],
+        b"insert 50 5\ninsert 150 6\ncount 50 151\nsum 0 4294967296\nupdate 0.0 100 9\nlayout 2\n\
+select 0 4294967296\nlayout 1\n",
+        b"row 0.0\nrow 1.0\ncount 2\nsum 11\nrefused 4\nrefused 5\nrows 2\n0.0 50 5\n1.0 150 6\n\
+layout 1 rows 1 column 1 out 0 in 0 cells 1 free 0 pieces 2\npiece 100 151 1\npiece 151 4294967296 0\n",
+        ends(How::InputEnded, 8),
+    )
+}
+
+/// A key that isn't the partition's is refused before a row is looked for.
+#[test]
+fn a_foreign_key_is_refused_first(rt: HostRuntime) -> Result<(), Fail> {
+    assert_split(
+        &rt,
+        rt.alloc(),
+        &[Bound(100)],
+        b"update 0.7 100 9\nupdate 0.7 99 9\nupdate 2.0 100 9\ndelete 2.0\n",
+        b"refused 4\nnone\nrefused 5\nrefused 5\n",
+        ends(How::InputEnded, 4),
+    )
+}
+
+/// The first partition keeps what it answered, though the statement is refused by the second.
+#[test]
+fn a_limit_is_reached_in_one_part_of_two(rt: HostRuntime) -> Result<(), Fail> {
+    let core = Core::open(rt.alloc(), &[Bound(100)], 1)?;
+    let end = End {
+        how: How::InputEnded,
+        statements: 3,
+        first_short: Some(2),
+    };
+    assert_run(
+        &rt,
+        rt.alloc(),
+        core,
+        b"insert 150 1\ncount 0 200\ncount 0 50\n",
+        b"row 1.0\nrefused 6 1\nrefused 6 1\n",
+        end,
+    )
+}
+
+/// Ranges whose ends are splits or stand beside them, and empty ones.
+#[test]
+fn ranges_end_at_splits_and_beside_them(rt: HostRuntime) -> Result<(), Fail> {
+    assert_split(
+        &rt,
+        rt.alloc(),
+        &[Bound(100), Bound(200)],
+        b"insert 99 1\ninsert 100 2\ninsert 199 3\ninsert 200 4\ncount 99 100\ncount 99 101\ncount 100 200\n\
+sum 100 201\nsum 99 200\nselect 100 100\nselect 199 4294967296\nselect 4294967296 4294967296\ncount 200 200\n",
+        b"row 0.0\nrow 1.0\nrow 1.1\nrow 2.0\ncount 1\ncount 2\ncount 2\nsum 9\nsum 6\nrows 0\n\
+rows 2\n1.1 199 3\n2.0 200 4\nrows 0\ncount 0\n",
+        ends(How::InputEnded, 13),
+    )
+}
+
+/// More partitions than a list has room for by itself.
+#[test]
+fn many_partitions_are_asked_in_turn(rt: HostRuntime) -> Result<(), Fail> {
+    let splits = [
+        Bound(1),
+        Bound(2),
+        Bound(3),
+        Bound(4),
+        Bound(5),
+        Bound(6),
+        Bound(7),
+        Bound(8),
+        Bound(9),
+    ];
+    assert_split(
+        &rt,
+        rt.alloc(),
+        splits.as_slice(),
+        b"insert 9 9\ninsert 0 1\ninsert 8 4\ninsert 0 2\ncount 0 10\nsum 0 9\nselect 0 10\n",
+        b"row 9.0\nrow 0.0\nrow 8.0\nrow 0.1\ncount 4\nsum 7\nrows 4\n0.0 0 1\n0.1 0 2\n8.0 8 4\n9.0 9 9\n",
+        ends(How::InputEnded, 7),
+    )
+}

@@ -1,0 +1,143 @@
+//! Sessions over a worker's desk, and over a core.
+use crate::tables::ShutGate;
+use crate::values::totals;
+use crack_commands::write_refusal;
+use crack_core::Core;
+use crack_row::{Bound, GREATEST_LIMIT, Policy, Refusal, Watched};
+use crack_session::{Desk, End, How, serve};
+use crack_table::{OpenGate, Table};
+use crack_worker_desk::WorkerDesk;
+use std::alloc::Global;
+use std::process::Abort;
+use std::test::Fail;
+
+/// Two partitions, which meet at key 100.
+static HUNDRED: [Bound; 1] = [Bound(100)];
+
+/// Each statement, at both partitions, and each refusal that needs no want of room and no gate.
+static SCRIPT: &[u8] = b"insert 50 5\ninsert 150 6\ninsert 99 7\ninsert 100 8\n\
+count 50 151\nsum 0 4294967296\nselect 60 160\nupdate 0.0 60 9\nupdate 0.0 100 9\n\
+delete 1.0\ndelete 1.0\nlayout 2\nupdate 2.0 100 9\ncount 5 1\nx\npolicy complete\n\
+select 0 4294967296\nlayout 0\nlayout 1\n\
+policy gradual\ninsert 10 1\ninsert 20 2\ncount 10 11\nlayout 0\nquit\ninsert 1 1\n";
+
+/// What is replied to it.
+static REPLIES: &[u8] = b"row 0.0\nrow 1.0\nrow 0.1\nrow 1.1\n\
+count 4\nsum 26\nrows 3\n0.1 99 7\n1.0 150 6\n1.1 100 8\nchanged\nrefused 4\n\
+gone 150 6\nnone\nrefused 5\nrefused 5\nrefused 2\nrefused 1\npolicy complete\n\
+rows 3\n0.0 60 9\n0.1 99 7\n1.1 100 8\n\
+layout 0 rows 2 column 2 out 0 in 0 cells 3 free 1 pieces 3\n\
+piece 0 50 0\npiece 50 60 0\npiece 60 100 2\n\
+layout 1 rows 1 column 1 out 0 in 0 cells 2 free 1 pieces 3\n\
+piece 100 151 1\npiece 151 160 0\npiece 160 4294967296 0\n\
+policy gradual\nrow 0.2\nrow 0.3\ncount 1\n\
+layout 0 rows 4 column 3 out 0 in 1 cells 4 free 0 pieces 5\n\
+piece 0 10 0\npiece 10 11 1\npiece 11 50 0\npiece 50 60 0\npiece 60 100 2\nbye\n";
+
+/// Serves a session over memory, which is to write these replies and to end so, with no want of room.
+fn assert_session<D: Desk>(
+    rt: &impl Abort,
+    alloc: Global,
+    desk: &mut D,
+    input: &[u8],
+    replies: &[u8],
+    end: (How, u64),
+) {
+    let mut reader = Watched::new(input);
+    let mut writer = Watched::new(Vec::new(alloc));
+    let ended = serve(alloc, desk, Policy::Complete, &mut reader, &mut writer);
+    let text = writer.into_inner();
+    assert_eq!(rt; text.as_slice(), replies);
+    drop(text);
+    let (how, statements) = end;
+    let told = End {
+        how,
+        statements,
+        first_short: None,
+    };
+    assert_eq!(rt; ended, Ok(told));
+}
+
+#[test]
+fn a_core_is_told_the_script(rt: HostRuntime) -> Result<(), Fail> {
+    let alloc: Global = rt.alloc();
+    let mut core = Core::open(alloc, &HUNDRED, GREATEST_LIMIT)?;
+    assert_session(&rt, alloc, &mut core, SCRIPT, REPLIES, (How::Quit, 25));
+    let receipts = core.receipts();
+    drop(core);
+    assert_eq!(rt; receipts, 18);
+    Ok(())
+}
+
+#[test]
+fn a_worker_desk_is_told_the_same(rt: HostRuntime) -> Result<(), Fail> {
+    let alloc: Global = rt.alloc();
+    let (table, mut workers) = Table::open(alloc, &HUNDRED, GREATEST_LIMIT, 1)?;
+    let worker = workers.pop().ok_or("worker")?;
+    let mut desk = WorkerDesk::new(&rt, &table, &OpenGate, worker);
+    assert_session(&rt, alloc, &mut desk, SCRIPT, REPLIES, (How::Quit, 25));
+    assert_eq!(rt; desk.receipts(), 18);
+    assert_eq!(rt; desk.splits(), HUNDRED.as_slice());
+    workers.push(desk.into_worker())?;
+    assert_eq!(rt; totals(alloc, table, workers), Ok([18, 6, 1, 5]));
+    Ok(())
+}
+
+/// A layout goes through no gate.
+#[test]
+fn a_shut_gate_refuses_each_command_of_a_session(rt: HostRuntime) -> Result<(), Fail> {
+    let alloc: Global = rt.alloc();
+    let (table, mut workers) = Table::open(alloc, &HUNDRED, GREATEST_LIMIT, 1)?;
+    let worker = workers.pop().ok_or("worker")?;
+    let mut desk = WorkerDesk::new(&rt, &table, &ShutGate, worker);
+    assert_session(
+        &rt,
+        alloc,
+        &mut desk,
+        b"insert 50 5\ncount 0 4294967296\ndelete 1.0\nlayout 0\npolicy ripple\n",
+        b"refused 7\nrefused 7\nrefused 7\n\
+layout 0 rows 0 column 0 out 0 in 0 cells 0 free 0 pieces 1\npiece 0 100 0\npolicy ripple\n",
+        (How::InputEnded, 5),
+    );
+    assert_eq!(rt; desk.receipts(), 0);
+    workers.push(desk.into_worker())?;
+    assert_eq!(rt; totals(alloc, table, workers), Ok([0, 0, 0, 0]));
+    Ok(())
+}
+
+/// A refusal's line, and its text as it is printed.
+fn assert_line(rt: &impl Abort, alloc: Global, refusal: Refusal, line: &[u8]) -> Result<(), Fail> {
+    let mut writer = Watched::new(Vec::new(alloc));
+    write_refusal(&refusal, &mut writer)?;
+    let text = writer.into_inner();
+    assert_eq!(rt; text.as_slice(), line);
+    let printed = format!(in alloc; "{refusal}\n")?;
+    assert_eq!(rt; printed.as_bytes(), line);
+    Ok(())
+}
+
+#[test]
+fn refusals_of_a_gathering_are_written_with_their_numbers(rt: HostRuntime) -> Result<(), Fail> {
+    let ends = Refusal::WorkersMissing {
+        missing: 9223372036854775813,
+    };
+    assert_line(&rt, rt.alloc(), ends, b"refused 15 0 2 63\n")?;
+    let all = Refusal::WorkersMissing { missing: u64::MAX };
+    assert_line(
+        &rt,
+        rt.alloc(),
+        all,
+        b"refused 15 0 1 2 3 4 5 6 7 8 9 10 11 12 13 14 15 16 17 18 19 20 21 22 23 24 25 26 27 28 29 30 31 \
+32 33 34 35 36 37 38 39 40 41 42 43 44 45 46 47 48 49 50 51 52 53 54 55 56 57 58 59 60 61 62 63\n",
+    )?;
+    let strange = Refusal::StrangeReceipt {
+        part: u32::MAX,
+        position: u64::MAX,
+    };
+    assert_line(
+        &rt,
+        rt.alloc(),
+        strange,
+        b"refused 16 4294967295 18446744073709551615\n",
+    )
+}

@@ -1,0 +1,13 @@
+//! Tests that run through the public calls of a table, its workers, and their gathering: what no clause says.
+#![tactic(auto)]
+
+#[cfg(test)]
+mod covers;
+#[cfg(test)]
+mod desks;
+#[cfg(test)]
+mod tables;
+#[cfg(test)]
+mod threads;
+#[cfg(test)]
+mod values;

@@ -1,0 +1,113 @@
+//! Tables and workers, on one thread.
+use crate::values::{SPLITS, ask, ask_by, count, insert, totals};
+use crack_row::{Bound, Refusal};
+use crack_table::{Gate, GatherRefused, Table, gather};
+use std::alloc::Global;
+use std::test::Fail;
+
+/// A gate that always says no.
+#[derive(Drop)]
+pub(crate) struct ShutGate;
+
+impl Gate for ShutGate {
+    ghost may_refuse = { λ gate part turn. Unit {0} };
+
+    fn inside(&self, _part: u32, _turn: u32) -> bool {
+        false
+    }
+}
+
+#[test]
+fn a_shut_gate_keeps_a_worker_out(rt: HostRuntime) -> Result<(), Fail> {
+    let alloc: Global = rt.alloc();
+    let (table, mut workers) = Table::open(alloc, &[], 10, 1)?;
+    let mut worker = workers.pop().ok_or("worker")?;
+    let answer = ask_by(&rt, &mut worker, &table, &ShutGate, 0, count(7)?);
+    assert!(rt; matches!(answer, Err(Refusal::GateGaveUp)));
+    workers.push(worker)?;
+    assert_eq!(rt; totals(alloc, table, workers), Ok([0, 0, 0, 0]));
+    Ok(())
+}
+
+#[test]
+fn a_worker_is_refused_as_its_partition_is(rt: HostRuntime) -> Result<(), Fail> {
+    let alloc: Global = rt.alloc();
+    let (table, mut workers) = Table::open(alloc, &SPLITS, 1, 1)?;
+    let mut worker = workers.pop().ok_or("worker")?;
+    let nowhere = ask(&rt, &mut worker, &table, 2, insert(7));
+    assert!(rt; matches!(nowhere, Err(Refusal::NoSuchPartition)));
+    let outside = ask(&rt, &mut worker, &table, 1, insert(7));
+    assert!(rt; matches!(outside, Err(Refusal::KeyOutside)));
+    assert!(rt; ask(&rt, &mut worker, &table, 0, insert(7)).is_ok());
+    let full = ask(&rt, &mut worker, &table, 0, insert(7));
+    assert!(rt; matches!(full, Err(Refusal::HistoryFull { length: 1 })));
+    workers.push(worker)?;
+    assert_eq!(rt; totals(alloc, table, workers), Ok([1, 1, 0, 1]));
+    Ok(())
+}
+
+/// What opening a table is refused with.
+fn refused(alloc: Global, splits: &[Bound], limit: u64, workers: u64) -> Option<Refusal> {
+    match Table::open(alloc, splits, limit, workers) {
+        Ok(opened) => {
+            drop(opened);
+            None
+        }
+        Err(refusal) => Some(refusal),
+    }
+}
+
+#[test]
+fn openings_are_refused_in_order(rt: HostRuntime) {
+    let alloc: Global = rt.alloc();
+    let twice = [Bound(5), Bound(5)];
+    assert_eq!(rt; refused(alloc, &twice, 0, 0), Some(Refusal::BadSplits));
+    assert_eq!(rt;
+        refused(alloc, &SPLITS, 0, 0),
+        Some(Refusal::BadWorkerCount)
+    );
+    assert_eq!(rt;
+        refused(alloc, &SPLITS, 0, 65),
+        Some(Refusal::BadWorkerCount)
+    );
+    assert_eq!(rt; refused(alloc, &SPLITS, 0, 64), Some(Refusal::BadLimit));
+    assert_eq!(rt; refused(alloc, &SPLITS, 1, 64), None);
+}
+
+#[test]
+fn a_missing_worker_is_told_and_all_are_handed_back(rt: HostRuntime) -> Result<(), Fail> {
+    let alloc: Global = rt.alloc();
+    let (table, mut workers) = Table::open(alloc, &SPLITS, 10, 2)?;
+    let mut second = workers.pop().ok_or("second")?;
+    assert!(rt; ask(&rt, &mut second, &table, 0, insert(7)).is_ok());
+    let Err(refused) = gather(alloc, table, workers) else {
+        return Err("gathered".into());
+    };
+    let GatherRefused {
+        refusal,
+        table,
+        mut workers,
+    } = refused;
+    assert_eq!(rt; refusal, Refusal::WorkersMissing { missing: 2 });
+    workers.push(second)?;
+    assert_eq!(rt; totals(alloc, table, workers), Ok([1, 1, 0, 1]));
+    Ok(())
+}
+
+/// A worker of another table, with the number of one of this: its receipts are no entries here.
+#[test]
+fn a_stranger_of_the_same_number_is_found(rt: HostRuntime) -> Result<(), Fail> {
+    let alloc: Global = rt.alloc();
+    let (other, mut strangers) = Table::open(alloc, &[], 10, 1)?;
+    let mut stranger = strangers.pop().ok_or("stranger")?;
+    assert!(rt; ask(&rt, &mut stranger, &other, 0, insert(7)).is_ok());
+    drop(other);
+    let (table, mut workers) = Table::open(alloc, &[], 10, 1)?;
+    workers.push(stranger)?;
+    let strange = Refusal::StrangeReceipt {
+        part: 0,
+        position: 0,
+    };
+    assert_eq!(rt; totals(alloc, table, workers), Err(strange));
+    Ok(())
+}

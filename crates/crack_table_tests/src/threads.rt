@@ -1,0 +1,136 @@
+//! Workers on threads of their own.
+use crate::values::{SPLITS, ask, ask_by, count, insert, totals};
+use crack_row::{Command, Layout, Reply};
+use crack_table::{Gate, Table, Worker};
+use std::alloc::Global;
+use std::sync::Wait;
+use std::sync::atomic::{AtomicBool, Ordering};
+use std::test::Fail;
+use std::thread;
+
+/// A gate that says no to each of two partitions until the other has been inside. Before each no it gives way, long enough for the other
+/// thread to arrive.
+#[derive(Drop)]
+struct Meeting {
+    arrived: [AtomicBool; 2],
+}
+
+impl Gate for Meeting {
+    ghost may_refuse = { λ gate part turn. Unit {0} };
+
+    fn inside(&self, part: u32, _turn: u32) -> bool {
+        if part > 1 {
+            return true;
+        }
+        self.arrived[part as usize].store(true, Ordering::SeqCst);
+        if self.arrived[1 - part as usize].load(Ordering::SeqCst) {
+            return true;
+        }
+        for _ in 0..1000u32 {
+            thread::yield_now();
+        }
+        false
+    }
+}
+
+/// Inserts a key behind the gate, and tells whether it was placed first.
+fn meet<R: Wait>(
+    rt: &R,
+    mut worker: Worker,
+    table: &Table,
+    gate: &Meeting,
+    part: u32,
+    key: u32,
+) -> (Worker, bool) {
+    let reply = ask_by(rt, &mut worker, table, gate, part, insert(key));
+    let placed = matches!(reply, Ok(Reply::Placed(serial)) if serial.0 == 0);
+    (worker, placed)
+}
+
+/// A table whose partitions are asked one after the other, or under one lock, never lets both threads inside: they are refused 7.
+#[test]
+fn two_partitions_at_once(rt: HostRuntime) -> Result<(), Fail> {
+    let alloc: Global = rt.alloc();
+    let (table, mut workers) = Table::open(alloc, &SPLITS, 10, 2)?;
+    let gate = Meeting {
+        arrived: [AtomicBool::new(false), AtomicBool::new(false)],
+    };
+    let second = workers.pop().ok_or("second")?;
+    let first = workers.pop().ok_or("first")?;
+    let ((first, one), (second, two)) = thread::join(
+        &rt,
+        || meet(&rt, first, &table, &gate, 0, 50),
+        || meet(&rt, second, &table, &gate, 1, 1000050),
+    );
+    assert!(rt; one && two);
+    workers.push(second)?;
+    workers.push(first)?;
+    assert_eq!(rt; totals(alloc, table, workers), Ok([2, 2, 0, 2]));
+    Ok(())
+}
+
+/// Inserts the worker's key of this number, into the partitions in turn; of each fourth row it is the last that is deleted again.
+fn insert_one<R: Wait>(rt: &R, worker: &mut Worker, table: &Table, own: u16, number: u16) -> bool {
+    let part = u32::from(number % 2);
+    let key = part * 1000000 + u32::from(own) + u32::from(number);
+    let placed = ask(rt, worker, table, part, insert(key));
+    let Ok(Reply::Placed(serial)) = placed else {
+        return false;
+    };
+    if number % 4 != 3 {
+        return true;
+    }
+    let gone = ask(rt, worker, table, part, Command::Delete { serial });
+    matches!(gone, Ok(Reply::Gone(_)))
+}
+
+/// Whether the layout is that of partition 0, with as many rows as one worker has there at least.
+fn shows_own_rows(layout: &Layout) -> bool {
+    let pieces = layout.pieces.as_slice();
+    match (pieces.first(), pieces.last()) {
+        (Some(first), Some(last)) => {
+            first.low.0 == 0 && last.high.0 == SPLITS[0].0 && layout.rows >= 500
+        }
+        _ => false,
+    }
+}
+
+/// Whether the worker sees its own rows in partition 0, by a layout and by a count of a key that it alone inserted, once.
+fn sees_own_rows<R: Wait>(rt: &R, worker: &mut Worker, table: &Table, own: u16) -> bool {
+    let shown = match worker.layout(rt, table, 0) {
+        Ok(layout) => shows_own_rows(&layout),
+        Err(_) => false,
+    };
+    let Ok(counting) = count(u32::from(own)) else {
+        return false;
+    };
+    let counted = ask(rt, worker, table, 0, counting);
+    shown && matches!(counted, Ok(Reply::Counted(1)))
+}
+
+/// 1000 inserts and 250 deletes of one worker, and what it sees then.
+fn work<R: Wait>(rt: &R, mut worker: Worker, table: &Table) -> (Worker, bool) {
+    let own = (worker.book().worker() % 64) as u16 * 1000;
+    let mut fine = true;
+    for number in 0..1000u16 {
+        fine = insert_one(rt, &mut worker, table, own, number) && fine;
+    }
+    fine = sees_own_rows(rt, &mut worker, table, own) && fine;
+    (worker, fine)
+}
+
+#[test]
+fn four_workers_come_to_one_account(rt: HostRuntime) -> Result<(), Fail> {
+    let alloc: Global = rt.alloc();
+    let (table, workers) = Table::open(alloc, &SPLITS, 1000000, 4)?;
+    let shared = &table;
+    let runtime = &rt;
+    let done = thread::map_vec(&rt, workers, &|worker| work(runtime, worker, shared))?;
+    let mut back = Vec::new(alloc);
+    for (worker, fine) in done {
+        assert!(rt; fine);
+        back.push(worker)?;
+    }
+    assert_eq!(rt; totals(alloc, table, back), Ok([5004, 4000, 1000, 3000]));
+    Ok(())
+}

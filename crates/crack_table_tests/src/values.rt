@@ -1,0 +1,70 @@
+//! What the tests ask, and how they end a table.
+use crack_row::{Bound, Command, Key, KeyRange, Payload, Policy, Refusal, Reply};
+use crack_table::{Gate, OpenGate, Table, Worker, gather};
+use std::alloc::Global;
+use std::sync::Wait;
+
+/// Two partitions, which meet at key 1000000.
+pub(crate) static SPLITS: [Bound; 1] = [Bound(1000000)];
+
+/// An insert of a key.
+pub(crate) fn insert(key: u32) -> Command {
+    Command::Insert {
+        key: Key(key),
+        payload: Payload(1),
+    }
+}
+
+/// A count of one key.
+pub(crate) fn count(key: u32) -> Result<Command, Refusal> {
+    let range = KeyRange::new(u128::from(key), u128::from(key) + 1)?;
+    Ok(Command::Count(range))
+}
+
+/// What a worker is answered behind a gate.
+pub(crate) fn ask_by<R: Wait, G: Gate>(
+    rt: &R,
+    worker: &mut Worker,
+    table: &Table,
+    gate: &G,
+    part: u32,
+    command: Command,
+) -> Result<Reply, Refusal> {
+    worker.ask(rt, table, gate, part, command, Policy::Complete)
+}
+
+/// What a worker is answered.
+pub(crate) fn ask<R: Wait>(
+    rt: &R,
+    worker: &mut Worker,
+    table: &Table,
+    part: u32,
+    command: Command,
+) -> Result<Reply, Refusal> {
+    ask_by(rt, worker, table, &OpenGate, part, command)
+}
+
+/// How many commands were accepted, rows inserted, deleted and held, once the workers are gathered.
+pub(crate) fn totals(
+    alloc: Global,
+    table: Table,
+    workers: Vec<Worker>,
+) -> Result<[u64; 4], Refusal> {
+    match gather(alloc, table, workers) {
+        Ok(closed) => {
+            let totals = [
+                closed.accepted,
+                closed.inserted,
+                closed.deleted,
+                closed.held,
+            ];
+            drop(closed);
+            Ok(totals)
+        }
+        Err(refused) => {
+            let refusal = refused.refusal;
+            drop(refused);
+            Err(refusal)
+        }
+    }
+}
