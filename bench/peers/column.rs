@@ -139,17 +139,24 @@ fn learn(places: &mut [Place], generations: &[u64], arena: &Arena<Row>) -> usize
     learned
 }
 
-/// Puts the keys below the bound first, and gives their number. The key is read first, and then the place.
+/// Puts the keys below the bound first, and gives their number. The first place is held, and the gap that it leaves goes round, so that
+/// nothing is exchanged. The key is read first, and then the place.
 fn divide(places: &mut [Place], bound: u64) -> usize {
+    let Some(last) = places.len().checked_sub(1) else {
+        return 0;
+    };
+    let first = places[0];
     let mut low = 0;
-    for i in 0..places.len() {
-        let below = u64::from(places[i].key) < bound;
-        let here = places[i];
-        places[i] = places[low];
-        places[low] = here;
+    for gap in 0..last {
+        let below = u64::from(places[gap + 1].key) < bound;
+        let next = places[gap + 1];
+        places[gap] = places[low];
+        places[low] = next;
         low += below as usize;
     }
-    low
+    places[last] = places[low];
+    places[low] = first;
+    low + (u64::from(first.key) < bound) as usize
 }
 
 /// A crack that remembers no key: each is read through the arena at each crack.

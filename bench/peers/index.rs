@@ -1,5 +1,7 @@
 //! The bounds that divide a cracked column, in rising order.
 
+use crate::store::GREATEST_BOUND;
+
 #[derive(Clone, Copy)]
 pub struct Mark {
     pub bound: u64,
@@ -28,6 +30,15 @@ impl Index {
         (
             below.last().map_or(0, |mark| mark.position),
             above.first().map_or(len, |mark| mark.position),
+        )
+    }
+
+    /// The bounds of the piece whose keys hold this key, or the ends of the key space.
+    pub fn bounds_around(&self, key: u64) -> (u64, u64) {
+        let (below, above) = self.marks.split_at(self.up_to(key));
+        (
+            below.last().map_or(0, |mark| mark.bound),
+            above.first().map_or(GREATEST_BOUND, |mark| mark.bound),
         )
     }
 

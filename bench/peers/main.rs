@@ -1,12 +1,16 @@
 //! Plain Rust beside what the benchmark measures: `peers session`, `peers arena STEPS ROWS`, `peers column ROWS`, and, by a table of which
-//! `TABLE` says the kind, `peers counts TABLE ROWS RANGES`, `peers sums TABLE ROWS RANGES`, `peers updates TABLE ROWS BATCHES SIZE` and
-//! `peers merge TABLE ROWS PIECES PENDING`. A table is `complete`, `gradual` or `anew`, a cracked partition that merges by this policy, or `inline`,
-//! `pairs`, `tree` or `rows`, which do the same in other ways.
+//! `TABLE` says the kind, `peers counts TABLE ROWS RANGES`, `peers sums TABLE ROWS RANGES`, `peers each TABLE ROWS RANGES`,
+//! `peers cold TABLE ROWS RANGES`, `peers pass TABLE ROWS RANGES`, `peers updates TABLE ROWS BATCHES SIZE` and
+//! `peers merge TABLE ROWS PIECES PENDING`. A table is `complete`, `gradual`, `ripple` or `anew`, a cracked partition that merges by this policy,
+//! or `inline`, `pairs`, `tree`, `through`, `rows` or `sorted`, which do the same in other ways. `peers own WORKERS ROWS STEPS` and
+//! `peers shared WORKERS ROWS STEPS` have workers on threads, and `peers copies WORKERS ROWS` copies what they did. `peers client PORT FILE` and
+//! `peers turns PORT FILE` send a file's statements to a server on this machine, all at once or one by one, and `peers echo PORT` is such a server.
 //!
 //! What a run computes goes to standard output, and must be what the measured program writes there. Times go to standard error, in
 //! nanoseconds, a line `NAME NUMBER` each.
 
 mod arena;
+mod client;
 mod column;
 mod index;
 mod inline;
@@ -16,12 +20,19 @@ mod partition;
 mod pending;
 mod serials;
 mod session;
+mod sorted;
 mod store;
+mod through;
+mod workers;
 
 use std::time::Instant;
 
 fn number(word: Option<String>) -> u64 {
     word.and_then(|it| it.parse().ok()).expect("a number")
+}
+
+fn port(word: Option<String>) -> u16 {
+    number(word).try_into().expect("a port")
 }
 
 fn report(name: &str, since: Instant) {
@@ -37,11 +48,25 @@ fn main() {
             arena::run(steps, number(words.next()));
         }
         Some("column") => column::run(number(words.next())),
-        Some(word @ ("counts" | "sums" | "updates" | "merge")) => {
+        Some(word @ ("counts" | "sums" | "each" | "cold" | "pass" | "updates" | "merge")) => {
             let table = words.next().expect("a table");
             let numbers: Vec<u64> = words.map(|it| number(Some(it))).collect();
             partition::run(word, &table, &numbers);
         }
-        _ => panic!("session, arena, column, counts, sums, updates or merge"),
+        Some(word @ ("own" | "shared")) => {
+            let [workers, rows, steps] = [(); 3].map(|()| number(words.next()) as u32);
+            workers::work(workers, word == "shared", rows, steps);
+        }
+        Some("copies") => {
+            let workers = number(words.next()) as u32;
+            workers::copies(workers, number(words.next()) as u32);
+        }
+        Some(word @ ("client" | "turns")) => {
+            let send = if word == "client" { client::pipeline } else { client::take_turns };
+            let port = port(words.next());
+            send(port, &words.next().expect("a file")).expect("a server that answers");
+        }
+        Some("echo") => client::echo(port(words.next())).expect("a client that reads"),
+        _ => panic!("session, arena, column, counts, sums, each, cold, pass, updates, merge, own, shared, copies, client, turns or echo"),
     }
 }

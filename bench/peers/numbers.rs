@@ -28,3 +28,10 @@ impl Numbers {
 pub fn mixed(sum: u64, value: u64) -> u64 {
     (sum ^ value).wrapping_mul(1099511628211)
 }
+
+/// Another number for each number, which looks random (the end of MurmurHash3).
+pub fn scattered(number: u32) -> u32 {
+    let mixed = (number ^ (number >> 16)).wrapping_mul(2246822507);
+    let mixed = (mixed ^ (mixed >> 13)).wrapping_mul(3266489909);
+    mixed ^ (mixed >> 16)
+}

@@ -1,12 +1,15 @@
 //! Inserts in random order of keys, a count of everything, and counts, sums and updates: by a cracked partition with a history, by cracker
-//! columns of keys alone and of keys and payloads, by a tree, and by a pass over a vector of rows for each range.
+//! columns of keys alone and of keys and payloads, by a tree, and by a pass over rows for each range, in a vector or through handles.
 
 use crate::arena::Row;
 use crate::inline::Inline;
 use crate::numbers::{Numbers, mixed};
 use crate::pairs::Pairs;
+use crate::sorted::Sorted;
 use crate::store::{GREATEST_BOUND, Policy, Store};
+use crate::through::Through;
 use std::collections::BTreeMap;
+use std::hint::black_box;
 use std::time::Instant;
 
 /// How wide a random range is: one in a hundred of the key space.
@@ -52,8 +55,9 @@ pub enum Reply {
     Rows(Vec<Row>),
 }
 
+#[derive(Clone)]
 #[allow(dead_code)]
-struct Entry {
+pub struct Entry {
     worker: u32,
     command: Command,
     reply: Reply,
@@ -75,6 +79,10 @@ impl Partition {
             next: 0,
             history: Vec::new(),
         }
+    }
+
+    pub fn history(&self) -> &[Entry] {
+        &self.history
     }
 
     /// Answers a command and keeps it; none once the history is full. The second reply is a copy, for a receipt.
@@ -206,20 +214,62 @@ impl Table for Vec<Row> {
     }
 }
 
+impl Table for Through {
+    fn insert(&mut self, key: u32, payload: u32) {
+        self.push(key, payload);
+    }
+
+    fn count(&mut self, low: u64, high: u64) -> u64 {
+        self.between(low, high).count() as u64
+    }
+
+    fn sum(&mut self, low: u64, high: u64) -> u64 {
+        self.between(low, high).map(|row| u64::from(row.payload)).sum()
+    }
+}
+
+impl Table for Sorted {
+    fn insert(&mut self, key: u32, payload: u32) {
+        self.push(key, payload);
+    }
+
+    fn count(&mut self, low: u64, high: u64) -> u64 {
+        self.between(low, high).len() as u64
+    }
+
+    fn sum(&mut self, low: u64, high: u64) -> u64 {
+        self.between(low, high).iter().map(|it| u64::from(it.1)).sum()
+    }
+}
+
 /// A range of that width at a random place: its low end.
 fn random_low(numbers: &mut Numbers) -> u64 {
     u64::from(numbers.word()) % (GREATEST_BOUND - WIDTH)
 }
 
-/// As many inserts of random keys, and a count of everything.
-fn load(table: &mut impl Table, rows: u64, numbers: &mut Numbers) {
-    let start = Instant::now();
+/// As many inserts of random keys.
+fn fill(table: &mut impl Table, rows: u64, numbers: &mut Numbers) {
     for row in 0..rows {
         table.insert(numbers.word(), row as u32);
     }
+}
+
+/// The sums of as many random ranges. A checksum of them, over that of earlier ones.
+fn random_sums(table: &mut impl Table, told: u64, ranges: u64, numbers: &mut Numbers) -> u64 {
+    (0..ranges).fold(told, |sum, _| {
+        let low = random_low(numbers);
+        mixed(sum, table.sum(low, low + WIDTH))
+    })
+}
+
+/// As many inserts of random keys, and a count of everything.
+fn load(table: &mut impl Table, rows: u64, numbers: &mut Numbers) {
+    let start = Instant::now();
+    fill(table, rows, numbers);
     crate::report("load", start);
     let start = Instant::now();
-    let everything = table.count(0, GREATEST_BOUND);
+    // (the bound is hidden, since a pass over rows that are all below it would be left out)
+    let everything = table.count(0, black_box(GREATEST_BOUND));
     crate::report("everything", start);
     println!("rows {everything}");
 }
@@ -244,13 +294,49 @@ fn sums(mut table: impl Table, rows: u64, ranges: u64) {
     for name in ["sums", "again"] {
         let mut places = Numbers(numbers.0);
         let start = Instant::now();
-        told = (0..ranges).fold(told, |sum, _| {
-            let low = random_low(&mut places);
-            mixed(sum, table.sum(low, low + WIDTH))
-        });
+        told = random_sums(&mut table, told, ranges, &mut places);
         crate::report(name, start);
     }
     println!("sums {told}");
+}
+
+/// The sums of as many random ranges, and the time of each.
+fn each(mut table: impl Table, rows: u64, ranges: u64) {
+    let mut numbers = Numbers(11);
+    load(&mut table, rows, &mut numbers);
+    let told = (0..ranges).fold(0, |sum, _| {
+        let start = Instant::now();
+        let sum = random_sums(&mut table, sum, 1, &mut numbers);
+        crate::report("sum", start);
+        sum
+    });
+    println!("each {told}");
+}
+
+/// As many inserts, and the sums of as many random ranges, with nothing counted before.
+fn cold(mut table: impl Table, rows: u64, ranges: u64) {
+    let mut numbers = Numbers(11);
+    fill(&mut table, rows, &mut numbers);
+    let start = Instant::now();
+    let told = random_sums(&mut table, 0, ranges, &mut numbers);
+    crate::report("cold", start);
+    println!("cold {told}");
+}
+
+/// As many inserts of keys in the lower half, and the sums of as many random ranges in the upper half.
+fn pass(mut table: impl Table, rows: u64, ranges: u64) {
+    let mut numbers = Numbers(11);
+    for row in 0..rows {
+        table.insert(numbers.word() >> 1, row as u32);
+    }
+    let half = GREATEST_BOUND / 2;
+    let start = Instant::now();
+    let told = (0..ranges).fold(0, |sum, _| {
+        let low = half + random_low(&mut numbers) / 2;
+        mixed(sum, table.sum(low, low + WIDTH / 2))
+    });
+    crate::report("pass", start);
+    println!("pass {told}");
 }
 
 /// Batches of as many deletes and inserts, each with the sum of a random range behind it.
@@ -269,8 +355,7 @@ fn updates(mut table: impl Table, rows: u64, batches: u64, size: u64) {
             serials[at] = next;
             next += 1;
         }
-        let low = random_low(&mut numbers);
-        mixed(sum, table.sum(low, low + WIDTH))
+        random_sums(&mut table, sum, 1, &mut numbers)
     });
     crate::report("updates", start);
     println!("updates {told}");
@@ -284,9 +369,7 @@ fn merge(mut table: impl Table, rows: u64, pieces: u64, pending: u64) {
     for piece in 1..pieces {
         table.count(0, piece * width);
     }
-    for row in 0..pending {
-        table.insert(numbers.word(), row as u32);
-    }
+    fill(&mut table, pending, &mut numbers);
     let start = Instant::now();
     let after = table.count(0, GREATEST_BOUND);
     crate::report("merge", start);
@@ -297,6 +380,9 @@ fn measure(word: &str, table: impl Table, numbers: &[u64]) {
     match (word, numbers) {
         ("counts", [rows, ranges]) => counts(table, *rows, *ranges),
         ("sums", [rows, ranges]) => sums(table, *rows, *ranges),
+        ("each", [rows, ranges]) => each(table, *rows, *ranges),
+        ("cold", [rows, ranges]) => cold(table, *rows, *ranges),
+        ("pass", [rows, ranges]) => pass(table, *rows, *ranges),
         ("updates", [rows, batches, size]) => updates(table, *rows, *batches, *size),
         ("merge", [rows, pieces, pending]) => merge(table, *rows, *pieces, *pending),
         _ => panic!("as many numbers as are wanted"),
@@ -307,11 +393,14 @@ pub fn run(word: &str, table: &str, numbers: &[u64]) {
     match table {
         "complete" => measure(word, Partition::new(Policy::Complete), numbers),
         "gradual" => measure(word, Partition::new(Policy::Gradual), numbers),
+        "ripple" => measure(word, Partition::new(Policy::Ripple), numbers),
         "anew" => measure(word, Partition::new(Policy::Anew), numbers),
         "inline" => measure(word, Inline::default(), numbers),
         "pairs" => measure(word, Pairs::default(), numbers),
         "tree" => measure(word, BTreeMap::new(), numbers),
+        "through" => measure(word, Through::default(), numbers),
         "rows" => measure(word, Vec::<Row>::new(), numbers),
-        _ => panic!("complete, gradual, anew, inline, pairs, tree or rows"),
+        "sorted" => measure(word, Sorted::default(), numbers),
+        _ => panic!("complete, gradual, ripple, anew, inline, pairs, tree, through, rows or sorted"),
     }
 }

@@ -14,6 +14,8 @@ pub const GREATEST_BOUND: u64 = 1 << 32;
 pub enum Policy {
     Complete,
     Gradual,
+    /// Gradual, with room made near the range: the row that stands in the way is put back among the pending insertions.
+    Ripple,
     /// Complete, in carries that search the index anew at each step, by a key that they read through the arena.
     Anew,
 }
@@ -83,10 +85,16 @@ impl Store {
             return (0, 0);
         }
         self.index.marks.reserve(2);
-        self.crack_at(low);
-        self.crack_at(high);
+        let (below, above) = self.index.bounds_around(low);
+        if low - below.min(low) < above.max(high) - high {
+            self.crack_at(high);
+            self.crack_at(low);
+        } else {
+            self.crack_at(low);
+            self.crack_at(high);
+        }
         match policy {
-            Policy::Gradual => self.merge(low, high, policy),
+            Policy::Gradual | Policy::Ripple => self.merge(low, high, policy),
             _ if self.pending_in.next_in(low, high, 0).is_some() || self.pending_out.next_in(low, high, 0).is_some() => {
                 self.merge(0, GREATEST_BOUND, policy)
             }
@@ -109,6 +117,7 @@ impl Store {
     }
 
     fn merge(&mut self, low: u64, high: u64, policy: Policy) {
+        let limit = if policy == Policy::Ripple { high } else { GREATEST_BOUND };
         let mut spot = 0;
         while let Some(found) = self.pending_in.next_in(low, high, spot) {
             self.column.reserve(1);
@@ -116,7 +125,7 @@ impl Store {
             if policy == Policy::Anew {
                 self.carry_anew(hand);
             } else {
-                self.carry(hand);
+                self.carry(hand, limit);
             }
             spot = found + 1;
         }
@@ -140,8 +149,9 @@ impl Store {
         is_doomed
     }
 
-    /// Puts the hand at the end of its piece, and the row that stood there on, until one is put at the column's end or is doomed.
-    fn carry(&mut self, hand: Handle) {
+    /// Puts the hand at the end of its piece, and the row that stood there on, until one is put at the column's end, is doomed, or has a key at or
+    /// above the limit: that one is put back among the pending insertions.
+    fn carry(&mut self, hand: Handle, limit: u64) {
         let mut held = self.held(hand);
         let mut mark = self.index.up_to(u64::from(held.key));
         while mark < self.index.marks.len() {
@@ -153,6 +163,9 @@ impl Store {
             held = self.column.swap_in(place, held);
             if self.bury_if_doomed(held.handle) {
                 return;
+            }
+            if limit <= u64::from(held.key) {
+                return self.pending_in.push(held.handle, held.key);
             }
         }
         self.column.append(held);

@@ -1,9 +1,10 @@
 //! Measures the arena, the cracker column and a partition that merges by a policy: `crack_bench arena STEPS ROWS`, `crack_bench column ROWS`,
-//! `crack_bench counts POLICY ROWS RANGES`, `crack_bench sums POLICY ROWS RANGES`, `crack_bench updates POLICY ROWS BATCHES SIZE`,
+//! `crack_bench counts POLICY ROWS RANGES`, `crack_bench sums POLICY ROWS RANGES`, `crack_bench each POLICY ROWS RANGES`,
+//! `crack_bench cold POLICY ROWS RANGES`, `crack_bench pass POLICY ROWS RANGES`, `crack_bench updates POLICY ROWS BATCHES SIZE`,
 //! `crack_bench merge POLICY ROWS PIECES PENDING`, or `crack_bench all STEPS ROWS RANGES`.
 //!
 //! What a run computes goes to standard output: it depends on the words alone. Times go to standard error, in nanoseconds, a line
-//! `NAME NUMBER` each.
+//! `NAME NUMBER` each, and for `cold` what the merges did, likewise.
 #![tactic(auto)]
 
 ghost use Rattle.crack_column.specs.Column.{Remembers};
@@ -91,8 +92,20 @@ fn measure_column(
 /// What is measured of a partition.
 #[derive(Clone, Copy)]
 enum Work {
+    /// With every row pending.
+    Cold { ranges: u64 },
+    /// With every row pending, and none in a range.
+    Pass { ranges: u64 },
+    Loaded(Loaded),
+}
+
+/// What is measured once everything was counted.
+#[derive(Clone, Copy)]
+enum Loaded {
     Counts { ranges: u64 },
     Sums { ranges: u64 },
+    /// The same, and the time of each.
+    Each { ranges: u64 },
     Updates { batches: u64, size: u64 },
     Merge { pieces: u32, pending: u32 },
 }
@@ -101,7 +114,8 @@ fn policy_of(name: &str) -> anyhow::Result<Policy> {
     match name {
         "complete" => Ok(Policy::Complete),
         "gradual" => Ok(Policy::Gradual),
-        _ => Err(anyhow::anyhow!("complete or gradual")),
+        "ripple" => Ok(Policy::Ripple),
+        _ => Err(anyhow::anyhow!("complete, gradual or ripple")),
     }
 }
 
@@ -120,21 +134,84 @@ fn measure_partition(
     work: Work,
 ) -> anyhow::Result<()> {
     let mut numbers = Numbers::new(11);
+    match work {
+        Work::Cold { ranges } => measure_cold(rt, table, rows, ranges, &mut numbers),
+        Work::Pass { ranges } => measure_pass(rt, table, rows, ranges, &mut numbers),
+        Work::Loaded(work) => {
+            measure_load(rt, table, rows, &mut numbers)?;
+            measure_loaded(rt, table, rows, work, &mut numbers)
+        }
+    }
+}
+
+fn measure_load(
+    rt: &HostRuntime,
+    table: &mut Table,
+    rows: u32,
+    numbers: &mut Numbers,
+) -> anyhow::Result<()> {
     let start = Instant::now(rt)?;
-    table.load(rows, &mut numbers)?;
+    table.load(rows, numbers)?;
     report(rt, "load", start)?;
     let start = Instant::now(rt)?;
     let everything = table.count_all()?;
     report(rt, "everything", start)?;
     println!(rt; "rows {everything}")?;
+    Ok(())
+}
+
+fn measure_loaded(
+    rt: &HostRuntime,
+    table: &mut Table,
+    rows: u32,
+    work: Loaded,
+    numbers: &mut Numbers,
+) -> anyhow::Result<()> {
     match work {
-        Work::Counts { ranges } => measure_counts(rt, table, ranges, &mut numbers),
-        Work::Sums { ranges } => measure_sums(rt, table, ranges, &mut numbers),
-        Work::Updates { batches, size } => {
-            measure_updates(rt, table, rows, batches, size, &mut numbers)
+        Loaded::Counts { ranges } => measure_counts(rt, table, ranges, numbers),
+        Loaded::Sums { ranges } => measure_sums(rt, table, ranges, numbers),
+        Loaded::Each { ranges } => measure_each(rt, table, ranges, numbers),
+        Loaded::Updates { batches, size } => {
+            measure_updates(rt, table, rows, batches, size, numbers)
         }
-        Work::Merge { pieces, pending } => measure_merge(rt, table, pieces, pending, &mut numbers),
+        Loaded::Merge { pieces, pending } => measure_merge(rt, table, pieces, pending, numbers),
     }
+}
+
+/// The sums of random ranges with every row pending, and what their merges did.
+fn measure_cold(
+    rt: &HostRuntime,
+    table: &mut Table,
+    rows: u32,
+    ranges: u64,
+    numbers: &mut Numbers,
+) -> anyhow::Result<()> {
+    table.load(rows, numbers)?;
+    let start = Instant::now(rt)?;
+    let sum = table.sums(0, ranges, numbers)?;
+    report(rt, "cold", start)?;
+    println!(rt; "cold {sum}")?;
+    let did = table.partition.tally();
+    eprintln!(rt; "put_in {}", did.put_in)?;
+    eprintln!(rt; "evicted {}", did.evicted)?;
+    eprintln!(rt; "moved {}", did.moved)?;
+    Ok(())
+}
+
+/// The sums of random ranges that have no row, with every row pending.
+fn measure_pass(
+    rt: &HostRuntime,
+    table: &mut Table,
+    rows: u32,
+    ranges: u64,
+    numbers: &mut Numbers,
+) -> anyhow::Result<()> {
+    table.load_half(rows, numbers)?;
+    let start = Instant::now(rt)?;
+    let sum = table.upper_sums(ranges, numbers)?;
+    report(rt, "pass", start)?;
+    println!(rt; "pass {sum}")?;
+    Ok(())
 }
 
 fn measure_counts(
@@ -164,6 +241,22 @@ fn measure_sums(
     let sum = table.sums(sum, ranges, &mut same)?;
     report(rt, "again", start)?;
     println!(rt; "sums {sum}")?;
+    Ok(())
+}
+
+fn measure_each(
+    rt: &HostRuntime,
+    table: &mut Table,
+    ranges: u64,
+    numbers: &mut Numbers,
+) -> anyhow::Result<()> {
+    let mut sum = 0;
+    'ranges: for _ in 0..ranges {
+        let start = Instant::now(rt)?;
+        sum = table.sums(sum, 1, numbers)?;
+        report(rt, "sum", start)?;
+    }
+    println!(rt; "each {sum}")?;
     Ok(())
 }
 
@@ -201,28 +294,46 @@ fn measure_merge(
 fn run_all(rt: &HostRuntime, steps: u64, rows: u32, ranges: u64) -> anyhow::Result<()> {
     run_arena(rt, steps, rows)?;
     run_column(rt, rows)?;
-    run_partition(rt, Policy::Complete, rows, Work::Counts { ranges })?;
-    run_partition(rt, Policy::Gradual, rows, Work::Sums { ranges })
+    let counts = Work::Loaded(Loaded::Counts { ranges });
+    run_partition(rt, Policy::Complete, rows, counts)?;
+    let sums = Work::Loaded(Loaded::Sums { ranges });
+    run_partition(rt, Policy::Gradual, rows, sums)
 }
 
 /// What the name of a partition's work and the numbers behind it ask for.
 fn work_of(name: &str, numbers: &[&str]) -> anyhow::Result<Work> {
     match (name, numbers) {
-        ("counts", [ranges]) => Ok(Work::Counts {
+        ("cold", [ranges]) => Ok(Work::Cold {
             ranges: ranges.parse()?,
         }),
-        ("sums", [ranges]) => Ok(Work::Sums {
+        ("pass", [ranges]) => Ok(Work::Pass {
             ranges: ranges.parse()?,
         }),
-        ("updates", [batches, size]) => Ok(Work::Updates {
+        _ => Ok(Work::Loaded(loaded_of(name, numbers)?)),
+    }
+}
+
+/// The same for work once everything was counted.
+fn loaded_of(name: &str, numbers: &[&str]) -> anyhow::Result<Loaded> {
+    match (name, numbers) {
+        ("counts", [ranges]) => Ok(Loaded::Counts {
+            ranges: ranges.parse()?,
+        }),
+        ("sums", [ranges]) => Ok(Loaded::Sums {
+            ranges: ranges.parse()?,
+        }),
+        ("each", [ranges]) => Ok(Loaded::Each {
+            ranges: ranges.parse()?,
+        }),
+        ("updates", [batches, size]) => Ok(Loaded::Updates {
             batches: batches.parse()?,
             size: size.parse()?,
         }),
-        ("merge", [pieces, pending]) => Ok(Work::Merge {
+        ("merge", [pieces, pending]) => Ok(Loaded::Merge {
             pieces: pieces.parse()?,
             pending: pending.parse()?,
         }),
-        _ => Err(anyhow::anyhow!("counts, sums, updates or merge")),
+        _ => Err(anyhow::anyhow!("counts, sums, each, cold, pass, updates or merge")),
     }
 }
 
@@ -239,7 +350,7 @@ fn run(rt: &HostRuntime, words: &[&str]) -> anyhow::Result<()> {
             run_partition(rt, policy_of(policy)?, rows.parse()?, work)
         }
         _ => Err(anyhow::anyhow!(
-            "arena, column or all, or counts, sums, updates or merge with a policy"
+            "arena, column or all, or counts, sums, each, cold, pass, updates or merge with a policy"
         )),
     }
 }

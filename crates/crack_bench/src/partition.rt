@@ -35,6 +35,14 @@ impl Table {
         })
     }
 
+    /// Inserts as many rows of random keys in the lower half.
+    pub fn load_half(&mut self, rows: u32, numbers: &mut Numbers) -> Result<(), Refusal> {
+        'rows: for row in 0..rows {
+            self.insert(numbers.word() >> 1, row)?;
+        }
+        Ok(())
+    }
+
     /// Inserts as many rows of random keys.
     pub fn load(&mut self, rows: u32, numbers: &mut Numbers) -> Result<(), Refusal> {
         'rows: for row in 0..rows {
@@ -62,6 +70,15 @@ impl Table {
         let mut sum = told;
         'ranges: for _ in 0..ranges {
             sum = mixed(sum, self.ask(Command::Sum(random_range(numbers)?))?);
+        }
+        Ok(sum)
+    }
+
+    /// The sums of as many random ranges in the upper half. A checksum of what they replied.
+    pub fn upper_sums(&mut self, ranges: u64, numbers: &mut Numbers) -> Result<u64, Refusal> {
+        let mut sum = 0;
+        'ranges: for _ in 0..ranges {
+            sum = mixed(sum, self.ask(Command::Sum(upper_range(numbers)?))?);
         }
         Ok(sum)
     }
@@ -127,4 +144,10 @@ pub fn serials(alloc: Global, rows: u32) -> Result<Vec<u64>, AllocError> {
 fn random_range(numbers: &mut Numbers) -> Result<KeyRange, Refusal> {
     let low = numbers.word() as u64 % (GREATEST_BOUND - WIDTH);
     KeyRange::new(low as u128, (low + WIDTH) as u128)
+}
+
+/// A range of half that width at a random place in the upper half.
+fn upper_range(numbers: &mut Numbers) -> Result<KeyRange, Refusal> {
+    let low = GREATEST_BOUND / 2 + numbers.word() as u64 % (GREATEST_BOUND - WIDTH) / 2;
+    KeyRange::new(low as u128, (low + WIDTH / 2) as u128)
 }

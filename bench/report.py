@@ -1,0 +1,270 @@
+"""Writes docs/BENCHMARKS.md with its plots: what queries, loading, workers and memory cost, and where others are ahead."""
+
+import dataclasses
+import statistics
+import subprocess
+import time
+
+from plots import bars, curves
+
+try:
+    import sqlite3
+except ImportError:
+    sqlite3 = None
+
+OURS = "crackd's partition"
+
+# it takes half a minute a run
+UNINDEXED = "SQLite without an index"
+
+# how wide a random range is, as in the programs
+RANGE = 42949672
+KEYS = 2**32
+
+
+class Numbers:
+    """The numbers that steer a run, as in the programs."""
+
+    def __init__(self, state):
+        self.state = state
+
+    def word(self):
+        self.state = (self.state * 6364136223846793005 + 1442695040888963407) % 2**64
+        return self.state >> 32
+
+    def low(self):
+        return self.word() % (KEYS - RANGE)
+
+
+def mixed(checksum, value):
+    return (checksum ^ value) * 1099511628211 % 2**64
+
+
+@dataclasses.dataclass
+class Contest:
+    """What two programs take for the same, in seconds."""
+
+    what: str
+    ours: float
+    other: str
+    theirs: float
+
+
+@dataclasses.dataclass
+class Measured:
+    """What stands in the report besides the queries: bytes a row by name, seconds by the way of loading, statements a second by the sharing, and
+    contests."""
+
+    rows: int
+    ranges: int
+    runs: int
+    memory: dict
+    loading: dict
+    workers: dict
+    contests: list
+
+
+class Series:
+    """The times of one run in nanoseconds: of its loading, of its first count of everything, and of each sum."""
+
+    def __init__(self, load, everything, sums, told):
+        self.load, self.everything, self.sums, self.told = load, everything, sums, told
+
+
+def program_series(words):
+    ran = subprocess.run(words, capture_output=True, text=True, check=True)
+    reported = [line.split() for line in ran.stderr.splitlines()]
+    times = {name: [int(number) for it, number in reported if it == name] for name in ("load", "everything", "sum")}
+    return Series(times["load"][0], times["everything"][0], times["sum"], ran.stdout)
+
+
+def sqlite_series(rows, ranges, is_indexed):
+    """The same by SQLite, in memory; with an index on the keys, which is made before the first count, or without one."""
+    numbers, database, told = Numbers(11), sqlite3.connect(":memory:"), 0
+    database.execute("create table rows (key integer, payload integer)")
+    given = [(numbers.word(), row) for row in range(rows)]
+    start = time.perf_counter_ns()
+    database.executemany("insert into rows values (?, ?)", given)
+    load = time.perf_counter_ns() - start
+    start = time.perf_counter_ns()
+    if is_indexed:
+        database.execute("create index by_key on rows (key, payload)")
+    [everything] = database.execute("select count(*) from rows where key >= 0 and key < ?", (KEYS,)).fetchone()
+    made = time.perf_counter_ns() - start
+    sums = []
+    for _ in range(ranges):
+        low = numbers.low()
+        start = time.perf_counter_ns()
+        [answer] = database.execute("select sum(payload) from rows where key >= ? and key < ?", (low, low + RANGE)).fetchone()
+        sums.append(time.perf_counter_ns() - start)
+        told = mixed(told, answer or 0)
+    return Series(load, made, sums, f"rows {everything}\neach {told}\n")
+
+
+def sqlite_lookups(rows, keys, runs):
+    """How long SQLite takes to count the rows of each key, in memory and by an index, in seconds, and the counts."""
+    database, times, counts = sqlite3.connect(":memory:"), [], []
+    database.execute("create table rows (key integer, payload integer)")
+    database.executemany("insert into rows values (?, ?)", rows)
+    database.execute("create index by_key on rows (key, payload)")
+    for _ in range(runs):
+        start = time.perf_counter()
+        counts = [database.execute("select count(*) from rows where key = ?", (key,)).fetchone()[0] for key in keys]
+        times.append(time.perf_counter() - start)
+    return statistics.median(times), counts
+
+
+def middle_series(measure, runs):
+    """The median of several runs, time by time."""
+    ran = [measure() for _ in range(runs)]
+    sums = [statistics.median(times) for times in zip(*(it.sums for it in ran))]
+    load, everything = (statistics.median(getattr(it, name) for it in ran) for name in ("load", "everything"))
+    return Series(load, everything, sums, ran[0].told)
+
+
+def table_of(series):
+    """The same as numbers, a line for each."""
+    lines = ["| What | loading | first count of everything | first sum | median of the last hundred | all sums |", "|---|---|---|---|---|---|"]
+    for name, it in series.items():
+        times = (it.load, it.everything, it.sums[0], statistics.median(it.sums[-100:]), sum(it.sums))
+        lines.append(f"| {name} | " + " | ".join(f"{time / 1e6:.4g} ms" for time in times) + " |")
+    return "\n".join(lines)
+
+
+def query_series(bench, peers, measured):
+    """The queries by each program. All must answer the same."""
+    words = [str(measured.rows), str(measured.ranges)]
+    programs = {
+        OURS: [bench, "each", "gradual"],
+        "the same in plain Rust": [peers, "each", "gradual"],
+        "a sorted array": [peers, "each", "sorted"],
+        "a BTreeMap": [peers, "each", "tree"],
+        "a scan": [peers, "each", "rows"],
+    }
+    measures = {name: lambda program=program: program_series([*program, *words]) for name, program in programs.items()}
+    if sqlite3:
+        measures["SQLite with an index"] = lambda: sqlite_series(measured.rows, measured.ranges, True)
+        measures[UNINDEXED] = lambda: sqlite_series(measured.rows, measured.ranges, False)
+    series = {name: middle_series(measure, 1 if name == UNINDEXED else measured.runs) for name, measure in measures.items()}
+    if len({it.told for it in series.values()}) > 1:
+        raise SystemExit("not all answer the same")
+    return series
+
+
+def query_contests(series):
+    """The partition's queries beside each other program's."""
+    marks = {
+        "loading, with a first count of everything": lambda it: it.load + it.everything,
+        "a first count of everything": lambda it: it.everything,
+        "the first sum of a range, behind that count": lambda it: it.sums[0],
+        "a sum of a range, median of the last hundred": lambda it: statistics.median(it.sums[-100:]),
+        "loading and all queries": lambda it: it.load + it.everything + sum(it.sums),
+    }
+    others = {name: it for name, it in series.items() if name != OURS}
+    return [Contest(what, mark(series[OURS]) / 1e9, name, mark(it) / 1e9) for what, mark in marks.items() for name, it in others.items()]
+
+
+def shown(seconds):
+    return f"{seconds * 1e3:.4g} ms" if seconds >= 1e-3 else f"{seconds * 1e6:.3g} µs"
+
+
+def contest_table(contests, advantage):
+    """A line for each contest, the clearest first. `advantage` says how far one of both is ahead."""
+    lines = ["| What | crackd | the other | which that is | times as fast |", "|---|---|---|---|---|"]
+    for it in sorted(contests, key=advantage, reverse=True):
+        lines.append(f"| {it.what} | {shown(it.ours)} | {shown(it.theirs)} | {it.other} | {advantage(it):,.2f} |")
+    return "\n".join(lines)
+
+
+def loading_table(measured):
+    lines = ["| By | time | rows a second |", "|---|---|---|"]
+    lines += [f"| {name} | {shown(seconds)} | {measured.rows / seconds:,.0f} |" for name, seconds in measured.loading.items()]
+    return "\n".join(lines)
+
+
+def worker_table(workers):
+    lines = ["| Workers | where | crackd, statements a second | gain | plain Rust | gain |", "|---|---|---|---|---|---|"]
+    for where, rates in workers.items():
+        _, alone, same_alone = rates[0]
+        lines += [f"| {count} | {where} | {it:,.0f} | {it / alone:.2f} | {same:,.0f} | {same / same_alone:.2f} |" for count, it, same in rates]
+    return "\n".join(lines)
+
+
+def write(folder, bench, peers, measured):
+    """Measures the queries, and writes the page and its plots."""
+    series = query_series(bench, peers, measured)
+    ways = {name: measured.rows / seconds / 1000 for name, seconds in measured.loading.items()}
+    rates = [(count, where, it) for where, rates in measured.workers.items() for count, it, _ in rates]
+    workers = {f"{count} {'worker' if count == 1 else 'workers'}, {where}": it / 1000 for count, where, it in rates}
+    plots = {
+        "queries": curves({name: it.sums for name, it in series.items()}),
+        "loading": bars({name: (it.load + it.everything) / 1e6 for name, it in series.items()}, "ms"),
+        "ways": bars(ways, "rows a millisecond"),
+        "workers": bars(workers, "statements a millisecond"),
+        "memory": bars(measured.memory, "bytes"),
+    }
+    folder.mkdir(exist_ok=True)
+    for name, plot in plots.items():
+        (folder / f"{name}.svg").write_text(plot)
+    (folder / "BENCHMARKS.md").write_text(page(series, measured))
+
+
+def page(series, measured):
+    contests = [*query_contests(series), *measured.contests]
+    return f"""# Benchmarks
+
+Written by `python3 bench/run.py --report`: {measured.rows} rows of random keys, a count of everything, and then {measured.ranges} sums, each of a
+hundredth of the keys at a random place. Medians of {measured.runs} runs; all of them answer the same.
+
+## Where crackd is behind
+
+Each line says how many times as fast the other is.
+
+{contest_table([it for it in contests if it.ours >= it.theirs], lambda it: it.ours / it.theirs)}
+
+A sorted array sorts, and SQLite makes its index, before the first count is answered; afterwards neither cracks anything. A scan looks at each row
+and puts nothing in order, as SQLite does without an index, of which one run was made. Of all these plain Rust of the same representation alone keeps a history,
+as `crackd` does. SQLite is asked through Python,
+which its times count; counts of one key are asked of `crackd script`, and count the reading of lines and the writing of replies.
+
+## Where it is ahead
+
+Each line says how many times as fast `crackd` is.
+
+{contest_table([it for it in contests if it.ours < it.theirs], lambda it: it.theirs / it.ours)}
+
+## A query falls
+
+![time of each query](queries.svg)
+
+{table_of(series)}
+
+## Loading, with the first count of everything
+
+![loading](loading.svg)
+
+## Loading by statements, by CSV and over TCP
+
+{measured.rows} rows, and all of them listed: by a `select`, and by `csv` as records. The client over TCP sends without waiting, and reads
+meanwhile.
+
+![rows a second](ways.svg)
+
+{loading_table(measured)}
+
+## Workers
+
+Half of their statements are sums of a hundredth of a partition's keys, a quarter deletes, and a quarter inserts. Where a gain is below 1, more
+workers answer fewer statements in the same time: those who share a partition wait for its lock.
+
+![statements a second](workers.svg)
+
+{worker_table(measured.workers)}
+
+## Memory a row
+
+A key and a payload are 8 bytes, and a sorted array of them needs no more. `crackd` also keeps the row's cell, its number, its place in the column
+or among the pending rows, and in the history the insert with its reply:
+
+![bytes a row](memory.svg)
+"""
