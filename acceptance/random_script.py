@@ -1,10 +1,11 @@
 #!/usr/bin/env python3
-"""Answers a thousand seeded random statements of all kinds by a list in Python, and compares: random_script.py PROGRAM [SEED]
+"""Answers seeded scripts of a thousand random statements of all kinds by lists in Python, and compares: random_script.py PROGRAM [SEED ..]
 
-What a statement is answered is written here from docs/SPECIFICATION.md alone: a list of rows, changed and filtered, and no more. A layout
-is compared by its equations, since no rule fixes more of it: the pieces' sizes add up to the column; column, pending insertions and free cells
-make up the cells; the rows are the column less the pending deletions and the pending insertions, and as many as the list has; the pieces join
-from one end of the keys to the other.
+What a statement is answered is written here from docs/SPECIFICATION.md alone: a list of rows for each partition, changed and filtered, and no
+more; all three policies answer alike. A seed says how many splits there are, how far keys go, and whether histories get full. Keys and ends
+of ranges are often splits, or beside one. A layout is compared by its equations, since no rule fixes more of it: the pieces' sizes add up to
+the column; column, pending insertions and free cells make up the cells; the rows are the column less the pending deletions and the pending
+insertions, and as many as the list has; the pieces join from one end of the partition's keys to the other.
 """
 
 import pathlib
@@ -15,69 +16,141 @@ import sys
 MOST = 4294967296
 STATEMENTS = 1000
 SECONDS = 20
-POLICIES = ["complete", "gradual"]
+POLICIES = ["complete", "gradual", "ripple"]
+SEEDS = range(1, 10)
+# by the seed: the greatest key; and how many splits, with how many entries histories have that get full, which those of the greatest keys do
+KEYS = [20, 1000, MOST - 1]
+SPLITS = [(0, 700), (4, 200), (15, 200)]
+MOST_ENTRIES = 1000000
 
 
-class Table:
-    """The rows by their serial."""
+class Refused(Exception):
+    """What a refused statement is answered."""
 
-    def __init__(self):
-        self.rows, self.next = {}, 0
+
+class Part:
+    """The rows of a partition by their serial."""
+
+    def __init__(self, number, low, high, limit):
+        self.number, self.low, self.high, self.limit = number, low, high, limit
+        self.rows, self.next, self.kept = {}, 0, 0
+
+    def keep(self):
+        """Counts a command that is answered."""
+        if self.kept == self.limit:
+            raise Refused(f"refused 6 {self.limit}")
+        self.kept += 1
 
     def insert(self, key, payload):
+        self.keep()
         self.rows[self.next] = (key, payload)
         self.next += 1
-        return [f"row 0.{self.next - 1}"]
+        return [f"row {self.number}.{self.next - 1}"]
 
     def delete(self, serial):
+        self.keep()
         row = self.rows.pop(serial, None)
         return [f"gone {row[0]} {row[1]}" if row else "none"]
 
     def update(self, serial, key, payload):
+        if not self.low <= key < self.high:
+            raise Refused("refused 4")
+        self.keep()
         if serial not in self.rows:
             return ["none"]
         self.rows[serial] = (key, payload)
         return ["changed"]
 
     def between(self, low, high):
-        return {serial: row for serial, row in sorted(self.rows.items()) if low <= row[0] < high}
+        """The rows of a range, each with its number."""
+        self.keep()
+        return [(f"{self.number}.{serial}", *row) for serial, row in sorted(self.rows.items()) if low <= row[0] < high]
 
-    def count(self, low, high):
-        return [f"count {len(self.between(low, high))}"]
 
-    def sum(self, low, high):
-        return [f"sum {sum(payload for _, payload in self.between(low, high).values())}"]
+class Table:
+    """The partitions between splits."""
 
-    def select(self, low, high):
-        rows = self.between(low, high)
-        return [f"rows {len(rows)}"] + [f"0.{serial} {key} {payload}" for serial, (key, payload) in rows.items()]
+    def __init__(self, splits, limit):
+        ends = [0, *splits, MOST]
+        self.splits = splits
+        self.parts = [Part(number, low, high, limit) for number, (low, high) in enumerate(zip(ends, ends[1:]))]
+
+    def part(self, number):
+        if number >= len(self.parts):
+            raise Refused("refused 5")
+        return self.parts[number]
+
+    def part_of(self, key):
+        """The partition of a key; of the bound above all keys the last one."""
+        return [part for part in self.parts if part.low <= key][-1]
+
+    def between(self, low, high):
+        """The rows of a range, partition by partition; an empty range asks that of its low end."""
+        if low > high:
+            raise Refused("refused 2")
+        asked = [part for part in self.parts if part.low < high and low < part.high] if low < high else [self.part_of(low)]
+        return [row for part in asked for row in part.between(low, high)]
+
+    def answer(self, kind, numbers):
+        """The lines of the answer to a command."""
+        try:
+            match kind:
+                case "insert":
+                    return self.part_of(numbers[0]).insert(*numbers)
+                case "delete" | "update":
+                    return getattr(self.part(numbers[0]), kind)(*numbers[1:])
+                case _:
+                    return told(kind, self.between(*numbers))
+        except Refused as refused:
+            return [str(refused)]
+
+
+def told(kind, rows):
+    """What a count, a sum or a select tells of these rows."""
+    match kind:
+        case "count":
+            return [f"count {len(rows)}"]
+        case "sum":
+            return [f"sum {sum(payload for _, _, payload in rows)}"]
+        case _:
+            return [f"rows {len(rows)}"] + [f"{number} {key} {payload}" for number, key, payload in rows]
+
+
+def random_bound(numbers, table, most):
+    """A number up to one above `most`, often a split or beside one."""
+    if table.splits and numbers.random() < 0.4:
+        return numbers.choice(table.splits) + numbers.choice([-1, 0, 1])
+    return numbers.randrange(most + 2)
 
 
 def random_statement(numbers, table, most):
-    """A statement, and the lines of its answer; None in their place for a layout. Keys are at most `most`."""
-    key, payload = numbers.randrange(most + 1), numbers.randrange(MOST)
-    serial = numbers.randrange(table.next + 2)
-    low, high = sorted((numbers.randrange(most + 2), numbers.choice([numbers.randrange(most + 2), MOST])))
+    """A statement, and the lines of its answer; for a layout the partition that it is of. Keys are at most `most`."""
+    key, payload = min(random_bound(numbers, table, most), most), numbers.randrange(MOST)
+    part = numbers.choice(table.parts)
+    serial = numbers.randrange(part.next + 2)
+    low, high = sorted((random_bound(numbers, table, most), numbers.choice([random_bound(numbers, table, most), MOST])))
     kind = numbers.choices(
         ["insert", "delete", "update", "count", "sum", "select", "layout", "policy", "other part", "bad range", "bad line"],
         [300, 120, 120, 120, 90, 60, 80, 20, 10, 10, 10],
     )[0]
+    other = len(table.parts) + numbers.randrange(3)
     match kind:
         case "insert":
-            return f"insert {key} {payload}", table.insert(key, payload)
+            return f"insert {key} {payload}", table.answer(kind, [key, payload])
         case "delete":
-            return f"delete 0.{serial}", table.delete(serial)
+            return f"delete {part.number}.{serial}", table.answer(kind, [part.number, serial])
         case "update":
-            return f"update 0.{serial} {key} {payload}", table.update(serial, key, payload)
+            near = min(max(key, part.low), part.high - 1) if numbers.random() < 0.7 else key
+            return f"update {part.number}.{serial} {near} {payload}", table.answer(kind, [part.number, serial, near, payload])
         case "count" | "sum" | "select":
-            return f"{kind} {low} {high}", getattr(table, kind)(low, high)
+            return f"{kind} {low} {high}", table.answer(kind, [low, high])
         case "layout":
-            return "layout 0", None
+            return f"layout {part.number}", part
         case "policy":
             name = numbers.choice(POLICIES)
             return f"policy {name}", [f"policy {name}"]
         case "other part":
-            return numbers.choice([f"delete 1.{serial}", f"update 7.{serial} {key} {payload}", "layout 1"]), ["refused 5"]
+            return numbers.choice([f"delete {other}.{serial}", f"update {other}.{serial} {key} {payload}", f"layout {other}"]), ["refused 5"]
         case "bad range":
             return f"{numbers.choice(['count', 'sum', 'select'])} {high + 1} {high}", ["refused 2"]
         case _:
@@ -92,44 +165,48 @@ def numbers_of(line, names):
     return [int(word) for word in words[1::2]]
 
 
-def misfit_of_layout(lines, rows):
-    """What is wrong with the layout at the front of the lines of a table of so many rows, and how many lines it has."""
+def misfit_of_layout(lines, part, rows):
+    """What is wrong with the layout at the front of the lines of a partition that has so many rows, and how many lines it has."""
     names = ["layout", "rows", "column", "out", "in", "cells", "free", "pieces"]
     head = numbers_of(lines[0], names) if lines else None
     if head is None:
         return "no head line", 1
-    part, told, column, out, pending, cells, free, pieces = head
-    low, sizes = 0, 0
+    number, told_rows, column, out, pending, cells, free, pieces = head
+    low, sizes = part.low, 0
     for line in lines[1 : pieces + 1]:
         words = line.split(" ")
         if len(words) != 4 or words[0] != "piece" or int(words[1]) != low or int(words[2]) < low:
             return f"the pieces don't join at {line!r}", pieces + 1
         low, sizes = int(words[2]), sizes + int(words[3])
-    if len(lines) <= pieces or low != MOST:
+    if len(lines) <= pieces or low != part.high:
         return f"the pieces end at {low}", pieces + 1
-    right = part == 0 and sizes == column and column + pending + free == cells and told == column - out + pending == rows
+    right = number == part.number and sizes == column and column + pending + free == cells and told_rows == column - out + pending == rows
     return None if right else f"equations: {lines[0]!r}, sizes {sizes}, rows {rows}", pieces + 1
 
 
 def script(seed):
-    """The statements, and for each the lines of its answer, or how many rows a layout is to tell."""
-    numbers, table, pairs = random.Random(seed), Table(), []
-    most = [20, 1000, MOST - 1][seed % 3]
+    """The words of the command line, the statements, and for each the lines of its answer, or a partition and how many rows its layout is to tell."""
+    numbers, pairs = random.Random(seed), []
+    most, (count, small) = KEYS[seed % 3], SPLITS[seed // 3 % 3]
+    limit = small if most == KEYS[-1] else MOST_ENTRIES
+    splits = sorted(numbers.sample(range(1, min(most, MOST - 2) + 1), count))
+    table, policy = Table(splits, limit), numbers.choice(POLICIES)
     while len(pairs) < STATEMENTS - 1:
         statement, answer = random_statement(numbers, table, most)
-        pairs.append((statement, len(table.rows) if answer is None else answer))
-    return [*pairs, ("quit", ["bye"])]
+        pairs.append((statement, (answer, len(answer.rows)) if isinstance(answer, Part) else answer))
+    words = ["script", *map(str, splits[:2]), "--limit", str(limit), "--policy", policy, *map(str, splits[2:])]
+    return words, [*pairs, ("quit", ["bye"])]
 
 
 def fault(program, seed):
     """What is wrong with the program's answers to the script of a seed; None where they are right."""
-    pairs = script(seed)
+    words, pairs = script(seed)
     given = "".join(f"{statement}\n" for statement, _ in pairs)
-    ran = subprocess.run([program, "script"], input=given, stdout=subprocess.PIPE, text=True, timeout=SECONDS, check=False)
+    ran = subprocess.run([program, *words], input=given, stdout=subprocess.PIPE, text=True, timeout=SECONDS, check=False)
     lines = ran.stdout.splitlines()
     for number, (statement, answer) in enumerate(pairs, 1):
-        if isinstance(answer, int):
-            wrong, taken = misfit_of_layout(lines, answer)
+        if isinstance(answer, tuple):
+            wrong, taken = misfit_of_layout(lines, *answer)
         else:
             taken = len(answer)
             wrong = None if lines[:taken] == answer else f"wanted {answer!r}, got {lines[:taken]!r}"
@@ -139,7 +216,7 @@ def fault(program, seed):
     return f"seed {seed}: status {ran.returncode}, {len(lines)} lines too many" if ran.returncode or lines else None
 
 
-def run(program, seeds=(1, 2, 3)):
+def run(program, seeds=SEEDS):
     """Runs the script of each seed. How many passed, and how many failed."""
     found = [it for it in (fault(str(pathlib.Path(program).resolve()), seed) for seed in seeds) if it]
     for it in found:
@@ -149,6 +226,6 @@ def run(program, seeds=(1, 2, 3)):
 
 
 if __name__ == "__main__":
-    if not 2 <= len(sys.argv) <= 3:
+    if len(sys.argv) < 2:
         sys.exit(__doc__)
-    sys.exit(1 if run(sys.argv[1], [int(it) for it in sys.argv[2:]] or (1, 2, 3))[1] else 0)
+    sys.exit(1 if run(sys.argv[1], [int(it) for it in sys.argv[2:]] or SEEDS)[1] else 0)

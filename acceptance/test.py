@@ -1,5 +1,6 @@
 #!/usr/bin/env python3
-"""Runs the gate, and then the acceptance cases and the random scripts on the program that the gate built.
+"""Runs the gate, and then the acceptance cases, the random scripts and the cases of many clients on the program that
+the gate built, and the examples.
 
 The gate, `rt ci`, proves every crate from nothing, tries the must-fail edits, runs the tests, and runs each program. What it writes is
 passed on as it comes. Before the last line stands the processor time of each crate, for its proof, its tests and its edits, as far as that
@@ -11,9 +12,11 @@ import re
 import subprocess
 import sys
 
+import examples
 import processor
 import random_script
 import run
+import server
 
 TOP = pathlib.Path(__file__).resolve().parent.parent
 PROGRAM = TOP / "crates" / "crackd" / "out" / "crackd"
@@ -45,7 +48,7 @@ def gate():
 def main():
     passed, failed, times = gate()
     if PROGRAM.exists():
-        more = [run.run_all(PROGRAM), random_script.run(PROGRAM)]
+        more = [run.run_all(PROGRAM), random_script.run(PROGRAM), server.run(PROGRAM), examples.run(PROGRAM)]
         more_passed, more_failed = (sum(it) for it in zip(*more))
     else:
         print("acceptance: the gate left no program, so no case was run")

@@ -1,0 +1,280 @@
+#!/usr/bin/env python3
+"""Runs the program with many clients, and on a large batch: server.py PROGRAM
+
+What is sent and what must come is written here from docs/SPECIFICATION.md. Each server is started on a free port of 127.0.0.1, and must end by
+itself, with its totals, once its sessions are served. Prints a line for each case that fails, and last 'server: N passed, M failed'.
+"""
+
+import contextlib
+import pathlib
+import resource
+import socket
+import subprocess
+import sys
+import threading
+
+SECONDS = 60
+MOST = 4294967296
+PIPELINED = 200_000
+LISTED_ROWS, LISTINGS = 20_000, 10
+TRIES = 5
+# threads need more than this: each has a stack of its own
+FEW_BYTES = 64 * 2**20
+MOST_WORKERS = 64
+
+
+class Wrong(Exception):
+    """What came in place of what was wanted."""
+
+
+def expect(what, wanted, got):
+    if wanted != got:
+        raise Wrong(f"{what}: wanted {str(wanted)[:200]!r}, got {str(got)[:200]!r}")
+
+
+def free_port():
+    with socket.socket() as it:
+        it.bind(("127.0.0.1", 0))
+        return it.getsockname()[1]
+
+
+def started(program, workers, sessions, *words):
+    """A server that listens, and its port. Where another program took the port in the meantime, it is tried again."""
+    for _ in range(TRIES):
+        port = free_port()
+        server = subprocess.Popen(
+            [program, "serve", "--port", str(port), "--workers", str(workers), "--sessions", str(sessions), *words],
+            stdin=subprocess.DEVNULL,
+            stdout=subprocess.PIPE,
+            stderr=subprocess.PIPE,
+            text=True,
+        )
+        line = server.stdout.readline()
+        if line == f"listening {port}\n":
+            return server, port
+        complaint = server.communicate(timeout=SECONDS)[1]
+        if complaint != "crackd: refused 17\n":
+            raise Wrong(f"the server said {line!r} and {complaint!r}")
+    raise Wrong("no port was free")
+
+
+@contextlib.contextmanager
+def serving(program, totals, workers, sessions, *words):
+    """A server's port. Once the clients have ended, the server must end by itself, with these totals."""
+    server, port = started(program, workers, sessions, *words)
+    try:
+        yield port
+        wrote, complained = server.communicate(timeout=SECONDS)
+        expect("standard error", "", complained)
+        expect("totals", "accepted {} inserted {} deleted {} held {}\n".format(*totals), wrote)
+        expect("status", 0, server.returncode)
+    except subprocess.TimeoutExpired as error:
+        raise Wrong("the server didn't end") from error
+    finally:
+        server.kill()
+        server.communicate()
+
+
+class Client:
+    """A connection that sends lines and reads lines."""
+
+    def __init__(self, port):
+        self.socket = socket.create_connection(("127.0.0.1", port), SECONDS)
+        self.lines = self.socket.makefile("r", encoding="ascii")
+
+    def __enter__(self):
+        return self
+
+    def __exit__(self, *_):
+        self.lines.close()
+        self.socket.close()
+
+    def send(self, text):
+        self.socket.sendall(text.encode())
+
+    def ask(self, statement, *wanted):
+        """Sends one statement, and waits for its reply."""
+        self.send(statement + "\n")
+        for line in wanted:
+            expect(statement, line + "\n", self.lines.readline())
+
+    def end(self):
+        self.ask("quit", "bye")
+        expect("after quit", "", self.lines.readline())
+
+
+def two_at_once(program):
+    """Two clients are served in turn, statement by statement, over one table."""
+    with serving(program, (5, 2, 1, 1), 2, 2, "100") as port, Client(port) as one, Client(port) as two:
+        one.ask("insert 50 5", "row 0.0")
+        two.ask("insert 150 6", "row 1.0")
+        one.ask("delete 1.0", "gone 150 6")
+        two.ask("count 0 100", "count 1")
+        one.ask("select 0 99", "rows 1", "0.0 50 5")
+        two.end()
+        one.end()
+
+
+def one_breaks_off(program):
+    """Clients that break off in a line, say nothing, or go without their replies leave the others their rows and the server its sessions."""
+    with serving(program, (3, 2, 0, 2), 1, 4) as port:
+        with Client(port) as it:
+            it.ask("insert 1 10", "row 0.0")
+            it.send("insert 2")
+            it.socket.shutdown(socket.SHUT_WR)
+            expect("half a line", "refused 1\n", it.lines.readline())
+        with Client(port):
+            pass
+        with Client(port) as it:
+            # (none of these lines is kept, however many of them are read)
+            it.send("nonsense\n" * 1000)
+            it.socket.setsockopt(socket.SOL_SOCKET, socket.SO_LINGER, b"\1\0\0\0\0\0\0\0")
+        with Client(port) as it:
+            it.ask("insert 3 30", "row 0.1")
+            it.ask(f"count 0 {MOST}", "count 2")
+            it.end()
+
+
+def one_is_silent(program):
+    """A client that sends nothing holds its own worker alone."""
+    with serving(program, (21, 10, 0, 10), 2, 12) as port, Client(port) as silent:
+        for number in range(10):
+            with Client(port) as it:
+                it.ask(f"insert {number} 0", f"row 0.{number}")
+                it.ask(f"count 0 {MOST}", f"count {number + 1}")
+                it.end()
+        with Client(port) as it:
+            it.send("\n")
+            it.end()
+        silent.ask(f"count 0 {MOST}", "count 10")
+        silent.end()
+
+
+def one_reads_no_reply(program):
+    """A client that sends until nothing more is taken, and reads no reply, holds its own worker alone."""
+    with serving(program, (2, 1, 0, 1), 2, 2) as port:
+        with Client(port) as stuck:
+            stuck.socket.settimeout(1)
+            with contextlib.suppress(TimeoutError):
+                while True:
+                    # (none of these lines is kept, however many of them are read)
+                    stuck.send("nonsense\n" * 10000)
+            with Client(port) as it:
+                it.ask("insert 1 10", "row 0.0")
+                it.ask(f"count 0 {MOST}", "count 1")
+                it.end()
+
+
+def one_pipelines(program):
+    """A client that sends many statements before it has read a reply, and reads while it writes, gets each reply in order."""
+    with serving(program, (PIPELINED, PIPELINED, 0, PIPELINED), 1, 1) as port, Client(port) as it:
+        text = "".join(f"insert {number} {number}\n" for number in range(PIPELINED)) + "quit\n"
+        writer = threading.Thread(target=it.send, args=[text])
+        writer.start()
+        got = it.lines.read()
+        writer.join()
+        expect("replies", "".join(f"row 0.{number}\n" for number in range(PIPELINED)) + "bye\n", got)
+
+
+def batch(program, workers, text, limit=None):
+    """The status of a batch, and what it writes, also to standard error."""
+    ran = subprocess.run(
+        [program, "batch", "--workers", str(workers)],
+        input=text,
+        capture_output=True,
+        text=True,
+        timeout=SECONDS,
+        check=False,
+        preexec_fn=limit,
+    )
+    return ran.returncode, ran.stdout, ran.stderr
+
+
+def a_large_batch(program):
+    """A worker's output of megabytes comes whole, behind those of a worker that quits early and before that of one without lines."""
+    keys = range(LISTED_ROWS)
+    listing = f"select 0 {LISTED_ROWS}"
+    text = "0 quit\n" + "".join(f"1 insert {key} 7\n0 insert {key} 8\n" for key in keys) + f"1 {listing}\n" * LISTINGS
+    rows = f"rows {LISTED_ROWS}\n" + "".join(f"0.{key} {key} 7\n" for key in keys)
+    wanted = "worker 0\nbye\nworker 1\n" + "".join(f"row 0.{key}\n" for key in keys) + rows * LISTINGS + "worker 2\n"
+    wanted += f"accepted {LISTED_ROWS + LISTINGS} inserted {LISTED_ROWS} deleted 0 held {LISTED_ROWS}\n"
+    expect("batch", (0, wanted, ""), batch(program, 3, text))
+
+
+def an_input_past_its_bound(program):
+    """An input of one byte more than a batch may have is refused, before a line of it is judged."""
+    line = "x" * 1023 + "\n"
+    text = line * (67108864 // len(line))
+    expect("one byte more", (1, "", "crackd: refused 17\n"), batch(program, 1, text + "x"))
+    expect("the most bytes", (1, "", "crackd: refused 1\n"), batch(program, 1, text))
+
+
+def a_thread_that_cannot_be_started(program):
+    """Where there is no memory for the threads' stacks, a batch and a server are refused 8, and end."""
+
+    def few_bytes():
+        resource.setrlimit(resource.RLIMIT_AS, (FEW_BYTES, FEW_BYTES))
+
+    expect("batch", (1, "", "crackd: refused 8\n"), batch(program, MOST_WORKERS, "0 count 0 1\n", few_bytes))
+    alone = "worker 0\ncount 0\naccepted 1 inserted 0 deleted 0 held 0\n"
+    expect("a batch of one worker", (0, alone, ""), batch(program, 1, "0 count 0 1\n", few_bytes))
+    port = free_port()
+    ran = subprocess.run(
+        [program, "serve", "--port", str(port), "--workers", str(MOST_WORKERS), "--sessions", "1"],
+        stdin=subprocess.DEVNULL,
+        capture_output=True,
+        text=True,
+        timeout=SECONDS,
+        check=False,
+        preexec_fn=few_bytes,
+    )
+    expect("server", (1, f"listening {port}\n", "crackd: refused 8\n"), (ran.returncode, ran.stdout, ran.stderr))
+
+
+def a_port_that_is_taken(program):
+    """A port that another program listens on is refused 17."""
+    with socket.socket() as taken:
+        taken.bind(("127.0.0.1", 0))
+        taken.listen()
+        ran = subprocess.run(
+            [program, "serve", "--port", str(taken.getsockname()[1]), "--workers", "1", "--sessions", "1"],
+            stdin=subprocess.DEVNULL,
+            capture_output=True,
+            text=True,
+            timeout=SECONDS,
+            check=False,
+        )
+    expect("a port that is taken", (1, "", "crackd: refused 17\n"), (ran.returncode, ran.stdout, ran.stderr))
+
+
+CASES = [
+    two_at_once,
+    one_breaks_off,
+    one_is_silent,
+    one_reads_no_reply,
+    one_pipelines,
+    a_large_batch,
+    an_input_past_its_bound,
+    a_thread_that_cannot_be_started,
+    a_port_that_is_taken,
+]
+
+
+def run(program):
+    """Runs all cases. How many passed, and how many failed."""
+    program = str(pathlib.Path(program).resolve())
+    failed = 0
+    for case in CASES:
+        try:
+            case(program)
+        except (Wrong, OSError, subprocess.TimeoutExpired) as error:
+            failed += 1
+            print(f"server: {case.__name__} FAILED\n    {error}")
+    print(f"server: {len(CASES) - failed} passed, {failed} failed", flush=True)
+    return len(CASES) - failed, failed
+
+
+if __name__ == "__main__":
+    if len(sys.argv) != 2:
+        sys.exit(__doc__)
+    sys.exit(1 if run(sys.argv[1])[1] else 0)
