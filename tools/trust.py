@@ -11,7 +11,7 @@ import re
 import sys
 
 TOP = pathlib.Path(__file__).resolve().parent.parent
-LEFT_OUT = {"crack_tests", "crack_session_tests", "crack_bench"}
+LEFT_OUT = {"crack_tests", "crack_session_tests", "crack_bench", "crack_bench_workers"}
 ITEM = re.compile(r"^(\s*)(pub(?:\([a-z]+\))? )?(?:const )?fn (\w+)")
 BLOCK = re.compile(r"^(?:pub )?(?:trait (?P<trait>\w+)|impl(?:<.*?>)? (?:(?P<of>[\w:<>, ]+?) for )?(?P<type>\w+))")
 CLAUSE = re.compile(r"^\s*(requires|ensures|ghost)\b")
