@@ -70,14 +70,8 @@ impl Column {
         }
     }
 
-    fn put(&mut self, place: usize, held: Held) {
-        let here = &mut self.places[place];
-        self.generations[here.ticket as usize] = held.handle.generation;
-        (here.key, here.payload, here.slot) = (held.key, held.payload, held.handle.slot);
-        self.unread += (held.key == UNKNOWN) as usize;
-    }
-
-    pub fn append(&mut self, held: Held) {
+    /// Puts a row aside, behind the last place.
+    pub fn set_aside(&mut self, held: Held) {
         if self.len == self.places.len() {
             let ticket = self.places.len() as u32;
             self.generations.push(0);
@@ -88,19 +82,56 @@ impl Column {
                 slot: 0,
             });
         }
-        self.len += 1;
-        self.put(self.len - 1, held);
+        let here = &mut self.places[self.len];
+        self.generations[here.ticket as usize] = held.handle.generation;
+        (here.key, here.payload, here.slot) = (held.key, held.payload, held.handle.slot);
     }
 
+    pub fn append_aside(&mut self) {
+        self.unread += (self.places[self.len].key == UNKNOWN) as usize;
+        self.len += 1;
+    }
+
+    pub fn pop_aside(&mut self) {
+        self.len -= 1;
+        self.unread -= (self.places[self.len].key == UNKNOWN) as usize;
+    }
+
+    /// The row aside and the one at the place change places, with their tickets.
+    pub fn exchange(&mut self, place: usize) {
+        let (aside, there) = (self.places[self.len], self.places[place]);
+        self.places[place] = aside;
+        self.places[self.len] = there;
+        self.unread += (aside.key == UNKNOWN) as usize;
+        self.unread -= (there.key == UNKNOWN) as usize;
+    }
+
+    pub fn aside(&self) -> Held {
+        self.held(self.len)
+    }
+
+    pub fn aside_slot(&self) -> u32 {
+        self.places[self.len].slot
+    }
+
+    pub fn aside_key(&self) -> u32 {
+        self.places[self.len].key
+    }
+
+    pub fn append(&mut self, held: Held) {
+        self.set_aside(held);
+        self.append_aside();
+    }
+
+    /// Puts a row at the place, its generation under the ticket there, and takes the one that stood there out.
     pub fn swap_in(&mut self, place: usize, held: Held) -> Held {
         let there = self.held(place);
-        self.put(place, held);
+        let here = &mut self.places[place];
+        self.generations[here.ticket as usize] = held.handle.generation;
+        (here.key, here.payload, here.slot) = (held.key, held.payload, held.handle.slot);
+        self.unread += (held.key == UNKNOWN) as usize;
+        self.unread -= (there.key == UNKNOWN) as usize;
         there
-    }
-
-    pub fn pop(&mut self) -> Held {
-        self.len -= 1;
-        self.held(self.len)
     }
 
     pub fn crack_two(&mut self, from: usize, to: usize, bound: u64, arena: &Arena<Row>) -> usize {

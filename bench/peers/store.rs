@@ -140,19 +140,16 @@ impl Store {
         self.pending_out.close_up();
     }
 
-    fn bury_if_doomed(&mut self, hand: Handle) -> bool {
-        let is_doomed = self.pending_out.contains(hand.slot);
-        if is_doomed {
-            self.pending_out.strike(hand.slot);
-            self.arena.free(hand);
-        }
-        is_doomed
+    fn bury(&mut self, hand: Handle) {
+        self.pending_out.strike(hand.slot);
+        self.arena.free(hand);
     }
 
     /// Puts the hand at the end of its piece, and the row that stood there on, until one is put at the column's end, is doomed, or has a key at or
     /// above the limit: that one is put back among the pending insertions.
     fn carry(&mut self, hand: Handle, limit: u64) {
-        let mut held = self.held(hand);
+        let held = self.held(hand);
+        self.column.set_aside(held);
         let mut mark = self.index.up_to(u64::from(held.key));
         while mark < self.index.marks.len() {
             let place = self.index.marks[mark].position;
@@ -160,15 +157,16 @@ impl Store {
             if place == self.column.len() {
                 break;
             }
-            held = self.column.swap_in(place, held);
-            if self.bury_if_doomed(held.handle) {
-                return;
+            self.column.exchange(place);
+            if self.pending_out.contains(self.column.aside_slot()) {
+                return self.bury(self.column.aside().handle);
             }
-            if limit <= u64::from(held.key) {
-                return self.pending_in.push(held.handle, held.key);
+            if limit <= u64::from(self.column.aside_key()) {
+                let out = self.column.aside();
+                return self.pending_in.push(out.handle, out.key);
             }
         }
-        self.column.append(held);
+        self.column.append_aside();
     }
 
     fn carry_anew(&mut self, hand: Handle) {
@@ -185,8 +183,8 @@ impl Store {
                 return self.column.append(held);
             }
             hand = self.column.swap_in(to, held).handle;
-            if self.bury_if_doomed(hand) {
-                return;
+            if self.pending_out.contains(hand.slot) {
+                return self.bury(hand);
             }
         }
     }
@@ -210,24 +208,25 @@ impl Store {
     fn pull(&mut self, doomed: Handle, key: u32) {
         let place = self.place_of(doomed.slot, key);
         let len = self.column.len();
-        let mut held = self.column.pop();
+        self.column.pop_aside();
         while self.index.marks.last().is_some_and(|mark| mark.position == len) {
             let to = self.index.marks.partition_point(|mark| mark.position < len);
             for mark in &mut self.index.marks[to..] {
                 mark.position -= 1;
             }
         }
-        let mut mark = self.index.up_to(u64::from(held.key));
-        while held.handle.slot != doomed.slot {
+        let mut mark = self.index.up_to(u64::from(self.column.aside_key()));
+        while self.column.aside_slot() != doomed.slot {
             let from = mark.checked_sub(1).map_or(0, |it| self.index.marks[it].position);
             let to = if from <= place { place } else { from - 1 };
             if from > place {
                 mark = self.index.lower(mark);
             }
-            if self.pending_out.contains(held.handle.slot) {
-                self.notes[held.handle.slot as usize] = to as u32;
+            let slot = self.column.aside_slot();
+            if self.pending_out.contains(slot) {
+                self.notes[slot as usize] = to as u32;
             }
-            held = self.column.swap_in(to, held);
+            self.column.exchange(to);
         }
     }
 

@@ -1,9 +1,8 @@
 -- Laws of what a column remembers of its rows.
-use Rattle.std.proofs.Common.{◌≡◌, ℕ, ◌≤◌, List, [], ◌∷◌, ◌++◌, length, set, take, slice_get, Some, sym, ◌∙◌, refl, inl, inr, arith, length-append, length-set}
+use Rattle.std.proofs.Common.{◌≡◌, ℕ, ◌≤◌, List, [], ◌∷◌, ◌++◌, length, set, take, sym, ◌∙◌, inl, inr, arith, length-append, length-set}
 use Rattle.std.proofs.lemmas.List.{get_or_append_left, get_or_push, get_or-set_same, get_or-set_other, get_or-take, length-take-le}
-use Rattle.std.proofs.lemmas.Option.{slice_get_within, get_or_from_slice_get}
 use Rattle.std.proofs.lemmas.Bool.{cases_eq}
-use Rattle.crack_arena.specs.Arena.{Cell, Handle, no_handle}
+use Rattle.crack_arena.specs.Arena.{Cell, Handle}
 use Rattle.crack_row.specs.declared.Row.{Row}
 use Rattle.crack_column.specs.Column.{Memory, nothing, Agrees, Remembers}
 
@@ -39,16 +38,3 @@ Remembers-take cells handles remembered n within r =
       beside = omega (arith, long, length-take-le n remembered (omega (arith, r.beside)));
       right = λ k d inside. rw (get_or-take n handles k d (omega (arith, long)), get_or-take n remembered k nothing (omega (arith, long))) (r.right k d (omega (arith, long)));
     }
-
--- For what a swap or a pop gives back
-
--- what is remembered at a place is right of the handle there
-pub Agrees-at : (cells : List (Cell Row)) (handles : List Handle) (remembered : List Memory) (place : ℕ) (h : Handle) (m : Memory) → slice_get handles place ≡ Some h → slice_get remembered place ≡ Some m → Remembers cells handles remembered → Agrees cells h m
-Agrees-at cells handles remembered place h m here known r =
-    rw (get_or_from_slice_get handles place h no_handle here, get_or_from_slice_get remembered place m nothing known) at (r.right place no_handle (slice_get_within handles place h here))
-
--- and at the last
-pub Agrees-last : (cells : List (Cell Row)) (handles : List Handle) (remembered : List Memory) (h : Handle) (m : Memory) → Remembers cells (handles ++ h ∷ []) (remembered ++ m ∷ []) → Agrees cells h m
-Agrees-last cells handles remembered h m r =
-    let same : length remembered ≡ length handles = omega (arith, r.beside, length-append handles (h ∷ []), length-append remembered (m ∷ [])) in
-    rw (get_or_push handles h no_handle (length handles) refl, get_or_push remembered m nothing (length handles) same) at (r.right (length handles) no_handle (omega (arith, length-append handles (h ∷ []))))

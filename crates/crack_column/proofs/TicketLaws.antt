@@ -1,23 +1,24 @@
 -- What a column's handles are and what it remembers, place by place, after a row was put at a place or a stretch was turned.
-use Rattle.std.proofs.Common.{◌≡◌, ◌≢◌, ℕ, zero, suc, ◌+◌, ◌-◌, ◌<◌, ◌≤◌, ◌^◌, List, [], ◌∷◌, ◌++◌, length, map, get_or, set, take, drop, slice_get, Some, refl, sym, ap, ◌∙◌, inl, inr, arith, length-append, length-set}
+use Rattle.std.proofs.Common.{◌≡◌, ◌≢◌, ℕ, suc, ◌+◌, ◌-◌, ◌<◌, ◌≤◌, ◌^◌, List, [], ◌∷◌, ◌++◌, length, map, get_or, set, take, drop, slice_get, Some, refl, sym, ap, ◌∙◌, inl, inr, arith, length-append, length-set}
 use Rattle.std.specs.Prelude.{remove, sum_by}
 use Rattle.std.specs.List.{All, between}
 use Rattle.std.specs.List.Sorted.{IsPermutation}
-use Rattle.std.proofs.lemmas.List.{ext_get_or, append_assoc, take-append-drop, drop-drop, take-map, take_all, take_more, take_more_set, map-set, length-map, get_or-map, get_or-take, length-take-le, get_or-set_same, get_or-set_other, get_or_append_left, get_or_push, map-append, get_or_default}
+use Rattle.std.proofs.lemmas.List.{ext_get_or, append_assoc, take-append-drop, drop-drop, take_more, map-set, take-set-le, take-append-le, drop-drop, drop-map, drop_more, drop-set, drop-set-lt, length-drop, get_or-drop, length-map, get_or-map, get_or-take, length-take-le, get_or-set_same, get_or-set_other, get_or_append_left, get_or_push, map-append, get_or_default}
+use Rattle.std.proofs.lemmas.List.Elements.{All-set}
 use Rattle.std.proofs.lemmas.List.Edits.{length-between, get_or-between, get_or-remove_below, get_or-remove_above, length-remove}
 use Rattle.std.proofs.lemmas.List.Sorted.{All-permutation, IsPermutation-map, IsPermutation-append_right, IsPermutation-append_left, length_permutation}
 use Rattle.std.proofs.lemmas.List.Sums.{sum_by-cons}
 use Rattle.std.proofs.lemmas.Option.{slice_get-get_or}
-use Rattle.std.proofs.Math.Seq.{take-set-lt}
+use Rattle.std.proofs.Math.Seq.{take-set-lt, drop-append_seam, drop-length}
 use Rattle.std.proofs.lemmas.Bool.{cases_eq, cases_lt}
 use Rattle.crack_arena.specs.Arena.{Cell, Handle, times, no_handle}
 use Rattle.crack_arena.proofs.Times.{times-map-remove, times_map_at, times_head, times-nil, times-map-append, times_one, times_other, times-cons, times-le-length, times-IsPermutation, times-append, times-set}
 use Rattle.crack_row.specs.declared.Row.{Row}
 use Rattle.crack_column.specs.declared.tag.Tag.{Tag}
 use Rattle.crack_arena.specs.Rows.{key_at, unknown}
-use Rattle.crack_column.specs.Column.{Memory, nothing, memory_at, Remembers, Cracks}
+use Rattle.crack_column.specs.Column.{Memory, Aside, no_aside, nothing, memory_at, Remembers, Cracks}
 use Rattle.crack_column.proofs.Cracking.{Replaced, replaced}
-use Rattle.crack_column.specs.Tickets.{no_tag, tag_for, ticket_of, remembered_key, memory_of, handle_of, handles_in, remembered_in, unread_in, Knows, AreDrawn, Kept, Turns, forgotten}
+use Rattle.crack_column.specs.Tickets.{no_tag, tag_for, ticket_of, remembered_key, memory_of, handle_of, handles_in, remembered_in, aside_of, aside_in, unread_in, Knows, AreDrawn, Kept, Turns, forgotten}
 
 -- two tags don't bear one ticket
 apart : (ts : List Tag) (i j : ℕ) → i < length ts → j < length ts → j ≢ i → times (get_or ts i no_tag).ticket (map ticket_of ts) ≤ 1 → (get_or ts j no_tag).ticket ≢ (get_or ts i no_tag).ticket
@@ -79,6 +80,27 @@ remembered-last ts len inside = remembered-longer ts ts len (get_or ts len no_ta
 
 pub unread-last : (ts : List Tag) (len : ℕ) → len < length ts → unread_in (take (len + 1) ts) ≡ unread_in (take len ts) + times unknown ((get_or ts len no_tag).key ∷ [])
 unread-last ts len inside = unread-longer ts ts len (get_or ts len no_tag) (take_more ts len no_tag inside)
+
+-- what stands behind the column's end, entry by entry
+pub length-aside : (gs : List ℕ) (ts : List Tag) (len : ℕ) → length (aside_in gs ts len) ≡ length ts - len
+length-aside gs ts len = length-map (drop len ts) (aside_of gs) ∙ length-drop len ts
+
+aside_at : (gs : List ℕ) (ts : List Tag) (len k : ℕ) (d : Aside) → len + k < length ts → get_or (aside_in gs ts len) k d ≡ aside_of gs (get_or ts (len + k) no_tag)
+aside_at gs ts len k d inside =
+    get_or-map (aside_of gs) (drop len ts) k no_tag d (omega (arith, length-drop len ts)) ∙ ap (aside_of gs) (get_or-drop len ts k no_tag)
+
+-- the one aside is read off the tag behind the last place
+pub first-aside : (gs : List ℕ) (ts : List Tag) (len : ℕ) → len < length ts → get_or (aside_in gs ts len) 0 no_aside ≡ aside_of gs (get_or ts len no_tag)
+first-aside gs ts len inside =
+    let at : len + 0 ≡ len = omega arith in
+    aside_at gs ts len 0 no_aside (omega arith) ∙ ap (λ n. aside_of gs (get_or ts n no_tag)) at
+
+-- and without it the rest is what stands behind one place more
+pub aside-longer : (gs : List ℕ) (ts : List Tag) (len : ℕ) → drop 1 (aside_in gs ts len) ≡ aside_in gs ts (len + 1)
+aside-longer gs ts len = drop-map (aside_of gs) 1 (drop len ts) ∙ ap (λ (xs : List Tag). map (aside_of gs) xs) (drop-drop 1 len ts)
+
+pub aside-shorter : (gs : List ℕ) (ts : List Tag) (len : ℕ) → len < length ts → aside_in gs ts len ≡ aside_of gs (get_or ts len no_tag) ∷ aside_in gs ts (len + 1)
+aside-shorter gs ts len inside = ap (λ (xs : List Tag). map (aside_of gs) xs) (drop_more ts len no_tag inside)
 
 -- a row was put at a place
 module _ (gs : List ℕ) (ts : List Tag) (place : ℕ) (h : Handle) (m : Memory) (gs' : List ℕ) (ts' : List Tag) (out : Handle) (known : Memory) (len : ℕ) (are : AreDrawn gs ts len) (inside : place < length ts) (kept : Kept gs ts place h m gs' ts' out known) where
@@ -152,25 +174,43 @@ module _ (gs : List ℕ) (ts : List Tag) (place : ℕ) (h : Handle) (m : Memory)
       let old : get_or ks place 0 ≡ known.key = get_or-map remembered_key (take len ts) place no_tag 0 (omega (arith, length-take-le len ts are.within)) ∙ ap remembered_key (get_or-take len ts place no_tag first) ∙ ap (λ (x : Memory). x.key) (sym kept.known_is) in
       rw (new, ← old) (times-set unknown ks place m.key 0 (omega arith))
 
-  pub tags-longer : place ≡ len → take (len + 1) ts' ≡ take len ts ++ (tag_for (get_or ts place no_tag).ticket h m) ∷ []
-  tags-longer last =
-      let is : ts' ≡ set ts len (tag_for (get_or ts place no_tag).ticket h m) = kept.tags_are ∙ ap (λ n. set ts n (tag_for (get_or ts place no_tag).ticket h m)) last in
-      ap (λ (xs : List Tag). take (len + 1) xs) is ∙ take_more_set ts len (tag_for (get_or ts place no_tag).ticket h m) (omega arith)
+  -- the places before, where the row was put behind them
+  pub tags-before : len ≤ place → take len ts' ≡ take len ts
+  tags-before behind = ap (λ (xs : List Tag). take len xs) kept.tags_are ∙ take-set-le len ts place (tag_for (get_or ts place no_tag).ticket h m) behind
 
-  pub handles-longer : place ≡ len → handles_in gs' ts' (len + 1) ≡ handles_in gs ts len ++ h ∷ []
-  handles-longer last =
-      let within : len + 1 ≤ length ts' = omega (arith, length-Kept) in
+  pub handles-before : len ≤ place → handles_in gs' ts' len ≡ handles_in gs ts len
+  handles-before behind =
+      let within : len ≤ length ts' = omega (arith, length-Kept, are.within) in
       let long = length-in gs ts len are.within in
-      let long_now = length-in gs' ts' (len + 1) within in
-      ext_get_or no_handle (handles_in gs' ts' (len + 1)) (handles_in gs ts len ++ h ∷ []) (omega (arith, length-append (handles_in gs ts len) (h ∷ []))) (λ k l.
-      rw (handle_in gs' ts' (len + 1) k no_handle within (omega arith)) (elim (cases_eq k place) [
-        | inl e ↦ rw (get_or_push (handles_in gs ts len) h no_handle k (omega arith), e) handle_now
-        | inr ne ↦ rw (get_or_append_left (handles_in gs ts len) (h ∷ []) no_handle k (omega arith), handle_in gs ts len k no_handle are.within (omega arith)) (other_handle k ne (omega (arith, are.within)))
-      ]))
+      let long_now = length-in gs' ts' len within in
+      ext_get_or no_handle (handles_in gs' ts' len) (handles_in gs ts len) (omega arith) (λ k l.
+      rw (handle_in gs' ts' len k no_handle within (omega arith), handle_in gs ts len k no_handle are.within (omega arith)) (other_handle k (λ e. absurd (omega (arith, e))) (omega (arith, are.within))))
+
+  other_aside : (k : ℕ) → k ≢ place → k < length ts → aside_of gs' (get_or ts' k no_tag) ≡ aside_of gs (get_or ts k no_tag)
+  other_aside k ne within =
+      let by_handle : Handle → Aside = λ x. record { handle = x; memory = memory_of (get_or ts' k no_tag) } in
+      let by_tag : Tag → Aside = λ t. record { handle = handle_of gs (get_or ts k no_tag); memory = memory_of t } in
+      ap by_handle (other_handle k ne within) ∙ ap by_tag (other_tag k ne)
+
+  -- what stands aside behind it stays
+  pub aside-behind : (from : ℕ) → place < from → aside_in gs' ts' from ≡ aside_in gs ts from
+  aside-behind from behind =
+      ext_get_or no_aside (aside_in gs' ts' from) (aside_in gs ts from) (omega (arith, length-aside gs' ts' from, length-aside gs ts from, length-Kept)) (λ k l.
+      let inside : from + k < length ts' = omega (arith, length-aside gs' ts' from) in
+      rw (aside_at gs' ts' from k no_aside inside, aside_at gs ts from k no_aside (omega (arith, length-Kept))) (other_aside (from + k) (λ e. absurd (omega (arith, e))) (omega (arith, length-Kept))))
+
+  -- and where it was put first of these
+  pub aside-kept : place ≡ len → aside_in gs' ts' len ≡ (record { handle = h; memory = m }) ∷ drop 1 (aside_in gs ts len)
+  aside-kept is =
+      let by_handle : Handle → Aside = λ x. record { handle = x; memory = memory_of (get_or ts' place no_tag) } in
+      let by_tag : Tag → Aside = λ t. record { handle = h; memory = memory_of t } in
+      let first : aside_of gs' (get_or ts' len no_tag) ≡ record { handle = h; memory = m } = rw (← is) (ap by_handle handle_now ∙ ap by_tag tag_now) in
+      let rest : aside_in gs' ts' (len + 1) ≡ drop 1 (aside_in gs ts len) = aside-behind (len + 1) (omega arith) ∙ sym (aside-longer gs ts len) in
+      aside-shorter gs' ts' len (omega (arith, length-Kept)) ∙ ap (λ a. a ∷ aside_in gs' ts' (len + 1)) first ∙ ap (λ (xs : List Aside). (record { handle = h; memory = m }) ∷ xs) rest
 
 -- a row was put behind all others, under a new ticket
 module _ (gs : List ℕ) (ts : List Tag) (h : Handle) (m : Memory) (are : AreDrawn gs ts (length ts)) where
-  pub AreDrawn-draw : length ts < 2 ^ 32 → AreDrawn (gs ++ h.generation ∷ []) (ts ++ (tag_for (length gs) h m) ∷ []) (length ts + 1)
+  pub AreDrawn-draw : length ts < 2 ^ 32 → AreDrawn (gs ++ h.generation ∷ []) (ts ++ (tag_for (length gs) h m) ∷ []) (length ts)
   AreDrawn-draw few =
       let long = length-append ts ((tag_for (length gs) h m) ∷ []) in
       let longer = length-append gs (h.generation ∷ []) in
@@ -193,23 +233,90 @@ module _ (gs : List ℕ) (ts : List Tag) (h : Handle) (m : Memory) (are : AreDra
         ];
       }
 
-  pub tags-draw : take (length ts + 1) (ts ++ (tag_for (length gs) h m) ∷ []) ≡ take (length ts) ts ++ (tag_for (length gs) h m) ∷ []
-  tags-draw = take_all (length ts + 1) (ts ++ (tag_for (length gs) h m) ∷ []) (omega (arith, length-append ts ((tag_for (length gs) h m) ∷ []))) ∙ ap (λ (xs : List Tag). xs ++ (tag_for (length gs) h m) ∷ []) (sym (take_all (length ts) ts (omega arith)))
+  pub tags-draw : take (length ts) (ts ++ (tag_for (length gs) h m) ∷ []) ≡ take (length ts) ts
+  tags-draw = take-append-le (length ts) ts ((tag_for (length gs) h m) ∷ []) (omega arith)
 
-  pub handles-draw : handles_in (gs ++ h.generation ∷ []) (ts ++ (tag_for (length gs) h m) ∷ []) (length ts + 1) ≡ handles_in gs ts (length ts) ++ h ∷ []
+  pub handles-draw : handles_in (gs ++ h.generation ∷ []) (ts ++ (tag_for (length gs) h m) ∷ []) (length ts) ≡ handles_in gs ts (length ts)
   handles-draw =
-      let within : length ts + 1 ≤ length (ts ++ (tag_for (length gs) h m) ∷ []) = omega (arith, length-append ts ((tag_for (length gs) h m) ∷ [])) in
+      let within : length ts ≤ length (ts ++ (tag_for (length gs) h m) ∷ []) = omega (arith, length-append ts ((tag_for (length gs) h m) ∷ [])) in
       let long = length-in gs ts (length ts) are.within in
-      let long_now = length-in (gs ++ h.generation ∷ []) (ts ++ (tag_for (length gs) h m) ∷ []) (length ts + 1) within in
+      let long_now = length-in (gs ++ h.generation ∷ []) (ts ++ (tag_for (length gs) h m) ∷ []) (length ts) within in
+      ext_get_or no_handle (handles_in (gs ++ h.generation ∷ []) (ts ++ (tag_for (length gs) h m) ∷ []) (length ts)) (handles_in gs ts (length ts)) (omega arith) (λ k l.
+      let t : Tag = get_or ts k no_tag in
+      let old : get_or (gs ++ h.generation ∷ []) t.ticket 0 ≡ get_or gs t.ticket 0 = get_or_append_left gs (h.generation ∷ []) 0 t.ticket (are.drawn k no_tag (omega arith)) in
+      rw (handle_in (gs ++ h.generation ∷ []) (ts ++ (tag_for (length gs) h m) ∷ []) (length ts) k no_handle within (omega arith), handle_in gs ts (length ts) k no_handle are.within (omega arith), get_or_append_left ts ((tag_for (length gs) h m) ∷ []) no_tag k (omega arith)) (ap (λ g. let n : Handle = record { slot = t.slot; generation = g } in n) old))
+
+  pub aside-draw : aside_in (gs ++ h.generation ∷ []) (ts ++ (tag_for (length gs) h m) ∷ []) (length ts) ≡ (record { handle = h; memory = m }) ∷ drop 1 (aside_in gs ts (length ts))
+  aside-draw =
       let newest : get_or (gs ++ h.generation ∷ []) (length gs) 0 ≡ h.generation = get_or_push gs h.generation 0 (length gs) refl in
-      ext_get_or no_handle (handles_in (gs ++ h.generation ∷ []) (ts ++ (tag_for (length gs) h m) ∷ []) (length ts + 1)) (handles_in gs ts (length ts) ++ h ∷ []) (omega (arith, length-append (handles_in gs ts (length ts)) (h ∷ []))) (λ k l.
-      rw (handle_in (gs ++ h.generation ∷ []) (ts ++ (tag_for (length gs) h m) ∷ []) (length ts + 1) k no_handle within (omega arith)) (elim (cases_eq k (length ts)) [
-        | inl e ↦ rw (get_or_push (handles_in gs ts (length ts)) h no_handle k (omega arith), get_or_push ts (tag_for (length gs) h m) no_tag k (sym e)) (ap (λ g. let n : Handle = record { slot = h.slot; generation = g } in n) newest)
-        | inr ne ↦
-            let t : Tag = get_or ts k no_tag in
-            let old : get_or (gs ++ h.generation ∷ []) t.ticket 0 ≡ get_or gs t.ticket 0 = get_or_append_left gs (h.generation ∷ []) 0 t.ticket (are.drawn k no_tag (omega arith)) in
-            rw (get_or_append_left (handles_in gs ts (length ts)) (h ∷ []) no_handle k (omega arith), handle_in gs ts (length ts) k no_handle are.within (omega arith), get_or_append_left ts ((tag_for (length gs) h m) ∷ []) no_tag k (omega arith)) (ap (λ g. let n : Handle = record { slot = t.slot; generation = g } in n) old)
-      ]))
+      let last : drop (length ts) (ts ++ (tag_for (length gs) h m) ∷ []) ≡ (tag_for (length gs) h m) ∷ [] = drop-append_seam ts ((tag_for (length gs) h m) ∷ []) in
+      let none : drop (length ts) ts ≡ [] = drop-length ts in
+      let by_generation : ℕ → List Aside = λ g. (record { handle = record { slot = h.slot; generation = g }; memory = m }) ∷ [] in
+      rw (last, none) (ap by_generation newest)
+
+-- the handle at a place and the one aside change places, with their tickets
+module _ (gs : List ℕ) (ts ts' : List Tag) (len place : ℕ) (are : AreDrawn gs ts len) (first : place < len) (some : len < length ts) (swapped : ts' ≡ set (set ts place (get_or ts len no_tag)) len (get_or ts place no_tag)) where
+  pub length-exchange : length ts' ≡ length ts
+  length-exchange = rw swapped (length-set (set ts place (get_or ts len no_tag)) len (get_or ts place no_tag) ∙ length-set ts place (get_or ts len no_tag))
+
+  tickets-exchange : (n : ℕ) → times n (map ticket_of ts') ≡ times n (map ticket_of ts)
+  tickets-exchange n =
+      let ks = map ticket_of ts in
+      let a = (get_or ts len no_tag).ticket in
+      let b = (get_or ts place no_tag).ticket in
+      let long = length-map ts ticket_of in
+      let once : map ticket_of (set ts place (get_or ts len no_tag)) ≡ set ks place a = map-set ticket_of ts place (get_or ts len no_tag) in
+      let twice : map ticket_of ts' ≡ set (set ks place a) len b = ap (map ticket_of) swapped ∙ map-set ticket_of (set ts place (get_or ts len no_tag)) len (get_or ts place no_tag) ∙ ap (λ (xs : List ℕ). set xs len b) once in
+      let was_here : get_or ks place 0 ≡ b = get_or-map ticket_of ts place no_tag 0 (omega arith) in
+      let was_there : get_or (set ks place a) len 0 ≡ a = get_or-set_other ks place len a 0 (λ e. absurd (omega (arith, e))) ∙ get_or-map ticket_of ts len no_tag 0 (omega arith) in
+      let here = rw was_here at (times-set n ks place a 0 (omega arith)) in
+      let there = rw was_there at (times-set n (set ks place a) len b 0 (omega (arith, length-set ks place a))) in
+      rw twice (omega (arith, here, there))
+
+  drawn-exchange : All (λ n. n < length gs) (map ticket_of ts')
+  drawn-exchange =
+      let ks = map ticket_of ts in
+      let a = (get_or ts len no_tag).ticket in
+      let b = (get_or ts place no_tag).ticket in
+      let once : map ticket_of (set ts place (get_or ts len no_tag)) ≡ set ks place a = map-set ticket_of ts place (get_or ts len no_tag) in
+      let twice : map ticket_of ts' ≡ set (set ks place a) len b = ap (map ticket_of) swapped ∙ map-set ticket_of (set ts place (get_or ts len no_tag)) len (get_or ts place no_tag) ∙ ap (λ (xs : List ℕ). set xs len b) once in
+      let all : All (λ n. n < length gs) ks = λ k d l. rw (get_or-map ticket_of ts k no_tag d (omega (arith, length-map ts ticket_of))) (are.drawn k no_tag (omega (arith, length-map ts ticket_of))) in
+      rw twice (All-set (λ n. n < length gs) (set ks place a) len b (are.drawn place no_tag (omega arith)) (All-set (λ n. n < length gs) ks place a (are.drawn len no_tag some) all))
+
+  pub AreDrawn-exchange : AreDrawn gs ts' len
+  AreDrawn-exchange = record {
+    beside = length-exchange ∙ are.beside;
+    within = omega (arith, length-exchange, are.within);
+    few = omega (arith, length-exchange, are.few);
+    drawn = λ k d l. rw (get_or-map ticket_of ts' k d 0 l) at (drawn-exchange k 0 (omega (arith, length-map ts' ticket_of)));
+    once = λ n. rw (tickets-exchange n) (are.once n);
+  }
+
+  first_tags-exchange : take len ts' ≡ set (take len ts) place (get_or ts len no_tag)
+  first_tags-exchange =
+      ap (λ (xs : List Tag). take len xs) swapped ∙ take-set-le len (set ts place (get_or ts len no_tag)) len (get_or ts place no_tag) (omega arith) ∙ take-set-lt len ts place (get_or ts len no_tag) first
+
+  pub handles-exchange : handles_in gs ts' len ≡ set (handles_in gs ts len) place (handle_of gs (get_or ts len no_tag))
+  handles-exchange = ap (λ (xs : List Tag). map (handle_of gs) xs) first_tags-exchange ∙ map-set (handle_of gs) (take len ts) place (get_or ts len no_tag)
+
+  pub remembered-exchange : remembered_in ts' len ≡ set (remembered_in ts len) place (memory_of (get_or ts len no_tag))
+  remembered-exchange = ap (λ (xs : List Tag). map memory_of xs) first_tags-exchange ∙ map-set memory_of (take len ts) place (get_or ts len no_tag)
+
+  pub unread-exchange : unread_in (take len ts') + times unknown ((get_or ts place no_tag).key ∷ []) ≡ unread_in (take len ts) + times unknown ((get_or ts len no_tag).key ∷ [])
+  unread-exchange =
+      let ks = map remembered_key (take len ts) in
+      let new : map remembered_key (take len ts') ≡ set ks place (get_or ts len no_tag).key = ap (λ (xs : List Tag). map remembered_key xs) first_tags-exchange ∙ map-set remembered_key (take len ts) place (get_or ts len no_tag) in
+      let long : length ks ≡ len = length-map (take len ts) remembered_key ∙ length-take-le len ts are.within in
+      let old : get_or ks place 0 ≡ (get_or ts place no_tag).key = get_or-map remembered_key (take len ts) place no_tag 0 (omega (arith, length-take-le len ts are.within)) ∙ ap remembered_key (get_or-take len ts place no_tag first) in
+      rw (new, ← old) (times-set unknown ks place (get_or ts len no_tag).key 0 (omega arith))
+
+  pub aside-exchange : aside_in gs ts' len ≡ aside_of gs (get_or ts place no_tag) ∷ drop 1 (aside_in gs ts len)
+  aside-exchange =
+      let once = set ts place (get_or ts len no_tag) in
+      let long : length once ≡ length ts = length-set ts place (get_or ts len no_tag) in
+      let behind : drop len ts' ≡ get_or ts place no_tag ∷ drop (len + 1) once = ap (λ (xs : List Tag). drop len xs) swapped ∙ drop-set once len (get_or ts place no_tag) (omega arith) in
+      let rest : drop (len + 1) once ≡ drop (len + 1) ts = drop-set-lt (len + 1) ts place (get_or ts len no_tag) (omega arith) in
+      rw (aside-longer gs ts len) (ap (λ (xs : List Tag). map (aside_of gs) xs) behind ∙ ap (λ (xs : List Tag). aside_of gs (get_or ts place no_tag) ∷ map (aside_of gs) xs) rest)
 
 split_in_three : {X : Type 0} (xs : List X) (from to : ℕ) → from ≤ to → xs ≡ take from xs ++ (between from to xs ++ drop to xs)
 split_in_three xs from to order =
@@ -333,6 +440,13 @@ module _ (cells : List (Cell Row)) (gs : List ℕ) (bound from to : ℕ) (ts ts'
     divided = rw (← keys_read) turned.divided;
   }
 
+  -- what stands behind the column stays
+  pub aside-Turns : aside_in gs ts' len ≡ aside_in gs ts len
+  aside-Turns =
+      ext_get_or no_aside (aside_in gs ts' len) (aside_in gs ts len) (omega (arith, length-aside gs ts' len, length-aside gs ts len, at.len)) (λ k l.
+      let inside : len + k < length ts' = omega (arith, length-aside gs ts' len) in
+      rw (aside_at gs ts' len k no_aside inside, aside_at gs ts len k no_aside (omega (arith, at.len)), at.behind (len + k) no_tag (omega arith)) refl)
+
   -- the rows that became known are unread no more
   pub unread-Turns : unread_in (take len ts') + learned ≡ unread_in (take len ts)
   unread-Turns =
@@ -366,16 +480,3 @@ stands_at gs ts len place within inside =
 pub remembered_at : (ts : List Tag) (len place : ℕ) → len ≤ length ts → place < len → slice_get (remembered_in ts len) place ≡ Some (memory_of (get_or ts place no_tag))
 remembered_at ts len place within inside =
     slice_get-get_or (remembered_in ts len) place nothing (omega (arith, length-remembered_in ts len within)) ∙ ap (λ (m : Memory). Some m) (memory_in ts len place nothing within inside)
-
-take_shorter : (len longer : ℕ) (ts : List Tag) → len ≤ longer → take len (take longer ts) ≡ take len ts
-take_shorter zero longer ts fewer = refl
-take_shorter (suc n) zero ts fewer = absurd (omega arith)
-take_shorter (suc n) (suc m) [] fewer = refl
-take_shorter (suc n) (suc m) (t ∷ ts) fewer = ap (λ qs. t ∷ qs) (take_shorter n m ts (omega arith))
-
--- the first handles alone
-pub handles-shorter : (gs : List ℕ) (ts : List Tag) (len longer : ℕ) → len ≤ longer → take len (handles_in gs ts longer) ≡ handles_in gs ts len
-handles-shorter gs ts len longer fewer = take-map (handle_of gs) len (take longer ts) ∙ ap (map (handle_of gs)) (take_shorter len longer ts fewer)
-
-pub remembered-shorter : (ts : List Tag) (len longer : ℕ) → len ≤ longer → take len (remembered_in ts longer) ≡ remembered_in ts len
-remembered-shorter ts len longer fewer = take-map memory_of len (take longer ts) ∙ ap (map memory_of) (take_shorter len longer ts fewer)

@@ -1,8 +1,8 @@
 -- What a column holds, and what a crack does to it.
-use Rattle.std.specs.Prelude.{◌≡◌, ℕ, ◌-◌, ◌<◌, ◌≤◌, ◌⊎◌, List, ◌++◌, length, map, take, drop, slice_index, slice_index_or}
+use Rattle.std.specs.Prelude.{◌≡◌, ℕ, ◌+◌, ◌-◌, ◌<◌, ◌≤◌, ◌⊎◌, List, [], ◌∷◌, ◌++◌, length, map, take, drop, slice_index, slice_index_or, slice_set}
 use Rattle.std.specs.List.{between}
 use Rattle.std.specs.List.Sorted.{IsPermutation}
-use Rattle.crack_arena.specs.Arena.{Cell, Handle}
+use Rattle.crack_arena.specs.Arena.{Cell, Handle, no_handle}
 use Rattle.crack_arena.specs.Rows.{key_at, payload_at, unknown}
 use Rattle.crack_row.specs.declared.Row.{Row}
 
@@ -23,11 +23,59 @@ memory_at cells h = record { key = key_at cells h; payload = payload_at cells h 
 abbrev pub Agrees : List (Cell Row) → Handle → Memory → Type 0
 Agrees cells h m = (m.key ≡ unknown) ⊎ (m ≡ memory_at cells h)
 
--- handles in cracked order, what is remembered of their rows, and how many more fit in without memory
+-- a handle that stands aside, and what is remembered of its row
+pub record Aside : Type 0 where
+  pub handle : Handle
+  pub memory : Memory
+
+-- handles in cracked order, what is remembered of their rows, how many more fit in without memory, and what stands behind the last
+-- place: the first of these is the one aside
 pub record Column : Type 0 where
   pub handles : List Handle
   pub remembered : List Memory
   pub room : ℕ
+  pub aside : List Aside
+
+abbrev pub no_aside : Aside
+no_aside = record { handle = no_handle; memory = record { key = 0; payload = 0 } }
+
+-- the one aside
+abbrev pub first_aside : Column → Aside
+first_aside c = slice_index_or c.aside 0 no_aside
+
+-- what stands at a place
+abbrev pub standing_at : ℕ → Column → Aside
+standing_at place c = record { handle = slice_index_or c.handles place no_handle; memory = slice_index_or c.remembered place nothing }
+
+-- another stands aside first
+abbrev pub with_aside : Aside → Column → Column
+with_aside a c = record c { aside = a ∷ drop 1 c.aside }
+
+-- the one aside takes a place, and the one that stood there is aside
+abbrev pub exchanged_aside : ℕ → Column → Column
+exchanged_aside place c = record c {
+  handles = slice_set c.handles place (first_aside c).handle;
+  remembered = slice_set c.remembered place (first_aside c).memory;
+  aside = standing_at place c ∷ drop 1 c.aside;
+}
+
+-- the one aside becomes the last
+abbrev pub appended_aside : Column → Column
+appended_aside c = record {
+  handles = c.handles ++ (first_aside c).handle ∷ [];
+  remembered = c.remembered ++ (first_aside c).memory ∷ [];
+  room = c.room - 1;
+  aside = drop 1 c.aside;
+}
+
+-- the last is aside
+abbrev pub popped_aside : Column → Column
+popped_aside c = record {
+  handles = take (length c.handles - 1) c.handles;
+  remembered = take (length c.handles - 1) c.remembered;
+  room = c.room + 1;
+  aside = standing_at (length c.handles - 1) c ∷ c.aside;
+}
 
 -- what is remembered of each handle's row is right
 pub record Remembers (cells : List (Cell Row)) (handles : List Handle) (remembered : List Memory) : Type 0 where

@@ -6,7 +6,7 @@ use Rattle.crack_arena.specs.Arena.{Cell, Handle, times}
 use Rattle.crack_arena.specs.Rows.{unknown}
 use Rattle.crack_row.specs.declared.Row.{Row}
 use Rattle.crack_column.specs.declared.tag.Tag.{Tag}
-use Rattle.crack_column.specs.Column.{Memory, memory_at, Agrees, IsDividedAt}
+use Rattle.crack_column.specs.Column.{Memory, Aside, memory_at, Agrees, IsDividedAt}
 
 abbrev pub ticket_of : Tag → ℕ
 ticket_of t = t.ticket
@@ -30,6 +30,14 @@ handles_in generations tags len = map (handle_of generations) (take len tags)
 -- and what is remembered of them
 abbrev pub remembered_in : List Tag → ℕ → List Memory
 remembered_in tags len = map memory_of (take len tags)
+
+-- what stands aside under a tag
+abbrev pub aside_of : List ℕ → Tag → Aside
+aside_of generations t = record { handle = handle_of generations t; memory = memory_of t }
+
+-- what stands behind the column that has so many places
+abbrev pub aside_in : List ℕ → List Tag → ℕ → List Aside
+aside_in generations tags len = map (aside_of generations) (drop len tags)
 
 -- how many of the tags don't know their rows
 abbrev pub unread_in : List Tag → ℕ

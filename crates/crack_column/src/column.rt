@@ -1,15 +1,15 @@
 //! The cracker column, and how a crack divides a stretch of it.
-ghost use Rattle.std.specs.Prelude.{◌≡◌, ◌+◌, ◌-◌, ◌<◌, ◌≤◌, ◌^◌, ◌↔◌, List, [], ◌∷◌, ◌++◌, Some, length, vec_len, slice_get, slice_index_or, slice_set, vec_capacity, IsTrue, OnOk, OnErr, IfErr, All, MatchOption, take, sum_by};
+ghost use Rattle.std.specs.Prelude.{◌≡◌, ◌+◌, ◌-◌, ◌<◌, ◌≤◌, ◌^◌, ◌↔◌, List, [], ◌∷◌, ◌++◌, Some, length, vec_len, slice_get, slice_index_or, slice_set, vec_capacity, IsTrue, OnOk, OnErr, IfErr, All, MatchOption, take, sum_by, drop};
 ghost use Rattle.std.specs.List.{between};
-ghost use Rattle.crack_arena.specs.Arena.{Cell, times, StandsAt, IsFirstAt, IsAbsent, no_handle};
-ghost use Rattle.crack_arena.specs.Rows.{payload_at, unknown};
-ghost use Rattle.crack_column.specs.Column.{nothing, Remembers, StillRemembers, StillRemembersWith, Cracks};
-ghost use Rattle.crack_column.specs.Tickets.{AreDrawn, Knows, Turns, Kept, handles_in, remembered_in, unread_in, room_in, tag_for};
+ghost use Rattle.crack_arena.specs.Arena.{Cell, StandsAt, IsFirstAt, IsAbsent, no_handle};
+ghost use Rattle.crack_arena.specs.Rows.{key_at, payload_at};
+ghost use Rattle.crack_column.specs.Column.{nothing, Remembers, StillRemembers, StillRemembersWith, Cracks, Agrees, first_aside, with_aside, exchanged_aside, appended_aside, popped_aside};
+ghost use Rattle.crack_column.specs.Tickets.{AreDrawn, Knows, Turns, Kept, handles_in, unread_in, room_in, aside_in, tag_for};
 
 use crate::remembered::Remembered;
 use crate::tag::{self, Tag};
 use crack_arena::{Arena, Handle};
-use crack_row::{Bound, Refusal, Row};
+use crack_row::{Bound, Key, Refusal, Row};
 use std::alloc::Global;
 use std::marker::Model;
 use std::mem;
@@ -32,7 +32,7 @@ pub struct CrackerColumn {
 impl Model for CrackerColumn {
     ghost use Rattle.std.specs.Prelude.{length, vec_capacity};
     ghost use Rattle.crack_column.specs.Column.{Column};
-    ghost use Rattle.crack_column.specs.Tickets.{IsKept, handles_in, remembered_in, room_in};
+    ghost use Rattle.crack_column.specs.Tickets.{IsKept, handles_in, remembered_in, room_in, aside_in};
 
     ghost Value = { Column };
 
@@ -40,6 +40,7 @@ impl Model for CrackerColumn {
       handles = handles_in c.generations.items c.tags.items c.len;
       remembered = remembered_in c.tags.items c.len;
       room = room_in (length c.tags.items) (vec_capacity c.generations) (vec_capacity c.tags) c.len;
+      aside = aside_in c.generations.items c.tags.items c.len;
     } };
 
     ghost invariant = { λ c. IsKept c.generations.items c.tags.items c.len c.unread };
@@ -51,6 +52,7 @@ impl CrackerColumn {
         ensures handles { result.handles ≡ [] }
         ensures remembered { result.remembered ≡ [] }
         ensures room { result.room ≡ 0 }
+        ensures aside { result.aside ≡ [] }
         ensures right { (cells : List (Cell Row)) → Remembers cells result.handles result.remembered }
     {
         CrackerColumn {
@@ -147,6 +149,7 @@ impl CrackerColumn {
           handles = self.old.handles ++ handle ∷ [];
           remembered = self.old.remembered ++ nothing ∷ [];
           room = self.old.room - 1;
+          aside = drop 1 self.old.aside;
         } }
         ensures remembered { StillRemembers self.old self.new }
     {
@@ -160,18 +163,12 @@ impl CrackerColumn {
           handles = self.old.handles ++ handle ∷ [];
           remembered = self.old.remembered ++ remembered ∷ [];
           room = self.old.room - 1;
+          aside = drop 1 self.old.aside;
         } }
         ensures remembered { StillRemembersWith handle remembered self.old self.new }
     {
-        self.unread += remembered.unread();
-        keep_last(
-            &mut self.generations,
-            &mut self.tags,
-            self.len,
-            handle,
-            remembered,
-        );
-        self.len += 1;
+        self.set_aside(handle, remembered);
+        self.append_aside();
     }
 
     /// Puts the handle at the place, and gives back the one that stood there. Its row isn't known. O(1).
@@ -224,6 +221,7 @@ impl CrackerColumn {
             (λ h. self.old.handles ≡ self.new.handles ++ h ∷ []) }
         ensures known { self.new.remembered ≡ take (length self.new.handles) self.old.remembered }
         ensures room { MatchOption result (self.new.room ≡ self.old.room) (λ _. self.new.room ≡ self.old.room + 1) }
+        ensures aside { MatchOption result (self.new ≡ self.old) (λ _. self.new ≡ popped_aside self.old) }
         ensures remembered { StillRemembers self.old self.new }
     {
         match self.pop_remembered() {
@@ -242,13 +240,97 @@ impl CrackerColumn {
             (λ r. self.old.remembered ≡ self.new.remembered ++ r.1 ∷ []) }
         ensures beside { length self.new.remembered ≡ length self.new.handles }
         ensures room { MatchOption result (self.new.room ≡ self.old.room) (λ _. self.new.room ≡ self.old.room + 1) }
+        ensures aside { MatchOption result (self.new ≡ self.old) (λ _. self.new ≡ popped_aside self.old) }
         ensures remembered { StillRemembers self.old self.new }
     {
-        self.len = self.len.checked_sub(1)?;
-        let last = self.tags[self.len];
-        let remembered = last.remembered();
-        self.unread -= remembered.unread();
-        Some((last.handle(&self.generations), remembered))
+        if self.len == 0 {
+            return None;
+        }
+        self.pop_aside();
+        Some((self.aside(), self.aside_memory()))
+    }
+
+    /// Puts the handle aside, behind the last place, into room that was reserved, with what is to be remembered of its row. It stands at
+    /// no place of the column; one that stood aside before is let go. O(1).
+    pub fn set_aside(&mut self, handle: Handle<Row>, remembered: Remembered)
+        requires { 0 < self.old.room }
+        ensures { self.new ≡ with_aside (record { handle = handle; memory = remembered }) self.old }
+    {
+        keep_behind(
+            &mut self.generations,
+            &mut self.tags,
+            self.len,
+            handle,
+            remembered,
+        );
+    }
+
+    /// Takes the last handle out and puts it aside. O(1), and reads no row.
+    pub fn pop_aside(&mut self)
+        requires { 0 < length self.old.handles }
+        ensures { self.new ≡ popped_aside self.old }
+    {
+        self.len -= 1;
+        self.unread -= self.tags[self.len].unread();
+    }
+
+    /// Puts the handle that stands aside behind the last. O(1), and reads no row.
+    pub fn append_aside(&mut self)
+        requires { 0 < length self.old.aside }
+        ensures after { self.new ≡ appended_aside self.old }
+        ensures remembered { StillRemembersWith (first_aside self.old).handle (first_aside self.old).memory self.old self.new }
+    {
+        self.unread += self.tags[self.len].unread();
+        self.len += 1;
+    }
+
+    /// Puts the handle that stands aside at the place, and the one that stood there aside. O(1): two tags change places, with their
+    /// tickets, and no generation is read.
+    pub fn exchange(&mut self, place: usize)
+        requires within { place < length self.old.handles }
+        requires aside { 0 < length self.old.aside }
+        ensures after { self.new ≡ exchanged_aside place self.old }
+        ensures remembered { StillRemembersWith (first_aside self.old).handle (first_aside self.old).memory self.old self.new }
+    {
+        let aside = self.tags[self.len];
+        let there = self.tags[place];
+        self.tags[place] = aside;
+        self.tags[self.len] = there;
+        self.unread += aside.unread();
+        self.unread -= there.unread();
+    }
+
+    /// The handle that stands aside. O(1).
+    pub fn aside(&self) -> Handle<Row>
+        requires { 0 < length self.now.aside }
+        ensures { result ≡ (first_aside self.now).handle }
+    {
+        self.tags[self.len].handle(&self.generations)
+    }
+
+    /// The slot of the handle that stands aside. O(1), and reads no generation.
+    pub fn aside_slot(&self) -> u32
+        requires { 0 < length self.now.aside }
+        ensures { result ≡ (first_aside self.now).handle.slot }
+    {
+        self.tags[self.len].slot
+    }
+
+    /// What is remembered of the row of the handle that stands aside. O(1).
+    pub fn aside_memory(&self) -> Remembered
+        requires { 0 < length self.now.aside }
+        ensures { result ≡ (first_aside self.now).memory }
+    {
+        self.tags[self.len].remembered()
+    }
+
+    /// The key of the row that stands aside. O(1); its cell is read only where the row isn't known.
+    pub fn aside_key(&self, arena: &Arena<Row>) -> Key
+        requires some { 0 < length self.now.aside }
+        requires known { Agrees arena.now.cells (first_aside self.now).handle (first_aside self.now).memory }
+        ensures { result.0 ≡ key_at arena.now.cells (first_aside self.now).handle }
+    {
+        self.tags[self.len].key(&self.generations, arena)
     }
 
     /// Cracks in two: reorders what stands from the place `from` up to and without `to`, rows below the bound first,
@@ -262,6 +344,7 @@ impl CrackerColumn {
             self.old.handles self.old.remembered self.new.handles self.new.remembered result }
         ensures length { length self.new.handles ≡ length self.old.handles }
         ensures room { self.new.room ≡ self.old.room }
+        ensures aside { self.new.aside ≡ self.old.aside }
         ensures remembered { Remembers arena.now.cells self.new.handles self.new.remembered }
     {
         let unread = self.unread;
@@ -321,8 +404,8 @@ fn keep(
     (Handle::new(here.slot, generation), here.remembered())
 }
 
-/// Keeps the handle at the place behind the last: under the ticket that stands there, or under a new one.
-fn keep_last(
+/// Keeps the handle behind the last place: under the ticket that stands there, or under a new one.
+fn keep_behind(
     generations: &mut Vec<u64>,
     tags: &mut Vec<Tag>,
     len: usize,
@@ -331,12 +414,12 @@ fn keep_last(
 )
     requires are { AreDrawn generations.old.items tags.old.items len }
     requires room { 0 < room_in (vec_len tags.old) (vec_capacity generations.old) (vec_capacity tags.old) len }
-    ensures are { AreDrawn generations.new.items tags.new.items (len + 1) }
-    ensures handles { handles_in generations.new.items tags.new.items (len + 1)
-        ≡ handles_in generations.old.items tags.old.items len ++ handle ∷ [] }
-    ensures known { remembered_in tags.new.items (len + 1) ≡ remembered_in tags.old.items len ++ remembered ∷ [] }
-    ensures unread { unread_in (take (len + 1) tags.new.items) ≡ unread_in (take len tags.old.items) + times unknown (remembered.key ∷ []) }
-    ensures room { room_in (vec_len tags.new) (vec_capacity generations.new) (vec_capacity tags.new) (len + 1) + 1
+    ensures are { AreDrawn generations.new.items tags.new.items len }
+    ensures handles { handles_in generations.new.items tags.new.items len ≡ handles_in generations.old.items tags.old.items len }
+    ensures first { take len tags.new.items ≡ take len tags.old.items }
+    ensures aside { aside_in generations.new.items tags.new.items len
+        ≡ record { handle = handle; memory = remembered } ∷ drop 1 (aside_in generations.old.items tags.old.items len) }
+    ensures room { room_in (vec_len tags.new) (vec_capacity generations.new) (vec_capacity tags.new) len
         ≡ room_in (vec_len tags.old) (vec_capacity generations.old) (vec_capacity tags.old) len }
 {
     if len < tags.len() {

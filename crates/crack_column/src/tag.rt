@@ -1,14 +1,14 @@
 //! The tags of a cracker column, one at each place: what a crack and a sum read, and what a crack exchanges.
-ghost use Rattle.std.specs.Prelude.{◌≡◌, ◌+◌, ◌<◌, ◌≤◌, ◌^◌, All, MatchOption, length, map, sum_by};
+ghost use Rattle.std.specs.Prelude.{◌≡◌, ◌+◌, ◌<◌, ◌≤◌, ◌^◌, All, [], ◌∷◌, MatchOption, length, map, sum_by};
 ghost use Rattle.std.specs.List.Sorted.{IsPermutation};
-ghost use Rattle.crack_arena.specs.Arena.{IsAbsent, IsFirstAt};
-ghost use Rattle.crack_arena.specs.Rows.{payload_at};
+ghost use Rattle.crack_arena.specs.Arena.{times, IsAbsent, IsFirstAt};
+ghost use Rattle.crack_arena.specs.Rows.{key_at, payload_at, unknown};
 ghost use Rattle.crack_column.specs.Column.{IsDividedAt};
 ghost use Rattle.crack_column.specs.Tickets.{remembered_key, memory_of, handle_of, tag_for, forgotten, unread_in, Knows, Read};
 
 use crate::remembered::{Remembered, UNKNOWN};
-use crack_arena::{Arena, Handle, payload_of};
-use crack_row::{Bound, Row};
+use crack_arena::{Arena, Handle, key_of, payload_of};
+use crack_row::{Bound, Key, Row};
 
 /// What stands at a place, 16 bytes: what is remembered of a row, its handle's slot, and the ticket under which its generation is kept.
 #[derive(Clone, Copy)]
@@ -43,6 +43,25 @@ impl Tag {
         ensures { result ≡ handle_of generations.now self.now }
     {
         Handle::new(self.slot, generations[self.ticket as usize])
+    }
+
+    /// 1 where the row isn't known, else 0.
+    pub(crate) fn unread(&self) -> usize
+        ensures { result ≡ times unknown (self.now.key ∷ []) }
+    {
+        self.remembered().unread()
+    }
+
+    /// The key of the row. It is asked of the arena where the row isn't known.
+    pub(crate) fn key(&self, generations: &[u64], arena: &Arena<Row>) -> Key
+        requires drawn { self.now.ticket < length generations.now }
+        requires known { Knows arena.now.cells generations.now self.now }
+        ensures { result.0 ≡ key_at arena.now.cells (handle_of generations.now self.now) }
+    {
+        if self.key == UNKNOWN {
+            return key_of(arena, self.handle(generations));
+        }
+        Key(self.key)
     }
 
     /// The tag, once this is remembered of its row.

@@ -109,7 +109,7 @@ pub(crate) fn end(carrying: Carrying, rule: CarryEnd) -> Store
 /// Ends a carry by its rule, and takes the pending insertion at this place into the hand.
 pub(crate) fn end_and_lift(carrying: &mut Carrying, rule: CarryEnd, place: usize)
     requires ends { MayEnd rule carrying.old }
-    requires column_room { 0 < carrying.old.store.column_room }
+    requires column_room { 1 < carrying.old.store.column_room }
     requires in_room { 0 < carrying.old.store.in_room }
     requires there { place < length carrying.old.store.pending_in }
     ensures { carrying.new ≡ lifted place (ended rule carrying.old) }

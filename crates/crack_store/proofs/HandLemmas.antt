@@ -2,29 +2,37 @@
 use Rattle.std.proofs.Common.{◌≡◌, ℕ, zero, suc, ◌+◌, ◌-◌, ◌<◌, ◌≤◌, Bool, true, false, List, [], ◌∷◌, ◌++◌, length, get_or, take, Option, Some, None, refl, sym, ap, ◌∙◌, inl, inr, arith}
 use Rattle.std.specs.Prelude.{nat_lt, if◌then◌else◌, MatchOption, IsSome, is_some}
 use Rattle.std.proofs.lemmas.Bool.{cases_eq, true≢false, eq-eqb, ne_eqb}
-use Rattle.std.proofs.lemmas.List.{length_push, get_or_push, take-append-le, take_all}
+use Rattle.std.proofs.lemmas.List.{get_or_default}
 use Rattle.crack_row.specs.declared.Row.{Row}
 use Rattle.crack_arena.specs.Arena.{Handle, same_handle, StandsAt, IsFirstAt, IsAbsent, no_handle, times, slots}
 use Rattle.crack_arena.proofs.Times.{times_head, times-cons}
+use Rattle.crack_column.specs.Column.{Column, first_aside, exchanged_aside}
+use Rattle.crack_column.proofs.Remembering.{Remembers-set}
 use Rattle.crack_state.specs.State.{State, Carried, IsIntact}
 use Rattle.crack_state.proofs.OwnedLaws.{times-places, hand_apart}
+use Rattle.crack_store.specs.declared.inside.Inside.{Inside}
+use Rattle.crack_store.specs.Inside.{lists_of}
+use Rattle.crack_store.specs.Hand.{hand_of, HasHand}
 
--- the last of the handles was taken
-pub record IsPopped (old new : List Handle) (h : Handle) : Type 0 where
-  pub left : new ≡ take (length old - 1) old
-  pub taken : h ≡ get_or old (length old - 1) no_handle
-  pub fewer : length new ≡ length old - 1
+-- the row that a step takes into the hand is the one that stood at the place where it puts the hand
+pub met_at : (column : Column) (place : ℕ) (d : Handle) → place < length column.handles → (first_aside (exchanged_aside place column)).handle ≡ get_or column.handles place d
+met_at column place d within = get_or_default column.handles place no_handle d within
 
-pub popped : (old new : List Handle) (h : Handle) → old ≡ new ++ h ∷ [] → IsPopped old new h
-popped old new h split =
-    let long : length old ≡ length new + 1 = ap length split ∙ length_push new h in
-    let fewer : length new ≡ length old - 1 = omega arith in
-    let first : take (length new) (new ++ h ∷ []) ≡ new = take-append-le (length new) new (h ∷ []) (omega arith) ∙ take_all (length new) new (omega arith) in
-    record {
-      left = rw (← fewer, split) (sym first);
-      taken = rw (← fewer, split) (sym (get_or_push new h no_handle (length new) refl));
-      fewer = fewer;
-    }
+-- what is kept with a hand stays right where it changes places with another row
+pub HasHand-exchanged : (p q : Inside) (place : ℕ) → HasHand p → place < length p.column.handles → q.column ≡ exchanged_aside place p.column → q.arena ≡ p.arena → q.pending_in ≡ p.pending_in → q.pending_out ≡ p.pending_out → q.in_room ≡ p.in_room → IsIntact (lists_of q) (hand_of q ∷ []) → HasHand q
+HasHand-exchanged p q place has within column arena pending_in pending_out in_room intact = record {
+  kept = record {
+    intact = intact;
+    remembers = rw (column, arena) (Remembers-set p.arena.cells p.column.handles p.column.remembered place (hand_of p) (first_aside p.column).memory has.agrees has.kept.remembers);
+    keys_in = rw (arena, pending_in) has.kept.keys_in;
+    keys_out = rw (arena, pending_out) has.kept.keys_out;
+    room = rw (pending_in, in_room) has.kept.room;
+    covered = rw (arena, pending_in) has.kept.covered;
+  };
+  aside = rw column (omega arith);
+  agrees = rw (column, arena) (has.kept.remembers.right place no_handle within);
+  room = rw column has.room;
+}
 
 -- handles that are told to be the same are one
 pub same_handles : (h k : Handle) → same_handle h k ≡ true → h ≡ k

@@ -10,7 +10,6 @@ use crate::inside::Inside;
 use crate::search::note_if_doomed;
 use crate::steps::{free_hand, give_back, put_last};
 use crack_arena::Handle;
-use crack_column::Remembered;
 use crack_index::{NearBound, Piece};
 use crack_row::{Key, Row};
 use crack_state::MergeReport;
@@ -26,25 +25,21 @@ pub(crate) enum Near {
 }
 
 /// A store with one cell in hand, which stands in no list. It can't be let go: a step ends it and gives the store back.
+/// The column keeps the hand aside, so that a step exchanges two of its tags and reads no generation.
 pub struct Carrying {
     pub(crate) inside: Inside,
-    pub(crate) hand: Handle<Row>,
-    /// What the column remembers of the row in hand, or is to.
-    pub(crate) known: Remembered,
     pub(crate) near: Near,
 }
 
 impl Model for Carrying {
-    ghost use Rattle.std.specs.Prelude.{[], ◌∷◌};
     ghost use Rattle.crack_state.specs.State.{Carried};
-    ghost use Rattle.crack_store.specs.Inside.{lists_of};
-    ghost use Rattle.crack_store.specs.Hand.{KeepsHand};
+    ghost use Rattle.crack_store.specs.Hand.{carried_of, KeepsHand};
 
     ghost Value = { Carried };
 
-    ghost view = { λ c. record { store = lists_of c.inside; hand = c.hand } };
+    ghost view = { λ c. carried_of c.inside };
 
-    ghost invariant = { λ c. KeepsHand c.inside c.hand c.known c.near };
+    ghost invariant = { λ c. KeepsHand c.inside c.near };
 }
 
 impl Carrying {
@@ -60,8 +55,9 @@ impl Carrying {
         ensures handle { result.0 ≡ self.now.hand }
         ensures row { read self.now.store.cells self.now.hand ≡ Some result.1 }
     {
-        match self.inside.arena.get(self.hand) {
-            Some(row) => (self.hand, *row),
+        let hand = self.inside.column.aside();
+        match self.inside.arena.get(hand) {
+            Some(row) => (hand, *row),
             None => unreachable!(),
         }
     }
@@ -70,7 +66,7 @@ impl Carrying {
     pub fn holds(&self, handle: Handle<Row>) -> bool
         ensures { result ≡ same_handle self.now.hand handle }
     {
-        self.hand == handle
+        self.inside.column.aside() == handle
     }
 
     /// The number of rows in the column.
@@ -92,7 +88,8 @@ impl Carrying {
         ensures doomed { IsTrue result → IsDoomed self.now }
         ensures kept { IsFalse result → times self.now.hand.slot (slots self.now.store.pending_out) ≡ 0 }
     {
-        self.inside.pending_out.contains(self.hand.slot())
+        let slot = self.inside.column.aside_slot();
+        self.inside.pending_out.contains(slot)
     }
 
     /// The place of the column where the handle stands; none where it stands nowhere. O(rows of the column).
@@ -106,7 +103,7 @@ impl Carrying {
     pub fn hand_key(&self) -> Key
         ensures { result.0 ≡ hand_key self.now }
     {
-        self.known.key_of(self.hand, &self.inside.arena)
+        self.inside.column.aside_key(&self.inside.arena)
     }
 
     /// The piece whose keys hold the key of the row in hand. O(log bounds).
@@ -123,6 +120,7 @@ impl Carrying {
     }
 
     /// The least bound above the key in hand. O(1) on the way up, else O(log bounds).
+    #[inline]
     pub(crate) fn bound_above(&self) -> Option<NearBound>
         ensures { near_mark result ≡ next_mark (hand_key self.now) self.now.store.marks }
     {
@@ -133,6 +131,7 @@ impl Carrying {
     }
 
     /// The greatest bound at or below the key in hand. O(1) on the way down, else O(log bounds).
+    #[inline]
     fn bound_below(&self) -> Option<NearBound>
         ensures { near_mark result ≡ last_mark (hand_key self.now) self.now.store.marks }
     {
@@ -178,12 +177,7 @@ impl Carrying {
             unreachable!();
         };
         let next = self.inside.index.raise_past(bound);
-        let (met, known) = self
-            .inside
-            .column
-            .swap_in_remembered(bound.position(), self.hand, self.known);
-        self.hand = met;
-        self.known = known;
+        self.inside.column.exchange(bound.position());
         self.near = Near::Above(next);
         self.inside.tally.moved = self.inside.tally.moved.saturating_add(1);
     }
@@ -205,15 +199,10 @@ impl Carrying {
         note_if_doomed(
             &mut self.inside.notes,
             &self.inside.pending_out,
-            self.hand,
+            self.inside.column.aside_slot(),
             last,
         );
-        let (drawn, known) = self
-            .inside
-            .column
-            .swap_in_remembered(last, self.hand, self.known);
-        self.hand = drawn;
-        self.known = known;
+        self.inside.column.exchange(last);
         self.near = Near::Below(next);
         self.inside.tally.pulled = self.inside.tally.pulled.saturating_add(1);
     }
@@ -228,15 +217,10 @@ impl Carrying {
         note_if_doomed(
             &mut self.inside.notes,
             &self.inside.pending_out,
-            self.hand,
+            self.inside.column.aside_slot(),
             place,
         );
-        let (there, known) = self
-            .inside
-            .column
-            .swap_in_remembered(place, self.hand, self.known);
-        self.hand = there;
-        self.known = known;
+        self.inside.column.exchange(place);
         self.inside.tally.pulled = self.inside.tally.pulled.saturating_add(1);
     }
 
@@ -249,11 +233,9 @@ impl Carrying {
     {
         let Carrying {
             mut inside,
-            hand,
-            known: _,
             near: _,
         } = self;
-        free_hand(&mut inside, hand);
+        free_hand(&mut inside);
         Store { inside }
     }
 
@@ -266,11 +248,9 @@ impl Carrying {
     {
         let Carrying {
             mut inside,
-            hand,
-            known,
             near: _,
         } = self;
-        give_back(&mut inside, hand, known);
+        give_back(&mut inside);
         Store { inside }
     }
 
@@ -286,11 +266,9 @@ impl Carrying {
         let above = self.bound_above();
         let Carrying {
             mut inside,
-            hand,
-            known,
             near: _,
         } = self;
-        put_last(&mut inside, hand, known, above);
+        put_last(&mut inside, above);
         Store { inside }
     }
 }

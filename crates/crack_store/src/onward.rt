@@ -35,15 +35,15 @@ impl Carrying {
     /// It costs what the two do, and moves no store.
     pub fn append_and_lift(&mut self, place: usize)
         requires ends { piece_end self.old.store (hand_key self.old) ≡ length self.old.store.column }
-        requires room { 0 < self.old.store.column_room }
+        requires room { 1 < self.old.store.column_room }
         requires kept { times self.old.hand.slot (slots self.old.store.pending_out) ≡ 0 }
         requires there { place < length self.old.store.pending_in }
         ensures after { self.new ≡ lifted place (appended self.old) }
         ensures live { live_rows self.new.store ≡ live_rows self.old.store }
     {
         let above = self.bound_above();
-        put_last(&mut self.inside, self.hand, self.known, above);
-        (self.hand, self.known, self.near) = take_in(&mut self.inside, place);
+        put_last(&mut self.inside, above);
+        self.near = take_in(&mut self.inside, place);
     }
 
     /// Ends the way of the hand as `bury` does, and takes the pending insertion at this place into the hand, as `lift` does.
@@ -54,8 +54,8 @@ impl Carrying {
         ensures after { self.new ≡ lifted place (buried self.old) }
         ensures live { live_rows self.new.store ≡ live_rows self.old.store }
     {
-        free_hand(&mut self.inside, self.hand);
-        (self.hand, self.known, self.near) = take_in(&mut self.inside, place);
+        free_hand(&mut self.inside);
+        self.near = take_in(&mut self.inside, place);
     }
 
     /// Ends the way of the hand as `put_back` does, and takes the pending insertion at this place into the hand, as `lift` does; the hand
@@ -68,25 +68,13 @@ impl Carrying {
         ensures after { self.new ≡ lifted place (returned self.old) }
         ensures live { live_rows self.new.store ≡ live_rows self.old.store }
     {
-        give_back(&mut self.inside, self.hand, self.known);
-        (self.hand, self.known, self.near) = take_in(&mut self.inside, place);
+        give_back(&mut self.inside);
+        self.near = take_in(&mut self.inside, place);
     }
 
     /// The first pending insertion at or behind the place with its key in the range; O(1) for each that it passes. Where the range holds all
-    /// of the partition's keys, it looks at none.
-    pub fn next_in(&self, range: KeyRange, from: usize) -> Option<usize>
-        ensures { Finds range (keys_at self.now.store.cells self.now.store.pending_in) from result }
-    {
-        let inside = &self.inside;
-        if range.low().0 <= inside.keys.low().0 && inside.keys.high().0 <= range.high().0 {
-            if from < inside.pending_in.len() {
-                return Some(from);
-            }
-            return None;
-        }
-        inside.pending_in.next_in(range, from, &inside.arena)
-    }
-    /// As `next_in`, and goes on from the place that it finds when one is lifted next: to find a row and then to lift it is one pass.
+    /// of the partition's keys, it looks at none. It goes on from the place that it finds when one is lifted next: to find a row and then
+    /// to lift it is one pass.
     pub fn seek_in(&mut self, range: KeyRange, from: usize) -> Option<usize>
         ensures finds { Finds range (keys_at self.old.store.cells self.old.store.pending_in) from result }
         ensures same { self.new ≡ self.old }

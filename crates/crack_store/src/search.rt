@@ -18,7 +18,7 @@ impl Carrying {
         ensures same { self.new ≡ self.old }
     {
         let _ = &self.inside;
-        if self.hand.slot() == handle.slot() {
+        if self.inside.column.aside_slot() == handle.slot() {
             return None;
         }
         if let Some(place) = self.noted(handle) {
@@ -76,14 +76,9 @@ fn note_doomed(
     }
 }
 
-/// Notes the place to which a row goes, if it is doomed. O(1).
-pub(crate) fn note_if_doomed(
-    notes: &mut Notes,
-    pending_out: &PendingOut,
-    handle: Handle<Row>,
-    place: usize,
-) {
-    if pending_out.contains(handle.slot()) {
-        notes.put(handle.slot(), place);
+/// Notes the place to which the row of this slot goes, if it is doomed. O(1).
+pub(crate) fn note_if_doomed(notes: &mut Notes, pending_out: &PendingOut, slot: u32, place: usize) {
+    if pending_out.contains(slot) {
+        notes.put(slot, place);
     }
 }

@@ -1,98 +1,86 @@
 //! The steps between the lists and the hand, on the inside of a store: those by value and those by reference share them.
-ghost use Rattle.std.specs.Prelude.{◌≡◌, ◌<◌, ◌∷◌, [], length, All, IfSome, Contains};
+ghost use Rattle.std.specs.Prelude.{◌≡◌, ◌<◌, [], length, All, IfSome, Contains};
 ghost use Rattle.crack_arena.specs.Arena.{times, slots};
-ghost use Rattle.crack_column.specs.Column.{Agrees};
 ghost use Rattle.crack_index.specs.Marks.{next_mark, near_mark};
 ghost use Rattle.crack_state.specs.State.{live_rows};
 ghost use Rattle.crack_state.specs.Steps.{hand_key, piece_end, IsDoomed, lifted, lifted_last, appended, buried, raise_next as next_raised, returned};
 ghost use Rattle.crack_store.specs.Inside.{lists_of, KeepsIntact};
-ghost use Rattle.crack_store.specs.Hand.{carried_of, KeepsHand};
+ghost use Rattle.crack_store.specs.Hand.{hand_of, carried_of, HasHand, KeepsHand};
 
 use crate::carrying::Near;
 use crate::inside::Inside;
 use crate::points::row_at;
-use crack_arena::Handle;
 use crack_column::Remembered;
 use crack_index::{CrackerIndex, NearBound};
-use crack_row::Row;
 
-/// Takes the pending insertion at this place into the hand: its handle, what is to be remembered of its row, and the bound above its key.
+/// Takes the pending insertion at this place into the hand, with what is to be remembered of its row. The bound above its key.
 /// O(log bounds) at the first place or behind the one that was taken last; takes no memory.
-pub(crate) fn take_in(inside: &mut Inside, place: usize) -> (Handle<Row>, Remembered, Near)
+pub(crate) fn take_in(inside: &mut Inside, place: usize) -> Near
     requires intact { KeepsIntact inside.old [] }
     requires there { place < length inside.old.pending_in.handles }
-    ensures after { carried_of inside.new result.0 ≡ lifted place (lists_of inside.old) }
-    ensures kept { KeepsHand inside.new result.0 result.1 result.2 }
+    requires room { 0 < inside.old.column.room }
+    ensures after { carried_of inside.new ≡ lifted place (lists_of inside.old) }
+    ensures kept { KeepsHand inside.new result }
 {
     let hand = inside.pending_in.take(place);
     inside.tally.put_in = inside.tally.put_in.saturating_add(1);
     let row = row_at(&inside.arena, hand);
-    let near = Near::Above(inside.index.bound_above(row.key));
-    (hand, Remembered::of(row), near)
+    inside.column.set_aside(hand, Remembered::of(row));
+    Near::Above(inside.index.bound_above(row.key))
 }
 
-/// Takes the column's last row into the hand: its handle, what is to be remembered of it, and the bound up to its key. Each bound
-/// that stands behind it moves down by one. O(log bounds) and the bounds at that place; takes no memory.
-pub(crate) fn take_last(inside: &mut Inside) -> (Handle<Row>, Remembered, Near)
+/// Takes the column's last row into the hand, with what is remembered of it; each bound that stands behind it moves down by one.
+/// The bound up to its key. O(log bounds) and the bounds at that place; takes no memory.
+pub(crate) fn take_last(inside: &mut Inside) -> Near
     requires intact { KeepsIntact inside.old [] }
     requires some { 0 < length inside.old.column.handles }
-    ensures after { carried_of inside.new result.0 ≡ lifted_last (lists_of inside.old) }
-    ensures kept { KeepsHand inside.new result.0 result.1 result.2 }
+    ensures after { carried_of inside.new ≡ lifted_last (lists_of inside.old) }
+    ensures kept { KeepsHand inside.new result }
 {
     let len = inside.column.len();
     inside.index.lower_at(len);
-    let Some(hand) = inside.column.pop() else {
-        unreachable!();
-    };
-    let row = row_at(&inside.arena, hand);
-    let near = Near::Below(inside.index.bound_below(row.key));
-    (hand, Remembered::of(row), near)
+    inside.column.pop_aside();
+    let key = inside.column.aside_key(&inside.arena);
+    Near::Below(inside.index.bound_below(key))
 }
 
 /// Frees the cell of the hand, which is doomed, and strikes it from the pending deletions. Amortised O(1).
-pub(crate) fn free_hand(inside: &mut Inside, hand: Handle<Row>)
-    requires intact { KeepsIntact inside.old (hand ∷ []) }
-    requires doomed { IsDoomed (carried_of inside.old hand) }
-    ensures after { lists_of inside.new ≡ buried (carried_of inside.old hand) }
+pub(crate) fn free_hand(inside: &mut Inside)
+    requires hand { HasHand inside.old }
+    requires doomed { IsDoomed (carried_of inside.old) }
+    ensures after { lists_of inside.new ≡ buried (carried_of inside.old) }
     ensures live { live_rows (lists_of inside.new) ≡ live_rows (lists_of inside.old) }
     ensures intact { KeepsIntact inside.new [] }
 {
+    let hand = inside.column.aside();
     inside.pending_out.strike(hand);
     let _ = inside.arena.free(hand);
     inside.tally.taken_out = inside.tally.taken_out.saturating_add(1);
 }
 
-/// Puts the hand behind the column's last row, with what is to be remembered of it; `above` is the bound above its key.
+/// Puts the hand behind the column's last row; `above` is the bound above its key.
 /// O(1) and the bounds at that place; takes no memory.
-pub(crate) fn put_last(
-    inside: &mut Inside,
-    hand: Handle<Row>,
-    known: Remembered,
-    above: Option<NearBound>,
-)
-    requires intact { KeepsIntact inside.old (hand ∷ []) }
-    requires agrees { Agrees inside.old.arena.cells hand known }
-    requires above { near_mark above ≡ next_mark (hand_key (carried_of inside.old hand)) inside.old.index.marks }
-    requires ends { piece_end (lists_of inside.old) (hand_key (carried_of inside.old hand)) ≡ length inside.old.column.handles }
-    requires room { 0 < inside.old.column.room }
-    ensures after { lists_of inside.new ≡ appended (carried_of inside.old hand) }
+pub(crate) fn put_last(inside: &mut Inside, above: Option<NearBound>)
+    requires hand { HasHand inside.old }
+    requires above { near_mark above ≡ next_mark (hand_key (carried_of inside.old)) inside.old.index.marks }
+    requires ends { piece_end (lists_of inside.old) (hand_key (carried_of inside.old)) ≡ length inside.old.column.handles }
+    ensures after { lists_of inside.new ≡ appended (carried_of inside.old) }
     ensures intact { KeepsIntact inside.new [] }
 {
     raise_next(&mut inside.index, above);
-    inside.column.append_remembered(hand, known);
+    inside.column.append_aside();
 }
 
-/// Puts the hand, which isn't doomed, behind the last pending insertion; `known` is what is remembered of its row.
-/// O(1); takes no memory.
-pub(crate) fn give_back(inside: &mut Inside, hand: Handle<Row>, known: Remembered)
-    requires intact { KeepsIntact inside.old (hand ∷ []) }
-    requires agrees { Agrees inside.old.arena.cells hand known }
+/// Puts the hand, which isn't doomed, behind the last pending insertion. O(1); takes no memory.
+pub(crate) fn give_back(inside: &mut Inside)
+    requires hand { HasHand inside.old }
     requires room { 0 < inside.old.in_room }
-    requires kept { times hand.slot (slots inside.old.pending_out.handles) ≡ 0 }
-    ensures after { lists_of inside.new ≡ returned (carried_of inside.old hand) }
+    requires kept { times (hand_of inside.old).slot (slots inside.old.pending_out.handles) ≡ 0 }
+    ensures after { lists_of inside.new ≡ returned (carried_of inside.old) }
     ensures intact { KeepsIntact inside.new [] }
 {
-    let key = known.key_of(hand, &inside.arena);
+    let hand = inside.column.aside();
+    let key = inside.column.aside_key(&inside.arena);
     inside.pending_in.push_keyed(hand, key);
     inside.in_room -= 1;
     inside.tally.evicted = inside.tally.evicted.saturating_add(1);

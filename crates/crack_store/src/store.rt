@@ -153,21 +153,17 @@ impl Store {
         Ok(())
     }
 
-    /// Takes the pending insertion at this place of the order of arrival into the hand.
+    /// Takes the pending insertion at this place of the order of arrival into the hand, after `make_room`.
     /// O(log bounds) at the first place or behind the one that was taken last; takes no memory.
     pub fn lift(self, place: usize) -> Carrying
-        requires { place < length self.pending_in }
+        requires there { place < length self.pending_in }
+        requires room { 0 < self.column_room }
         ensures after { result ≡ lifted place self }
         ensures live { live_rows result.store ≡ live_rows self }
     {
         let Store { mut inside } = self;
-        let (hand, known, near) = take_in(&mut inside, place);
-        Carrying {
-            inside,
-            hand,
-            known,
-            near,
-        }
+        let near = take_in(&mut inside, place);
+        Carrying { inside, near }
     }
 
     /// Takes the column's last row into the hand; each bound that stands behind it moves down by one.
@@ -178,13 +174,8 @@ impl Store {
         ensures live { live_rows result.store ≡ live_rows self }
     {
         let Store { mut inside } = self;
-        let (hand, known, near) = take_last(&mut inside);
-        Carrying {
-            inside,
-            hand,
-            known,
-            near,
-        }
+        let near = take_last(&mut inside);
+        Carrying { inside, near }
     }
 
     /// How many rows stand in the column between the ends of a range by which it was cracked. O(log bounds).

@@ -257,3 +257,39 @@ fn sums_are_of_remembered_payloads(rt: HostRuntime) -> Result<(), Fail> {
     drop(arena);
     told
 }
+
+/// Puts a third row aside of two, and lets it change places with the first, which is then appended and taken out again.
+fn go_aside(rt: &impl Abort, arena: &mut Arena<Row>, column: &mut CrackerColumn) -> Result<(), Fail>
+    requires remembered { (cells : List (Cell RowValue)) → Remembers cells column.old.handles column.old.remembered }
+{
+    let a = put(rt, arena, 0, 40, 1)?;
+    let b = put(rt, arena, 1, 10, 2)?;
+    let c = put(rt, arena, 2, 30, 4)?;
+    let len = column.len();
+    assert!(rt; len == 0);
+    column.reserve(3)?;
+    column.append_remembered(a, memory(arena, a));
+    column.append_remembered(b, memory(arena, b));
+    column.set_aside(c, memory(arena, c));
+    assert_eq!(rt; column.aside_slot(), 2);
+    assert_eq!(rt; column.aside_key(arena), Key(30));
+    column.exchange(0);
+    assert!(rt; column.aside() == a);
+    assert_eq!(rt; sum(rt, arena, column, (0, 2)), 6);
+    column.append_aside();
+    assert_eq!(rt; sum(rt, arena, column, (0, 3)), 7);
+    column.pop_aside();
+    assert!(rt; column.aside() == a);
+    assert_eq!(rt; column.len(), 2);
+    Ok(())
+}
+
+#[test]
+fn a_row_aside_changes_places(rt: HostRuntime) -> Result<(), Fail> {
+    let mut arena = Arena::new(rt.alloc());
+    let mut column = CrackerColumn::new(rt.alloc());
+    let told = go_aside(&rt, &mut arena, &mut column);
+    drop(column);
+    drop(arena);
+    told
+}

@@ -1,33 +1,38 @@
-use Rattle.std.proofs.Common.{arith}
+use Rattle.std.proofs.Common.{◌≡◌, refl, arith}
+use Rattle.crack_arena.specs.Rows.{key_at}
 use Rattle.crack_state.specs.State.{Carried}
 use Rattle.crack_state.proofs.OwnedLaws.{hand_apart}
 use Rattle.crack_state.proofs.PullLaws.{IsIntact-returned}
 use Rattle.crack_store.specs.Inside.{lists_of}
-use Rattle.crack_store.specs.Hand.{carried_of}
+use Rattle.crack_store.specs.Hand.{hand_of, carried_of}
 use Rattle.crack_store.proofs.steps.give_back.Goals as goal
 
 pub push_keyed-requires-clause-room : goal.push_keyed-requires-clause-room
-push_keyed-requires-clause-room c = omega (arith, c.requires.room, c.requires.intact.room)
+push_keyed-requires-clause-room c = omega (arith, c.requires.room, c.requires.hand.kept.room)
 
 pub push_keyed-requires-clause-covered : goal.push_keyed-requires-clause-covered
 push_keyed-requires-clause-covered c =
     let s = lists_of c.args.inside.now in
-    let apart = hand_apart s.cells s.free s.column s.pending_in s.pending_out c.args.hand c.requires.intact.intact.owned in
-    omega (arith, apart.within, c.requires.intact.covered)
+    let apart = hand_apart s.cells s.free s.column s.pending_in s.pending_out (hand_of c.args.inside.now) c.requires.hand.kept.intact.owned in
+    rw c.aside-hand.ensures (omega (arith, apart.within, c.requires.hand.kept.covered))
 
 pub push_keyed-requires-clause-absent : goal.push_keyed-requires-clause-absent
 push_keyed-requires-clause-absent c =
     let s = lists_of c.args.inside.now in
-    (hand_apart s.cells s.free s.column s.pending_in s.pending_out c.args.hand c.requires.intact.intact.owned).off_pending
+    rw c.aside-hand.ensures (hand_apart s.cells s.free s.column s.pending_in s.pending_out (hand_of c.args.inside.now) c.requires.hand.kept.intact.owned).off_pending
+
+pub returns-clause-after : goal.returns-clause-after
+returns-clause-after c = rw (c.push_keyed.ensures.after, c.saturating_add-inside.ensures, c.aside-hand.ensures) refl
 
 pub returns-clause-intact : goal.returns-clause-intact
 returns-clause-intact c =
-    let carried : Carried = carried_of c.args.inside.now c.args.hand in
+    let carried : Carried = carried_of c.args.inside.now in
+    let key : c.aside_key-key.result.0 ≡ key_at carried.store.cells c.aside-hand.result = rw c.aside-hand.ensures c.aside_key-key.ensures in
     record {
-      intact = rw (c.push_keyed.ensures.after, c.saturating_add-inside.ensures) (IsIntact-returned carried c.requires.kept c.requires.intact.intact);
-      remembers = c.requires.intact.remembers;
-      keys_in = c.push_keyed.ensures.remembered carried.store.cells c.key_of-key.ensures c.requires.intact.keys_in;
-      keys_out = c.requires.intact.keys_out;
-      room = rw c.push_keyed.ensures.after (omega (arith, c.requires.intact.room));
-      covered = rw c.push_keyed.ensures.after c.requires.intact.covered;
+      intact = rw (c.push_keyed.ensures.after, c.saturating_add-inside.ensures, c.aside-hand.ensures) (IsIntact-returned carried c.requires.kept c.requires.hand.kept.intact);
+      remembers = c.requires.hand.kept.remembers;
+      keys_in = c.push_keyed.ensures.remembered carried.store.cells key c.requires.hand.kept.keys_in;
+      keys_out = c.requires.hand.kept.keys_out;
+      room = rw c.push_keyed.ensures.after (omega (arith, c.requires.hand.kept.room));
+      covered = rw c.push_keyed.ensures.after c.requires.hand.kept.covered;
     }

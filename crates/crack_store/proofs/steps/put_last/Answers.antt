@@ -4,31 +4,32 @@ use Rattle.crack_state.specs.State.{Carried}
 use Rattle.crack_state.specs.Steps.{hand_key, piece_end, raise_next}
 use Rattle.crack_state.proofs.StepLaws.{IsIntact-appended}
 use Rattle.crack_store.specs.Inside.{lists_of}
+use Rattle.crack_store.specs.Hand.{hand_of, carried_of}
 use Rattle.crack_store.proofs.EdgeLemmas.{positions_small}
 use Rattle.crack_store.proofs.NextLemmas.{next_listed}
 use Rattle.crack_store.proofs.steps.put_last.Goals as goal
 
 pub raise_next-requires-clause-there : goal.raise_next-requires-clause-there
 raise_next-requires-clause-there c =
-    let carried : Carried = record { store = lists_of c.args.inside.now; hand = c.args.hand } in
+    let carried : Carried = carried_of c.args.inside.now in
     let above : near_mark c.args.above ≡ next_mark (hand_key carried) carried.store.marks = c.requires.above in
-    next_listed carried.store (carried.hand ∷ []) (hand_key carried) c.args.above c.requires.intact.intact above
+    next_listed carried.store (carried.hand ∷ []) (hand_key carried) c.args.above c.requires.hand.kept.intact above
 
 pub raise_next-requires-clause-small : goal.raise_next-requires-clause-small
-raise_next-requires-clause-small c = positions_small (lists_of c.args.inside.now) (c.args.hand ∷ []) c.requires.intact.intact
+raise_next-requires-clause-small c = positions_small (lists_of c.args.inside.now) (hand_of c.args.inside.now ∷ []) c.requires.hand.kept.intact
 
 pub returns-clause-intact : goal.returns-clause-intact
 returns-clause-intact c =
     let s = lists_of c.args.inside.now in
-    let carried : Carried = record { store = s; hand = c.args.hand } in
+    let carried : Carried = carried_of c.args.inside.now in
     let ends : piece_end s (hand_key carried) ≡ length s.column = c.requires.ends in
     let above : near_mark c.args.above ≡ next_mark (hand_key carried) s.marks = c.requires.above in
     let marks : c.raise_next.new.index.marks ≡ raise_next (next_mark (hand_key carried) s.marks) s.marks = rw above at c.raise_next.ensures.marks in
     record {
-      intact = rw (c.append_remembered.ensures.after, marks) (IsIntact-appended carried ends c.requires.intact.intact);
-      remembers = c.append_remembered.ensures.remembered c.args.inside.now.arena.cells c.requires.intact.remembers c.requires.agrees;
-      keys_in = c.requires.intact.keys_in;
-      keys_out = c.requires.intact.keys_out;
-      room = c.requires.intact.room;
-      covered = c.requires.intact.covered;
+      intact = rw (c.append_aside.ensures.after, marks) (IsIntact-appended carried ends c.requires.hand.kept.intact);
+      remembers = c.append_aside.ensures.remembered c.args.inside.now.arena.cells c.requires.hand.kept.remembers c.requires.hand.agrees;
+      keys_in = c.requires.hand.kept.keys_in;
+      keys_out = c.requires.hand.kept.keys_out;
+      room = c.requires.hand.kept.room;
+      covered = c.requires.hand.kept.covered;
     }

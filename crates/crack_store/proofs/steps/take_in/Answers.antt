@@ -1,4 +1,4 @@
-use Rattle.std.proofs.Common.{◌≡◌, ◌<◌, Some, inr, length, get_or, ◌∙◌, arith}
+use Rattle.std.proofs.Common.{◌≡◌, ◌<◌, Some, inr, length, get_or, refl, ◌∙◌, arith}
 use Rattle.std.proofs.lemmas.List.{get_or_default}
 use Rattle.crack_arena.specs.Arena.{no_handle, read}
 use Rattle.crack_state.proofs.StepLaws.{IsIntact-lifted}
@@ -19,14 +19,25 @@ returns-clause-kept c =
     let hand : c.take-hand.result ≡ get_or s.pending_in c.args.place no_handle = c.take-hand.ensures.value.is ∙ get_or_default s.pending_in c.args.place c.take-hand.result no_handle there in
     let reads : read s.cells (get_or s.pending_in c.args.place no_handle) ≡ Some c.row_at-row.result = rw hand at c.row_at-row.ensures in
     record {
-      kept = record {
-        intact = rw (c.take-hand.ensures.handles, hand, c.saturating_add-inside.ensures) (IsIntact-lifted c.args.place s there c.requires.intact.intact);
-        remembers = c.requires.intact.remembers;
-        keys_in = c.take-hand.ensures.remembered s.cells c.requires.intact.keys_in;
-        keys_out = c.requires.intact.keys_out;
-        room = omega (arith, c.requires.intact.room, c.take-hand.ensures.room);
-        covered = rw c.take-hand.ensures.covered c.requires.intact.covered;
+      has = record {
+        kept = record {
+          intact = rw (c.set_aside.ensures, c.take-hand.ensures.handles, hand, c.saturating_add-inside.ensures) (IsIntact-lifted c.args.place s there c.requires.intact.intact);
+          remembers = rw c.set_aside.ensures c.requires.intact.remembers;
+          keys_in = c.take-hand.ensures.remembered s.cells c.requires.intact.keys_in;
+          keys_out = c.requires.intact.keys_out;
+          room = omega (arith, c.requires.intact.room, c.take-hand.ensures.room);
+          covered = rw c.take-hand.ensures.covered c.requires.intact.covered;
+        };
+        aside = rw c.set_aside.ensures (omega arith);
+        agrees = rw c.set_aside.ensures (inr (rw (hand, reads) c.of.ensures));
+        room = rw c.set_aside.ensures c.requires.room;
       };
-      agrees = inr (rw (hand, reads) c.of.ensures);
-      is_near = rw (hand, reads) c.bound_above.ensures.value;
+      is_near = rw (c.set_aside.ensures, hand, reads) c.bound_above.ensures.value;
     }
+
+pub returns-clause-after : goal.returns-clause-after
+returns-clause-after c =
+    let s = lists_of c.args.inside.now in
+    let there : c.args.place < length s.pending_in = c.requires.there in
+    let hand : c.take-hand.result ≡ get_or s.pending_in c.args.place no_handle = c.take-hand.ensures.value.is ∙ get_or_default s.pending_in c.args.place c.take-hand.result no_handle there in
+    rw (c.set_aside.ensures, c.take-hand.ensures.handles, c.saturating_add-inside.ensures, hand) refl

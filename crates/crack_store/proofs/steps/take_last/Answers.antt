@@ -1,8 +1,8 @@
-use Rattle.std.proofs.Common.{◌≡◌, ◌+◌, ◌-◌, ◌<◌, ◌∷◌, [], ◌++◌, Some, length, get_or, refl, inr, arith}
-use Rattle.crack_arena.specs.Arena.{no_handle, read}
+use Rattle.std.proofs.Common.{◌-◌, ◌<◌, length, refl, arith}
+use Rattle.crack_arena.specs.Arena.{no_handle}
+use Rattle.crack_column.proofs.Remembering.{Remembers-take}
 use Rattle.crack_state.proofs.PullLaws.{IsIntact-lifted_last}
 use Rattle.crack_store.specs.Inside.{lists_of}
-use Rattle.crack_store.proofs.HandLemmas.{popped}
 use Rattle.crack_store.proofs.steps.take_last.Goals as goal
 
 pub lower_at-requires : goal.lower_at-requires
@@ -10,39 +10,36 @@ lower_at-requires c =
     let some : 0 < length c.args.inside.now.column.handles = c.requires.some in
     λ k d h e. omega (arith, some, c.len-len.ensures.value)
 
+pub aside_key-key-requires-clause-some : goal.aside_key-key-requires-clause-some
+aside_key-key-requires-clause-some c = rw c.pop_aside.ensures (omega arith)
+
+pub aside_key-key-requires-clause-known : goal.aside_key-key-requires-clause-known
+aside_key-key-requires-clause-known c =
+    let column = c.args.inside.now.column in
+    let some : 0 < length column.handles = c.requires.some in
+    rw c.pop_aside.ensures (c.requires.intact.remembers.right (length column.handles - 1) no_handle (omega arith))
+
 pub returns-clause-kept : goal.returns-clause-kept
 returns-clause-kept c =
     let s = lists_of c.args.inside.now in
+    let column = c.args.inside.now.column in
     let some : 0 < length s.column = c.requires.some in
-    let split : s.column ≡ c.pop.new.self.handles ++ c.in-Some.hand ∷ [] = rw c.in-Some.is at c.pop.ensures.handles in
-    let is = popped s.column c.pop.new.self.handles c.in-Some.hand split in
-    let room : c.pop.new.self.room ≡ s.column_room + 1 = rw c.in-Some.is at c.pop.ensures.room in
-    let reads : read s.cells (get_or s.column (length s.column - 1) no_handle) ≡ Some c.row_at-row.result = rw is.taken at c.row_at-row.ensures in
     record {
-      kept = record {
-        intact = rw (is.left, is.taken, c.lower_at.ensures.marks, c.len-len.ensures.value, room) (IsIntact-lifted_last s some c.requires.intact.intact);
-        remembers = c.pop.ensures.remembered s.cells c.requires.intact.remembers;
-        keys_in = c.requires.intact.keys_in;
-        keys_out = c.requires.intact.keys_out;
-        room = c.requires.intact.room;
-        covered = c.requires.intact.covered;
+      has = record {
+        kept = record {
+          intact = rw (c.pop_aside.ensures, c.lower_at.ensures.marks, c.len-len.ensures.value) (IsIntact-lifted_last s some c.requires.intact.intact);
+          remembers = rw c.pop_aside.ensures (Remembers-take s.cells column.handles column.remembered (length column.handles - 1) (omega arith) c.requires.intact.remembers);
+          keys_in = c.requires.intact.keys_in;
+          keys_out = c.requires.intact.keys_out;
+          room = c.requires.intact.room;
+          covered = c.requires.intact.covered;
+        };
+        aside = rw c.pop_aside.ensures (omega arith);
+        agrees = rw c.pop_aside.ensures (c.requires.intact.remembers.right (length column.handles - 1) no_handle (omega arith));
+        room = rw c.pop_aside.ensures (omega arith);
       };
-      agrees = inr (rw (is.taken, reads) c.of.ensures);
-      is_near = rw (is.taken, reads) c.bound_below.ensures.value;
+      is_near = rw (← c.aside_key-key.ensures) c.bound_below.ensures.value;
     }
 
-pub row_at-row-requires : goal.row_at-row-requires
-row_at-row-requires c =
-    let s = lists_of c.args.inside.now in
-    let some : 0 < length s.column = c.requires.some in
-    let split : s.column ≡ c.pop.new.self.handles ++ c.in-Some.hand ∷ [] = rw c.in-Some.is at c.pop.ensures.handles in
-    let is = popped s.column c.pop.new.self.handles c.in-Some.hand split in
-    rw is.taken (c.requires.intact.intact.owned.column_reads (length s.column - 1) no_handle (omega arith))
-
 pub returns-clause-after : goal.returns-clause-after
-returns-clause-after c =
-    let s = lists_of c.args.inside.now in
-    let split : s.column ≡ c.pop.new.self.handles ++ c.in-Some.hand ∷ [] = rw c.in-Some.is at c.pop.ensures.handles in
-    let is = popped s.column c.pop.new.self.handles c.in-Some.hand split in
-    let room : c.pop.new.self.room ≡ s.column_room + 1 = rw c.in-Some.is at c.pop.ensures.room in
-    rw (is.left, is.taken, c.lower_at.ensures.marks, c.len-len.ensures.value, room) refl
+returns-clause-after c = rw (c.pop_aside.ensures, c.lower_at.ensures.marks, c.len-len.ensures.value) refl

@@ -2,7 +2,7 @@ use Rattle.std.proofs.Common.{◌≡◌, ◌≤◌, ◌+◌, length, take, arith
 use Rattle.crack_column.specs.Column.{Remembers, Cracks}
 use Rattle.crack_column.proofs.Cracking.{Cracks-remembers, length-Cracks}
 use Rattle.crack_column.specs.Tickets.{AreDrawn, Turns, handles_in, remembered_in, unread_in}
-use Rattle.crack_column.proofs.TicketLaws.{length-in, Knows-Remembers, AreDrawn-Turns, Cracks-Turns, length-Turns, unread-Turns, unread-between}
+use Rattle.crack_column.proofs.TicketLaws.{length-in, Knows-Remembers, AreDrawn-Turns, Cracks-Turns, length-Turns, aside-Turns, unread-Turns, unread-between}
 use Rattle.crack_column.proofs.column.CrackerColumn.crack_two.Goals as goal
 use Rattle.crack_column.proofs.column.CrackerColumn.crack_two.Goals.{After-deref, After-crack_between-place}
 
@@ -59,6 +59,10 @@ returns-clause-length c =
 
 pub returns-clause-room : goal.returns-clause-room
 returns-clause-room c = rw (← c.self.view_is, long c.before, c.crack_between-place.ensures.capacity) refl
+
+pub returns-clause-aside : goal.returns-clause-aside
+returns-clause-aside c =
+    rw (← c.self.view_is) (aside-Turns c.args.arena.now.cells c.self.inside.generations.items c.args.bound.0 c.args.from c.args.to c.self.inside.tags.items c.crack_between-place.new.tags.items c.crack_between-place.result.0 c.crack_between-place.result.1 c.self.inside.len c.self.invariant.are c.requires.order (end_len c.before.before) (turned c.before))
 
 pub returns-clause-remembered : goal.returns-clause-remembered
 returns-clause-remembered c =

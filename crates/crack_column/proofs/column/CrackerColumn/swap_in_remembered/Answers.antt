@@ -5,7 +5,7 @@ use Rattle.crack_arena.specs.Rows.{unknown}
 use Rattle.crack_column.specs.Column.{Memory}
 use Rattle.crack_column.specs.Tickets.{unread_in}
 use Rattle.crack_column.proofs.Remembering.{Remembers-set}
-use Rattle.crack_column.proofs.TicketLaws.{length-in, unread-le, AreDrawn-Kept, length-Kept, handles-swapped, remembered-swapped, unread-swapped, stands_at, remembered_at}
+use Rattle.crack_column.proofs.TicketLaws.{length-in, unread-le, AreDrawn-Kept, length-Kept, handles-swapped, remembered-swapped, unread-swapped, aside-behind, stands_at, remembered_at}
 use Rattle.crack_column.proofs.column.CrackerColumn.swap_in_remembered.Goals as goal
 use Rattle.crack_column.proofs.column.CrackerColumn.swap_in_remembered.Goals.{After-keep-out}
 
@@ -50,6 +50,7 @@ returns-clause-after c =
       ← c.self.view_is,
       handles-swapped gs ts c.args.place c.args.handle c.args.remembered c.keep-out.new.generations.items c.keep-out.new.tags.items c.keep-out.result.0 c.keep-out.result.1 c.self.inside.len c.self.invariant.are (inside_tags c.before.before.before) c.keep-out.ensures.kept (inside_len c.before.before.before),
       remembered-swapped gs ts c.args.place c.args.handle c.args.remembered c.keep-out.new.generations.items c.keep-out.new.tags.items c.keep-out.result.0 c.keep-out.result.1 c.self.inside.len c.self.invariant.are (inside_tags c.before.before.before) c.keep-out.ensures.kept (inside_len c.before.before.before),
+      aside-behind gs ts c.args.place c.args.handle c.args.remembered c.keep-out.new.generations.items c.keep-out.new.tags.items c.keep-out.result.0 c.keep-out.result.1 c.self.inside.len c.self.invariant.are (inside_tags c.before.before.before) c.keep-out.ensures.kept c.self.inside.len (inside_len c.before.before.before),
       length-Kept gs ts c.args.place c.args.handle c.args.remembered c.keep-out.new.generations.items c.keep-out.new.tags.items c.keep-out.result.0 c.keep-out.result.1 c.self.inside.len c.self.invariant.are (inside_tags c.before.before.before) c.keep-out.ensures.kept,
       c.keep-out.ensures.capacities.0,
       c.keep-out.ensures.capacities.1,

@@ -1,14 +1,15 @@
 use Rattle.std.proofs.Common.{◌∷◌, [], arith}
 use Rattle.crack_state.proofs.LayoutLaws.{cells-intact}
 use Rattle.crack_store.specs.Inside.{lists_of}
+use Rattle.crack_store.specs.Hand.{hand_of}
 use Rattle.crack_store.proofs.carrying.Carrying.make_room.Goals as goal
 
 pub reserve-requires : goal.reserve-requires
 reserve-requires c =
-    let intact = c.self.invariant.kept.intact in
-    omega (arith, cells-intact (lists_of c.self.inside.inside) (c.self.inside.hand ∷ []) intact, intact.few_cells)
+    let intact = c.self.invariant.has.kept.intact in
+    omega (arith, cells-intact (lists_of c.self.inside.inside) ((hand_of c.self.inside.inside) ∷ []) intact, intact.few_cells)
 
 pub reserve-requires-then-self-lt2 : goal.reserve-requires-then-self-lt2
 reserve-requires-then-self-lt2 c =
-    let intact = c.self.invariant.kept.intact in
-    omega (arith, cells-intact (lists_of c.self.inside.inside) (c.self.inside.hand ∷ []) intact, intact.few_cells)
+    let intact = c.self.invariant.has.kept.intact in
+    omega (arith, cells-intact (lists_of c.self.inside.inside) ((hand_of c.self.inside.inside) ∷ []) intact, intact.few_cells)
