@@ -58,33 +58,49 @@ Exporting-start splits tables left out out' known written = record {
   written = rw (append-nil header_text) written;
 }
 
+-- the partition that is asked next is the first of the rest
+pub next_is : (done : List Table) (t : Table) (rest : List Table) (part : ℕ) (table : Table) → length done ≡ part → slice_get (map asked done ++ t ∷ rest) part ≡ Some table → table ≡ t
+next_is done t rest part table reached there =
+    let n : length (map asked done) ≡ part = length-map done ∙ reached in
+    let first : slice_get (map asked done ++ t ∷ rest) part ≡ Some t = ap (slice_get (map asked done ++ t ∷ rest)) (sym n) ∙ get_behind (map asked done) (t ∷ rest) in
+    cc (first, there)
+
+-- so there is one
+pub next_is_there : (done : List Table) (part : ℕ) (table : Table) → length done ≡ part → slice_get (map asked done ++ []) part ≡ Some table → ⊥
+next_is_there done part table reached there =
+    let n : length (map asked done) ≡ part = length-map done ∙ reached in
+    let none : slice_get (map asked done ++ []) part ≡ None = ap (slice_get (map asked done ++ [])) (sym n) ∙ get_behind (map asked done) [] in
+    cc (none, there)
+
+-- and then it is one of those that are asked
+pub next_asked : (done : List Table) (t : Table) (rest : List Table) (part : ℕ) (table : Table) → length done ≡ part → table ≡ t → slice_set (map asked done ++ t ∷ rest) part (asked table) ≡ map asked (done ++ t ∷ []) ++ rest
+next_asked done t rest part table reached same =
+    let n : length (map asked done) ≡ part = length-map done ∙ reached in
+    ap (λ x. slice_set (map asked done ++ t ∷ rest) part (asked x)) same
+    ∙ ap (λ i. slice_set (map asked done ++ t ∷ rest) i (asked t)) (sym n)
+    ∙ set_behind (map asked done) t rest (asked t)
+    ∙ sym (append_assoc (map asked done) (asked t ∷ []) rest)
+    ∙ ap (λ z. z ++ rest) (sym (map-append asked done (t ∷ [])))
+
+-- the rows of one more partition
+pub next_rows : (splits : List Bound) (done : List Table) (t : Table) (part : ℕ) (table : Table) → length done ≡ part → table ≡ t → rows_from splits 0 (done ++ t ∷ []) ≡ rows_from splits 0 done ++ rows_at splits part table
+next_rows splits done t part table reached same = rows_from-push splits 0 done t part (omega (arith, reached)) ∙ ap (λ x. rows_from splits 0 done ++ rows_at splits part x) (sym same)
+
 -- the rest begins with the partition that is asked next
 Exporting-next : {splits : List Bound} {tables : List Table} {part count : ℕ} {out out' : Option (List ℕ)} (more : ℕ) (left' : Option (List Table)) (out'' : Option (List ℕ)) (done rest : List Table)
     → tables ≡ done ++ rest → length done ≡ part → count ≡ length (rows_from splits 0 done) → Appends out out' (header_text ++ flat_map record_text (rows_from splits 0 done))
     → IsPartExported splits (map asked done ++ rest) part more left' out' out'' → Exporting splits tables (part + 1) (count + more) left' out out''
-Exporting-next {splits} {tables} {part} {count} {out} {out'} more left' out'' done [] split reached counted written next =
-    let n : length (map asked done) ≡ part = length-map done ∙ reached in
-    let there : slice_get (map asked done ++ []) part ≡ Some next.table = next.there in
-    let none : slice_get (map asked done ++ []) part ≡ None = ap (slice_get (map asked done ++ [])) (sym n) ∙ get_behind (map asked done) [] in
-    absurd (cc (none, there))
+Exporting-next {splits} {tables} {part} {count} {out} {out'} more left' out'' done [] split reached counted written next = absurd (next_is_there done part next.table reached next.there)
 Exporting-next {splits} {tables} {part} {count} {out} {out'} more left' out'' done (t ∷ rest) split reached counted written next =
-    let n : length (map asked done) ≡ part = length-map done ∙ reached in
-    let first : slice_get (map asked done ++ t ∷ rest) part ≡ Some t = ap (slice_get (map asked done ++ t ∷ rest)) (sym n) ∙ get_behind (map asked done) (t ∷ rest) in
-    let same : next.table ≡ t = cc (first, next.there) in
-    let rows : rows_from splits 0 (done ++ t ∷ []) ≡ rows_from splits 0 done ++ rows_at splits part next.table = rows_from-push splits 0 done t part (omega (arith, reached)) ∙ ap (λ x. rows_from splits 0 done ++ rows_at splits part x) (sym same) in
+    let same : next.table ≡ t = next_is done t rest part next.table reached next.there in
+    let rows = next_rows splits done t part next.table reached same in
     record {
       done = done ++ t ∷ [];
       rest = rest;
       split = split ∙ sym (append_assoc done (t ∷ []) rest);
       reached = let l = length-append done (t ∷ []) in omega (arith, l, reached);
       count_is = let l = length-append (rows_from splits 0 done) (rows_at splits part next.table) in let r = ap length rows in let m = next.count_is in omega (arith, l, r, m, counted);
-      left_is = next.left_is ∙ ap Some (
-          ap (λ x. slice_set (map asked done ++ t ∷ rest) part (asked x)) same
-          ∙ ap (λ i. slice_set (map asked done ++ t ∷ rest) i (asked t)) (sym n)
-          ∙ set_behind (map asked done) t rest (asked t)
-          ∙ sym (append_assoc (map asked done) (asked t ∷ []) rest)
-          ∙ ap (λ z. z ++ rest) (sym (map-append asked done (t ∷ [])))
-          );
+      left_is = next.left_is ∙ ap Some (next_asked done t rest part next.table reached same);
       written = Appends-then _ _ _ _ _ _ written next.written (
           ap (λ z. header_text ++ flat_map record_text z) rows
           ∙ ap (λ z. header_text ++ z) (flat_map-append record_text (rows_from splits 0 done) (rows_at splits part next.table))
@@ -96,7 +112,7 @@ Exporting-next {splits} {tables} {part} {count} {out} {out'} more left' out'' do
 pub Exporting-more : {splits : List Bound} {tables : List Table} {part count : ℕ} {left : Option (List Table)} {out out' : Option (List ℕ)} (more : ℕ) (left' : Option (List Table)) (out'' : Option (List ℕ)) → Exporting splits tables part count left out out' → ((known : List Table) → left ≡ Some known → IsPartExported splits known part more left' out' out'') → Exporting splits tables (part + 1) (count + more) left' out out''
 Exporting-more more left' out'' was next = Exporting-next more left' out'' was.done was.rest was.split was.reached was.count_is was.written (next _ was.left_is)
 
-kept_written : (out a b : Option (List ℕ)) (text : List ℕ) → Appends out a text → Appends a b [] → Appends out b text
+pub kept_written : (out a b : Option (List ℕ)) (text : List ℕ) → Appends out a text → Appends a b [] → Appends out b text
 kept_written out a b text h k = Appends-then out a b text [] text h k (sym (append-nil text))
 
 Exporting-whole : {splits : List Bound} {tables : List Table} {count : ℕ} {left : Option (List Table)} {out out' : Option (List ℕ)} (done rest : List Table) → tables ≡ done ++ rest → length done ≡ length tables → count ≡ length (rows_from splits 0 done) → left ≡ Some (map asked done ++ rest) → Appends out out' (header_text ++ flat_map record_text (rows_from splits 0 done)) → IsExported splits tables count left out out'
@@ -123,12 +139,12 @@ reply_is false limit said reply (inl same) = cc same
 reply_is false limit said reply (inr short) = cc (short.0)
 
 -- a partition that answers a select is there, and lists its rows of the range
-replied_rows : (limit : ℕ) (keys : Range) (there : Option Table) (range : Range) (reply : Reply) → IsOutcome (expected limit keys there (Select range)) (Ok reply) → (table : Table) × (there ≡ Some table) × (reply ≡ Rows (rows_in range table.state.rows))
+pub replied_rows : (limit : ℕ) (keys : Range) (there : Option Table) (range : Range) (reply : Reply) → IsOutcome (expected limit keys there (Select range)) (Ok reply) → (table : Table) × (there ≡ Some table) × (reply ≡ Rows (rows_in range table.state.rows))
 replied_rows limit keys None range reply (inl same) = cc same
 replied_rows limit keys None range reply (inr short) = cc (short.0)
 replied_rows limit keys (Some table) range reply outcome = (table, refl, reply_is (nat_le limit table.accepted) limit (Rows (rows_in range table.state.rows)) reply outcome)
 
-index_there : (tables : List Table) (i : ℕ) (table other : Table) → slice_get tables i ≡ Some table → slice_index_or tables i other ≡ table
+pub index_there : (tables : List Table) (i : ℕ) (table other : Table) → slice_get tables i ≡ Some table → slice_index_or tables i other ≡ table
 index_there [] i table other e = cc e
 index_there (t ∷ tables) zero table other e = cc e
 index_there (t ∷ tables) (suc i) table other e = index_there tables i table other e

@@ -1,3 +1,4 @@
+pub mod Cutting
 pub mod Exporting
 pub mod Fields
 pub mod Loading

@@ -1,12 +1,12 @@
 //! Exports rows as CSV.
-ghost use Rattle.std.specs.Prelude.{◌≡◌, ◌+◌, ◌≤◌, ◌<◌, ◌^◌, ◌⊎◌, ◌++◌, List, Some, length, IfOk, IfErr, OnOk};
+ghost use Rattle.std.specs.Prelude.{◌≡◌, ◌+◌, ◌≤◌, ◌<◌, ◌^◌, ◌⊎◌, ◌++◌, List, Some, length, map, IfOk, IfErr, OnOk};
 ghost use Rattle.std.specs.List.{flat_map};
 ghost use Rattle.std.specs.Io.KnownBytes.{Appends, Keeps};
 ghost use Rattle.crack_row.specs.Devices.{device, has_failed};
 ghost use Rattle.crack_plain.specs.Plain.{Table};
 ghost use Rattle.crack_core.specs.Steps.{tables_of};
 ghost use Rattle.crack_session.specs.Queries.{listed};
-ghost use Rattle.crack_csv.specs.Exports.{header_text, record_text, rows_from, all_rows, IsExported, IsPartExported};
+ghost use Rattle.crack_csv.specs.Exports.{header_text, record_text, rows_from, all_rows, IsExported, IsPartExported, IsUnsent, AreUnsent, IsPartCut, IsExportCut};
 
 use crate::text::{header_text, rows_text};
 use crack_commands::send;
@@ -31,12 +31,18 @@ pub fn export_csv<D: Desk, W: Write>(
 ) -> Result<u64, Refusal>
     ensures exported { IfOk result (λ count. (tables : List Table) → D.tables desk.old ≡ Some tables →
         IsExported (D.splits desk.old) tables count (D.tables desk.new) (W.contents (device writer.old)) (W.contents (device writer.new))) }
+    // On a refusal the first partitions are asked, and no row is changed. Their records are written up to what the cause says.
+    ensures cut { IfErr result (λ e. (tables : List Table) → D.tables desk.old ≡ Some tables →
+        IsExportCut (D.limit desk.old) (D.splits desk.old) tables e (D.receipts desk.old) (D.receipts desk.new)
+        (has_failed writer.old) (has_failed writer.new) (D.tables desk.new) (W.contents (device writer.old)) (W.contents (device writer.new))) }
     ensures unfailed { OnOk result (has_failed writer.new ≡ has_failed writer.old) }
     ensures receipts { OnOk result (D.receipts desk.new ≡ D.receipts desk.old + length (D.splits desk.old) + 1) }
     ensures splits { D.splits desk.new ≡ D.splits desk.old }
     ensures limit { D.limit desk.new ≡ D.limit desk.old }
 {
-    write_header(alloc, writer)?;
+    if let Err(refusal) = write_header(alloc, writer) {
+        return Err(refusal);
+    }
     let parts = desk.splits().len() as u32 + 1;
     let mut count = 0;
     'parts: for part in 0..parts {
@@ -69,6 +75,9 @@ fn export_part<D: Desk, W: Write>(
     requires { part ≤ length (D.splits desk.old) }
     ensures exported { IfOk result (λ count. (tables : List Table) → D.tables desk.old ≡ Some tables →
         IsPartExported (D.splits desk.old) tables part count (D.tables desk.new) (W.contents (device writer.old)) (W.contents (device writer.new))) }
+    ensures cut { IfErr result (λ e. (tables : List Table) → D.tables desk.old ≡ Some tables →
+        IsPartCut (D.limit desk.old) (D.splits desk.old) tables part e (D.receipts desk.old) (D.receipts desk.new)
+        (has_failed writer.old) (has_failed writer.new) (D.tables desk.new) (W.contents (device writer.old)) (W.contents (device writer.new))) }
     ensures small { IfOk result (λ count. count < 2 ^ 32) }
     ensures unfailed { OnOk result (has_failed writer.new ≡ has_failed writer.old) }
     ensures receipts { OnOk result (D.receipts desk.new ≡ D.receipts desk.old + 1) }
@@ -79,7 +88,9 @@ fn export_part<D: Desk, W: Write>(
     match desk.ask(part, Command::Select(keys), policy) {
         Ok(reply) => {
             let rows = listed(&reply);
-            write_rows(alloc, rows, writer)?;
+            if let Err(refusal) = write_rows(alloc, rows, writer) {
+                return Err(refusal);
+            }
             Ok(rows.len() as u64)
         }
         Err(refusal) => Err(refusal),
@@ -100,20 +111,26 @@ fn listed(reply: &Reply) -> &[Row]
 fn write_header<W: Write>(alloc: Global, writer: &mut Watched<W>) -> Result<(), Refusal>
     ensures text { OnOk result (Appends (W.contents (device writer.old)) (W.contents (device writer.new)) header_text) }
     ensures unfailed { OnOk result (has_failed writer.new ≡ has_failed writer.old) }
+    ensures cut { IfErr result (λ e. IsUnsent header_text e (has_failed writer.old) (has_failed writer.new) (W.contents (device writer.old)) (W.contents (device writer.new))) }
 {
-    let text = header_text(alloc)?;
-    send(writer, text.as_slice())
+    match header_text(alloc) {
+        Ok(text) => send(writer, text.as_slice()),
+        Err(refusal) => Err(refusal),
+    }
 }
 
 /// Writes a record for each of the rows, the text of a batch of them at a time.
 fn write_rows<W: Write>(alloc: Global, rows: &[Row], writer: &mut Watched<W>) -> Result<(), Refusal>
     ensures text { OnOk result (Appends (W.contents (device writer.old)) (W.contents (device writer.new)) (flat_map record_text rows.now)) }
     ensures unfailed { OnOk result (has_failed writer.new ≡ has_failed writer.old) }
+    ensures cut { IfErr result (λ e. AreUnsent (map record_text rows.now) e (has_failed writer.old) (has_failed writer.new) (W.contents (device writer.old)) (W.contents (device writer.new))) }
 {
     let mut done = 0;
     'batches: while done < rows.len() {
         let end = rows.len().min(done.saturating_add(BATCH_ROWS));
-        write_batch(alloc, &rows[done..end], writer)?;
+        if let Err(refusal) = write_batch(alloc, &rows[done..end], writer) {
+            return Err(refusal);
+        }
         done = end;
     }
     Ok(())
@@ -127,7 +144,10 @@ fn write_batch<W: Write>(
 ) -> Result<(), Refusal>
     ensures text { OnOk result (Appends (W.contents (device writer.old)) (W.contents (device writer.new)) (flat_map record_text rows.now)) }
     ensures unfailed { OnOk result (has_failed writer.new ≡ has_failed writer.old) }
+    ensures cut { IfErr result (λ e. IsUnsent (flat_map record_text rows.now) e (has_failed writer.old) (has_failed writer.new) (W.contents (device writer.old)) (W.contents (device writer.new))) }
 {
-    let text = rows_text(alloc, rows)?;
-    send(writer, text.as_slice())
+    match rows_text(alloc, rows) {
+        Ok(text) => send(writer, text.as_slice()),
+        Err(refusal) => Err(refusal),
+    }
 }

@@ -1,4 +1,5 @@
 use Rattle.std.proofs.Common.{◌≡◌, ◌∙◌, ap, length, arith}
+use Rattle.crack_csv.proofs.Cutting.{Exporting-cut, Exporting-kept, header_unsent}
 use Rattle.crack_csv.proofs.Exporting.{Exporting-more, Exporting-end, keeps_appends}
 use Rattle.crack_csv.proofs.export.export_csv.Goals as goal
 
@@ -18,3 +19,18 @@ returns-in-Ok-flush-clause-exported g c = λ tables e.
     let cuts = ap length c.splits.ensures.value in let few = c.splits.ensures.partitions tables e in let ends = c.parts-test.false in let within = c.parts.auto.part-end in
     omega (arith, cuts, few, ends, within) in
     Exporting-end _ (c.parts.invariant.exporting tables e) all (keeps_appends _ _ c.flush.ensures.bytes)
+
+pub returns-in-Err-clause-cut : goal.returns-in-Err-clause-cut
+returns-in-Err-clause-cut g c = λ tables e. header_unsent _ _ tables _ _ _ _ _ _ _ e c.in-Err.ensures.cut
+
+pub returns-in-Err-export_part-clause-cut : goal.returns-in-Err-export_part-clause-cut
+returns-in-Err-export_part-clause-cut g c = λ tables e.
+    Exporting-cut _ _ _ _ _ _ _ _ _ (c.parts.invariant.exporting tables e) c.parts.invariant.receipts
+    (rw (c.parts.invariant.limit, c.parts.invariant.splits, c.parts.invariant.unfailed) at c.in-Err-export_part.ensures.cut)
+
+pub returns-in-Err-flush-clause-cut : goal.returns-in-Err-flush-clause-cut
+returns-in-Err-flush-clause-cut g c = λ tables e.
+    let all : c.parts.part ≡ length tables =
+    let cuts = ap length c.splits.ensures.value in let few = c.splits.ensures.partitions tables e in let ends = c.parts-test.false in let within = c.parts.auto.part-end in
+    omega (arith, cuts, few, ends, within) in
+    Exporting-kept _ _ _ _ _ _ (c.parts.invariant.exporting tables e) c.parts.invariant.receipts all c.in-Err-flush.ensures.err c.flush.ensures.bytes

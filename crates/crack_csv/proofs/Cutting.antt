@@ -1,0 +1,187 @@
+-- How far an export is that is refused.
+use Rattle.std.proofs.Common.{◌≡◌, ℕ, zero, suc, ◌+◌, ◌-◌, ◌<◌, ◌≤◌, ◌⊎◌, Bool, true, Option, Some, Ok, Err, inl, inr, List, [], ◌∷◌, ◌++◌, length, map, take, drop, refl, sym, ap, ◌∙◌, arith, length-append, append_assoc, subst}
+use Rattle.std.specs.Prelude.{slice_get, slice_set}
+use Rattle.std.specs.List.{concat, flat_map}
+use Rattle.std.specs.Io.KnownBytes.{Appends, Keeps}
+use Rattle.std.proofs.lemmas.List.{map-append, take-map, take-append-drop}
+use Rattle.std.proofs.lemmas.List.Folds.{concat-append}
+use Rattle.std.proofs.lemmas.Grind.{flat_map-append}
+use Rattle.std.proofs.Math.Seq.{take-append-add}
+use Rattle.crack_row.specs.Ranges.{Range}
+use Rattle.crack_row.specs.declared.Bound.{Bound}
+use Rattle.crack_row.specs.declared.command.Command.TheVariants.{Select}
+use Rattle.crack_row.specs.declared.command.Reply.{Reply}
+use Rattle.crack_row.specs.declared.refusal.Refusal.{Refusal}
+use Rattle.crack_row.specs.declared.refusal.Refusal.TheVariants.{WriteFault}
+use Rattle.crack_plain.specs.Plain.{Table, rows_in}
+use Rattle.crack_core.specs.Routes.{keys_at}
+use Rattle.crack_core.specs.Steps.{expected, expected_at, IsOutcome, tables_after, table_after, fresh_table}
+use Rattle.crack_session.specs.Queries.{listed}
+use Rattle.crack_commands.specs.Texts.{AppendsFront}
+use Rattle.crack_commands.proofs.Sending.{Appends-then, front_first, front_then}
+use Rattle.crack_csv.specs.Exports.{header_text, record_text, rows_at, rows_from, asked, lines_of, IsUnsent, AreUnsent, RefusesList, IsUnlisted, IsUnwritten, IsPartCut, IsExportCut}
+use Rattle.crack_csv.proofs.Exporting.{Exporting, batch_more, keeps_appends, kept_written, replied_rows, index_there, next_is, next_is_there, next_asked, next_rows}
+
+concat_map : {X : Type 0} (f : X → List ℕ) (xs : List X) → concat (map f xs) ≡ flat_map f xs
+concat_map f [] = refl
+concat_map f (x ∷ xs) = ap (λ z. f x ++ z) (concat_map f xs)
+
+length_map : {X Y : Type 0} (f : X → Y) (xs : List X) → length (map f xs) ≡ length xs
+length_map f [] = refl
+length_map f (x ∷ xs) = let l = length_map f xs in omega (arith, l)
+
+-- a batch of the rows isn't written
+pub batch_unsent : {X : Type 0} (f : X → List ℕ) (xs : List X) (m n : ℕ) (e : Refusal) (failed failed' : Bool) (a b c : Option (List ℕ)) → m < n → n ≤ length xs
+    → Appends a b (flat_map f (take m xs)) → IsUnsent (flat_map f (take (n - m) (drop m xs))) e failed failed' b c → AreUnsent (map f xs) e failed failed' a c
+batch_unsent f xs m n e failed failed' a b c grows within sent (inl (short, same, kept)) =
+    let l = length_map f xs in
+    inl (short, same, m, omega (arith, l, grows, within), rw (take-map f m xs, concat_map f (take m xs)) (kept_written _ _ _ _ sent (keeps_appends _ _ kept)))
+batch_unsent f xs m n e failed failed' a b c grows within sent (inr (cut, is, front)) =
+    let until : AppendsFront a c (flat_map f (take n xs)) = subst (AppendsFront a c) (sym (batch_more f xs m n (omega (arith, grows)))) (front_then a b c _ _ sent front) in
+    let whole : flat_map f (take n xs) ++ flat_map f (drop n xs) ≡ flat_map f xs = sym (flat_map-append f (take n xs) (drop n xs)) ∙ ap (flat_map f) (take-append-drop n xs) in
+    inr (cut, is, rw (concat_map f xs, ← whole) (front_first a c _ (flat_map f (drop n xs)) until))
+
+-- behind texts that are written whole, others aren't
+unsent_behind : (xs ys : List (List ℕ)) (e : Refusal) (failed failed' : Bool) (a b c : Option (List ℕ)) → Appends a b (concat xs) → AreUnsent ys e failed failed' b c → AreUnsent (xs ++ ys) e failed failed' a c
+unsent_behind xs ys e failed failed' a b c sent (inl (short, same, count, few, wrote)) =
+    let l = length-append xs ys in
+    let both : concat (take (length xs + count) (xs ++ ys)) ≡ concat xs ++ concat (take count ys) = ap concat (take-append-add xs ys count) ∙ concat-append xs (take count ys) in
+    inl (short, same, length xs + count, omega (arith, l, few), Appends-then a b c _ _ _ sent wrote both)
+unsent_behind xs ys e failed failed' a b c sent (inr (cut, is, front)) =
+    inr (cut, is, subst (AppendsFront a c) (sym (concat-append xs ys)) (front_then a b c (concat xs) (concat ys) sent front))
+
+-- one text alone
+one_unsent : (text : List ℕ) (e : Refusal) (failed failed' : Bool) (a b : Option (List ℕ)) → IsUnsent text e failed failed' a b → AreUnsent (text ∷ []) e failed failed' a b
+one_unsent text e failed failed' a b (inl (short, same, kept)) = inl (short, same, 0, omega arith, keeps_appends a b kept)
+one_unsent text e failed failed' a b (inr (cut, is, front)) = inr (cut, is, front_first a b text [] front)
+
+get_there : {X : Type 0} (xs : List X) (i : ℕ) → i < length xs → (x : X) × (slice_get xs i ≡ Some x)
+get_there [] i below = absurd (omega (arith, below))
+get_there (x ∷ xs) zero below = (x, refl)
+get_there (x ∷ xs) (suc i) below = get_there xs i (omega (arith, below))
+
+refuses_list : (limit : ℕ) (splits : List Bound) (part : ℕ) (keys : Range) (there : Option Table) (table : Table) (e : Refusal) → keys ≡ keys_at splits part → there ≡ Some table
+    → IsOutcome (expected limit (keys_at splits part) there (Select keys)) (Err e) → RefusesList limit splits part (table ∷ []) e
+refuses_list limit splits part keys there table e all is outcome =
+    subst (λ (k : Range). IsOutcome (expected limit (keys_at splits part) (Some table) (Select k)) (Err e)) all
+    (subst (λ (o : Option Table). IsOutcome (expected limit (keys_at splits part) o (Select keys)) (Err e)) is outcome)
+
+-- a partition refuses the list of the rows of all its keys
+pub part_unlisted : (limit : ℕ) (splits : List Bound) (tables : List Table) (part : ℕ) (keys : Range) (e : Refusal) (receipts receipts' : ℕ) (failed : Bool) (left : Option (List Table)) (out : Option (List ℕ)) → keys ≡ keys_at splits part → part < length tables
+    → IsOutcome (expected_at limit splits tables part (Select keys)) (Err e) → left ≡ Some tables → receipts' ≡ receipts → Keeps out out → IsPartCut limit splits tables part e receipts receipts' failed failed left out out
+part_unlisted limit splits tables part keys e receipts receipts' failed left out all within outcome after none kept =
+    let found = get_there tables part within in
+    record {
+      table = found.0;
+      there = found.1;
+      how = inl (record { cause = refuses_list limit splits part keys (slice_get tables part) found.0 e all found.1 outcome; left_is = after; receipts_are = none; unfailed = refl; unwritten = kept });
+    }
+
+-- a partition lists the rows of all its keys, and their records aren't all written
+pub part_unwritten : (limit : ℕ) (splits : List Bound) (tables : List Table) (part : ℕ) (keys : Range) (reply : Reply) (e : Refusal) (receipts receipts' : ℕ) (failed failed' : Bool) (left : Option (List Table)) (out out' : Option (List ℕ)) → keys ≡ keys_at splits part
+    → IsOutcome (expected_at limit splits tables part (Select keys)) (Ok reply) → left ≡ Some (tables_after tables part (Select keys) (Ok reply)) → receipts' ≡ receipts + 1
+    → AreUnsent (map record_text (listed reply)) e failed failed' out out' → IsPartCut limit splits tables part e receipts receipts' failed failed' left out out'
+part_unwritten limit splits tables part keys reply e receipts receipts' failed failed' left out out' all outcome after one unsent =
+    let replied = replied_rows limit (keys_at splits part) (slice_get tables part) keys reply outcome in
+    let rows : listed reply ≡ rows_at splits part replied.0 = ap listed replied.2 ∙ ap (λ (k : Range). rows_in k replied.0.state.rows) all in
+    record {
+      table = replied.0;
+      there = replied.1;
+      how = inr (record {
+        cause = subst (λ rows. AreUnsent (map record_text rows) e failed failed' out out') rows unsent;
+        left_is = after ∙ ap (λ (t : Table). Some (slice_set tables part (table_after t (Select keys)))) (index_there tables part replied.0 fresh_table replied.1);
+        receipts_are = one;
+      });
+    }
+
+-- the header isn't written
+pub header_unsent : (limit : ℕ) (splits : List Bound) (tables : List Table) (e : Refusal) (receipts : ℕ) (failed failed' : Bool) (left : Option (List Table)) (out out' : Option (List ℕ)) → left ≡ Some tables → IsUnsent header_text e failed failed' out out'
+    → IsExportCut limit splits tables e receipts receipts failed failed' left out out'
+header_unsent limit splits tables e receipts failed failed' left out out' known unsent = record {
+  done = [];
+  rest = tables;
+  split = refl;
+  left_is = known;
+  receipts_are = omega arith;
+  cause = inl (one_unsent header_text e failed failed' out out' unsent);
+}
+
+lines_text : (splits : List Bound) (done : List Table) (out out' : Option (List ℕ)) → Appends out out' (header_text ++ flat_map record_text (rows_from splits 0 done)) → Appends out out' (concat (lines_of splits done))
+lines_text splits done out out' written = subst (Appends out out') (ap (λ z. header_text ++ z) (sym (concat_map record_text (rows_from splits 0 done)))) written
+
+-- the next partition refuses the list of its rows
+unlisted_next : (limit : ℕ) (splits : List Bound) (tables : List Table) (part : ℕ) (table : Table) (e : Refusal) (receipts now receipts' : ℕ) (failed failed' : Bool) (left : Option (List Table)) (out out' out'' : Option (List ℕ)) (done rest : List Table)
+    → tables ≡ done ++ rest → length done ≡ part → now ≡ receipts + part → Appends out out' (header_text ++ flat_map record_text (rows_from splits 0 done)) → slice_get (map asked done ++ rest) part ≡ Some table
+    → IsUnlisted limit splits (map asked done ++ rest) part table e now receipts' failed failed' left out' out'' → IsExportCut limit splits tables e receipts receipts' failed failed' left out out''
+unlisted_next limit splits tables part table e receipts now receipts' failed failed' left out out' out'' done [] split reached so_far written there next = absurd (next_is_there done part table reached there)
+unlisted_next limit splits tables part table e receipts now receipts' failed failed' left out out' out'' done (t ∷ rest) split reached so_far written there next =
+    let same : table ≡ t = next_is done t rest part table reached there in
+    let here : RefusesList limit splits part (t ∷ rest) e = subst (λ (x : Table). RefusesList limit splits part (x ∷ rest) e) same next.cause in
+    record {
+      done = done;
+      rest = t ∷ rest;
+      split = split;
+      left_is = next.left_is;
+      receipts_are = let none = next.receipts_are in omega (arith, none, so_far, reached);
+      cause = inr (inl (
+        subst (λ n. RefusesList limit splits n (t ∷ rest) e) (sym reached) here,
+        next.unfailed,
+        lines_text splits done out out'' (kept_written out out' out'' _ written (keeps_appends out' out'' next.unwritten)),
+      ));
+    }
+
+-- the records of the next partition aren't all written
+unwritten_next : (limit : ℕ) (splits : List Bound) (tables : List Table) (part : ℕ) (table : Table) (e : Refusal) (receipts now receipts' : ℕ) (failed failed' : Bool) (left : Option (List Table)) (out out' out'' : Option (List ℕ)) (done rest : List Table)
+    → tables ≡ done ++ rest → length done ≡ part → now ≡ receipts + part → Appends out out' (header_text ++ flat_map record_text (rows_from splits 0 done)) → slice_get (map asked done ++ rest) part ≡ Some table
+    → IsUnwritten splits (map asked done ++ rest) part table e now receipts' failed failed' left out' out'' → IsExportCut limit splits tables e receipts receipts' failed failed' left out out''
+unwritten_next limit splits tables part table e receipts now receipts' failed failed' left out out' out'' done [] split reached so_far written there next = absurd (next_is_there done part table reached there)
+unwritten_next limit splits tables part table e receipts now receipts' failed failed' left out out' out'' done (t ∷ rest) split reached so_far written there next =
+    let same : table ≡ t = next_is done t rest part table reached there in
+    let rows = next_rows splits done t part table reached same in
+    let lines : lines_of splits (done ++ t ∷ []) ≡ lines_of splits done ++ map record_text (rows_at splits part table) =
+    ap (λ z. header_text ∷ map record_text z) rows ∙ ap (λ z. header_text ∷ z) (map-append record_text (rows_from splits 0 done) (rows_at splits part table)) in
+    record {
+      done = done ++ t ∷ [];
+      rest = rest;
+      split = split ∙ sym (append_assoc done (t ∷ []) rest);
+      left_is = next.left_is ∙ ap Some (next_asked done t rest part table reached same);
+      receipts_are = let one = next.receipts_are in let l = length-append done (t ∷ []) in omega (arith, one, so_far, reached, l);
+      cause = inl (subst (λ z. AreUnsent z e failed failed' out out'') (sym lines) (unsent_behind (lines_of splits done) (map record_text (rows_at splits part table)) e failed failed' out out' out'' (lines_text splits done out out' written) next.cause));
+    }
+
+how_next : (limit : ℕ) (splits : List Bound) (tables : List Table) (part : ℕ) (table : Table) (e : Refusal) (receipts now receipts' : ℕ) (failed failed' : Bool) (left : Option (List Table)) (out out' out'' : Option (List ℕ)) (done rest : List Table)
+    → tables ≡ done ++ rest → length done ≡ part → now ≡ receipts + part → Appends out out' (header_text ++ flat_map record_text (rows_from splits 0 done)) → slice_get (map asked done ++ rest) part ≡ Some table
+    → IsUnlisted limit splits (map asked done ++ rest) part table e now receipts' failed failed' left out' out'' ⊎ IsUnwritten splits (map asked done ++ rest) part table e now receipts' failed failed' left out' out''
+    → IsExportCut limit splits tables e receipts receipts' failed failed' left out out''
+how_next limit splits tables part table e receipts now receipts' failed failed' left out out' out'' done rest split reached so_far written there (inl next) =
+    unlisted_next limit splits tables part table e receipts now receipts' failed failed' left out out' out'' done rest split reached so_far written there next
+how_next limit splits tables part table e receipts now receipts' failed failed' left out out' out'' done rest split reached so_far written there (inr next) =
+    unwritten_next limit splits tables part table e receipts now receipts' failed failed' left out out' out'' done rest split reached so_far written there next
+
+-- the export of the next partition is refused
+pub Exporting-cut : {splits : List Bound} {tables : List Table} {part count : ℕ} {left : Option (List Table)} {out out' : Option (List ℕ)} (limit : ℕ) (e : Refusal) (receipts now receipts' : ℕ) (failed failed' : Bool) (left' : Option (List Table)) (out'' : Option (List ℕ)) → Exporting splits tables part count left out out' → now ≡ receipts + part
+    → ((known : List Table) → left ≡ Some known → IsPartCut limit splits known part e now receipts' failed failed' left' out' out'') → IsExportCut limit splits tables e receipts receipts' failed failed' left' out out''
+Exporting-cut {splits} {tables} {part} {out = out} {out' = out'} limit e receipts now receipts' failed failed' left' out'' was so_far cut =
+    let next = cut _ was.left_is in
+    how_next limit splits tables part next.table e receipts now receipts' failed failed' left' out out' out'' was.done was.rest was.split was.reached so_far was.written next.there next.how
+
+no_rest : {X : Type 0} (xs done rest : List X) → xs ≡ done ++ rest → length done ≡ length xs → rest ≡ []
+no_rest xs done [] split all = refl
+no_rest xs done (x ∷ rest) split all = absurd (let l = length-append done (x ∷ rest) in let n = ap length split in omega (arith, l, n, all))
+
+-- what is written can't be handed on
+pub Exporting-kept : {splits : List Bound} {tables : List Table} {part count : ℕ} {left : Option (List Table)} {out out' : Option (List ℕ)} (limit receipts receipts' : ℕ) (failed failed' : Bool) (out'' : Option (List ℕ)) → Exporting splits tables part count left out out' → receipts' ≡ receipts + part → part ≡ length tables → failed' ≡ true
+    → Keeps out' out'' → IsExportCut limit splits tables WriteFault receipts receipts' failed failed' left out out''
+Exporting-kept {splits} {tables} {out = out} {out' = out'} limit receipts receipts' failed failed' out'' was so_far all is kept = record {
+  done = was.done;
+  rest = was.rest;
+  split = was.split;
+  left_is = was.left_is;
+  receipts_are = let reached = was.reached in omega (arith, so_far, reached);
+  cause = inr (inr (
+    refl,
+    is,
+    no_rest tables was.done was.rest was.split (was.reached ∙ all),
+    lines_text splits was.done out out'' (kept_written out out' out'' _ was.written (keeps_appends out' out'' kept)),
+  ));
+}
