@@ -24,6 +24,7 @@ use Rattle.crack_core.specs.declared.step.Step.{Step}
 use Rattle.crack_core.specs.Routes.{keys_at}
 use Rattle.crack_core.specs.Opening.{AreParts}
 use Rattle.crack_core.specs.Steps.{is_key_in, expected, expected_at, IsOutcome, fresh_table, table_after, table_after_all, tables_after, table_of, tables_of, histories_of, accepted_by, entries_at, Keeps, answered_at, table_at, AreExpectedReplies}
+use Rattle.crack_core.specs.Cores.{Makes, MakesAll}
 
 -- whether a command brings a key of others, by the test
 within-true : (keys : Range) (key : Option Key) → is_key_in keys key ≡ true → IfSome key (λ (k : Key). IsIn keys k.0)
@@ -167,6 +168,17 @@ AreExpectedReplies-push limit splits tables steps results s r before now = recor
   where
     some_same : {X : Type 0} {x y : X} → Some x ≡ Some y → x ≡ y
     some_same e = cc
+
+-- no step
+pub MakesAll-nil : (splits : List Bound) (limit : ℕ) (parts : List Part) → MakesAll splits limit [] [] parts parts
+MakesAll-nil splits limit parts = refl
+
+-- one step more
+pub MakesAll-push : (splits : List Bound) (limit : ℕ) (steps : List Step) (results : List (Result Reply Refusal)) (s : Step) (r : Result Reply Refusal) (old now new : List Part) → MakesAll splits limit steps results old now → Makes splits limit s r now new → MakesAll splits limit (steps ++ s ∷ []) (results ++ r ∷ []) old new
+MakesAll-push splits limit [] [] s r old now new before makes = (new, rw before at makes, refl)
+MakesAll-push splits limit [] (y ∷ results) s r old now new before makes = absurd before
+MakesAll-push splits limit (x ∷ steps) [] s r old now new before makes = absurd before
+MakesAll-push splits limit (x ∷ steps) (y ∷ results) s r old now new before makes = (before.0, before.1, MakesAll-push splits limit steps results s r before.0 now new before.2 makes)
 
 -- what stands in a list of which one element was replaced
 pub get-set_same : {X : Type 0} (xs : List X) (i : ℕ) (y : X) → i < length xs → slice_get (set xs i y) i ≡ Some y

@@ -1,10 +1,14 @@
 -- What contracts see of a core.
-use Rattle.std.specs.Prelude.{◌≡◌, ℕ, List, Some, slice_get}
+use Rattle.std.specs.Prelude.{◌≡◌, ◌≢◌, ℕ, List, [], ◌∷◌, Some, Result, OnOk, OnErr, IfErr, slice_get}
 use Rattle.crack_row.specs.Commands.{range_of}
 use Rattle.crack_row.specs.declared.Bound.{Bound}
+use Rattle.crack_row.specs.declared.command.Reply.{Reply}
+use Rattle.crack_row.specs.declared.refusal.Refusal.{Refusal}
+use Rattle.crack_row.specs.declared.refusal.Refusal.TheVariants.{OutOfMemory}
 use Rattle.crack_part.specs.Parts.{Part, IsLimit, Serves, Spares}
 use Rattle.crack_core.specs.Routes.{AreSplits}
 use Rattle.crack_core.specs.Opening.{AreParts}
+use Rattle.crack_core.specs.Steps.{histories_of, Keeps}
 use Rattle.crack_core.specs.declared.step.Step.{Step}
 
 -- its splits, how many entries the history of a partition may have, and its partitions
@@ -26,3 +30,19 @@ ServesAt step old new = (p q : Part) → slice_get old step.part ≡ Some p → 
 -- what a refused step does to the store of its partition, if there is one
 abbrev pub SparesAt : Step → List Part → List Part → Type 0
 SparesAt step old new = (p q : Part) → slice_get old step.part ≡ Some p → slice_get new step.part ≡ Some q → Spares step.policy p.keys (range_of step.command) p.store q.store
+
+-- what a step does to the partitions of these splits: each stays one, the step's own keeps its entry and is served or spared by the
+-- step's policy, the others are as they were, and so are all after 4, 5 and 6
+pub record Makes (splits : List Bound) (limit : ℕ) (step : Step) (result : Result Reply Refusal) (old new : List Part) : Type 0 where
+  pub parts : AreParts splits limit new
+  pub kept : Keeps (histories_of old) (step ∷ []) (result ∷ []) (histories_of new)
+  pub others : (k : ℕ) → k ≢ step.part → slice_get new k ≡ slice_get old k
+  pub store : OnOk result (ServesAt step old new)
+  pub spared : OnErr result (SparesAt step old new)
+  pub same : IfErr result (λ e. e ≢ OutOfMemory → new ≡ old)
+
+-- the steps are made one after the other, each on the partitions that those before it left
+abbrev pub MakesAll : List Bound → ℕ → List Step → List (Result Reply Refusal) → List Part → List Part → Type 0
+MakesAll splits limit [] [] old new = new ≡ old
+MakesAll splits limit (step ∷ steps) (result ∷ results) old new = (between : List Part) × Makes splits limit step result old between × MakesAll splits limit steps results between new
+MakesAll splits limit _ _ old new = ⊥

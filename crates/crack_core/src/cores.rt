@@ -7,7 +7,7 @@ ghost use Rattle.crack_core.specs.Routes.{AreSplits, keys_at, route, parts_of};
 ghost use Rattle.crack_core.specs.Opening.{opening_fault, MayFault, AreParts};
 ghost use Rattle.crack_core.specs.Steps.{expected_at, IsOutcome, IsLayoutOutcome, tables_of, tables_after, histories_of, accepted_by, Keeps, AreExpectedReplies};
 ghost use Rattle.crack_store.specs.Inside.{IsLayoutOf};
-ghost use Rattle.crack_core.specs.Cores.{IsCore, ServesAt, SparesAt};
+ghost use Rattle.crack_core.specs.Cores.{IsCore, ServesAt, SparesAt, MakesAll};
 
 use crate::opening::{limit_fault, open_partitions, splits_fault};
 use crate::routes;
@@ -134,6 +134,8 @@ impl Core {
     pub fn run_steps(&mut self, steps: &[Step]) -> Result<Vec<Result<Reply, Refusal>>, Refusal>
         ensures replies { IfOk result (λ results. AreExpectedReplies self.old.limit self.old.splits (tables_of self.old.parts) steps.now results.items) }
         ensures kept { IfOk result (λ results. Keeps (histories_of self.old.parts) steps.now results.items (histories_of self.new.parts)) }
+        // Each store is served by the policy of its own steps, in their order, and by nothing else.
+        ensures stores { IfOk result (λ results. MakesAll self.old.splits self.old.limit steps.now results.items self.old.parts self.new.parts) }
         ensures opened { (self.new.splits ≡ self.old.splits) × (self.new.limit ≡ self.old.limit) }
         ensures same { OnErr result (self.new ≡ self.old) }
         ensures err { IfErr result (λ e. e ≡ Refusal.OutOfMemory) }
@@ -183,6 +185,7 @@ fn run_all(partitions: &mut [Partition], steps: &[Step], results: &mut Vec<Resul
     requires room { length steps.now ≤ vec_capacity results.old }
     ensures replies { (splits : List Bound) (limit : ℕ) → AreParts splits limit partitions.old → AreExpectedReplies limit splits (tables_of partitions.old) steps.now results.new.items }
     ensures kept { Keeps (histories_of partitions.old) steps.now results.new.items (histories_of partitions.new) }
+    ensures stores { (splits : List Bound) (limit : ℕ) → AreParts splits limit partitions.old → MakesAll splits limit steps.now results.new.items partitions.old partitions.new }
     ensures parts { (splits : List Bound) (limit : ℕ) → AreParts splits limit partitions.old → AreParts splits limit partitions.new }
 {
     'steps: for step in steps {

@@ -4,7 +4,7 @@ use Rattle.crack_plain.specs.Plain.{Table}
 use Rattle.crack_core.specs.declared.step.Step.{Step}
 use Rattle.crack_core.specs.Routes.{keys_at}
 use Rattle.crack_core.specs.Steps.{expected, IsOutcome, tables_of, histories_of}
-use Rattle.crack_core.proofs.StepLaws.{Keeps-push, AreExpectedReplies-push, table_at-kept}
+use Rattle.crack_core.proofs.StepLaws.{Keeps-push, AreExpectedReplies-push, MakesAll-push, table_at-kept}
 use Rattle.crack_core.proofs.cores.run_all.Goals as goal
 
 pub steps-preserved : goal.steps-preserved
@@ -27,6 +27,14 @@ steps-preserved c =
       replies = λ splits limit are. rw (grown, c.push_reserved.ensures.items) (AreExpectedReplies-push limit splits (tables_of old) front results s r (before.replies splits limit are)
           (subst (λ (t : Option Table). IsOutcome (expected limit (keys_at splits s.part) t s.command) r) (table_at-kept old now s.part front results before.kept) (c.ask_part-result.ensures.outcome splits limit (before.parts splits limit are))));
       kept = rw (grown, c.push_reserved.ensures.items) (Keeps-push (histories_of old) (histories_of now) (histories_of c.ask_part-result.new.partitions) front results s r long before.kept c.ask_part-result.ensures.kept);
+      stores = λ splits limit are. rw (grown, c.push_reserved.ensures.items) (MakesAll-push splits limit front results s r old now c.ask_part-result.new.partitions (before.stores splits limit are) (record {
+        parts = c.ask_part-result.ensures.parts splits limit (before.parts splits limit are);
+        kept = c.ask_part-result.ensures.kept;
+        others = c.ask_part-result.ensures.others;
+        store = c.ask_part-result.ensures.store;
+        spared = c.ask_part-result.ensures.spared;
+        same = c.ask_part-result.ensures.same;
+      }));
       parts = λ splits limit are. c.ask_part-result.ensures.parts splits limit (before.parts splits limit are);
     }
 
@@ -34,3 +42,8 @@ pub returns-clause-replies : goal.returns-clause-replies
 returns-clause-replies c = λ splits limit are.
     let all : take c.steps.step-index c.args.steps.now ≡ c.args.steps.now = take_all c.steps.step-index c.args.steps.now (omega arith) in
     rw all at (c.steps.invariant.replies splits limit are)
+
+pub returns-clause-stores : goal.returns-clause-stores
+returns-clause-stores c = λ splits limit are.
+    let all : take c.steps.step-index c.args.steps.now ≡ c.args.steps.now = take_all c.steps.step-index c.args.steps.now (omega arith) in
+    rw all at (c.steps.invariant.stores splits limit are)

@@ -2,6 +2,7 @@ use Rattle.std.proofs.Common.{◌≡◌, ◌≤◌, ℕ, List, length, take, vec
 use Rattle.crack_row.specs.declared.Bound.{Bound}
 use Rattle.crack_core.specs.Opening.{AreParts}
 use Rattle.crack_core.specs.Steps.{tables_of, histories_of, Keeps, AreExpectedReplies}
+use Rattle.crack_core.specs.Cores.{MakesAll}
 use Rattle.crack_core.proofs.cores.run_all.Given as goal
 
 abbrev pub invariant-steps : goal.invariant-steps
@@ -10,5 +11,6 @@ invariant-steps l = record {
   count : length l.results.items ≡ l.step-index;
   replies : (splits : List Bound) (limit : ℕ) → AreParts splits limit l.initial.partitions → AreExpectedReplies limit splits (tables_of l.initial.partitions) (take l.step-index l.steps) l.results.items;
   kept : Keeps (histories_of l.initial.partitions) (take l.step-index l.steps) l.results.items (histories_of l.partitions);
+  stores : (splits : List Bound) (limit : ℕ) → AreParts splits limit l.initial.partitions → MakesAll splits limit (take l.step-index l.steps) l.results.items l.initial.partitions l.partitions;
   parts : (splits : List Bound) (limit : ℕ) → AreParts splits limit l.initial.partitions → AreParts splits limit l.partitions;
 }
