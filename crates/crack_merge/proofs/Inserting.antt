@@ -14,7 +14,7 @@ use Rattle.crack_state.proofs.StepLaws.{IsIntact-room}
 use Rattle.crack_state.proofs.FollowLaws.{length-remove}
 use Rattle.crack_state.proofs.AdvanceLaws.{Advances-refl, Advances-room, Advances-trans}
 use Rattle.crack_state.proofs.OutsideLaws.{LacksFirst, LacksFirst-none}
-use Rattle.crack_merge.specs.Merges.{Carries, CarriesIn, CarriesAll, CarriesSome, Stops, begins, carries}
+use Rattle.crack_merge.specs.Merges.{Carries, CarriesIn, CarriesAll, CarriesSome, BuriesFew, Stops, begins, carries}
 use Rattle.crack_merge.specs.Loops.{PutsIn}
 use Rattle.crack_merge.proofs.Ending.{HasRoom}
 use Rattle.crack_merge.proofs.RangeLaws.{IsIntact-Carries, IsIntact-next}
@@ -152,7 +152,12 @@ PutsAllInside-CarriesAll s t r intact all =
     record { puts = was.0.puts; pending_in = PutsInside-all s t r all.from was.0 was.1 all.none; intact = was.1 }
 
 -- no memory was found for the next one
-pub Stops-CarriesSome : (s t : State) (r : Range) → IsIntact s [] → CarriesSome None r s t → Stops Gradual s t r
-Stops-CarriesSome s t r intact some =
+pub record StopsInside (s t : State) (r : Range) : Type 0 where
+  pub stops : Stops Gradual s t r
+  pub few : BuriesFew s t
+
+pub StopsInside-CarriesSome : (s t : State) (r : Range) → IsIntact s [] → CarriesSome None r s t → StopsInside s t r
+StopsInside-CarriesSome s t r intact some =
     let was = PutsInside-CarriesIn s r some.from some.last intact some.carries in
-    Stops-gradual s t r some.from (PutsInside-room s some.last t r some.from was.0 some.room) (IsIntact-room some.last t [] some.room was.1)
+    let now = PutsInside-room s some.last t r some.from was.0 some.room in
+    record { stops = Stops-gradual s t r some.from now (IsIntact-room some.last t [] some.room was.1); few = now.puts.few }

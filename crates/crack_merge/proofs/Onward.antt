@@ -78,11 +78,13 @@ module _ (limit : Option ℕ) (r : Range) (high : IsLimit limit r) where
 
     -- room is made for the next
     module _ (d : Carried) (room : SameButRoom e.store d.store) (hand : d.hand ≡ e.hand) where
-      pub CarriesSome-ended : CarriesSome limit r s (ended rule d)
-      CarriesSome-ended = record {
+      pub CarriesSome-ended : (place : ℕ) → Finds r (pending_keys e.store) from (Some place) → CarriesSome limit r s (ended rule d)
+      CarriesSome-ended place found = record {
         from = from;
         last = ended rule e;
         carries = way.carries_in (ended rule e) carried;
+        next = place;
+        left = Finds-ended limit r high rule e from (Some place) intact over found;
         room = SameButRoom-ended rule e d room hand;
       }
 

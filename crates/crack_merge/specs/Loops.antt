@@ -1,5 +1,5 @@
 -- What the loops of a merge have done so far. No public clause cites this module.
-use Rattle.std.specs.Prelude.{◌≡◌, ◌≤◌, ◌+◌, ⊤, ℕ, Option, length}
+use Rattle.std.specs.Prelude.{◌≡◌, ⊤, ℕ, Option, length}
 use Rattle.crack_row.specs.declared.command.Policy.{Policy}
 use Rattle.crack_arena.specs.Arena.{times, slots}
 use Rattle.crack_state.specs.State.{State, Carried}
@@ -7,7 +7,7 @@ use Rattle.crack_state.specs.Steps.{hand_key, piece_end, IsDoomed, appended, bur
 use Rattle.crack_merge.specs.declared.carries.CarryEnd.{CarryEnd}
 use Rattle.crack_merge.specs.declared.carries.CarryEnd.TheVariants.{Buries, Evicts, Appends}
 use Rattle.crack_state.specs.Merge.{Advances}
-use Rattle.crack_merge.specs.Merges.{IsBelow}
+use Rattle.crack_merge.specs.Merges.{IsBelow, BuriesFew}
 
 -- where a carry ends by a rule
 abbrev pub ended : CarryEnd → Carried → State
@@ -34,7 +34,7 @@ EvictsOver limit Appends key = ⊤
 -- pending insertions were carried in; each carry buried one row at most
 pub record PutsIn (policy : Policy) (s t : State) : Type 0 where
   pub advances : Advances policy s t
-  pub few : length s.pending_out + length t.pending_in ≤ length t.pending_out + length s.pending_in
+  pub few : BuriesFew s t
 
 -- pending deletions were taken out
 pub record TakesOut (policy : Policy) (s t : State) : Type 0 where

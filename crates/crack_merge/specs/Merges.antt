@@ -1,5 +1,5 @@
 -- What a carry, a pull and a merge have done to a store, where they end.
-use Rattle.std.specs.Prelude.{◌≡◌, ◌≢◌, ◌<◌, ◌≤◌, ⊤, ℕ, ◌++◌, take, drop, length, List, [], Option, Some, None}
+use Rattle.std.specs.Prelude.{◌≡◌, ◌≢◌, ◌<◌, ◌≤◌, ⊤, ℕ, ◌+◌, ◌++◌, take, drop, length, List, [], Option, Some, None}
 use Rattle.crack_row.specs.Ranges.{Range}
 use Rattle.crack_row.specs.declared.Bound.{Bound}
 use Rattle.crack_row.specs.declared.command.Policy.{Policy}
@@ -51,12 +51,18 @@ pub record CarriesAll (limit : Option ℕ) (r : Range) (s t : State) : Type 0 wh
   pub carries : CarriesIn limit r s from t
   pub none : Finds r (keys_at t.cells t.pending_in) from None
 
--- some of them were, the first ones, and no memory was found for the next
+-- some of them were, the first ones, and no memory was found for the next, which the search finds
 pub record CarriesSome (limit : Option ℕ) (r : Range) (s t : State) : Type 0 where
   pub from : ℕ
   pub last : State
   pub carries : CarriesIn limit r s from last
+  pub next : ℕ
+  pub left : Finds r (keys_at last.cells last.pending_in) from (Some next)
   pub room : SameButRoom last t
+
+-- pending deletions are gone only with pending insertions: at most as many
+abbrev pub BuriesFew : State → State → Type 0
+BuriesFew s t = length s.pending_out + length t.pending_in ≤ length t.pending_out + length s.pending_in
 
 -- the pull of a doomed row, step by step, each by the first rule that holds
 pub data Pulls (doomed : Handle) : Carried → State → Type 0 where

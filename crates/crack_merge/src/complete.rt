@@ -1,9 +1,9 @@
 //! The complete merge.
-ghost use Rattle.std.specs.Prelude.{◌≡◌, ◌<◌, ◌≤◌, [], IfOk, IfErr};
+ghost use Rattle.std.specs.Prelude.{◌≡◌, ◌<◌, ◌≤◌, false, [], Ok, IsOk, IfOk, IfErr};
 ghost use Rattle.crack_row.specs.Ranges.{Range};
 ghost use Rattle.crack_row.specs.declared.command.Policy.TheVariants.{Complete};
 ghost use Rattle.crack_state.specs.Merge.{IsCracked, Merges, Tallies, counted_between, is_touched};
-ghost use Rattle.crack_merge.specs.Merges.{Stops};
+ghost use Rattle.crack_merge.specs.Merges.{BuriesFew, Stops};
 ghost use Rattle.crack_merge.specs.Loops.{PutsIn, TakesOut};
 
 use crate::carries::{carry, end, end_and_lift};
@@ -14,7 +14,8 @@ use crack_store::{MergeReport, Store};
 
 /// Merges every pending row, if one of them has its key in the range, else none; the range was cracked before.
 /// O(pieces) for each pending row, which takes O(1) to take, and one search for the place of each doomed row.
-/// Refused with 8 where it finds no memory; the rows that it had merged stay merged.
+/// Refused with 8 where it finds no memory for a pending insertion; the rows that it had put in stay where they are, and no doomed row
+/// is gone but those that they met.
 pub fn merge_complete(
     store: Store,
     range: KeyRange,
@@ -26,7 +27,10 @@ pub fn merge_complete(
     ensures merges { IfOk result (λ r. Merges Complete store r.0 range) }
     ensures tallies { IfOk result (λ r. Tallies Complete store r.0) }
     ensures report { IfOk result (λ r. r.1 ≡ counted_between store.tally r.0.tally) }
+    ensures untouched { is_touched store range ≡ false → result ≡ Ok (store, counted_between store.tally store.tally) }
+    ensures spare { store.pending_in ≡ [] → IsOk result }
     ensures stops { IfErr result (λ e. Stops Complete store e.0 range) }
+    ensures few { IfErr result (λ e. BuriesFew store e.0) }
     ensures still_cracked { IfErr result (λ e. IsCracked e.0 range) }
     ensures err { IfErr result (λ e. e.1 ≡ Refusal.OutOfMemory) }
 {
@@ -57,7 +61,9 @@ fn is_touched(store: &Store, range: KeyRange) -> bool
 fn put_in_all(mut store: Store) -> Result<Store, (Store, Refusal)>
     ensures ok { IfOk result (λ t. PutsIn Complete store t) }
     ensures all { IfOk result (λ t. t.pending_in ≡ []) }
+    ensures spare { store.pending_in ≡ [] → IsOk result }
     ensures stops { IfErr result (λ e. (range : Range) → Stops Complete store e.0 range) }
+    ensures few { IfErr result (λ e. BuriesFew store e.0) }
     ensures err { IfErr result (λ e. e.1 ≡ Refusal.OutOfMemory) }
 {
     store.facts();

@@ -1,8 +1,9 @@
 //! The gradual merge.
-ghost use Rattle.std.specs.Prelude.{◌≡◌, ◌<◌, ◌≤◌, IfOk, IfErr};
+ghost use Rattle.std.specs.Prelude.{◌≡◌, ◌<◌, ◌≤◌, false, Ok, IsOk, IfOk, IfErr};
+ghost use Rattle.std.specs.List.{All};
 ghost use Rattle.crack_row.specs.declared.command.Policy.TheVariants.{Gradual};
-ghost use Rattle.crack_state.specs.Merge.{IsCracked, Merges, Tallies, counted_between};
-ghost use Rattle.crack_merge.specs.Merges.{Stops};
+ghost use Rattle.crack_state.specs.Merge.{IsCracked, ReadsOutside, Merges, Tallies, counted_between, is_touched};
+ghost use Rattle.crack_merge.specs.Merges.{BuriesFew, Stops};
 
 use crate::carries::carry_range;
 use crate::pulls::pull_range;
@@ -13,7 +14,8 @@ use crack_store::{MergeReport, Store};
 /// Merges the pending rows whose key is in the range, and no other but doomed rows that stand in the way; the range was cracked
 /// before.
 /// O(pending rows) to find them, O(pieces) for each that is merged, and one search for the place of each doomed row.
-/// Refused with 8 where it finds no memory; the rows that it had merged stay merged.
+/// Refused with 8 where it finds no memory for a pending insertion of the range; the rows that it had put in stay where they are, and no
+/// doomed row is gone but those that they met.
 pub fn merge_gradual(
     store: Store,
     range: KeyRange,
@@ -25,7 +27,10 @@ pub fn merge_gradual(
     ensures merges { IfOk result (λ r. Merges Gradual store r.0 range) }
     ensures tallies { IfOk result (λ r. Tallies Gradual store r.0) }
     ensures report { IfOk result (λ r. r.1 ≡ counted_between store.tally r.0.tally) }
+    ensures untouched { is_touched store range ≡ false → result ≡ Ok (store, counted_between store.tally store.tally) }
+    ensures spare { All (ReadsOutside store.cells range) store.pending_in → IsOk result }
     ensures stops { IfErr result (λ e. Stops Gradual store e.0 range) }
+    ensures few { IfErr result (λ e. BuriesFew store e.0) }
     ensures still_cracked { IfErr result (λ e. IsCracked e.0 range) }
     ensures err { IfErr result (λ e. e.1 ≡ Refusal.OutOfMemory) }
 {

@@ -15,7 +15,7 @@ use Rattle.crack_state.proofs.FollowLaws.{Pushes, Follows-trans, Follows-lifted,
 use Rattle.crack_state.proofs.OutsideLaws.{SomeOf-refl}
 use Rattle.crack_state.proofs.PullLaws.{IsIntact-returned, Follows-returned}
 use Rattle.crack_state.proofs.StepLaws.{IsIntact-lifted, IsIntact-pushed_on, IsIntact-appended}
-use Rattle.crack_merge.specs.Merges.{Carries, buries, evicts, ends, goes_on}
+use Rattle.crack_merge.specs.Merges.{Carries, BuriesFew, buries, evicts, ends, goes_on}
 use Rattle.crack_merge.proofs.RangeLaws.{kept_hand}
 use Rattle.crack_ripple.specs.Near.{pieces_of, MovesNear}
 use Rattle.crack_ripple.proofs.EdgeLaws.{IsRangeOf, IsRangeOf-follows, low_within, high_within, AppendsInside-appended}
@@ -37,7 +37,7 @@ pub record CarriesNear (s t : State) (r : Range) (i : ℕ) : Type 0 where
   pub intact : IsIntact t []
   pub stays : StaysOutside s t r
   pub moves : MovesNear s t r
-  pub few : length s.pending_out + length t.pending_in ≤ length t.pending_out + length s.pending_in
+  pub few : BuriesFew s t
   pub left : (t.pending_in ≡ remove s.pending_in i) ⊎ EvictsOne s t r i
 
 -- a carry that ends at a row to be evicted: lifted, pushed on, returned

@@ -1,18 +1,19 @@
 -- What a ripple merge has done where it ends.
-use Rattle.std.proofs.Common.{◌≡◌, ℕ, ◌<◌, ◌≤◌, [], ◌++◌, Result, Ok, Err, Some, IfOk, IfErr, ◌∙◌, inr, arith}
+use Rattle.std.proofs.Common.{◌≡◌, ℕ, ◌<◌, ◌≤◌, false, [], ◌++◌, Result, Ok, Err, Some, IfOk, IfErr, ◌∙◌, inr, arith}
 use Rattle.std.specs.List.{All}
 use Rattle.std.proofs.lemmas.List.Elements.{All-append}
 use Rattle.crack_row.specs.Ranges.{Range}
 use Rattle.crack_row.specs.declared.refusal.Refusal.{Refusal}
 use Rattle.crack_row.specs.declared.command.Policy.TheVariants.{Ripple}
 use Rattle.crack_state.specs.State.{State, IsIntact}
-use Rattle.crack_state.specs.Merge.{ReadsOutside, IsCracked, Merges, Tallies, outside_of}
+use Rattle.crack_state.specs.Merge.{ReadsOutside, IsCracked, IsSettled, Merges, Tallies, is_touched, outside_of}
 use Rattle.crack_state.proofs.AdvanceLaws.{StillReads-trans}
 use Rattle.crack_state.proofs.FollowLaws.{Follows-trans, IsExact-before, Tallies-trans, length_marks-Follows}
 use Rattle.crack_state.proofs.GradualLaws.{reads_outside, LeavesOutside-both}
 use Rattle.crack_state.proofs.OutsideLaws.{All-outside}
+use Rattle.crack_state.proofs.MergeLaws.{Merges-untouched}
 use Rattle.crack_state.proofs.SettledLaws.{IsSettled-of}
-use Rattle.crack_merge.specs.Merges.{CarriesAll, CarriesSome, PullsAll, Stops}
+use Rattle.crack_merge.specs.Merges.{CarriesAll, CarriesSome, PullsAll, BuriesFew, Stops}
 use Rattle.crack_ripple.specs.Near.{PutsInNear, TakesOutNear, MovesNear}
 use Rattle.crack_ripple.proofs.EdgeLaws.{IsRangeOf, IsRangeOf-follows}
 use Rattle.crack_ripple.proofs.Evicted.{behind_range}
@@ -22,6 +23,10 @@ use Rattle.crack_ripple.proofs.Putting.{PutsNear-CarriesIn, PutsNear-room, PutsI
 -- as calls require it
 pub is_range : (s : State) (r : Range) → r.low < r.high → s.keys.low ≤ r.low → r.high ≤ s.keys.high → IsCracked s r → IsRangeOf s r
 is_range s r some low high cracked = record { some = some; low = low; high = high; cracked = cracked }
+
+-- where no pending row is of it, it is settled already
+pub settled_before : (s : State) (r : Range) → IsRangeOf s r → IsIntact s [] → is_touched s r ≡ false → IsSettled s r
+settled_before s r of intact untouched = (Merges-untouched s r (omega (arith, of.some)) of.low of.high of.cracked untouched intact).settled
 
 -- all that a call that puts in has to say
 pub record PutIn (s t : State) (r : Range) : Type 0 where
@@ -34,10 +39,16 @@ PutIn-carried s t r of intact all =
     let was = PutsNear-CarriesIn s r of intact all.from t all.carries in
     record { near = PutsInNear-all s r of intact all.from t was all.none; tallies = was.advances.tallies; moves = was.moves }
 
-Stops-carried : (s t : State) (r : Range) → IsRangeOf s r → IsIntact s [] → CarriesSome (Some r.high) r s t → Stops Ripple s t r
-Stops-carried s t r of intact part =
+-- all that it has to say where it is refused
+pub record StopsIn (s t : State) (r : Range) : Type 0 where
+  pub stops : Stops Ripple s t r
+  pub few : BuriesFew s t
+
+StopsIn-carried : (s t : State) (r : Range) → IsRangeOf s r → IsIntact s [] → CarriesSome (Some r.high) r s t → StopsIn s t r
+StopsIn-carried s t r of intact part =
     let was = PutsNear-CarriesIn s r of intact part.from part.last part.carries in
-    Stops-PutsNear s r of intact part.from t (PutsNear-room s part.last t r part.from part.room was)
+    let now = PutsNear-room s part.last t r part.from part.room was in
+    record { stops = Stops-PutsNear s r of intact part.from t now; few = now.few }
 
 -- the result of the carries of a range
 module _ (s : State) (r : Range) (of : IsRangeOf s r) (intact : IsIntact s []) (limit : ℕ) (is : limit ≡ r.high) where
@@ -45,9 +56,9 @@ module _ (s : State) (r : Range) (of : IsRangeOf s r) (intact : IsIntact s []) (
   if_put_in P says (Ok t) all = says t (PutIn-carried s t r of intact (rw is at all))
   if_put_in P says (Err e) all = tt
 
-  pub if_stopped : (P : State × Refusal → Type 0) → ((e : State × Refusal) → Stops Ripple s e.0 r → P e) → (result : Result State (State × Refusal)) → IfErr result (λ e. CarriesSome (Some limit) r s e.0) → IfErr result P
+  pub if_stopped : (P : State × Refusal → Type 0) → ((e : State × Refusal) → StopsIn s e.0 r → P e) → (result : Result State (State × Refusal)) → IfErr result (λ e. CarriesSome (Some limit) r s e.0) → IfErr result P
   if_stopped P says (Ok t) part = tt
-  if_stopped P says (Err e) part = says e (Stops-carried s e.0 r of intact (rw is at part))
+  if_stopped P says (Err e) part = says e (StopsIn-carried s e.0 r of intact (rw is at part))
 
 -- all that a call that takes out has to say
 pub record TakenOut (s t : State) (r : Range) : Type 0 where

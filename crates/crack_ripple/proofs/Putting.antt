@@ -19,7 +19,7 @@ use Rattle.crack_state.proofs.AdvanceLaws.{Advances-refl, Advances-room, Advance
 use Rattle.crack_state.proofs.FollowLaws.{IsExact-before}
 use Rattle.crack_state.proofs.OutsideLaws.{LacksFirst, LacksFirst-none, LacksFirst-next, LacksFirst-all, NoneInside, length-outside}
 use Rattle.crack_state.proofs.StepLaws.{IsIntact-room}
-use Rattle.crack_merge.specs.Merges.{Carries, CarriesIn, begins, carries, Stops}
+use Rattle.crack_merge.specs.Merges.{Carries, CarriesIn, begins, carries, BuriesFew, Stops}
 use Rattle.crack_merge.proofs.Finding.{none_inside, inside_at}
 use Rattle.crack_ripple.specs.Near.{pieces_of, MovesNear, PutsInNear}
 use Rattle.crack_ripple.proofs.Carrying.{CarriesNear, CarriesNear-Carries, EvictsOne}
@@ -52,7 +52,7 @@ pub record PutsNear (s t : State) (r : Range) (from : ℕ) : Type 0 where
   pub intact : IsIntact t []
   pub stays : StaysOutside s t r
   pub moves : MovesNear s t r
-  pub few : length s.pending_out + length t.pending_in ≤ length t.pending_out + length s.pending_in
+  pub few : BuriesFew s t
   pub left : List Handle
   pub evicted : List Handle
   pub pending_in : t.pending_in ≡ left ++ evicted

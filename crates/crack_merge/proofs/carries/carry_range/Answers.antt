@@ -7,7 +7,7 @@ pub returns-in_default-clause-ok : goal.returns-in_default-clause-ok
 returns-in_default-clause-ok c = record { from = 0; carries = begins; none = c.in_default.ensures }
 
 pub returns-in-Err-clause-stops : goal.returns-in-Err-clause-stops
-returns-in-Err-clause-stops c = record { from = 0; last = c.args.store; carries = begins; room = c.make_room.ensures.same }
+returns-in-Err-clause-stops c = record { from = 0; last = c.args.store; carries = begins; next = c.in-Some.first; left = c.in-Some.ensures; room = c.make_room.ensures.same }
 
 pub insertions-init : goal.insertions-init
 insertions-init c =
@@ -20,7 +20,7 @@ returns-in_default-seek_in-clause-ok c =
 
 pub returns-in-Err-make_room-clause-stops : goal.returns-in-Err-make_room-clause-stops
 returns-in-Err-make_room-clause-stops c =
-    rw c.end-in-Err-make_room.ensures (CarriesSome-ended (limit_of c.args.limit) c.args.range c.requires c.args.store c.insertions.from c.insertions.carrying c.carry-rule.new.carrying c.carry-rule.result c.insertions.invariant c.carry-rule.ensures.carries c.facts.ensures c.carry-rule.ensures.evicts c.make_room-in-insertions.new.self (rw c.seek_in.ensures.same at c.make_room-in-insertions.ensures.same) (rw c.seek_in.ensures.same at c.make_room-in-insertions.ensures.hand))
+    rw c.end-in-Err-make_room.ensures (CarriesSome-ended (limit_of c.args.limit) c.args.range c.requires c.args.store c.insertions.from c.insertions.carrying c.carry-rule.new.carrying c.carry-rule.result c.insertions.invariant c.carry-rule.ensures.carries c.facts.ensures c.carry-rule.ensures.evicts c.make_room-in-insertions.new.self (rw c.seek_in.ensures.same at c.make_room-in-insertions.ensures.same) (rw c.seek_in.ensures.same at c.make_room-in-insertions.ensures.hand) c.in-Some-seek_in.place c.in-Some-seek_in.ensures.finds)
 
 pub end-requires-in-Err-make_room-clause-ends : goal.end-requires-in-Err-make_room-clause-ends
 end-requires-in-Err-make_room-clause-ends c =

@@ -1,4 +1,5 @@
 use Rattle.std.proofs.Common.{sym, ◌∙◌, arith}
+use Rattle.std.proofs.lemmas.Bool.{true≢false}
 use Rattle.crack_row.specs.declared.command.Policy.TheVariants.{Complete}
 use Rattle.crack_state.proofs.MergeLaws.{IsCracked-follows, Merges-untouched}
 use Rattle.crack_merge.proofs.Merging.{Merges-all, Tallies-both}
@@ -20,3 +21,9 @@ returns-in-Err-clause-stops c = c.in-Err.ensures.stops c.args.range
 
 pub returns-in-Err-clause-still_cracked : goal.returns-in-Err-clause-still_cracked
 returns-in-Err-clause-still_cracked c = IsCracked-follows c.args.store c.in-Err.stopped.0 c.args.range (c.in-Err.ensures.stops c.args.range).follows c.requires.cracked
+
+pub returns-in-Err-clause-untouched : goal.returns-in-Err-clause-untouched
+returns-in-Err-clause-untouched c = λ untouched. absurd (true≢false (sym (sym c.is_touched.ensures ∙ c.if-not-is_touched.false) ∙ untouched))
+
+pub returns-in-Ok-clause-untouched : goal.returns-in-Ok-clause-untouched
+returns-in-Ok-clause-untouched c = λ untouched. absurd (true≢false (sym (sym c.is_touched.ensures ∙ c.if-not-is_touched.false) ∙ untouched))

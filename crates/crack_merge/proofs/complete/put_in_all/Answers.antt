@@ -1,4 +1,4 @@
-use Rattle.std.proofs.Common.{◌<◌, ◌≤◌, length, ◌∙◌, arith}
+use Rattle.std.proofs.Common.{◌<◌, ◌≤◌, length, ap, ◌∙◌, arith}
 use Rattle.std.proofs.lemmas.List.{drop_all}
 use Rattle.crack_row.specs.declared.command.Policy.TheVariants.{Complete}
 use Rattle.crack_merge.specs.Loops.{ended}
@@ -11,6 +11,12 @@ returns-then-count-eq0-clause-ok c = PutsIn-none Complete c.args.store
 
 pub returns-in-Err-clause-stops : goal.returns-in-Err-clause-stops
 returns-in-Err-clause-stops c = λ range. Stops-complete c.args.store c.make_room.new.self range 0 (PutsFirst-room c.args.store c.args.store c.make_room.new.self 0 (PutsFirst-none c.args.store) c.make_room.ensures.same) (omega arith) c.facts-in-Err.ensures
+
+pub returns-in-Err-clause-spare : goal.returns-in-Err-clause-spare
+returns-in-Err-clause-spare c = λ none. absurd (omega (arith, c.if-count-eq0.false, c.pending_in-count.ensures, ap length none))
+
+pub returns-in-Err-clause-few : goal.returns-in-Err-clause-few
+returns-in-Err-clause-few c = (PutsFirst-room c.args.store c.args.store c.make_room.new.self 0 (PutsFirst-none c.args.store) c.make_room.ensures.same).puts.few
 
 pub insertions-init : goal.insertions-init
 insertions-init c =
@@ -34,6 +40,18 @@ returns-in-Err-make_room-clause-stops c =
     let stopped = PutsFirst-room c.args.store (ended rule here) (ended rule made.new.self) c.insertions.taken was (SameButRoom-ended rule here made.new.self made.ensures.same made.ensures.hand) in
     let within : c.insertions.taken ≤ length c.args.store.pending_in = omega (arith, c.insertions-test.true, c.pending_in-count.ensures) in
     λ range. Stops-complete c.args.store c.end-stopped.result range c.insertions.taken (rw c.end-stopped.ensures stopped) within c.facts-in-Err-make_room.ensures
+
+pub returns-in-Err-make_room-clause-spare : goal.returns-in-Err-make_room-clause-spare
+returns-in-Err-make_room-clause-spare c = λ none. absurd (omega (arith, c.insertions-test.true, c.pending_in-count.ensures, ap length none))
+
+pub returns-in-Err-make_room-clause-few : goal.returns-in-Err-make_room-clause-few
+returns-in-Err-make_room-clause-few c =
+    let rule = c.carry-rule.result in
+    let here = c.carry-rule.new.carrying in
+    let made = c.make_room-in-insertions in
+    let was = c.insertions.invariant.puts (ended rule here) c.carry-rule.ensures.carries in
+    let stopped = PutsFirst-room c.args.store (ended rule here) (ended rule made.new.self) c.insertions.taken was (SameButRoom-ended rule here made.new.self made.ensures.same made.ensures.hand) in
+    rw c.end-stopped.ensures stopped.puts.few
 
 pub insertions-preserved : goal.insertions-preserved
 insertions-preserved c =

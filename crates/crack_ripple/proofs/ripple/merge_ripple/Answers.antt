@@ -1,5 +1,7 @@
+use Rattle.std.proofs.Common.{◌≡◌, refl, sym}
+use Rattle.std.proofs.lemmas.Bool.{true≢false}
 use Rattle.crack_state.proofs.MergeLaws.{IsCracked-follows}
-use Rattle.crack_ripple.proofs.Merging.{is_range, Merges-near, Tallies-near, MovesNear-near}
+use Rattle.crack_ripple.proofs.Merging.{is_range, settled_before, Merges-near, Tallies-near, MovesNear-near}
 use Rattle.crack_ripple.proofs.ripple.merge_ripple.Goals as goal
 
 pub ripple_out-requires-clause-cracked : goal.ripple_out-requires-clause-cracked
@@ -19,3 +21,17 @@ returns-in-Ok-ripple_out-clause-tallies c =
 pub returns-in-Ok-ripple_out-clause-moves : goal.returns-in-Ok-ripple_out-clause-moves
 returns-in-Ok-ripple_out-clause-moves c =
     MovesNear-near c.args.store c.in-Ok.filled c.in-Ok-ripple_out.merged c.args.range c.in-Ok.ensures.near c.in-Ok-ripple_out.ensures.tallies c.in-Ok.ensures.moves c.in-Ok-ripple_out.ensures.moves
+
+pub returns-in-Ok-ripple_out-clause-untouched : goal.returns-in-Ok-ripple_out-clause-untouched
+returns-in-Ok-ripple_out-clause-untouched c = λ untouched.
+    let settled = settled_before c.args.store c.args.range (is_range c.args.store c.args.range c.requires.some c.requires.low c.requires.high c.requires.cracked) c.facts.ensures untouched in
+    let filled : c.in-Ok.filled ≡ c.args.store = c.in-Ok.ensures.untouched settled.pending in
+    let merged : c.in-Ok-ripple_out.merged ≡ c.in-Ok.filled = c.in-Ok-ripple_out.ensures.untouched (rw filled settled.doomed) in
+    rw (c.counted_between.ensures, c.tally-before.ensures, c.tally-after.ensures, merged, filled) refl
+
+pub returns-in-Err-clause-untouched : goal.returns-in-Err-clause-untouched
+returns-in-Err-clause-untouched c = λ untouched.
+    absurd (true≢false (sym (c.in-Err.ensures.spare (settled_before c.args.store c.args.range (is_range c.args.store c.args.range c.requires.some c.requires.low c.requires.high c.requires.cracked) c.facts.ensures untouched).pending)))
+
+pub returns-in-Err-clause-spare : goal.returns-in-Err-clause-spare
+returns-in-Err-clause-spare c = λ outside. absurd (true≢false (sym (c.in-Err.ensures.spare outside)))

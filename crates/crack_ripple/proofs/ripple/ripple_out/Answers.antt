@@ -1,3 +1,4 @@
+use Rattle.crack_merge.proofs.RangeLaws.{PullsAll-outside}
 use Rattle.crack_ripple.proofs.Merging.{TakenOut-pulled}
 use Rattle.crack_ripple.proofs.ripple.ripple_out.Goals as goal
 
@@ -9,3 +10,6 @@ returns-clause-tallies c = (TakenOut-pulled c.args.store c.pull_range.result c.a
 
 pub returns-clause-moves : goal.returns-clause-moves
 returns-clause-moves c = (TakenOut-pulled c.args.store c.pull_range.result c.args.range c.facts.ensures c.pull_range.ensures).moves
+
+pub returns-clause-untouched : goal.returns-clause-untouched
+returns-clause-untouched c = PullsAll-outside c.args.range c.args.store c.pull_range.result c.pull_range.ensures
