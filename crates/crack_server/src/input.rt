@@ -2,13 +2,11 @@
 ghost use Rattle.std.specs.Prelude.{◌≡◌, ◌<◌, length, vec_len, IfOk};
 
 use crate::MOST_INPUT_BYTES;
+use crack_commands::read_number_up_to;
 use crack_row::{Refusal, Watched};
 use memchr::memchr;
 use std::alloc::{AllocError, Global};
 use std::io::Read;
-
-/// How many digits a number has, at most.
-const NUMBER_DIGITS: usize = 20;
 
 /// The whole input. Refused with 17 where the reader fails, or gives more than `MOST_INPUT_BYTES`, and with 8 where it finds no memory.
 pub(crate) fn read_input<R: Read>(alloc: Global, reader: &mut R) -> Result<Vec<u8>, Refusal> {
@@ -89,23 +87,6 @@ fn deal(shares: &mut Vec<Vec<u8>>, line: &[u8]) -> Result<(), Refusal>
 /// The number at the front of a line, and what stands behind it and one space.
 fn numbered(line: &[u8]) -> Option<(u32, &[u8])> {
     let space = memchr(b' ', line)?;
-    let number = number_of(&line[..space])?;
+    let number = read_number_up_to(u32::MAX, &line[..space])?;
     Some((number, &line[space + 1..]))
-}
-
-/// The number that these digits write, where they are digits, as many as a number may have, and it has 32 bits.
-fn number_of(digits: &[u8]) -> Option<u32> {
-    if digits.is_empty() || digits.len() > NUMBER_DIGITS {
-        return None;
-    }
-    let mut number = 0u64;
-    'digits: for digit in digits {
-        if !digit.is_ascii_digit() {
-            return None;
-        }
-        number = number
-            .saturating_mul(10)
-            .saturating_add((*digit - b'0') as u64);
-    }
-    u32::try_from(number).ok()
 }
