@@ -1,24 +1,21 @@
 //! A worker's book: a receipt of each answer.
-use crack_core::Book;
+use crack_core::{Book, Receipt};
 use crack_part::Partition;
 use crack_row::{Command, GREATEST_LIMIT, Key, KeyRange, Payload, Policy, Refusal, Reply, Serial};
 use std::process::Abort;
 
-/// Asks for an insert, which the receipt tells.
-fn insert_first(
-    rt: &impl Abort,
-    book: &mut Book,
-    partition: &mut Partition,
-) -> Result<(), Refusal> {
+/// What an insert is answered. It promises nothing, so that no test carries all that `ask` promises.
+fn ask_insert(book: &mut Book, partition: &mut Partition) -> Result<Reply, Refusal> {
     book.reserve()?;
     let insert = Command::Insert {
         key: Key(7),
         payload: Payload(70),
     };
-    let reply = book.ask(2, partition, insert, Policy::Gradual)?;
-    assert!(rt; matches!(reply, Reply::Placed(Serial(0))));
-    assert_eq!(rt; book.receipts().len(), 1);
-    let receipt = &book.receipts()[0];
+    book.ask(2, partition, insert, Policy::Gradual)
+}
+
+/// Asserts that the receipt is of the first row.
+fn assert_receipt(rt: &impl Abort, receipt: &Receipt) {
     assert_eq!(rt;
         [
             u64::from(receipt.part),
@@ -28,6 +25,18 @@ fn insert_first(
         [2, 0, 3]
     );
     assert!(rt; matches!(receipt.reply, Reply::Placed(Serial(0))));
+}
+
+/// Asks for an insert, which the receipt tells.
+fn insert_first(
+    rt: &impl Abort,
+    book: &mut Book,
+    partition: &mut Partition,
+) -> Result<(), Refusal> {
+    let reply = ask_insert(book, partition)?;
+    assert!(rt; matches!(reply, Reply::Placed(Serial(0))));
+    assert!(rt; book.receipts().len() == 1);
+    assert_receipt(rt, &book.receipts()[0]);
     assert_eq!(rt;
         [book.accepted(), book.inserted(), book.deleted()],
         [1, 1, 0]

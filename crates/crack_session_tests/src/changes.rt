@@ -1,6 +1,8 @@
 //! Partitions whose rows go, change, are added up and listed, and what stands where after a merge.
 use crack_part::Partition;
-use crack_row::{Command, Key, KeyRange, Payload, Policy, Refusal, Reply, Row, RowList, Serial};
+use crack_row::{
+    Command, Key, KeyRange, Layout, Payload, Policy, Refusal, Reply, Row, RowList, Serial,
+};
 use std::process::Abort;
 
 /// What worker 3 is answered under a policy.
@@ -58,14 +60,20 @@ fn assert_gone(
     Ok(())
 }
 
-/// Asserts the numbers of rows, column places, pending deletions, pending insertions, cells and free cells, and the pieces' sizes.
+/// A partition's layout. It promises nothing, so that no test carries all that `layout` promises.
+fn layout_of(partition: &Partition) -> Result<Layout, Refusal> {
+    partition.layout()
+}
+
+/// Asserts the numbers of rows, column places, pending deletions, pending insertions, cells and free cells, and of each piece
+/// where it begins and its size.
 fn assert_layout(
     rt: &impl Abort,
     partition: &Partition,
     numbers: [u64; 6],
-    sizes: &[u64],
+    wanted: &[[u64; 2]],
 ) -> Result<(), Refusal> {
-    let layout = partition.layout()?;
+    let layout = layout_of(partition)?;
     let told = [
         layout.rows,
         layout.column,
@@ -76,9 +84,10 @@ fn assert_layout(
     ];
     assert_eq!(rt; told, numbers);
     let pieces = layout.pieces.as_slice();
-    assert_eq!(rt; pieces.len(), sizes.len());
-    for place in 0..sizes.len() {
-        assert_eq!(rt; pieces[place].size, sizes[place], "piece {place}");
+    assert_eq!(rt; pieces.len(), wanted.len());
+    for place in 0..wanted.len() {
+        let piece = [pieces[place].low.0, pieces[place].size];
+        assert_eq!(rt; piece, wanted[place], "piece {place}");
     }
     Ok(())
 }
@@ -94,7 +103,12 @@ fn pull_through_two_bounds(rt: &impl Abort, partition: &mut Partition) -> Result
     fill_three(rt, partition)?;
     assert_gone(rt, partition, 0, 10)?;
     assert_count(rt, partition, KeyRange::new(0, 15)?, Policy::Gradual, 0)?;
-    assert_layout(rt, partition, [2, 2, 0, 0, 3, 1], &[0, 1, 1])
+    assert_layout(
+        rt,
+        partition,
+        [2, 2, 0, 0, 3, 1],
+        &[[0, 0], [15, 1], [25, 1]],
+    )
 }
 
 #[test]
@@ -115,7 +129,12 @@ fn delete_two(rt: &impl Abort, partition: &mut Partition, policy: Policy) -> Res
 
 fn pull_past_a_doomed_row(rt: &impl Abort, partition: &mut Partition) -> Result<(), Refusal> {
     delete_two(rt, partition, Policy::Gradual)?;
-    assert_layout(rt, partition, [1, 2, 1, 0, 3, 1], &[0, 1, 1])
+    assert_layout(
+        rt,
+        partition,
+        [1, 2, 1, 0, 3, 1],
+        &[[0, 0], [15, 1], [25, 1]],
+    )
 }
 
 /// The doomed row that is carried on stays doomed.
@@ -129,7 +148,12 @@ fn a_gradual_pull_past_a_doomed_row(rt: HostRuntime) -> Result<(), Refusal> {
 
 fn take_all_out(rt: &impl Abort, partition: &mut Partition) -> Result<(), Refusal> {
     delete_two(rt, partition, Policy::Complete)?;
-    assert_layout(rt, partition, [1, 1, 0, 0, 3, 2], &[0, 1, 0])
+    assert_layout(
+        rt,
+        partition,
+        [1, 1, 0, 0, 3, 2],
+        &[[0, 0], [15, 1], [25, 0]],
+    )
 }
 
 #[test]
@@ -140,15 +164,30 @@ fn a_complete_merge_takes_all_out(rt: HostRuntime) -> Result<(), Refusal> {
     told
 }
 
-/// A doomed row that stands in the way is buried, and its cell is used again.
-fn bury_on_the_way(rt: &impl Abort, partition: &mut Partition) -> Result<(), Refusal> {
+/// Puts a row where a doomed row stands in the way.
+fn carry_into_doomed(rt: &impl Abort, partition: &mut Partition) -> Result<(), Refusal> {
     fill_three(rt, partition)?;
     assert_gone(rt, partition, 2, 30)?;
     fill(partition, &[17])?;
-    assert_count(rt, partition, KeyRange::new(15, 25)?, Policy::Gradual, 2)?;
-    assert_layout(rt, partition, [3, 3, 0, 0, 4, 1], &[1, 2, 0])?;
+    assert_count(rt, partition, KeyRange::new(15, 25)?, Policy::Gradual, 2)
+}
+
+/// A doomed row that stands in the way is buried, and its cell is used again.
+fn bury_on_the_way(rt: &impl Abort, partition: &mut Partition) -> Result<(), Refusal> {
+    carry_into_doomed(rt, partition)?;
+    assert_layout(
+        rt,
+        partition,
+        [3, 3, 0, 0, 4, 1],
+        &[[0, 1], [15, 2], [25, 0]],
+    )?;
     fill(partition, &[99])?;
-    assert_layout(rt, partition, [4, 3, 0, 1, 4, 0], &[1, 2, 0])
+    assert_layout(
+        rt,
+        partition,
+        [4, 3, 0, 1, 4, 0],
+        &[[0, 1], [15, 2], [25, 0]],
+    )
 }
 
 #[test]
@@ -165,13 +204,54 @@ fn merge_gradually(rt: &impl Abort, partition: &mut Partition) -> Result<(), Ref
     assert_count(rt, partition, KeyRange::all(), Policy::Gradual, 4)?;
     fill(partition, &[17, 90])?;
     assert_count(rt, partition, KeyRange::new(15, 25)?, Policy::Gradual, 2)?;
-    assert_layout(rt, partition, [6, 5, 0, 1, 6, 0], &[1, 2, 2])
+    assert_layout(
+        rt,
+        partition,
+        [6, 5, 0, 1, 6, 0],
+        &[[0, 1], [15, 2], [25, 2]],
+    )
 }
 
 #[test]
 fn a_gradual_merge(rt: HostRuntime) -> Result<(), Refusal> {
     let mut partition = Partition::open(rt.alloc(), KeyRange::all(), 1000)?;
     let told = merge_gradually(&rt, &mut partition);
+    drop(partition);
+    told
+}
+
+/// Inserts the keys 10, 20, 30 and 40, which wait until the first count, and cracks at 15 and 25.
+fn fill_and_crack(rt: &impl Abort, partition: &mut Partition) -> Result<(), Refusal> {
+    fill(partition, &[10, 20, 30, 40])?;
+    assert_layout(rt, partition, [4, 0, 0, 4, 4, 0], &[[0, 0]])?;
+    assert_count(rt, partition, KeyRange::all(), Policy::Complete, 4)?;
+    assert_count(rt, partition, KeyRange::new(15, 25)?, Policy::Complete, 1)
+}
+
+/// Inserts two rows into what was cracked, and counts one of them.
+fn crack_and_merge(rt: &impl Abort, partition: &mut Partition) -> Result<(), Refusal> {
+    fill_and_crack(rt, partition)?;
+    fill(partition, &[17, 90])?;
+    assert_layout(
+        rt,
+        partition,
+        [6, 4, 0, 2, 6, 0],
+        &[[0, 1], [15, 1], [25, 2]],
+    )?;
+    assert_count(rt, partition, KeyRange::new(15, 25)?, Policy::Complete, 2)?;
+    assert_layout(
+        rt,
+        partition,
+        [6, 6, 0, 0, 6, 0],
+        &[[0, 1], [15, 2], [25, 3]],
+    )
+}
+
+/// Rows wait until a count needs one of them; then all are merged, and no row is lost from sight on the way.
+#[test]
+fn partition_cracks_and_merges(rt: HostRuntime) -> Result<(), Refusal> {
+    let mut partition = Partition::open(rt.alloc(), KeyRange::all(), 1000)?;
+    let told = crack_and_merge(&rt, &mut partition);
     drop(partition);
     told
 }
@@ -183,7 +263,7 @@ fn delete_twice(rt: &impl Abort, partition: &mut Partition) -> Result<(), Refusa
     let delete = Command::Delete { serial: Serial(0) };
     assert!(rt; matches!(ask(partition, delete, Policy::Gradual)?, Reply::NoRow));
     assert_eq!(rt; partition.history().len(), 3);
-    assert_layout(rt, partition, [0, 0, 0, 0, 1, 1], &[0])
+    assert_layout(rt, partition, [0, 0, 0, 0, 1, 1], &[[0, 0]])
 }
 
 #[test]
@@ -233,12 +313,12 @@ fn select_all(rt: &impl Abort, partition: &mut Partition) -> Result<(), Refusal>
 fn update_twice(rt: &impl Abort, partition: &mut Partition) -> Result<(), Refusal> {
     fill(partition, &[5])?;
     assert!(rt; matches!(update(partition, 6)?, Reply::Changed));
-    assert_layout(rt, partition, [1, 0, 0, 1, 1, 0], &[0])?;
+    assert_layout(rt, partition, [1, 0, 0, 1, 1, 0], &[[0, 0]])?;
     assert_count(rt, partition, KeyRange::all(), Policy::Gradual, 1)?;
     assert!(rt; matches!(update(partition, 8)?, Reply::Changed));
-    assert_layout(rt, partition, [1, 1, 1, 1, 2, 0], &[1])?;
+    assert_layout(rt, partition, [1, 1, 1, 1, 2, 0], &[[0, 1]])?;
     select_all(rt, partition)?;
-    assert_layout(rt, partition, [1, 1, 0, 0, 2, 1], &[1])
+    assert_layout(rt, partition, [1, 1, 0, 0, 2, 1], &[[0, 1]])
 }
 
 #[test]

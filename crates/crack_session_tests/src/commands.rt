@@ -6,6 +6,7 @@ use crack_row::{
     PieceSize, Refusal, Reply, Row, Serial, Watched,
 };
 use std::alloc::Global;
+use std::io::Write;
 use std::process::Abort;
 use std::test::Fail;
 
@@ -39,15 +40,21 @@ fn greatest_layout(alloc: Global) -> Result<Layout, Fail> {
     })
 }
 
+/// Writes replies of the greatest numbers.
+fn write_greatest<W: Write>(writer: &mut Watched<W>) -> Result<(), Refusal> {
+    write_reply(u32::MAX, &Reply::Placed(Serial(u64::MAX)), writer)?;
+    write_reply(0, &Reply::Gone(greatest_row()), writer)?;
+    write_reply(0, &Reply::Summed(u128::MAX), writer)?;
+    write_head(u64::MAX, writer)?;
+    write_row(u32::MAX, &greatest_row(), writer)
+}
+
 #[test]
 fn greatest_numbers_are_written(rt: HostRuntime) -> Result<(), Fail> {
     let mut writer = Watched::new(Vec::new(rt.alloc()));
-    write_reply(u32::MAX, &Reply::Placed(Serial(u64::MAX)), &mut writer)?;
-    write_reply(0, &Reply::Gone(greatest_row()), &mut writer)?;
-    write_reply(0, &Reply::Summed(u128::MAX), &mut writer)?;
-    write_head(u64::MAX, &mut writer)?;
-    write_row(u32::MAX, &greatest_row(), &mut writer)?;
+    let written = write_greatest(&mut writer);
     let text = writer.into_inner();
+    written?;
     let told =
         "row 4294967295.18446744073709551615\ngone 4294967295 4294967295\nsum 340282366920938463463374607431768211455\n\
 rows 18446744073709551615\n4294967295.18446744073709551615 4294967295 4294967295\n";
@@ -73,22 +80,53 @@ fn layout_until(
     Ok(writer.into_inner().bytes)
 }
 
-#[test]
-fn layouts_are_written_as_far_as_the_writer_goes(rt: HostRuntime) -> Result<(), Fail> {
-    let layout = greatest_layout(rt.alloc())?;
-    let mut writer = Watched::new(Vec::new(rt.alloc()));
-    write_layout(u32::MAX, &layout, &mut writer)?;
-    let whole = writer.into_inner();
+/// The whole text of a layout.
+fn whole_text(alloc: Global, layout: &Layout) -> Result<Vec<u8>, Fail> {
+    let mut writer = Watched::new(Vec::new(alloc));
+    let result = write_layout(u32::MAX, layout, &mut writer);
+    let text = writer.into_inner();
+    result?;
+    Ok(text)
+}
+
+/// Asserts that this is the text of the layout of the greatest numbers.
+fn assert_greatest(rt: &impl Abort, alloc: Global, whole: &[u8]) -> Result<(), Fail> {
     let most = "18446744073709551615";
-    let told = format!(in rt.alloc();
+    let told = format!(in alloc;
         "layout 4294967295 rows {most} column {most} out {most} in {most} cells {most} free {most} pieces 2\n\
 piece 4294967296 4294967296 {most}\npiece 4294967296 4294967296 {most}\n"
     )?;
-    assert_eq!(rt; whole.as_slice(), told.as_bytes());
+    assert_eq!(rt; whole, told.as_bytes());
+    Ok(())
+}
+
+/// Asserts that a writer that fails from a call on has a part of the whole text, from its front on.
+fn assert_front(
+    rt: &impl Abort,
+    alloc: Global,
+    layout: &Layout,
+    whole: &[u8],
+    fails_at: u64,
+) -> Result<(), Fail> {
+    let front = layout_until(rt, alloc, layout, fails_at)?;
+    assert!(rt; front.len() < whole.len());
+    assert_eq!(rt; front.as_slice(), &whole[..front.len()]);
+    Ok(())
+}
+
+fn assert_layout_texts(rt: &impl Abort, alloc: Global, layout: &Layout) -> Result<(), Fail> {
+    let whole = whole_text(alloc, layout)?;
+    assert_greatest(rt, alloc, whole.as_slice())?;
     for fails_at in 0..5 {
-        let front = layout_until(&rt, rt.alloc(), &layout, fails_at)?;
-        assert!(rt; front.len() < whole.len());
-        assert_eq!(rt; front.as_slice(), &whole.as_slice()[..front.len()]);
+        assert_front(rt, alloc, layout, whole.as_slice(), fails_at)?;
     }
     Ok(())
+}
+
+#[test]
+fn layouts_are_written_as_far_as_the_writer_goes(rt: HostRuntime) -> Result<(), Fail> {
+    let layout = greatest_layout(rt.alloc())?;
+    let told = assert_layout_texts(&rt, rt.alloc(), &layout);
+    drop(layout);
+    told
 }

@@ -1,7 +1,7 @@
 //! Partitions by key range that one thread asks: which a key or a range meets, what steps are answered, and what isn't opened.
 use crack_core::{Core, Step};
 use crack_row::{
-    Bound, Command, GREATEST_LIMIT, Key, KeyRange, Payload, Policy, Refusal, Reply, Serial,
+    Bound, Command, GREATEST_LIMIT, Key, KeyRange, Layout, Payload, Policy, Refusal, Reply, Serial,
 };
 use smallvec::SmallVec;
 use std::alloc::Global;
@@ -12,38 +12,38 @@ fn parts(core: &Core, low: u64, high: u64) -> Result<SmallVec<(u32, KeyRange), 8
     core.parts_of(KeyRange::new(u128::from(low), u128::from(high))?)
 }
 
-/// Asserts which partition a part is of, and its ends.
-fn assert_part(rt: &impl Abort, part: (u32, KeyRange), wanted: [u64; 3]) {
-    let (number, range) = part;
-    assert_eq!(rt; [u64::from(number), range.low().0, range.high().0], wanted);
+/// Asserts the parts of a range: the partition of each, and its ends.
+fn assert_parts(
+    rt: &impl Abort,
+    core: &Core,
+    low: u64,
+    high: u64,
+    wanted: &[[u64; 3]],
+) -> Result<(), Refusal> {
+    let parts = parts(core, low, high)?;
+    assert_eq!(rt; parts.len(), wanted.len());
+    for place in 0..wanted.len() {
+        let (number, range) = parts[place];
+        let told = [u64::from(number), range.low().0, range.high().0];
+        assert_eq!(rt; told, wanted[place], "part {place}");
+    }
+    Ok(())
 }
 
-/// A range over three partitions is cut at their splits.
+/// A range over three partitions is cut at their splits. An empty one goes to the partition of its low end, and from the
+/// greatest bound to the last one.
 fn cut_at_splits(rt: &impl Abort, core: &Core) -> Result<(), Refusal> {
-    let three = parts(core, 50, 201)?;
-    assert_eq!(rt; three.len(), 3);
-    assert_part(rt, three[0], [0, 50, 100]);
-    assert_part(rt, three[1], [1, 100, 200]);
-    assert_part(rt, three[2], [2, 200, 201]);
-    Ok(())
-}
-
-/// An empty range goes to the partition of its low end, and from the greatest bound to the last one.
-fn empty_goes_to_one(rt: &impl Abort, core: &Core) -> Result<(), Refusal> {
-    let at_split = parts(core, 100, 100)?;
-    assert_eq!(rt; at_split.len(), 1);
-    assert_part(rt, at_split[0], [1, 100, 100]);
-    let at_end = parts(core, 4294967296, 4294967296)?;
-    assert_eq!(rt; at_end.len(), 1);
-    assert_part(rt, at_end[0], [2, 4294967296, 4294967296]);
-    Ok(())
+    let three = [[0, 50, 100], [1, 100, 200], [2, 200, 201]];
+    assert_parts(rt, core, 50, 201, &three)?;
+    assert_parts(rt, core, 100, 100, &[[1, 100, 100]])?;
+    let end = 4294967296;
+    assert_parts(rt, core, end, end, &[[2, end, end]])
 }
 
 #[test]
 fn ranges_are_cut_at_splits(rt: HostRuntime) -> Result<(), Refusal> {
     let core = Core::open(rt.alloc(), &[Bound(100), Bound(200)], GREATEST_LIMIT)?;
     let told = cut_at_splits(&rt, &core);
-    let told_empty = empty_goes_to_one(&rt, &core);
     let places = [
         core.route(Key(99)),
         core.route(Key(100)),
@@ -51,8 +51,7 @@ fn ranges_are_cut_at_splits(rt: HostRuntime) -> Result<(), Refusal> {
     ];
     drop(core);
     assert_eq!(rt; places, [0, 1, 2]);
-    told?;
-    told_empty
+    told
 }
 
 /// A step of worker 0 under the gradual merge.
@@ -89,22 +88,40 @@ fn steps_are_made_one_after_the_other(rt: HostRuntime) -> Result<(), Refusal> {
     told
 }
 
+/// Why a count at a partition is refused, if it is.
+fn count_refused(core: &mut Core, part: u32) -> Option<Refusal> {
+    core.step(step(part, Command::Count(KeyRange::all()))).err()
+}
+
+/// A partition's layout. It promises nothing, so that no test carries all that `layout` promises.
+fn layout_of(core: &Core, part: u32) -> Result<Layout, Refusal> {
+    core.layout(part)
+}
+
 /// Each partition has the limit for itself.
-fn fill_each(rt: &impl Abort, core: &mut Core) -> Result<(), Refusal> {
-    let count = Command::Count(KeyRange::all());
-    core.step(step(0, count))?;
-    core.step(step(1, count))?;
-    let refused = core.step(step(1, count)).err();
-    assert!(rt; matches!(refused, Some(Refusal::HistoryFull { length: 1 })));
-    assert_eq!(rt; core.layout(1)?.pieces.as_slice().len(), 1);
-    assert!(rt; matches!(core.layout(2).err(), Some(Refusal::NoSuchPartition)));
+fn fill_each(rt: &impl Abort, core: &mut Core) {
+    let told = [
+        count_refused(core, 0),
+        count_refused(core, 1),
+        count_refused(core, 1),
+    ];
+    let full = Refusal::HistoryFull { length: 1 };
+    assert_eq!(rt; told, [None, None, Some(full)]);
+}
+
+/// There are two partitions, and the second is one piece.
+fn assert_two(rt: &impl Abort, core: &Core) -> Result<(), Refusal> {
+    let layout = layout_of(core, 1)?;
+    assert_eq!(rt; layout.pieces.as_slice().len(), 1);
+    assert_eq!(rt; layout_of(core, 2).err(), Some(Refusal::NoSuchPartition));
     Ok(())
 }
 
 #[test]
 fn each_partition_has_the_limit(rt: HostRuntime) -> Result<(), Refusal> {
     let mut core = Core::open(rt.alloc(), &[Bound(100)], 1)?;
-    let told = fill_each(&rt, &mut core);
+    fill_each(&rt, &mut core);
+    let told = assert_two(&rt, &core);
     drop(core);
     told
 }

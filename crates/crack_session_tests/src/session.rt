@@ -23,11 +23,16 @@ fn session<D: Desk, R: Read, W: Write>(
     serve(alloc, desk, Policy::Complete, reader, writer)
 }
 
-/// A session over memory, which is to end: how, and what it wrote.
-fn run<D: Desk + Drop>(alloc: Global, mut desk: D, input: &[u8]) -> Result<(End, Vec<u8>), Fail> {
-    let mut reader = Watched::new(input);
+/// A session that writes to memory, which is to end: how, and what it wrote.
+fn run<D: Desk + Drop, R: Read + Drop>(
+    alloc: Global,
+    mut desk: D,
+    reader: R,
+) -> Result<(End, Vec<u8>), Fail> {
+    let mut reader = Watched::new(reader);
     let mut writer = Watched::new(Vec::new(alloc));
     let result = session(alloc, &mut desk, &mut reader, &mut writer);
+    drop(reader);
     drop(desk);
     let text = writer.into_inner();
     let end = result.ok().ok_or("a fault")?;
@@ -43,7 +48,23 @@ pub fn ends(how: How, statements: u64) -> End {
     }
 }
 
-/// A session over memory that is to write these replies and end so.
+/// A session that is to write these replies and end so.
+fn assert_told<D: Desk + Drop, R: Read + Drop>(
+    rt: &impl Abort,
+    alloc: Global,
+    desk: D,
+    reader: R,
+    replies: &[u8],
+    end: End,
+) -> Result<(), Fail> {
+    let (told, text) = run(alloc, desk, reader)?;
+    assert_eq!(rt; text.as_slice(), replies);
+    assert_eq!(rt; told, end);
+    drop(text);
+    Ok(())
+}
+
+/// The same over memory.
 pub fn assert_run<D: Desk + Drop>(
     rt: &impl Abort,
     alloc: Global,
@@ -52,37 +73,26 @@ pub fn assert_run<D: Desk + Drop>(
     replies: &[u8],
     end: End,
 ) -> Result<(), Fail> {
-    let (told, text) = run(alloc, desk, input)?;
-    assert_eq!(rt; text.as_slice(), replies);
-    assert_eq!(rt; told, end);
-    drop(text);
-    Ok(())
+    assert_told(rt, alloc, desk, input, replies, end)
 }
 
 /// The same where the reader gives a byte at a time.
 fn assert_dripped<D: Desk + Drop>(
     rt: &impl Abort,
     alloc: Global,
-    mut desk: D,
+    desk: D,
     input: &[u8],
     replies: &[u8],
     end: End,
 ) -> Result<(), Fail> {
     let log = Log::new();
-    let mut reader = Watched::new(Source {
+    let reader = Source {
         bytes: input,
         most: 1,
         fails: false,
         log: &log,
-    });
-    let mut writer = Watched::new(Vec::new(alloc));
-    let result = session(alloc, &mut desk, &mut reader, &mut writer);
-    drop(desk);
-    assert_eq!(rt; result.ok(), Some(end));
-    let told = writer.into_inner();
-    assert_eq!(rt; told.as_slice(), replies);
-    drop(told);
-    Ok(())
+    };
+    assert_told(rt, alloc, desk, reader, replies, end)
 }
 
 /// A session over one partition of this limit, however its bytes are cut.
@@ -249,9 +259,8 @@ fn assert_refused(
     text: &[u8],
 ) -> Result<(), Fail> {
     for line in lines {
-        let (end, told) = run(alloc, PlainTable::new(alloc), line)?;
-        assert_eq!(rt; told.as_slice(), text);
-        assert_eq!(rt; end, ends(How::InputEnded, 1));
+        let table = PlainTable::new(alloc);
+        assert_run(rt, alloc, table, line, text, ends(How::InputEnded, 1))?;
     }
     Ok(())
 }
@@ -313,34 +322,37 @@ fn bad_lines_are_refused(rt: HostRuntime) -> Result<(), Fail> {
     assert_refused(&rt, rt.alloc(), ranges.as_slice(), b"refused 2\n")
 }
 
-/// A policy holds for the rest of a session: a merge takes all that is pending, or what its range needs.
-#[test]
-fn a_policy_holds_for_the_rest(rt: HostRuntime) -> Result<(), Fail> {
+/// A session whose first line names this policy, and whose last one gets this layout.
+fn assert_policy(rt: &impl Abort, alloc: Global, name: &str, layout: &str) -> Result<(), Fail> {
     let rows =
         "insert 10 10\ninsert 20 20\ninsert 30 30\ninsert 40 40\ncount 0 4294967296\ncount 15 25\n";
     let more = "insert 17 0\ninsert 90 0\ncount 15 25\nlayout 0\n";
+    let input = format!(in alloc; "policy {name}\n{rows}{more}")?;
     let replies = "row 0.0\nrow 0.1\nrow 0.2\nrow 0.3\ncount 4\ncount 1\n";
+    let told = format!(in alloc; "policy {name}\n{replies}row 0.4\nrow 0.5\ncount 2\n{layout}")?;
+    let end = ends(How::InputEnded, 11);
+    assert_script(
+        rt,
+        alloc,
+        GREATEST_LIMIT,
+        input.as_bytes(),
+        told.as_bytes(),
+        end,
+    )
+}
+
+/// A policy holds for the rest of a session: a merge takes all that is pending, or what its range needs.
+#[test]
+fn a_policy_holds_for_the_rest(rt: HostRuntime) -> Result<(), Fail> {
     let all =
         "layout 0 rows 6 column 6 out 0 in 0 cells 6 free 0 pieces 3\npiece 0 15 1\npiece 15 25 2\npiece 25 4294967296 3\n";
     let some =
         "layout 0 rows 6 column 5 out 0 in 1 cells 6 free 0 pieces 3\npiece 0 15 1\npiece 15 25 2\npiece 25 4294967296 2\n";
     let near =
         "layout 0 rows 6 column 4 out 0 in 2 cells 6 free 0 pieces 3\npiece 0 15 1\npiece 15 25 2\npiece 25 4294967296 1\n";
-    for (name, layout) in [("complete", all), ("gradual", some), ("ripple", near)] {
-        let input = format!(in rt.alloc(); "policy {name}\n{rows}{more}")?;
-        let told = format!(in rt.alloc();
-            "policy {name}\n{replies}row 0.4\nrow 0.5\ncount 2\n{layout}"
-        )?;
-        assert_script(
-            &rt,
-            rt.alloc(),
-            GREATEST_LIMIT,
-            input.as_bytes(),
-            told.as_bytes(),
-            ends(How::InputEnded, 11),
-        )?;
-    }
-    Ok(())
+    assert_policy(&rt, rt.alloc(), "complete", all)?;
+    assert_policy(&rt, rt.alloc(), "gradual", some)?;
+    assert_policy(&rt, rt.alloc(), "ripple", near)
 }
 
 /// A plain table lays its rows out as one piece, and a layout that finds no memory is a want of room.
@@ -370,75 +382,82 @@ fn layouts_of_other_desks(rt: HostRuntime) -> Result<(), Fail> {
     )
 }
 
+/// A session that a device is to cut short so, once so many statements were answered.
+fn assert_fault<D: Desk + Drop, R: Read, W: Write>(
+    rt: &impl Abort,
+    alloc: Global,
+    mut desk: D,
+    reader: &mut Watched<R>,
+    writer: &mut Watched<W>,
+    fault: Fault,
+) {
+    let result = session(alloc, &mut desk, reader, writer);
+    drop(desk);
+    assert_eq!(rt; result.err(), Some(fault));
+}
+
 /// A session whose writer fails in the third reply, and what is written before.
 fn fail_the_third_reply<D: Desk + Drop>(
     rt: &impl Abort,
     alloc: Global,
-    mut desk: D,
+    desk: D,
     replies: &[u8],
     first_short: Option<u64>,
-) -> Result<(), Fail> {
+) {
     let mut reader = Watched::new(b"insert 1 1\ninsert 2 2\nfoo\nquit\n".as_slice());
     let mut writer = Watched::new(Failing {
         calls: 0,
         fails_at: 2,
         bytes: Vec::new(alloc),
     });
-    let result = session(alloc, &mut desk, &mut reader, &mut writer);
-    drop(desk);
     let fault = Fault {
         refusal: Refusal::WriteFault,
         done: 2,
         first_short,
     };
-    assert_eq!(rt; result.err(), Some(fault));
+    assert_fault(rt, alloc, desk, &mut reader, &mut writer, fault);
     assert!(rt; writer.failed());
     let told = writer.into_inner();
     assert_eq!(rt; told.bytes.as_slice(), replies);
     drop(told);
-    Ok(())
 }
 
 #[test]
 fn writer_fails_in_the_third_reply(rt: HostRuntime) -> Result<(), Fail> {
     let desk = Core::open(rt.alloc(), &[], GREATEST_LIMIT)?;
-    fail_the_third_reply(&rt, rt.alloc(), desk, b"row 0.0\nrow 0.1\n", None)
+    fail_the_third_reply(&rt, rt.alloc(), desk, b"row 0.0\nrow 0.1\n", None);
+    Ok(())
 }
 
 #[test]
 fn writer_fails_behind_a_want_of_room(rt: HostRuntime) -> Result<(), Fail> {
     let desk = Core::open(rt.alloc(), &[], 1)?;
-    fail_the_third_reply(&rt, rt.alloc(), desk, b"row 0.0\nrefused 6 1\n", Some(2))
+    fail_the_third_reply(&rt, rt.alloc(), desk, b"row 0.0\nrefused 6 1\n", Some(2));
+    Ok(())
 }
 
 /// A session whose writer takes bytes and can't hand them on.
-fn fail_the_flush<D: Desk + Drop>(rt: &impl Abort, alloc: Global, mut desk: D) -> Result<(), Fail> {
+fn fail_the_flush<D: Desk + Drop>(rt: &impl Abort, alloc: Global, desk: D) {
     let mut reader = Watched::new(b"".as_slice());
     let mut writer = Watched::new(Clogged);
-    let result = session(alloc, &mut desk, &mut reader, &mut writer);
-    drop(desk);
     let fault = Fault {
         refusal: Refusal::WriteFault,
         done: 0,
         first_short: None,
     };
-    assert_eq!(rt; result.err(), Some(fault));
+    assert_fault(rt, alloc, desk, &mut reader, &mut writer, fault);
     assert!(rt; writer.failed());
-    Ok(())
 }
 
 #[test]
 fn writer_fails_when_flushed(rt: HostRuntime) -> Result<(), Fail> {
     let desk = Core::open(rt.alloc(), &[], GREATEST_LIMIT)?;
-    fail_the_flush(&rt, rt.alloc(), desk)
+    fail_the_flush(&rt, rt.alloc(), desk);
+    Ok(())
 }
 
 /// A session whose reader fails in a line that was begun.
-fn fail_the_reader<D: Desk + Drop>(
-    rt: &impl Abort,
-    alloc: Global,
-    mut desk: D,
-) -> Result<(), Fail> {
+fn fail_the_reader<D: Desk + Drop>(rt: &impl Abort, alloc: Global, desk: D) {
     let log = Log::new();
     let mut reader = Watched::new(Source {
         bytes: b"insert 1 1\ncount 0 9",
@@ -447,25 +466,23 @@ fn fail_the_reader<D: Desk + Drop>(
         log: &log,
     });
     let mut writer = Watched::new(Vec::new(alloc));
-    let result = session(alloc, &mut desk, &mut reader, &mut writer);
-    drop(desk);
     let fault = Fault {
         refusal: Refusal::ReadFault,
         done: 1,
         first_short: None,
     };
-    assert_eq!(rt; result.err(), Some(fault));
+    assert_fault(rt, alloc, desk, &mut reader, &mut writer, fault);
     assert!(rt; reader.failed());
     let told = writer.into_inner();
     assert_eq!(rt; told.as_slice(), b"row 0.0\n".as_slice());
     drop(told);
-    Ok(())
 }
 
 #[test]
 fn reader_fails_in_a_line(rt: HostRuntime) -> Result<(), Fail> {
     let desk = Core::open(rt.alloc(), &[], GREATEST_LIMIT)?;
-    fail_the_reader(&rt, rt.alloc(), desk)
+    fail_the_reader(&rt, rt.alloc(), desk);
+    Ok(())
 }
 
 /// A thousand inserts, and a count.
@@ -482,10 +499,9 @@ fn insert_often(alloc: Global) -> Result<Vec<u8>, Fail> {
 /// and nothing behind the last flush.
 fn assert_few_writes(rt: &impl Abort, log: &Log) {
     let most = log.reads.get().saturating_add(1);
-    assert!(rt; log.writes.get() <= most);
-    assert!(rt; log.writes.get() > 1);
-    assert_eq!(rt; log.flushes.get(), most);
-    assert_eq!(rt; log.left.get(), 0);
+    let writes = log.writes.get();
+    assert!(rt; 1 < writes && writes <= most);
+    assert_eq!(rt; [log.flushes.get(), log.left.get() as u64], [most, 0]);
 }
 
 /// Asserts that each read asked for 4,096 bytes, and once each whole line was answered; each line of so many is in the end.
@@ -561,7 +577,7 @@ fn lines_are_answered_before_the_next_read(rt: HostRuntime) -> Result<(), Fail> 
 
 /// A refusal's text as it is printed, which is that of its reply.
 fn assert_printed(rt: &impl Abort, alloc: Global, refusal: Refusal) -> Result<(), Fail> {
-    let (_end, text) = run(alloc, Refusing { refusal }, b"count 0 1\n")?;
+    let (_end, text) = run(alloc, Refusing { refusal }, b"count 0 1\n".as_slice())?;
     let printed = format!(in alloc; "{refusal}\n")?;
     assert_eq!(rt; text.as_slice(), printed.as_bytes());
     Ok(())
@@ -587,19 +603,22 @@ fn refusals_are_printed_as_they_are_replied(rt: HostRuntime) -> Result<(), Fail>
     Ok(())
 }
 
+/// What a desk answers. It promises nothing, so that no test carries all that `ask` promises.
+fn ask<D: Desk>(desk: &mut D, part: u32, command: Command) -> Result<Reply, Refusal> {
+    desk.ask(part, command, Policy::Complete)
+}
+
 /// A desk by itself: what it is asked, how many it accepted, and that there is one partition.
 fn ask_it<D: Desk>(rt: &impl Abort, desk: &mut D) -> Result<(), Fail> {
     let insert = Command::Insert {
         key: Key(7),
         payload: Payload(70),
     };
-    let placed = desk.ask(0, insert, Policy::Complete)?;
-    assert!(rt; matches!(placed, Reply::Placed(Serial(0))));
+    assert!(rt; matches!(ask(desk, 0, insert)?, Reply::Placed(Serial(0))));
     let count = Command::Count(KeyRange::new(7, 8)?);
-    let counted = desk.ask(0, count, Policy::Complete)?;
-    assert!(rt; matches!(counted, Reply::Counted(1)));
-    let elsewhere = desk.ask(1, insert, Policy::Complete);
-    assert!(rt; matches!(elsewhere, Err(Refusal::NoSuchPartition)));
+    assert!(rt; matches!(ask(desk, 0, count)?, Reply::Counted(1)));
+    let elsewhere = ask(desk, 1, insert).err();
+    assert_eq!(rt; elsewhere, Some(Refusal::NoSuchPartition));
     assert_eq!(rt; desk.receipts(), 2);
     assert!(rt; desk.splits().is_empty());
     Ok(())
