@@ -7,7 +7,8 @@ use Rattle.crack_part.specs.Parts.{Part, IsSound}
 use Rattle.crack_core.specs.Opening.{AreParts}
 use Rattle.crack_core.specs.Receipts.{BookState}
 use Rattle.crack_table.specs.Cover.{MayNotCover}
-use Rattle.crack_table.specs.Gather.{histories_of, receipts_of, MayNotAgree}
+use Rattle.crack_core.specs.Steps.{histories_of}
+use Rattle.crack_table.specs.Gather.{receipts_of, MayNotAgree}
 
 -- histories that the receipts don't cover
 pub uncovered : (splits : List Bound) (limit : ℕ) (parts : List Part) (workers : List BookState) (e : Refusal) → AreParts splits limit parts → MayNotCover (histories_of parts) (receipts_of workers) e → MayNotAgree splits limit workers e

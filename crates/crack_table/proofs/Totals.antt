@@ -12,7 +12,8 @@ use Rattle.crack_state.specs.State.{live_rows}
 use Rattle.crack_part.specs.Parts.{Part, IsSound, state_of}
 use Rattle.crack_core.specs.Receipts.{BookState, entry_of, entries_of}
 use Rattle.crack_table.specs.Cover.{Covers}
-use Rattle.crack_table.specs.Gather.{histories_of, receipts_of}
+use Rattle.crack_core.specs.Steps.{histories_of}
+use Rattle.crack_table.specs.Gather.{receipts_of}
 use Rattle.crack_table.proofs.Counting.{sum_entries, counted}
 
 -- the workers' shares, receipt by receipt

@@ -1,8 +1,7 @@
 -- What a table comes to when its workers are gathered.
-use Rattle.std.specs.Prelude.{ℕ, zero, suc, List, length, map, ◌≡◌, ◌≢◌, ◌+◌, ◌^◌, ◌<◌, ◌⊎◌, ◌==◌, Some, slice_get, All, sum_by, if◌then◌else◌}
+use Rattle.std.specs.Prelude.{ℕ, zero, suc, List, length, ◌≡◌, ◌≢◌, ◌+◌, ◌^◌, ◌<◌, ◌⊎◌, ◌==◌, Some, slice_get, All, sum_by, if◌then◌else◌}
 use Rattle.std.specs.List.{list_any, flat_map}
 use Rattle.crack_row.specs.declared.Bound.{Bound}
-use Rattle.crack_row.specs.declared.command.Entry.{Entry}
 use Rattle.crack_row.specs.declared.refusal.Refusal.{Refusal}
 use Rattle.crack_row.specs.declared.refusal.Refusal.TheVariants.{OutOfMemory, WorkersMissing, StrangeReceipt}
 use Rattle.crack_plain.specs.Totals.{accepted, inserted, deleted}
@@ -12,6 +11,7 @@ use Rattle.crack_core.specs.declared.receipt.Receipt.{Receipt}
 use Rattle.crack_core.specs.Receipts.{BookState, entries_of}
 use Rattle.crack_core.specs.Opening.{AreParts}
 use Rattle.crack_core.specs.Routes.{keys_at}
+use Rattle.crack_core.specs.Steps.{histories_of}
 use Rattle.crack_table.specs.Tables.{TableState}
 use Rattle.crack_table.specs.Cover.{IsFault}
 
@@ -19,10 +19,6 @@ use Rattle.crack_table.specs.Cover.{IsFault}
 abbrev pub missing_below : List BookState → ℕ → ℕ
 missing_below workers zero = 0
 missing_below workers (suc number) = missing_below workers number + (if list_any (λ (w : BookState). w.worker == number) workers then 0 else 2 ^ number)
-
--- the histories of the partitions
-abbrev pub histories_of : List Part → List (List Entry)
-histories_of parts = map (λ (p : Part). p.history) parts
 
 -- the receipts of all workers, as one list
 abbrev pub receipts_of : List BookState → List Receipt

@@ -6,8 +6,9 @@ ghost use Rattle.crack_part.specs.Parts.{IsSound};
 ghost use Rattle.crack_core.specs.Receipts.{BookState, entries_of};
 ghost use Rattle.crack_core.specs.Opening.{AreParts};
 ghost use Rattle.crack_core.specs.Routes.{AreSplits};
+ghost use Rattle.crack_core.specs.Steps.{histories_of};
 ghost use Rattle.crack_table.specs.Cover.{Covers};
-ghost use Rattle.crack_table.specs.Gather.{histories_of, receipts_of, IsTables, IsFirstOther, AreShares, AreTotals, MayNotAgree};
+ghost use Rattle.crack_table.specs.Gather.{receipts_of, IsTables, IsFirstOther, AreShares, AreTotals, MayNotAgree};
 
 use crate::covering::cover;
 use crate::worker::Worker;

@@ -4,8 +4,9 @@ ghost use Rattle.std.specs.List.{list_any};
 ghost use Rattle.crack_core.specs.Receipts.{BookState};
 ghost use Rattle.crack_core.specs.Opening.{AreParts};
 ghost use Rattle.crack_core.specs.Routes.{AreSplits};
+ghost use Rattle.crack_core.specs.Steps.{histories_of};
 ghost use Rattle.crack_table.specs.Cover.{Covers};
-ghost use Rattle.crack_table.specs.Gather.{missing_below, histories_of, receipts_of, AreShares, AreTotals, MayNotAgree, MayNotGather};
+ghost use Rattle.crack_table.specs.Gather.{missing_below, receipts_of, AreShares, AreTotals, MayNotAgree, MayNotGather};
 
 use crate::account::account;
 use crate::locks::{lock, unlock};
@@ -40,8 +41,8 @@ pub struct GatherRefused {
 }
 
 /// Ends a table whose workers all come back: their receipts are found to be the entries of the histories, one by one.
-/// Refused, in this order: with 15, one bit for each missing number, where a worker of the table isn't there; with 8 where it finds no memory;
-/// with 16 at the first partition that isn't the table's, and as `cover` is. Then the table and the workers are handed back.
+/// Refused with 15, one bit for each missing number, where a worker of the table isn't there; then with 16 at the first partition that isn't
+/// the table's; then as `cover` is; and behind 15 with 8 wherever it finds no memory. The table and the workers are then handed back.
 /// O(entries + receipts), but for a logarithm of the workers and partitions.
 pub fn gather(alloc: Global, table: Table, workers: Vec<Worker>) -> Result<Closed, GatherRefused>
     ensures all { OnOk result (missing_below workers.items table.workers ≡ 0) }

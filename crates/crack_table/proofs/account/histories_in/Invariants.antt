@@ -1,5 +1,5 @@
 use Rattle.std.proofs.Common.{◌≡◌, map, take}
-use Rattle.crack_table.specs.Gather.{histories_of}
+use Rattle.crack_core.specs.Steps.{histories_of}
 use Rattle.crack_table.proofs.account.histories_in.Given as goal
 
 abbrev pub invariant-parts : goal.invariant-parts
