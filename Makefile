@@ -1,17 +1,24 @@
-.PHONY: run test try trust
+.PHONY: help run try test edits trust
 
-# proves what changed, builds, and answers the statements of standard input
+# lists the targets
+help:
+	@echo 'make run     proves what changed, builds, and answers the statements of standard input'
+	@echo 'make try     the same without a proof; it reads all of its input before it answers'
+	@echo 'make test    proves everything from nothing, runs the tests, the programs and the acceptance cases'
+	@echo 'make edits   tries that the prover refuses the wrong bodies; OF="NAME .." those of these crates alone'
+	@echo 'make trust   counts what a reader has to read to know what is proved'
+
 run:
-	@cd crates/crackd && rt run -- script
+	@python3 tools/prove.py crackd -- script
 
-# the same without a proof, in half a minute
 try:
 	@cd crates/crackd && rt try -- script
 
-# the gate, and then the acceptance cases
 test:
 	@python3 acceptance/test.py
 
-# how many lines a reader has to read to know what is proved
+edits:
+	@python3 tools/edits.py $(OF)
+
 trust:
 	@python3 tools/trust.py

@@ -1,9 +1,8 @@
 """The processor time of the processes below one, by crate and by what they do, sampled while it runs.
 
 Reads the system's list of processes (/proc) four times a second. A process is known by its command line: the crate is that behind
-`--crate-name`; one in a folder of its own beside the repository tries an edit, one whose output is a test program proves tests, and all
-others prove, build or run the crate itself. What a process used after it was last seen is missing, a quarter of a second at most. Where a
-system has no /proc, nothing is seen.
+`--crate-name`; one whose output is a test program proves tests, and all others prove, build or run the crate itself. What a process used after it was
+last seen is missing, a quarter of a second at most. Where a system has no /proc, nothing is seen.
 """
 
 import os
@@ -14,7 +13,7 @@ import time
 SECONDS = 0.25
 TICKS = os.sysconf("SC_CLK_TCK")
 CRATE = re.compile(r"--crate-name\s(\S+)")
-KINDS = ["proof", "tests", "edits"]
+KINDS = ["proof", "tests"]
 
 
 def stat_of(process):
@@ -32,14 +31,11 @@ def task_of(process):
     try:
         with open(f"/proc/{process}/cmdline", "rb") as it:
             words = it.read().replace(b"\0", b" ").decode(errors="replace")
-        folder = os.readlink(f"/proc/{process}/cwd")
     except OSError:
         return None
     found = CRATE.search(words)
     if not found:
         return None
-    if os.path.basename(folder).startswith("rt-edit"):
-        return found[1], "edits"
     return found[1], "tests" if f"{found[1]}_tests.o" in words else "proof"
 
 
@@ -77,7 +73,7 @@ class Sampler(threading.Thread):
         self.join()
 
     def lines(self):
-        """A table: for each crate the seconds of its proof, its tests and its edits, and the sum of all."""
+        """A table: for each crate the seconds of its proof and its tests, and the sum of all."""
         used = {}
         for task, seconds in self.seen.values():
             crate, kind = task or ("(other)", "proof")
@@ -86,4 +82,4 @@ class Sampler(threading.Thread):
         for crate, of in sorted(used.items(), key=lambda it: -sum(it[1].values())):
             yield f"{crate:24}" + "".join(f"{of[it]:9.0f}" for it in KINDS) + f"{sum(of.values()):9.0f}"
         whole = sum(sum(of.values()) for of in used.values())
-        yield f"{'all':24}{'':27}{whole:9.0f}"
+        yield f"{'all':24}{'':18}{whole:9.0f}"

@@ -1,0 +1,141 @@
+"""Cases of the tools by which crates are proved and edits tried: which function a place lies in, which edits go together, what a change touches."""
+
+import pathlib
+import sys
+import unittest
+
+sys.path.insert(0, str(pathlib.Path(__file__).resolve().parent))
+
+import crates
+import due
+import edits
+import functions
+import lanes
+
+SOURCE = """use crate::low;
+
+pub struct Column<T> {
+    places: Vec<T>,
+}
+
+impl<T: Copy> Column<T> {
+    /// How many places it has.
+    pub fn len(&self) -> usize
+    ensures { result ≡ length self.now }
+    {
+        self.places.len()
+    }
+}
+
+impl<R: Read> Read for Watched<R> {
+    fn read(&mut self, bytes: &mut [u8]) -> Result<usize, Error> {
+        self.inner.read(bytes)
+    }
+}
+
+fn alone(a: u64) -> u64
+requires { a ≤ 8 }
+{
+    if a > 4 {
+        return a;
+    }
+    a + 1
+}
+"""
+
+LAWS = """use Rattle.std.specs.Prelude.{length};
+
+-- how long it is
+size : List ℕ → ℕ
+size [] = 0
+size (x ∷ xs) = suc (size xs)
+
+size-nil : size [] ≡ 0
+size-nil = refl
+"""
+
+
+def function(text):
+    return functions.function_at("src/a/column.rt", SOURCE, SOURCE.find(text))
+
+
+class Functions(unittest.TestCase):
+    def test_a_method_is_of_its_type(self):
+        self.assertEqual(function("self.places.len()"), functions.Function(("a", "column"), "Column", "", "len"))
+
+    def test_a_traits_method_is_of_type_and_trait(self):
+        found = function("self.inner.read")
+        self.assertEqual((found.owner, found.trait, found.name), ("Watched", "Read", "read"))
+        self.assertTrue(found.is_named("a::column::WatchedRead::read".split("::")))
+        self.assertFalse(found.is_named("a::column::WatchedWrite::read".split("::")))
+        self.assertFalse(found.is_named("a::column::Watched::read".split("::")))
+
+    def test_a_function_by_itself_is_of_no_type(self):
+        found = function("return a;")
+        self.assertEqual((found.owner, found.name), ("", "alone"))
+        self.assertTrue(found.is_named(["a", "column", "alone"]))
+        self.assertTrue(found.is_named(["a", "column", "alone", "closure"]))
+        self.assertFalse(found.is_named(["a", "alone"]))
+
+    def test_its_first_line_is_in_a_function_and_a_type_is_in_none(self):
+        self.assertEqual(function("fn alone").name, "alone")
+        self.assertIsNone(function("places: Vec<T>"))
+
+
+class Batches(unittest.TestCase):
+    def test_edits_of_one_function_are_tried_apart_and_each_edit_once(self):
+        for crate in crates.listed().values():
+            every = [it for it in edits.edits_of(crate) if not it.fault]
+            made = edits.batches(every, 8)
+            self.assertEqual(sorted(it.name for batch in made for it in batch), sorted(it.name for it in every))
+            for batch in made:
+                of = [it.function for it in batch]
+                self.assertTrue(len(batch) == 1 or (None not in of and len(set(of)) == len(of) <= 8))
+
+    def test_each_edit_can_be_applied(self):
+        self.assertEqual([it.label for crate in crates.listed().values() for it in edits.edits_of(crate) if it.fault], [])
+
+
+class Due(unittest.TestCase):
+    def test_a_body_is_of_no_meaning_for_the_crates_above(self):
+        self.assertEqual(due.faces(SOURCE), due.faces(SOURCE.replace("a + 1", "a + 2").replace("self.places.len()", "0")))
+
+    def test_a_clause_and_a_type_are(self):
+        before = due.faces(SOURCE)
+        for old, new, name in [("a ≤ 8", "a ≤ 9", "alone"), ("Vec<T>", "List<T>", "Column"), ("(&self)", "(self)", "len")]:
+            after = due.faces(SOURCE.replace(old, new))
+            self.assertEqual({it for it in {*before, *after} if before.get(it) != after.get(it)}, {name})
+
+    def test_a_definition_is_all_of_its_text_and_a_law_its_statement(self):
+        turned = LAWS.replace("size [] = 0", "size [] = 1").replace("size-nil = refl", "size-nil = search")
+        before, after = due.definitions(LAWS, True), due.definitions(turned, True)
+        self.assertEqual([it for it in before if before[it] != after[it]], ["size", "size-nil"])
+        self.assertEqual(due.definitions(LAWS, False), due.definitions(turned, False))
+
+    def test_what_cites_a_changed_name_has_changed(self):
+        now = {"twice": "twice n = size n", "thrice": "thrice n = twice n", "other": "other n = n"}
+        self.assertEqual(due.changed_names(now, now, {"size"}), {"twice", "thrice"})
+
+
+class Lanes(unittest.TestCase):
+    def test_each_task_runs_once_and_behind_those_it_waits_for(self):
+        ran = []
+        waits = {"a": [], "b": ["a"], "c": ["a"], "d": ["b", "c"]}
+        tasks = {key: lanes.Task(it, 1, 1, lambda jobs, key=key: ran.append(key)) for key, it in waits.items()}
+        self.assertEqual(sorted(key for key, _ in lanes.run(tasks)), ["a", "b", "c", "d"])
+        self.assertEqual((len(ran), ran[0], ran[-1]), (4, "a", "d"))
+
+    def test_no_task_is_begun_once_it_is_over(self):
+        tasks = {key: lanes.Task([], 1, 1, lambda jobs: None) for key in "ab"}
+        self.assertEqual(list(lanes.run(tasks, lambda: True)), [])
+
+
+def run_all():
+    """Runs the cases. How many passed, and how many failed."""
+    ran = unittest.TextTestRunner(stream=sys.stdout, verbosity=0).run(unittest.defaultTestLoader.loadTestsFromModule(sys.modules[__name__]))
+    failed = len(ran.failures) + len(ran.errors)
+    return ran.testsRun - failed, failed
+
+
+if __name__ == "__main__":
+    sys.exit(1 if run_all()[1] else 0)

@@ -1,0 +1,307 @@
+#!/usr/bin/env python3
+"""Tries must-fail edits, wrong bodies that the prover has to refuse: edits.py [CRATE..]
+
+All of them, or those of the crates that are named. The crates are proved first, as far as they aren't up to date. Then edits are tried side by side, as
+many as there are processors and memory for, each over what was proved of its crate.
+
+Edits that change different functions are tried together, in one check: a function's proof may cite what the others promise and nothing of their bodies,
+and a check says of each function whether its own proof stands, or lacks only that of another. An edit is refused where the function that it changes isn't
+proved itself. Where a check of several leaves one open (its function lacks another's proof, or is proved), that one is tried again among fewer, and at last
+by itself: then it is refused where the crate isn't proved. An edit that cannot be applied or read is a failure, as one that isn't refused is.
+
+At the end stands a table of the processor seconds that an edit takes. Where all edits of all crates were refused, and the crates are those of the last
+commit, tools/edits-tried names that commit. The last line is 'N passed, M failed'.
+"""
+
+import collections
+import dataclasses
+import functools
+import os
+import re
+import subprocess
+import sys
+import time
+
+import crates
+import functions
+import lanes
+import prove
+import rooms
+
+TRIED = crates.TOP / "tools" / "edits-tried"
+# How many edits one check tries at the most, from round to round.
+SIZES = (8, 4, 2, 1)
+# What a check of several edits takes at the most, for a start; then what was seen decides.
+SECONDS = 60.0
+UNREAD = re.compile(r"is not in scope|has no field|is no name|operand is missing|expected the end|cannot continue")
+ERROR = re.compile(r"(?:\./)?(\S+?):\d+:\d+: error: (?:(`[^`]*`): )?(.*)")
+
+
+@dataclasses.dataclass(frozen=True)
+class Edit:
+    """An edit: its crate, its name, its changes (the file, the old text and the new), and the function that it changes if it is one alone."""
+
+    crate: str
+    name: str
+    changes: tuple
+    function: functions.Function = None
+    fault: str = ""
+
+    @property
+    def label(self):
+        return f"{self.crate}/{self.name}"
+
+
+def read(path, crate):
+    """Reads an edit. What is wrong with it, if anything, is its fault."""
+    file, old, changes, places, texts = "", None, [], set(), {}
+    for line in path.read_text(encoding="utf-8", errors="replace").split("\n"):
+        if line.startswith("file: "):
+            file = line[len("file: ") :].strip()
+        elif line.startswith("old: "):
+            old = line[len("old: ") :]
+        elif line.startswith("new:") and file and old:
+            new = line[len("new:") :].removeprefix(" ")
+            if not (crate.folder / file).is_file() or not file.startswith(tuple(f"{it}/" for it in crates.PARTS)):
+                return Edit(crate.name, path.name, (), None, f"there is no file {file}")
+            text = texts.setdefault(file, (crate.folder / file).read_text())
+            if text.count(old) != 1:
+                return Edit(crate.name, path.name, (), None, f"an 'old:' text is in {file} {text.count(old)} times, and not once")
+            at = text.find(old) + len(old) - len(old.lstrip())
+            places.add(functions.function_at(file, text, at) if file.startswith("src/") else None)
+            texts[file] = text.replace(old, new)
+            changes.append((file, old, new))
+            old = None
+    if not changes or old:
+        return Edit(crate.name, path.name, (), None, "it is no list of files with pairs of 'old:' and 'new:'")
+    return Edit(crate.name, path.name, tuple(changes), *(places if len(places) == 1 else ()))
+
+
+def edits_of(crate):
+    """The edits of a crate; a file that is none has its fault."""
+    folder = crate.folder / "must-fail"
+    others = [it for it in folder.rglob("*") if it.is_file() and it.suffix != ".md" and it not in crate.edits()]
+    wrong = [Edit(crate.name, it.name, (), None, "an edit stands right in must-fail/, and its name ends in .edit") for it in sorted(others)]
+    return [*(read(it, crate) for it in crate.edits()), *wrong]
+
+
+def applied(edits):
+    """The texts of the files that these edits of one crate change, or None where they can't be made together."""
+    folder, texts = crates.listed()[edits[0].crate].folder, {}
+    for file, old, new in (change for it in edits for change in it.changes):
+        text = texts[file] if file in texts else (folder / file).read_text()
+        if text.count(old) != 1:
+            return None
+        texts[file] = text.replace(old, new)
+    return texts
+
+
+def batches(edits, size):
+    """Parts these edits of one crate into lists of at most so many, each of edits that can be tried together: of one function each, and of different ones."""
+    made = []
+    for edit in edits:
+        fits = lambda batch: (
+            len(batch) < size
+            and edit.function
+            and all(it.function and it.function != edit.function for it in batch)
+            and applied([*batch, edit]) is not None
+        )
+        batch = next(filter(fits, made), None)
+        if batch is None:
+            made.append([edit])
+        else:
+            batch.append(edit)
+    return made
+
+
+class Check:
+    """What a check of a crate with some edits said."""
+
+    def __init__(self, crate, edits, jobs):
+        texts = applied(edits)
+        with rooms.Room(crate) as room:
+            for file, text in texts.items():
+                (room.folder / file).write_text(text)
+            begun = time.monotonic()
+            ran = room.start("check", "--jobs", str(jobs))
+            self.said = ran.stdout.read()
+            _, status, used = os.wait4(ran.pid, 0)
+            ran.returncode = os.waitstatus_to_exitcode(status)
+            self.status, self.taken = ran.returncode, time.monotonic() - begun
+            self.seconds = used.ru_utime + used.ru_stime
+        self.lines = self.said.splitlines()
+        self.verdict = next((it for it in reversed(self.lines) if it.startswith("logic=")), "")
+        self.is_read = not any(self.is_unread(it, texts) for it in self.lines) and "could not be used" not in self.said
+        found = [re.match(rf"fn {crate.name}::(\S+): (.*)", it) for it in self.lines]
+        self.functions = {it[1]: it[2] for it in found if it}
+
+    @staticmethod
+    def is_unread(line, texts):
+        """Whether a text of src/, specs/ or a changed file could not be read, where an edit that only makes a statement false reads well."""
+        found = ERROR.match(line)
+        if not found or not (found[1] in texts or found[1].startswith(("src/", "specs/"))):
+            return False
+        return not found[2] or bool(UNREAD.search(re.sub(r"`[^`]*`", "", found[3])))
+
+    @property
+    def is_refused(self):
+        return self.status == 1 and self.verdict.startswith("logic=not-proved") and self.is_read
+
+    def refuses(self, edit):
+        """Whether the function that an edit changes isn't proved itself."""
+        named = [said for name, said in self.functions.items() if edit.function.is_named(name.split("::"))]
+        return self.is_refused and "not proved" in named
+
+    def reason(self, edit):
+        """The first error that tells of the function, as far as that can be told."""
+        errors = [found for it in self.lines if (found := ERROR.match(it))]
+        parts = [*edit.function.module, edit.function.owner, edit.function.name] if edit.function else []
+        own = [it for it in errors if all(part in it[1].split("/") for part in parts if part)]
+        first = next(iter(own if edit.function else errors), None)
+        return f": {first[0][:140]}" if first else ""
+
+
+@dataclasses.dataclass
+class Result:
+    """How a trial of an edit ended: whether it was refused, and the processor seconds that are its share."""
+
+    edit: Edit
+    is_refused: bool
+    seconds: float
+    text: str
+
+
+class Trials:
+    """Tries edits in rounds, until each has ended or the time is over."""
+
+    def __init__(self, edits, ends=None, say=print):
+        self.ends, self.say, self.results = ends, say, []
+        self.waiting = [it for it in edits if not it.fault]
+        self.batch_seconds = SECONDS
+        for it in edits:
+            if it.fault:
+                self.end(it, False, 0.0, f"BAD EDIT: {it.fault}")
+
+    def end(self, edit, is_refused, seconds, text):
+        self.results.append(Result(edit, is_refused, seconds, text))
+        self.say(f"must-fail {edit.label}: {text}")
+
+    def is_over(self):
+        """Whether a check that was begun now might end too late."""
+        return self.ends is not None and time.monotonic() + self.batch_seconds > self.ends
+
+    def try_batch(self, batch, jobs):
+        """Tries some edits in one check. Returns those that it leaves open; one by itself is judged."""
+        check = Check(crates.listed()[batch[0].crate], batch, jobs)
+        self.batch_seconds = max(check.taken, 0.8 * self.batch_seconds)
+        seconds = check.seconds / len(batch)
+        if len(batch) == 1:
+            self.judge(batch[0], check)
+            return []
+        left = []
+        for edit in batch:
+            if check.refuses(edit):
+                self.end(edit, True, seconds, f"refused{check.reason(edit)}")
+            else:
+                left.append(edit)
+        return left
+
+    def judge(self, edit, check):
+        """Ends an edit that was tried by itself."""
+        if check.is_refused:
+            text = f"refused{check.reason(edit)}"
+        elif check.status == 0:
+            text = "NOT REFUSED: the crate is still proved with this edit"
+        else:
+            said = next((it for it in check.lines if ERROR.match(it)), check.lines[-1] if check.lines else "")
+            text = f"BAD EDIT: no contract was tried: {said[:300]}"
+        self.end(edit, check.is_refused, check.seconds, text)
+
+    def run(self):
+        """Tries all that waits. Those for which there was no time are left waiting."""
+        for size in SIZES:
+            if not self.waiting or self.is_over():
+                return
+            self.round(size)
+
+    def round(self, size):
+        """One round: each edit that waits is tried once, among at most so many."""
+        by_crate = collections.defaultdict(list)
+        for edit in self.waiting:
+            by_crate[edit.crate].append(edit)
+        tasks, of = {}, {}
+        for name, edits in by_crate.items():
+            crate = crates.listed()[name]
+            need = lanes.need_of(crate, crates.below(name))
+            for at, batch in enumerate(batches(edits, size)):
+                call = functools.partial(self.try_batch, batch)
+                # (those that come first in the list go first)
+                weight = -self.waiting.index(batch[0])
+                tasks[name, at], of[name, at] = lanes.Task([], weight, need, call, most_jobs=1), batch
+        open_ones = {key: batch for key, batch in of.items()}
+        for key, left in lanes.run(tasks, self.is_over):
+            open_ones[key] = left
+        self.waiting = [edit for batch in open_ones.values() for edit in batch]
+
+    def table(self):
+        """The processor seconds of the edits, by crate, and those that took most."""
+        by_crate = collections.defaultdict(list)
+        for it in self.results:
+            by_crate[it.edit.crate].append(it)
+        rows = [(name, found) for name, found in by_crate.items()] + [("all", self.results)]
+        yield f"{'must-fail edits':24}{'tried':>7}{'refused':>9}{'seconds':>9}{'an edit':>9}"
+        for name, found in rows:
+            seconds = sum(it.seconds for it in found)
+            refused = sum(it.is_refused for it in found)
+            yield f"{name:24}{len(found):7}{refused:9}{seconds:9.0f}{seconds / max(len(found), 1):9.1f}"
+        slowest = sorted(self.results, key=lambda it: -it.seconds)[:5]
+        yield "slowest: " + ", ".join(f"{it.edit.label} {it.seconds:.0f}" for it in slowest)
+
+
+def ready(names):
+    """Proves these crates and those below them, as far as they aren't up to date. Whether all are proved."""
+    prover = prove.Prover(prove.say)
+    held = rooms.held({it.name for name in names for it in [*crates.below(name), crates.listed()[name]]})
+    is_well = prover.prove_all(names)
+    for it in held:
+        os.close(it)
+    return is_well
+
+
+def git(*words):
+    """What git says of the checkout; nothing where there is none."""
+    ran = subprocess.run(["git", *words], cwd=crates.TOP, capture_output=True, text=True, check=False)
+    return ran.stdout.strip() if ran.returncode == 0 else ""
+
+
+def keep_commit():
+    """Writes which commit's edits were all refused, where the crates are those of a commit."""
+    commit = git("rev-parse", "HEAD")
+    if not commit or git("status", "--porcelain", "--", "crates", "crates.txt"):
+        print("the crates aren't those of a commit, so tools/edits-tried stays as it is")
+        return
+    TRIED.write_text(f"{commit}\n")
+
+
+def main(names):
+    unknown = [it for it in names if it not in crates.listed()]
+    if unknown:
+        print(f"no crate of crates.txt: {' '.join(unknown)}", file=sys.stderr)
+        return 2
+    chosen = [it for it in crates.listed().values() if not names or it.name in names]
+    edits = [edit for crate in chosen for edit in edits_of(crate)]
+    if not ready(sorted({it.crate for it in edits})):
+        print("0 passed, 1 failed")
+        return 1
+    trials = Trials(edits, say=lambda text: print(text, flush=True))
+    trials.run()
+    print("\n".join(trials.table()))
+    refused = sum(it.is_refused for it in trials.results)
+    if not names and refused == len(edits):
+        keep_commit()
+    print(f"{refused} passed, {len(edits) - refused} failed", flush=True)
+    return 0 if refused == len(edits) else 1
+
+
+if __name__ == "__main__":
+    sys.exit(main(sys.argv[1:]))

@@ -1,0 +1,81 @@
+"""Functions in the texts of a crate: which one a place lies in, and how a check names it."""
+
+import dataclasses
+import re
+
+FUNCTION = re.compile(r"^(\s*)(?:pub(?:\([^)]*\))?\s+)?(?:const\s+)?(?:unsafe\s+)?fn\s+(\w+)")
+BLOCK = re.compile(r"^(?:pub(?:\([^)]*\))?\s+)?(?:unsafe\s+)?(impl|trait)\b(.*)")
+
+
+@dataclasses.dataclass(frozen=True)
+class Function:
+    """A function: its module's path, the type that it is of and that type's trait, where it has them, and its name."""
+
+    module: tuple
+    owner: str
+    trait: str
+    name: str
+
+    def is_named(self, parts):
+        """Whether a check's name for a function, in parts behind the crate's, means this one or a closure in it."""
+        if tuple(parts[: len(self.module)]) != self.module:
+            return False
+        rest = list(parts[len(self.module) :])
+        if self.owner:
+            owner = rest.pop(0) if rest else ""
+            is_owner = owner.startswith(self.owner + self.trait) if self.trait else owner == self.owner
+            if not is_owner:
+                return False
+        return bool(rest) and rest[0] == self.name
+
+
+def module_of(path):
+    """The path of the module that a file below src/ is."""
+    parts = path.removeprefix("src/").removesuffix(".rt").split("/")
+    return tuple(it for it in parts if it not in ("lib", "main", "mod"))
+
+
+def without_arguments(text):
+    """A type's text without what stands in angle brackets."""
+    kept, depth = [], 0
+    for it in text.replace("->", "  "):
+        depth += it == "<"
+        if not depth:
+            kept.append(it)
+        depth -= it == ">"
+    return "".join(kept)
+
+
+def owner_of(header):
+    """The type and the trait that the rest of an impl's first line names."""
+    words = without_arguments(header.partition(" where ")[0]).rstrip(" {").replace("&", " ").split()
+    last = lambda it: it.rpartition("::")[2]
+    if "for" in words[1:]:
+        at = words.index("for")
+        return last(words[at + 1]) if at + 1 < len(words) else "", last(words[at - 1])
+    return (last(words[0]) if words else ""), ""
+
+
+def function_at(path, text, at):
+    """The function in whose lines a place of a file's text lies, or None."""
+    lines = text[: text.find("\n", at) if "\n" in text[at:] else len(text)].split("\n")
+    indent = len(lines[-1]) - len(lines[-1].lstrip())
+    row = next(
+        (
+            it
+            for it in range(len(lines) - 1, -1, -1)
+            if (found := FUNCTION.match(lines[it])) and (len(found[1]) < indent or it == len(lines) - 1)
+        ),
+        None,
+    )
+    if row is None:
+        return None
+    found = FUNCTION.match(lines[row])
+    if not found[1]:
+        return Function(module_of(path), "", "", found[2])
+    above = next((it for it in reversed(lines[:row]) if it[:1].strip() and not it.startswith(("//", "#", "}", ")", "{"))), "")
+    block = BLOCK.match(above)
+    if not block:
+        return None
+    owner, trait = owner_of(block[2]) if block[1] == "impl" else (re.match(r"\s*(\w*)", block[2])[1], "")
+    return Function(module_of(path), owner, trait, found[2])

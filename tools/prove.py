@@ -1,0 +1,147 @@
+#!/usr/bin/env python3
+"""Proves crates side by side, each as soon as those below it are, and builds programs: prove.py NAME.. [-- WORD..]
+
+Crates that are up to date are passed over, and start no `rt`. What is done is told on standard error. A crate that fails ends all; what was proved is
+kept. With words behind `--` the one program that is named is then run with them, on standard input and output.
+"""
+
+import hashlib
+import os
+import signal
+import sys
+import threading
+import time
+
+import crates
+import lanes
+import rooms
+
+# What these lines of a check tell is of no use to whoever has to mend the crate.
+NOISE = ("checked ", "so far: ", "statements ", "by-macro: ", "logic ", "rt: chose ")
+
+
+def stamp_of(crate):
+    """What stands beside what was made of a crate, if that is up to date."""
+    made = crate.out / (crate.name if crate.is_program else f"rlib/{crate.name}.rlib/format")
+    return f"{crates.sum_of(crate.name)} {hashlib.sha256(made.read_bytes()).hexdigest()}\n" if made.exists() else ""
+
+
+def is_up_to_date(crate):
+    stamp = crate.out / "proved"
+    return stamp.exists() and stamp.read_text() == stamp_of(crate)
+
+
+def clock(seconds):
+    return f"{int(seconds) // 60}:{int(seconds) % 60:02}"
+
+
+class Prover:
+    """Proves crates in rooms, and remembers what failed."""
+
+    def __init__(self, say):
+        self.say, self.started, self.printing = say, time.monotonic(), threading.Lock()
+        self.running, self.failed, self.done, self.times = {}, None, 0, {}
+
+    def command_of(self, crate, jobs):
+        """The words by which `rt` proves a crate, and builds it: a program is run by its stored words, on nothing."""
+        if not crate.is_program:
+            return ["lib", "--jobs", str(jobs)]
+        words = crate.folder / "args"
+        return ["run", "--jobs", str(jobs), "--", *(words.read_text().split() if words.exists() else [])]
+
+    def prove(self, crate, jobs):
+        """Proves one crate. What is kept of a check that fails is given back, too."""
+        begun = time.monotonic()
+        with rooms.Room(crate) as room:
+            ran = room.start(*self.command_of(crate, jobs))
+            with self.printing:
+                self.running[crate.name] = ran
+                if self.failed:
+                    ran.terminate()
+            said, _ = ran.communicate()
+            with self.printing:
+                del self.running[crate.name]
+                is_well = ran.returncode == 0 and not self.failed
+                if not is_well:
+                    self.fail(crate, said)
+            room.give_back(room.all_made() if is_well else [rooms.KEPT])
+        if is_well:
+            (crate.out / "proved").write_text(stamp_of(crate))
+            self.tell(crate, time.monotonic() - begun, jobs)
+        return is_well
+
+    def fail(self, crate, said):
+        """Remembers the first crate that failed, says why, and ends the others."""
+        if self.failed:
+            return
+        self.failed = crate.name
+        lines = [it for it in said.splitlines() if it.strip() and not it.startswith(NOISE) and not it.endswith(": proved")]
+        self.say("\n".join([*lines[-60:], f"{crate.name} is not proved: mend what is said above, and run this again"]))
+        for it in self.running.values():
+            it.terminate()
+
+    def tell(self, crate, seconds, jobs):
+        with self.printing:
+            self.done += 1
+            self.times[crate.name] = seconds
+            how = f"{clock(seconds)}{f' by {jobs} jobs' if jobs > 1 else ''}"
+            so_far = clock(time.monotonic() - self.started)
+            self.say(f"{crate.name}: proved ({how}), {self.done} of {self.whole}, {so_far} since the start")
+
+    def prove_all(self, names):
+        """Proves these crates and those below them. Whether all are proved."""
+        wanted = {crate.name for name in names for crate in [*crates.below(name), crates.listed()[name]]}
+        stale = [crate for crate in crates.listed().values() if crate.name in wanted and not is_up_to_date(crate)]
+        self.whole, tasks = len(stale), {}
+        if stale:
+            self.say(f"proving {len(stale)} of {len(wanted)} crates on {lanes.processors()} processors")
+        for crate in stale:
+            under = crates.below(crate.name)
+            weight = crate.lines(".rt") + crate.lines(".antt") / 2 + 500
+            waits = [it.name for it in under if it in stale]
+            tasks[crate.name] = lanes.Task(waits, weight, lanes.need_of(crate, under), lambda jobs, it=crate: self.prove(it, jobs))
+        for _ in lanes.run(tasks, lambda: bool(self.failed)):
+            pass
+        return not self.failed
+
+
+def say(text):
+    print(text, file=sys.stderr, flush=True)
+
+
+def end_others(prover):
+    """Ends the checks that run, on a signal, and then this process."""
+
+    def end(number, _):
+        for it in [*prover.running.values()]:
+            it.terminate()
+        signal.signal(number, signal.SIG_DFL)
+        os.kill(os.getpid(), number)
+
+    for it in (signal.SIGINT, signal.SIGTERM):
+        signal.signal(it, end)
+
+
+def main(words):
+    cut = words.index("--") if "--" in words else len(words)
+    names, arguments = words[:cut], words[cut + 1 :]
+    unknown = [it for it in names if it not in crates.listed()]
+    if unknown or not names or (cut < len(words) and len(names) > 1):
+        sys.exit(f"no crate of crates.txt: {' '.join(unknown)}" if unknown else __doc__)
+    wanted = {it.name for name in names for it in [*crates.below(name), crates.listed()[name]]}
+    if not all(is_up_to_date(crates.listed()[it]) for it in wanted):
+        held = rooms.held(wanted)
+        prover = Prover(say)
+        end_others(prover)
+        if not prover.prove_all(names):
+            return 1
+        for it in held:
+            os.close(it)
+    if cut == len(words):
+        return 0
+    program = crates.listed()[names[0]].out / names[0]
+    os.execv(program, [str(program), *arguments])
+
+
+if __name__ == "__main__":
+    sys.exit(main(sys.argv[1:]))
