@@ -1,10 +1,10 @@
 //! Measures the arena, the cracker column and a partition that merges by a policy: `crack_bench arena STEPS ROWS`, `crack_bench column ROWS`,
 //! `crack_bench counts POLICY ROWS RANGES`, `crack_bench sums POLICY ROWS RANGES`, `crack_bench each POLICY ROWS RANGES`,
 //! `crack_bench cold POLICY ROWS RANGES`, `crack_bench pass POLICY ROWS RANGES`, `crack_bench updates POLICY ROWS BATCHES SIZE`,
-//! `crack_bench merge POLICY ROWS PIECES PENDING`, or `crack_bench all STEPS ROWS RANGES`.
+//! `crack_bench merge POLICY ROWS PIECES PENDING`, `crack_bench pulls POLICY ROWS PIECES DELETES`, or `crack_bench all STEPS ROWS RANGES`.
 //!
 //! What a run computes goes to standard output: it depends on the words alone. Times go to standard error, in nanoseconds, a line
-//! `NAME NUMBER` each, and for `cold` what the merges did, likewise.
+//! `NAME NUMBER` each, and for `cold`, `updates`, `merge` and `pulls` what the merges did, likewise.
 #![tactic(auto)]
 
 ghost use Rattle.crack_column.specs.Column.{Remembers};
@@ -108,6 +108,7 @@ enum Loaded {
     Each { ranges: u64 },
     Updates { batches: u64, size: u64 },
     Merge { pieces: u32, pending: u32 },
+    Pulls { pieces: u32, deletes: u32 },
 }
 
 fn policy_of(name: &str) -> anyhow::Result<Policy> {
@@ -175,6 +176,9 @@ fn measure_loaded(
             measure_updates(rt, table, rows, batches, size, numbers)
         }
         Loaded::Merge { pieces, pending } => measure_merge(rt, table, pieces, pending, numbers),
+        Loaded::Pulls { pieces, deletes } => {
+            measure_pulls(rt, table, rows, pieces, deletes, numbers)
+        }
     }
 }
 
@@ -191,10 +195,17 @@ fn measure_cold(
     let sum = table.sums(0, ranges, numbers)?;
     report(rt, "cold", start)?;
     println!(rt; "cold {sum}")?;
+    report_tally(rt, table)
+}
+
+/// Writes what the merges did.
+fn report_tally(rt: &HostRuntime, table: &Table) -> anyhow::Result<()> {
     let did = table.partition.tally();
     eprintln!(rt; "put_in {}", did.put_in)?;
+    eprintln!(rt; "taken_out {}", did.taken_out)?;
     eprintln!(rt; "evicted {}", did.evicted)?;
     eprintln!(rt; "moved {}", did.moved)?;
+    eprintln!(rt; "pulled {}", did.pulled)?;
     Ok(())
 }
 
@@ -273,7 +284,7 @@ fn measure_updates(
     let sum = table.updates(batches, size, &mut serials, numbers)?;
     report(rt, "updates", start)?;
     println!(rt; "updates {sum}")?;
-    Ok(())
+    report_tally(rt, table)
 }
 
 fn measure_merge(
@@ -283,12 +294,31 @@ fn measure_merge(
     pending: u32,
     numbers: &mut Numbers,
 ) -> anyhow::Result<()> {
-    table.crack_and_load(pieces, pending, numbers)?;
+    table.crack_evenly(pieces)?;
+    table.load(pending, numbers)?;
+    measure_count(rt, table, "merge")
+}
+
+fn measure_pulls(
+    rt: &HostRuntime,
+    table: &mut Table,
+    rows: u32,
+    pieces: u32,
+    deletes: u32,
+    numbers: &mut Numbers,
+) -> anyhow::Result<()> {
+    table.crack_evenly(pieces)?;
+    table.delete_some(rows, deletes, numbers)?;
+    measure_count(rt, table, "pulls")
+}
+
+/// The count of everything, which merges, by its name.
+fn measure_count(rt: &HostRuntime, table: &mut Table, name: &str) -> anyhow::Result<()> {
     let start = Instant::now(rt)?;
     let after = table.count_all()?;
-    report(rt, "merge", start)?;
-    println!(rt; "merge {after}")?;
-    Ok(())
+    report(rt, name, start)?;
+    println!(rt; "{name} {after}")?;
+    report_tally(rt, table)
 }
 
 fn run_all(rt: &HostRuntime, steps: u64, rows: u32, ranges: u64) -> anyhow::Result<()> {
@@ -333,7 +363,11 @@ fn loaded_of(name: &str, numbers: &[&str]) -> anyhow::Result<Loaded> {
             pieces: pieces.parse()?,
             pending: pending.parse()?,
         }),
-        _ => Err(anyhow::anyhow!("counts, sums, each, cold, pass, updates or merge")),
+        ("pulls", [pieces, deletes]) => Ok(Loaded::Pulls {
+            pieces: pieces.parse()?,
+            deletes: deletes.parse()?,
+        }),
+        _ => Err(anyhow::anyhow!("counts, sums, each, cold, pass, updates, merge or pulls")),
     }
 }
 
@@ -350,7 +384,7 @@ fn run(rt: &HostRuntime, words: &[&str]) -> anyhow::Result<()> {
             run_partition(rt, policy_of(policy)?, rows.parse()?, work)
         }
         _ => Err(anyhow::anyhow!(
-            "arena, column or all, or counts, sums, each, cold, pass, updates or merge with a policy"
+            "arena, column or all, or counts, sums, each, cold, pass, updates, merge or pulls with a policy"
         )),
     }
 }

@@ -119,19 +119,28 @@ impl Table {
         Ok(sum)
     }
 
-    /// Cracks the column into as many pieces of one width, and inserts as many rows.
-    pub fn crack_and_load(
-        &mut self,
-        pieces: u32,
-        pending: u32,
-        numbers: &mut Numbers,
-    ) -> Result<(), Refusal> {
+    /// Cracks the column into as many pieces of one width.
+    pub fn crack_evenly(&mut self, pieces: u32) -> Result<(), Refusal> {
         let width = GREATEST_BOUND / pieces.max(1) as u64;
         'pieces: for piece in 1..pieces {
             let high = width.saturating_mul(piece as u64);
             self.ask(Command::Count(KeyRange::new(0, high as u128)?))?;
         }
-        self.load(pending, numbers)
+        Ok(())
+    }
+
+    /// As many deletes of random rows among the first ones; some may be of the same row.
+    pub fn delete_some(
+        &mut self,
+        rows: u32,
+        deletes: u32,
+        numbers: &mut Numbers,
+    ) -> Result<(), Refusal> {
+        'deletes: for _ in 0..deletes {
+            let serial = Serial(numbers.below(rows.max(1) as u64));
+            self.ask(Command::Delete { serial })?;
+        }
+        Ok(())
     }
 }
 
