@@ -1,17 +1,18 @@
 //! Plain Rust beside what the benchmark measures: `peers session`, `peers arena STEPS ROWS`, `peers column ROWS`, and, by a table of which
 //! `TABLE` says the kind, `peers counts TABLE ROWS RANGES`, `peers sums TABLE ROWS RANGES`, `peers each TABLE ROWS RANGES`,
-//! `peers cold TABLE ROWS RANGES`, `peers pass TABLE ROWS RANGES`, `peers updates TABLE ROWS BATCHES SIZE` and
-//! `peers merge TABLE ROWS PIECES PENDING`. A table is `complete`, `gradual`, `ripple` or `anew`, a cracked partition that merges by this policy,
-//! or `inline`, `pairs`, `tree`, `through`, `rows` or `sorted`, which do the same in other ways. `peers own WORKERS ROWS STEPS` and
+//! `peers cold TABLE ROWS RANGES`, `peers pass TABLE ROWS RANGES`, `peers updates TABLE ROWS BATCHES SIZE`, `peers merge TABLE ROWS PIECES PENDING`
+//! and `peers pulls TABLE ROWS PIECES DELETES`. A table is `complete`, `gradual`, `ripple` or `anew`, a cracked partition that merges by this policy,
+//! represented as the measured one is; `fast-complete`, `fast-gradual` or `fast-ripple`, a cracker column that is written for speed alone; or `inline`, `pairs`, `tree`, `through`, `rows` or `sorted`, which do the same in other ways. `peers own WORKERS ROWS STEPS` and
 //! `peers shared WORKERS ROWS STEPS` have workers on threads, and `peers copies WORKERS ROWS` copies what they did. `peers client PORT FILE` and
 //! `peers turns PORT FILE` send a file's statements to a server on this machine, all at once or one by one, and `peers echo PORT` is such a server.
 //!
 //! What a run computes goes to standard output, and must be what the measured program writes there. Times go to standard error, in
-//! nanoseconds, a line `NAME NUMBER` each.
+//! nanoseconds, a line `NAME NUMBER` each, and behind them what the merges did, where that is counted.
 
 mod arena;
 mod client;
 mod column;
+mod fast;
 mod index;
 mod inline;
 mod numbers;
@@ -23,6 +24,7 @@ mod session;
 mod sorted;
 mod store;
 mod through;
+mod tree;
 mod workers;
 
 use std::time::Instant;
@@ -48,7 +50,7 @@ fn main() {
             arena::run(steps, number(words.next()));
         }
         Some("column") => column::run(number(words.next())),
-        Some(word @ ("counts" | "sums" | "each" | "cold" | "pass" | "updates" | "merge")) => {
+        Some(word @ ("counts" | "sums" | "each" | "cold" | "pass" | "updates" | "merge" | "pulls")) => {
             let table = words.next().expect("a table");
             let numbers: Vec<u64> = words.map(|it| number(Some(it))).collect();
             partition::run(word, &table, &numbers);
@@ -67,6 +69,6 @@ fn main() {
             send(port, &words.next().expect("a file")).expect("a server that answers");
         }
         Some("echo") => client::echo(port(words.next())).expect("a client that reads"),
-        _ => panic!("session, arena, column, counts, sums, each, cold, pass, updates, merge, own, shared, copies, client, turns or echo"),
+        _ => panic!("session, arena, column, counts, sums, each, cold, pass, updates, merge, pulls, own, shared, copies, client, turns or echo"),
     }
 }

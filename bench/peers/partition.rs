@@ -1,14 +1,16 @@
-//! Inserts in random order of keys, a count of everything, and counts, sums and updates: by a cracked partition with a history, by cracker
-//! columns of keys alone and of keys and payloads, by a tree, and by a pass over rows for each range, in a vector or through handles.
+//! Inserts in random order of keys, a count of everything, and counts, sums and updates: by a cracked partition with a history, by a cracker column
+//! that is written for speed alone, by those of keys alone and of keys and payloads, by a tree, and by a pass over rows for each range, in a vector
+//! or through handles.
 
 use crate::arena::Row;
+use crate::fast::{Fast, Tally};
 use crate::inline::Inline;
 use crate::numbers::{Numbers, mixed};
 use crate::pairs::Pairs;
 use crate::sorted::Sorted;
 use crate::store::{GREATEST_BOUND, Policy, Store};
 use crate::through::Through;
-use std::collections::BTreeMap;
+use crate::tree::Tree;
 use std::hint::black_box;
 use std::time::Instant;
 
@@ -20,7 +22,8 @@ pub const LIMIT: usize = 1_000_000;
 
 /// What takes rows, counts them and sums their payloads.
 trait Table {
-    fn insert(&mut self, key: u32, payload: u32);
+    /// Keeps a row. What it is named by.
+    fn insert(&mut self, key: u32, payload: u32) -> u64;
 
     fn count(&mut self, low: u64, high: u64) -> u64;
 
@@ -28,8 +31,13 @@ trait Table {
         unimplemented!()
     }
 
-    fn delete(&mut self, _serial: u64) {
+    fn delete(&mut self, _name: u64) {
         unimplemented!()
+    }
+
+    /// What its merges did, if it counts that.
+    fn tally(&self) -> Option<Tally> {
+        None
     }
 }
 
@@ -135,8 +143,8 @@ impl Partition {
 }
 
 impl Table for Partition {
-    fn insert(&mut self, key: u32, payload: u32) {
-        self.ask(Command::Insert { key, payload });
+    fn insert(&mut self, key: u32, payload: u32) -> u64 {
+        self.ask(Command::Insert { key, payload })
     }
 
     fn count(&mut self, low: u64, high: u64) -> u64 {
@@ -152,9 +160,32 @@ impl Table for Partition {
     }
 }
 
+impl Table for Fast {
+    fn insert(&mut self, key: u32, payload: u32) -> u64 {
+        u64::from(Fast::insert(self, key, payload))
+    }
+
+    fn count(&mut self, low: u64, high: u64) -> u64 {
+        Fast::count(self, low, high)
+    }
+
+    fn sum(&mut self, low: u64, high: u64) -> u64 {
+        Fast::sum(self, low, high)
+    }
+
+    fn delete(&mut self, name: u64) {
+        black_box(Fast::delete(self, name as u32));
+    }
+
+    fn tally(&self) -> Option<Tally> {
+        Some(Fast::tally(self))
+    }
+}
+
 impl Table for Inline {
-    fn insert(&mut self, key: u32, _payload: u32) {
+    fn insert(&mut self, key: u32, _payload: u32) -> u64 {
         self.keys.push(key);
+        self.keys.len() as u64 - 1
     }
 
     fn count(&mut self, low: u64, high: u64) -> u64 {
@@ -163,8 +194,9 @@ impl Table for Inline {
 }
 
 impl Table for Pairs {
-    fn insert(&mut self, key: u32, payload: u32) {
+    fn insert(&mut self, key: u32, payload: u32) -> u64 {
         self.pairs.push((key, payload));
+        self.pairs.len() as u64 - 1
     }
 
     fn count(&mut self, low: u64, high: u64) -> u64 {
@@ -177,30 +209,35 @@ impl Table for Pairs {
     }
 }
 
-/// The payloads by key and serial.
-impl Table for BTreeMap<(u32, u32), u32> {
-    fn insert(&mut self, key: u32, payload: u32) {
-        let serial = self.len() as u32;
-        BTreeMap::insert(self, (key, serial), payload);
+/// The upper half of a name is a key.
+impl Table for Tree {
+    fn insert(&mut self, key: u32, payload: u32) -> u64 {
+        let (key, number) = Tree::insert(self, key, payload);
+        u64::from(key) << 32 | u64::from(number)
     }
 
     fn count(&mut self, low: u64, high: u64) -> u64 {
-        self.range((low as u32, 0)..=((high - 1) as u32, u32::MAX)).count() as u64
+        self.between(low, high).count() as u64
     }
 
     fn sum(&mut self, low: u64, high: u64) -> u64 {
-        self.range((low as u32, 0)..=((high - 1) as u32, u32::MAX)).map(|it| u64::from(*it.1)).sum()
+        self.between(low, high).map(u64::from).sum()
+    }
+
+    fn delete(&mut self, name: u64) {
+        black_box(Tree::delete(self, ((name >> 32) as u32, name as u32)));
     }
 }
 
 impl Table for Vec<Row> {
-    fn insert(&mut self, key: u32, payload: u32) {
+    fn insert(&mut self, key: u32, payload: u32) -> u64 {
         let serial = self.len() as u64;
         self.push(Row {
             serial,
             key,
             payload,
         });
+        serial
     }
 
     fn count(&mut self, low: u64, high: u64) -> u64 {
@@ -215,8 +252,8 @@ impl Table for Vec<Row> {
 }
 
 impl Table for Through {
-    fn insert(&mut self, key: u32, payload: u32) {
-        self.push(key, payload);
+    fn insert(&mut self, key: u32, payload: u32) -> u64 {
+        self.push(key, payload)
     }
 
     fn count(&mut self, low: u64, high: u64) -> u64 {
@@ -229,8 +266,8 @@ impl Table for Through {
 }
 
 impl Table for Sorted {
-    fn insert(&mut self, key: u32, payload: u32) {
-        self.push(key, payload);
+    fn insert(&mut self, key: u32, payload: u32) -> u64 {
+        self.push(key, payload)
     }
 
     fn count(&mut self, low: u64, high: u64) -> u64 {
@@ -247,10 +284,10 @@ fn random_low(numbers: &mut Numbers) -> u64 {
     u64::from(numbers.word()) % (GREATEST_BOUND - WIDTH)
 }
 
-/// As many inserts of random keys.
-fn fill(table: &mut impl Table, rows: u64, numbers: &mut Numbers) {
+/// As many inserts of random keys. Their names are handed on.
+fn fill(table: &mut impl Table, rows: u64, numbers: &mut Numbers, mut keep: impl FnMut(u64)) {
     for row in 0..rows {
-        table.insert(numbers.word(), row as u32);
+        keep(table.insert(numbers.word(), row as u32));
     }
 }
 
@@ -262,10 +299,10 @@ fn random_sums(table: &mut impl Table, told: u64, ranges: u64, numbers: &mut Num
     })
 }
 
-/// As many inserts of random keys, and a count of everything.
-fn load(table: &mut impl Table, rows: u64, numbers: &mut Numbers) {
+/// As many inserts of random keys, and a count of everything. The names are handed on.
+fn load(table: &mut impl Table, rows: u64, numbers: &mut Numbers, keep: impl FnMut(u64)) {
     let start = Instant::now();
-    fill(table, rows, numbers);
+    fill(table, rows, numbers, keep);
     crate::report("load", start);
     let start = Instant::now();
     // (the bound is hidden, since a pass over rows that are all below it would be left out)
@@ -274,9 +311,24 @@ fn load(table: &mut impl Table, rows: u64, numbers: &mut Numbers) {
     println!("rows {everything}");
 }
 
+/// The same, and the names of the rows.
+fn load_named(table: &mut impl Table, rows: u64, numbers: &mut Numbers) -> Vec<u64> {
+    let mut names = Vec::with_capacity(rows as usize);
+    load(table, rows, numbers, |name| names.push(name));
+    names
+}
+
+/// What the merges did, where that is counted.
+fn report_tally(table: &impl Table) {
+    if let Some(did) = table.tally() {
+        let Tally { put_in, taken_out, evicted, moved, pulled } = did;
+        eprintln!("put_in {put_in}\ntaken_out {taken_out}\nevicted {evicted}\nmoved {moved}\npulled {pulled}");
+    }
+}
+
 fn counts(mut table: impl Table, rows: u64, ranges: u64) {
     let mut numbers = Numbers(11);
-    load(&mut table, rows, &mut numbers);
+    load(&mut table, rows, &mut numbers, |_| {});
     let start = Instant::now();
     let sum = (0..ranges).fold(0, |sum, _| {
         let low = random_low(&mut numbers);
@@ -289,7 +341,7 @@ fn counts(mut table: impl Table, rows: u64, ranges: u64) {
 /// The sums of as many random ranges, and the same sums again.
 fn sums(mut table: impl Table, rows: u64, ranges: u64) {
     let mut numbers = Numbers(11);
-    load(&mut table, rows, &mut numbers);
+    load(&mut table, rows, &mut numbers, |_| {});
     let mut told = 0;
     for name in ["sums", "again"] {
         let mut places = Numbers(numbers.0);
@@ -303,7 +355,7 @@ fn sums(mut table: impl Table, rows: u64, ranges: u64) {
 /// The sums of as many random ranges, and the time of each.
 fn each(mut table: impl Table, rows: u64, ranges: u64) {
     let mut numbers = Numbers(11);
-    load(&mut table, rows, &mut numbers);
+    load(&mut table, rows, &mut numbers, |_| {});
     let told = (0..ranges).fold(0, |sum, _| {
         let start = Instant::now();
         let sum = random_sums(&mut table, sum, 1, &mut numbers);
@@ -316,11 +368,12 @@ fn each(mut table: impl Table, rows: u64, ranges: u64) {
 /// As many inserts, and the sums of as many random ranges, with nothing counted before.
 fn cold(mut table: impl Table, rows: u64, ranges: u64) {
     let mut numbers = Numbers(11);
-    fill(&mut table, rows, &mut numbers);
+    fill(&mut table, rows, &mut numbers, |_| {});
     let start = Instant::now();
     let told = random_sums(&mut table, 0, ranges, &mut numbers);
     crate::report("cold", start);
     println!("cold {told}");
+    report_tally(&table);
 }
 
 /// As many inserts of keys in the lower half, and the sums of as many random ranges in the upper half.
@@ -342,38 +395,57 @@ fn pass(mut table: impl Table, rows: u64, ranges: u64) {
 /// Batches of as many deletes and inserts, each with the sum of a random range behind it.
 fn updates(mut table: impl Table, rows: u64, batches: u64, size: u64) {
     let mut numbers = Numbers(11);
-    load(&mut table, rows, &mut numbers);
-    let mut serials: Vec<u64> = (0..rows).collect();
-    let mut next = rows;
+    let mut names = load_named(&mut table, rows, &mut numbers);
     let start = Instant::now();
     let told = (0..batches).fold(0, |sum, _| {
         for _ in 0..size {
-            let at = numbers.below(serials.len() as u64) as usize;
-            table.delete(serials[at]);
+            let at = numbers.below(names.len() as u64) as usize;
+            table.delete(names[at]);
             let key = numbers.word();
-            table.insert(key, key);
-            serials[at] = next;
-            next += 1;
+            names[at] = table.insert(key, key);
         }
         random_sums(&mut table, sum, 1, &mut numbers)
     });
     crate::report("updates", start);
     println!("updates {told}");
+    report_tally(&table);
+}
+
+/// Counts that crack the column into as many pieces of one width.
+fn crack_evenly(table: &mut impl Table, pieces: u64) {
+    let width = GREATEST_BOUND / pieces.max(1);
+    for piece in 1..pieces {
+        table.count(0, piece * width);
+    }
+}
+
+/// The count of everything, which merges, by its name.
+fn count_merging(mut table: impl Table, name: &str) {
+    let start = Instant::now();
+    let after = table.count(0, GREATEST_BOUND);
+    crate::report(name, start);
+    println!("{name} {after}");
+    report_tally(&table);
 }
 
 /// As many rows pending beside a column of as many pieces, and the count that merges them.
 fn merge(mut table: impl Table, rows: u64, pieces: u64, pending: u64) {
     let mut numbers = Numbers(11);
-    load(&mut table, rows, &mut numbers);
-    let width = GREATEST_BOUND / pieces;
-    for piece in 1..pieces {
-        table.count(0, piece * width);
+    load(&mut table, rows, &mut numbers, |_| {});
+    crack_evenly(&mut table, pieces);
+    fill(&mut table, pending, &mut numbers, |_| {});
+    count_merging(table, "merge");
+}
+
+/// As many deletes of random rows in a column of as many pieces, and the count that takes these rows out.
+fn pulls(mut table: impl Table, rows: u64, pieces: u64, deletes: u64) {
+    let mut numbers = Numbers(11);
+    let names = load_named(&mut table, rows, &mut numbers);
+    crack_evenly(&mut table, pieces);
+    for _ in 0..deletes {
+        table.delete(names[numbers.below(rows) as usize]);
     }
-    fill(&mut table, pending, &mut numbers);
-    let start = Instant::now();
-    let after = table.count(0, GREATEST_BOUND);
-    crate::report("merge", start);
-    println!("merge {after}");
+    count_merging(table, "pulls");
 }
 
 fn measure(word: &str, table: impl Table, numbers: &[u64]) {
@@ -385,6 +457,7 @@ fn measure(word: &str, table: impl Table, numbers: &[u64]) {
         ("pass", [rows, ranges]) => pass(table, *rows, *ranges),
         ("updates", [rows, batches, size]) => updates(table, *rows, *batches, *size),
         ("merge", [rows, pieces, pending]) => merge(table, *rows, *pieces, *pending),
+        ("pulls", [rows, pieces, deletes]) => pulls(table, *rows, *pieces, *deletes),
         _ => panic!("as many numbers as are wanted"),
     }
 }
@@ -395,12 +468,15 @@ pub fn run(word: &str, table: &str, numbers: &[u64]) {
         "gradual" => measure(word, Partition::new(Policy::Gradual), numbers),
         "ripple" => measure(word, Partition::new(Policy::Ripple), numbers),
         "anew" => measure(word, Partition::new(Policy::Anew), numbers),
+        "fast-complete" => measure(word, Fast::new(Policy::Complete), numbers),
+        "fast-gradual" => measure(word, Fast::new(Policy::Gradual), numbers),
+        "fast-ripple" => measure(word, Fast::new(Policy::Ripple), numbers),
         "inline" => measure(word, Inline::default(), numbers),
         "pairs" => measure(word, Pairs::default(), numbers),
-        "tree" => measure(word, BTreeMap::new(), numbers),
+        "tree" => measure(word, Tree::default(), numbers),
         "through" => measure(word, Through::default(), numbers),
         "rows" => measure(word, Vec::<Row>::new(), numbers),
         "sorted" => measure(word, Sorted::default(), numbers),
-        _ => panic!("complete, gradual, ripple, anew, inline, pairs, tree, through, rows or sorted"),
+        _ => panic!("complete, gradual, ripple, anew, fast-complete, fast-gradual, fast-ripple, inline, pairs, tree, through, rows or sorted"),
     }
 }

@@ -8,9 +8,11 @@ pub struct Sorted {
 }
 
 impl Sorted {
-    pub fn push(&mut self, key: u32, payload: u32) {
+    /// Keeps a row. How many stood there before.
+    pub fn push(&mut self, key: u32, payload: u32) -> u64 {
         self.pairs.push((key, payload));
         self.is_sorted = false;
+        self.pairs.len() as u64 - 1
     }
 
     /// The pairs of the keys in a range.

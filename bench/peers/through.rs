@@ -9,7 +9,8 @@ pub struct Through {
 }
 
 impl Through {
-    pub fn push(&mut self, key: u32, payload: u32) {
+    /// Keeps a row. Its number.
+    pub fn push(&mut self, key: u32, payload: u32) -> u64 {
         let serial = self.handles.len() as u64;
         let handle = self.arena.put(Row {
             serial,
@@ -17,6 +18,7 @@ impl Through {
             payload,
         });
         self.handles.push(handle);
+        serial
     }
 
     /// The rows whose keys are in the range.
