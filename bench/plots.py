@@ -4,7 +4,7 @@ import math
 import statistics
 
 WIDTH, HEIGHT, LEFT, BELOW = 720, 360, 70, 40
-COLOURS = ["#c0392b", "#2471a3", "#229954", "#7d3c98", "#b9770e", "#566573"]
+COLOURS = ["#c0392b", "#2471a3", "#229954", "#7d3c98", "#b9770e", "#566573", "#16a085", "#d35400"]
 
 
 def text(x, y, words, anchor="start"):

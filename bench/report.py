@@ -1,4 +1,4 @@
-"""Writes docs/BENCHMARKS.md with its plots: what queries, loading, workers and memory cost, and where others are ahead."""
+"""Writes docs/BENCHMARKS.md with its plots: what queries, loading, merges, workers and memory cost, and where others are ahead."""
 
 import dataclasses
 import statistics
@@ -13,6 +13,10 @@ except ImportError:
     sqlite3 = None
 
 OURS = "crackd's partition"
+FAST = "a cracker column for speed alone"
+
+# what the lists of that column have for a pending row: a tag, a key, and the row by its slot
+FAST_BYTES = 36
 
 # it takes half a minute a run
 UNINDEXED = "SQLite without an index"
@@ -51,9 +55,31 @@ class Contest:
 
 
 @dataclasses.dataclass
+class Rivalry:
+    """What `crackd`, a cracker column that is written for speed alone, and a tree take for the same, in seconds; a tree takes no steps."""
+
+    what: str
+    ours: float
+    fast: float
+    tree: float
+
+    def ratio(self):
+        return self.ours / self.fast
+
+
+@dataclasses.dataclass
+class Rivals:
+    """Those of queries with nothing pending, by name; those of merges; and those of steps."""
+
+    queries: dict
+    merges: list
+    steps: list
+
+
+@dataclasses.dataclass
 class Measured:
-    """What stands in the report besides the queries: bytes a row by name, seconds by the way of loading, statements a second by the sharing, and
-    contests."""
+    """What stands in the report besides the queries: bytes a row by name, seconds by the way of loading, statements a second by the sharing,
+    contests, and what is fast in its own way."""
 
     rows: int
     ranges: int
@@ -62,6 +88,7 @@ class Measured:
     loading: dict
     workers: dict
     contests: list
+    rivals: Rivals
 
 
 class Series:
@@ -137,6 +164,7 @@ def query_series(bench, peers, measured):
     programs = {
         OURS: [bench, "each", "gradual"],
         "the same in plain Rust": [peers, "each", "gradual"],
+        FAST: [peers, "each", "fast-gradual"],
         "a sorted array": [peers, "each", "sorted"],
         "a BTreeMap": [peers, "each", "tree"],
         "a scan": [peers, "each", "rows"],
@@ -165,6 +193,8 @@ def query_contests(series):
 
 
 def shown(seconds):
+    if seconds < 1e-6:
+        return f"{seconds * 1e9:.3g} ns"
     return f"{seconds * 1e3:.4g} ms" if seconds >= 1e-3 else f"{seconds * 1e6:.3g} µs"
 
 
@@ -174,6 +204,46 @@ def contest_table(contests, advantage):
     for it in sorted(contests, key=advantage, reverse=True):
         lines.append(f"| {it.what} | {shown(it.ours)} | {shown(it.theirs)} | {it.other} | {advantage(it):,.2f} |")
     return "\n".join(lines)
+
+
+def rival_table(rivals):
+    """A line for each rivalry: what each takes, and how many times as long as the others `crackd` takes."""
+    lines = [f"| What | crackd | {FAST} | times as long | a BTreeMap | times as long |", "|---|---|---|---|---|---|"]
+    for it in [*rivals.queries.values(), *rivals.merges, *rivals.steps]:
+        tree = "| | |" if it.tree is None else f"| {shown(it.tree)} | {it.ours / it.tree:,.2f} |"
+        lines.append(f"| {it.what} | {shown(it.ours)} | {shown(it.fast)} | {it.ratio():,.2f} {tree}")
+    return "\n".join(lines)
+
+
+def spread(rivalries):
+    """From which to which number of times as long `crackd` takes."""
+    ratios = [it.ratio() for it in rivalries]
+    return f"{min(ratios):.1f} to {max(ratios):.1f}"
+
+
+def rival_text(measured):
+    """What `crackd` does besides, with the figures of the run."""
+    rivals = measured.rivals
+    load, everything, *queries = rivals.queries.values()
+    *merges, passing = rivals.merges
+    carry, pull = rivals.steps
+    return f"""- **Inserts: {load.ratio():.1f} times as long.** `crackd` keeps each command with its reply in a history, a number for each row as long as it
+  lives, and a map from these numbers to cells; the column has none of them. A pending row takes {measured.memory["pending"]:.0f} bytes of `crackd`'s memory, and
+  {FAST_BYTES} of the column's lists. What is written for the first time is got from the system, page by page.
+- **A first count of everything: {everything.ratio():.1f} times as long.** Each row is read through its handle, whose generation says that the cell is still
+  its own; then a step of its own writes what the column needs of it, and its generation. The other column moves tags that stand
+  among its pending rows already.
+- **Counts and sums with nothing pending: {spread(queries)} times as long.** The loop of a crack and the pass over the rows of a range are the same. Besides,
+  each query is clipped to the partition's keys, and kept in the history with its reply.
+- **A step of a carry: {carry.ratio():.1f} times as long; of a pull: {pull.ratio():.1f} times.** Each step exchanges two tags and moves a bound. In the other column one
+  loop does all steps, with the row in hand in a register. In `crackd` a step is a call of its own, which leaves the store intact; the
+  row in hand stands behind the column's end, so each step writes it there, and the next one reads it.
+- **Sums that merge: {spread(merges)} times as long.** These are such steps, and what comes with each row besides: a delete looks the row's
+  number up and takes it out of the map, its reply has the row, and the history keeps that; a row that is put in is read through its handle.
+- **A pass over pending keys that finds none: {passing.ratio():.1f} times as long.** Both look at 16 keys at a time; of a row of `crackd`'s the key may besides
+  not be known yet.
+- **A BTreeMap** has nothing to merge and nothing to crack: an insert or a delete walks down from its root. A sum goes from node to node,
+  where a column's rows stand side by side."""
 
 
 def loading_table(measured):
@@ -203,7 +273,7 @@ def write(folder, bench, peers, measured):
         "workers": bars(workers, "statements a millisecond"),
         "memory": bars(measured.memory, "bytes"),
     }
-    folder.mkdir(exist_ok=True)
+    folder.mkdir(parents=True, exist_ok=True)
     for name, plot in plots.items():
         (folder / f"{name}.svg").write_text(plot)
     (folder / "BENCHMARKS.md").write_text(page(series, measured))
@@ -232,6 +302,19 @@ which its times count; counts of one key are asked of `crackd script`, and count
 Each line says how many times as fast `crackd` is.
 
 {contest_table([it for it in contests if it.ours < it.theirs], lambda it: it.theirs / it.ours)}
+
+## Beside what is fast in its own way
+
+The cracker column for speed alone is plain Rust that takes the same steps. It keeps no history, and a row is named by its slot, which a
+later row may get; pending rows stand in plain vectors, and whether a row is doomed is a bit beside the tags. The BTreeMap has payloads by key
+and number, and sums ranges; no policy changes it. All get the same inserts, deletes and queries and answer the same, and `crackd` and the
+column put in, put back, move, pull and take out as many rows.
+
+{rival_table(measured.rivals)}
+
+What `crackd` does besides, and what that costs:
+
+{rival_text(measured)}
 
 ## A query falls
 

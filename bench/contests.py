@@ -1,0 +1,111 @@
+"""Measures what docs/BENCHMARKS.md tells."""
+
+import random
+import statistics
+import sys
+
+import of_bench
+import report
+import sizes
+from inputs import random_insert_lines, script
+from of_crackd import bytes_a_row, csv_and_script
+from of_workers import worker_times
+from programs import BENCH, CRACKD, PEERS, answers, compare, middle_of, middles, over_tcp
+
+
+def loading(runs):
+    """How long each way takes to load rows and to list all of them, in seconds."""
+    csv, listed = csv_and_script()
+    by_csv, by_script = middles([csv, listed], runs)
+    totals = (sizes.PART_ROWS + 1, sizes.PART_ROWS, 0, sizes.PART_ROWS)
+    by_tcp = statistics.median(over_tcp(CRACKD, "client", listed[1], totals) for _ in range(runs))
+    return {"script": by_script, "csv": by_csv, "one client over TCP": by_tcp}
+
+
+def worker_rates(runs):
+    """For each sharing, how many statements a second each number of workers answers, and plain Rust's."""
+    told = {}
+    for sharing, where in sizes.SHARINGS:
+        done = [4 * sizes.WORKER_STEPS * workers for workers in sizes.WORKER_COUNTS]
+        times = worker_times(sharing, runs)
+        told[where] = [(workers, count / ours, count / theirs) for workers, count, (ours, theirs) in zip(sizes.WORKER_COUNTS, done, times)]
+    return told
+
+
+def lookup_contest(runs):
+    """A count of the rows of one key, beside SQLite's by an index."""
+    lookups, lines = sizes.LOOKUPS, random_insert_lines(sizes.PART_ROWS)
+    rows = [tuple(int(number) for number in line.split()[1:]) for line in lines]
+    keys = [key for key, _ in random.Random(3).choices(rows, k=lookups)]
+    front, counts = [*lines, f"count {sizes.EVERYTHING}"], [f"count {key} {key + 1}" for key in keys]
+    crackd, source = [CRACKD, "script"], script("whole", [*front, *counts])
+    before, whole = middles([(crackd, script("front", front)), (crackd, source)], runs)
+    theirs, wanted = report.sqlite_lookups(rows, keys, runs)
+    if answers(crackd, source).split()[-2 * lookups + 1 :: 2] != [str(count).encode() for count in wanted]:
+        sys.exit("crackd and SQLite don't count the same")
+    return report.Contest(f"each of {lookups} counts of one key", (whole - before) / lookups, "SQLite with an index", theirs / lookups)
+
+
+def count_contests(runs):
+    """Counts of random ranges, beside a cracker column of plain Rust's, and beside a pass for each."""
+    rows, inline, ours = of_bench.beside("counts", ["rows", "inline"], [sizes.PART_ROWS, sizes.RANGES], runs)
+    counts, what = middle_of(ours, "counts"), f"{sizes.RANGES} counts of random ranges"
+    others = (("a cracker column of keys alone, in plain Rust", inline), ("a pass over the rows for each", rows))
+    return [report.Contest(what, counts, other, middle_of(theirs, "counts")) for other, theirs in others]
+
+
+def rivalry(what, name, ours, fast, tree):
+    """What one figure is by each, in seconds."""
+    return report.Rivalry(what, *(middle_of(it, name) for it in (ours, fast, tree)))
+
+
+def query_rivalries(runs):
+    """Loading, counts and sums with nothing pending, by the names of what is told of them."""
+    told = {}
+    for word in ("counts", "sums"):
+        tree, fast, ours = of_bench.beside(word, ["tree", of_bench.FAST_KIND], [sizes.PART_ROWS, sizes.RANGES], runs)
+        names = {
+            "load": f"{sizes.PART_ROWS} inserts",
+            "everything": "a first count of everything",
+            word: f"{sizes.RANGES} {word} of random ranges",
+            "again": "the same sums again",
+        }
+        told.update({name: rivalry(what, name, ours, fast, tree) for name, what in names.items() if name in ours[0]})
+    return told
+
+
+def merge_rivalries(runs):
+    """What merges cost under each policy: with all rows pending, and with deletes and inserts before each sum."""
+    words = [("cold", [sizes.RANGES], f"{sizes.RANGES} sums, all rows pending")]
+    for batches, size in sizes.BATCHES:
+        words.append(("updates", [batches, size], f"{batches} sums, {size} deletes and inserts before each"))
+    for word, numbers, what in words:
+        for policy, ours, _, fast, tree, _ in of_bench.by_policy(word, [sizes.PART_ROWS, *numbers], runs):
+            yield rivalry(f"{policy}: {what}", word, ours, fast, tree)
+
+
+def pass_rivalry(runs):
+    words = [str(sizes.PART_ROWS), str(sizes.RANGES)]
+    programs = [[PEERS, "pass", "tree"], [PEERS, "pass", "fast-ripple"], [BENCH, "pass", "ripple"]]
+    tree, fast, ours = compare([[*program, *words] for program in programs], runs)
+    return rivalry(f"{sizes.RANGES} sums of no row, all rows pending", "pass", ours, fast, tree)
+
+
+def step_rivalries(runs):
+    """What one step takes, which a tree doesn't take."""
+    for what, word, name in of_bench.STEPS:
+        ours, fast = of_bench.step_seconds(word, name, runs)
+        yield report.Rivalry(f"a step of {what} over {sizes.STEP_PIECES} pieces", ours, fast, None)
+
+
+def rivals(runs):
+    queries = query_rivalries(runs)
+    merges = [*merge_rivalries(runs), pass_rivalry(runs)]
+    return report.Rivals(queries, merges, list(step_rivalries(runs)))
+
+
+def write_report(folder, runs):
+    """Measures what the page tells, and writes it with its plots into the folder."""
+    contests = [*count_contests(runs), *([lookup_contest(runs)] if report.sqlite3 else [])]
+    told = (bytes_a_row(CRACKD), loading(runs), worker_rates(runs), contests, rivals(runs))
+    report.write(folder, BENCH, PEERS, report.Measured(sizes.PART_ROWS, sizes.RANGES, runs, *told))

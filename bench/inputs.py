@@ -1,0 +1,131 @@
+"""The files that programs are given, always the same."""
+
+import random
+
+import sizes
+from programs import OUT
+
+
+def script(name, lines):
+    """A file of these lines."""
+    path = OUT / name
+    path.write_text("".join(f"{line}\n" for line in lines))
+    return path
+
+
+def inserts(lines):
+    """A file of as many inserts."""
+    return script(f"inserts-{lines}", (f"insert {i * 48271 % 4294967296} {i}" for i in range(lines)))
+
+
+def random_inserts(lines):
+    """A file of as many inserts of random keys and payloads."""
+    numbers = random.Random(7)
+    return script(f"random-inserts-{lines}", (f"insert {numbers.randrange(2**32)} {numbers.randrange(2**32)}" for _ in range(lines)))
+
+
+def random_insert_lines(lines):
+    return random_inserts(lines).read_text().splitlines()
+
+
+def deletes(count, behind):
+    """A file of inserts, of these lines behind them, and of as many deletes of the rows in random order, which end with these lines too."""
+    order = list(range(sizes.PART_ROWS))
+    random.Random(5).shuffle(order)
+    rows = random_insert_lines(sizes.PART_ROWS)
+    return script(f"deletes-{count}", [*rows, *behind, *(f"delete 0.{serial}" for serial in order[:count]), *(behind if count else [])])
+
+
+def inserts_and_counts(lines):
+    """A file of as many lines: half of them random inserts, and behind them counts that crack the column, and counts between its bounds."""
+    cracks, counts = part_counts(lines // 2)
+    return script(f"inserts-and-counts-{lines}", [*random_insert_lines(lines // 2), *cracks, *counts][:lines])
+
+
+def records(rows):
+    """A file of the records of as many random rows, and one of the same rows as inserts, with a select of everything behind them."""
+    lines = random_insert_lines(rows)
+    pairs = (line.split()[1:] for line in lines)
+    return script(f"records-{rows}", (",".join(pair) for pair in pairs)), script(f"listed-{rows}", [*lines, f"select {sizes.EVERYTHING}"])
+
+
+def part_counts(count):
+    """Counts that crack the parts between the splits into as many pieces of one width, and as many counts of random neighbouring pieces of one
+    part."""
+    parts, width, numbers = range(len(sizes.SPLITS) + 1), sizes.PART_WIDTH // sizes.PART_PIECES, random.Random(9)
+    pieces = [(part * sizes.PART_WIDTH, piece * width) for part in parts for piece in range(sizes.PART_PIECES)]
+    cracks = [f"count {part + piece} {part + piece + width}" for part, piece in pieces]
+    ends = ((part, *sorted(numbers.sample(range(sizes.PART_PIECES + 1), 2))) for part, _ in numbers.choices(pieces, k=count))
+    return cracks, [f"count {part + low * width} {part + high * width}" for part, low, high in ends]
+
+
+def split_files():
+    """What is measured with many splits and with none: its name, a file of it with what comes before, and a file of that alone."""
+    rows = random_insert_lines(sizes.LINES // 2)
+    cracks, counts = part_counts(sizes.LINES // 2)
+    for what, before, lines in (("inserts", [], rows), ("counts between bounds", [*rows, *cracks], counts)):
+        name = what.replace(" ", "-")
+        yield f"{sizes.LINES // 2} {what}", script(f"{name}-whole", [*before, *lines]), script(f"{name}-front", before)
+
+
+def scattered(number):
+    """Another number for each number of 32 bits, which looks random, as in the programs."""
+    mixed = (number ^ number >> 16) * 2246822507 % 2**32
+    mixed = (mixed ^ mixed >> 13) * 3266489909 % 2**32
+    return mixed ^ mixed >> 16
+
+
+class Mix:
+    """What crack_bench_workers has a worker ask of partitions of its own, as statements."""
+
+    def __init__(self, worker):
+        self.first, self.number = worker * sizes.PARTS_EACH, worker * sizes.APART
+        self.rows, self.placed = [], [0] * sizes.PARTS_EACH
+
+    def next(self, bound):
+        self.number += 1
+        return scattered(self.number) % bound
+
+    def insert(self, at):
+        """The insert of a row that stands at this place among the rows."""
+        place = self.next(sizes.PARTS_EACH)
+        self.rows[at : at + 1] = [f"{self.first + place}.{self.placed[place]}"]
+        self.placed[place] += 1
+        key = (self.first + place) * sizes.PART_WIDTH + self.next(sizes.PART_WIDTH)
+        return f"insert {key} {key}"
+
+    def sum(self):
+        low = (self.first + self.next(sizes.PARTS_EACH)) * sizes.PART_WIDTH + self.next(sizes.PART_WIDTH - sizes.SUM_WIDTH)
+        return f"sum {low} {low + sizes.SUM_WIDTH}"
+
+    def statements(self, rows, steps):
+        """As many inserts, a count of each partition, and as many steps: a sum, a delete, a sum and an insert."""
+        for at in range(rows):
+            yield self.insert(at)
+        for part in range(self.first, self.first + sizes.PARTS_EACH):
+            yield f"count {part * sizes.PART_WIDTH} {(part + 1) * sizes.PART_WIDTH}"
+        for _ in range(steps):
+            yield self.sum()
+            at = self.next(len(self.rows))
+            yield f"delete {self.rows[at]}"
+            yield self.sum()
+            yield self.insert(at)
+
+
+class Batch:
+    """What the most workers of a batch ask: `rounds`, a line of each, the file of them with its `splits`, and how many statements they are."""
+
+    def __init__(self):
+        most = sizes.WORKER_COUNTS[-1]
+        parts = most * sizes.PARTS_EACH
+        self.splits = sizes.SPLITS[: parts - 1]
+        mixes = (Mix(worker).statements(sizes.PARTS_EACH * sizes.WORKER_ROWS, sizes.WORKER_STEPS) for worker in range(most))
+        self.rounds = list(zip(*mixes))
+        # (a number counts around the workers, so one worker has all lines of the same file, and each of two has half of them)
+        self.source = script("batch", (f"{worker} {line}" for lines in self.rounds for worker, line in enumerate(lines)))
+        held, came = parts * sizes.WORKER_ROWS, most * sizes.WORKER_STEPS
+        self.accepted = held + parts + 4 * came
+        self.totals = f"accepted {self.accepted} inserted {held + came} deleted {came} held {held}\n".encode()
+
+    def words(self, program, workers):
+        return [program, "batch", "--workers", str(workers), *self.splits]

@@ -1,0 +1,46 @@
+"""What is measured of workers on threads, beside plain Rust and bare partitions."""
+
+import sizes
+from programs import PEERS, WORKERS, compare, compare_each, has_valgrind, instructions, middle_of
+
+
+def worker_times(sharing, runs):
+    """What each number of workers takes for its steps, and what plain Rust does."""
+    words = [[sharing, str(workers), str(sizes.WORKER_ROWS), str(sizes.WORKER_STEPS)] for workers in sizes.WORKER_COUNTS]
+    return [[middle_of(it, "work") for it in both] for both in compare_each(WORKERS, words, runs)]
+
+
+def measure_workers(table, runs):
+    for sharing, where in sizes.SHARINGS:
+        times = worker_times(sharing, runs)
+        for workers, (ours, theirs) in zip(sizes.WORKER_COUNTS, times):
+            table.line(f"{workers} workers, {where}, beside plain Rust", ours, theirs)
+        for workers, both in zip(sizes.WORKER_COUNTS[1:], times[1:]):
+            ours, theirs = (workers * alone / each for alone, each in zip(times[0], both))
+            table.gain(f"gain of {workers} workers, {where}", ours, theirs, 0.9 if sharing == "own" else None)
+
+
+def measure_asking(table, _runs):
+    if not has_valgrind():
+        return
+    rows, most = sizes.WORKER_ROWS, sizes.WORKER_STEPS
+    words = [[WORKERS, name, str(rows), str(steps)] for name in ("ask", "bare") for steps in (most, 0)]
+    ask, ask_before, bare, bare_before = (instructions(it) for it in words)
+    what = f"instructions of {4 * most} statements, half sums, by a worker"
+    table.numbers(f"{what}, beside bare partitions", ask - ask_before, bare - bare_before, 1.25)
+    table.numbers(f"instructions of {2 * rows} inserts, the same", ask_before, bare_before, 1.25)
+
+
+def measure_gathering(table, runs):
+    workers, most = sizes.GATHER_WORKERS, sizes.GATHER_ROWS
+    words = [str(workers), str(most)]
+    ours, theirs = compare([[WORKERS, "gathered", *words], [PEERS, "copies", *words]], runs)
+    what = f"gathering {workers} workers with {2 * workers * most} entries"
+    table.line(f"{what}, beside copies of both lists", middle_of(ours, "gather"), middle_of(theirs, "copies"), 3.0)
+    if has_valgrind():
+        both = [[str(workers), str(rows)] for rows in (most // 2, most)]
+        half, whole = (instructions([WORKERS, "gathered", *size]) - instructions([WORKERS, "loaded", *size]) for size in both)
+        table.numbers(f"{what}, beside half, instructions", whole, half, 2.2)
+
+
+MEASURES = {"workers": [measure_workers], "asking": [measure_asking], "gathering": [measure_gathering]}

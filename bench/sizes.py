@@ -1,0 +1,54 @@
+"""How large what is measured is."""
+
+STEPS, CELLS = 10_000_000, 100_000
+ROWS = 1_000_000
+LINES = 200_000
+DELETES = 100_000
+PART_ROWS, RANGES = 500_000, 1000
+POLICIES = ["complete", "gradual", "ripple"]
+# how many sums, and how many deletes and inserts before each
+BATCHES = [(1000, 10), (100, 1000)]
+PIECES, PENDING = 1000, 1000
+# over how many pieces rows go step by step, and how many rows
+STEP_PIECES, STEP_ROWS = 2000, 1000
+# 63 splits of the keys into parts of one width, each with as many bounds in it, less one
+PART_WIDTH, PART_PIECES = 2**26, 8
+SPLITS = [str(part * PART_WIDTH) for part in range(1, 64)]
+# how many workers; and, as crack_bench_workers counts them, rows of each partition, and steps of four statements each
+WORKER_COUNTS = [1, 2, 4]
+WORKER_ROWS, WORKER_STEPS = 100_000, 4000
+SHARINGS = [("own", "two partitions of each's own"), ("shared", "all over the same partitions")]
+# a worker has two partitions, and each insert is an entry
+GATHER_WORKERS, GATHER_ROWS = 4, 125_000
+# a history has at most a million entries
+MOST_PART_ROWS = 998_000
+# statements that each wait for the reply to the last one, and counts of one key each
+TURNS, LOOKUPS = 20_000, 10_000
+EVERYTHING = f"0 {2**32}"
+# as crack_bench_workers has them: partitions of each worker, how far apart the numbers lie at which the workers begin, and how wide a sum's range is
+PARTS_EACH, APART, SUM_WIDTH = 2, 50_000_000, PART_WIDTH // 100
+
+
+def shrink():
+    """Makes all of them so small that a run takes a minute: it shows that everything runs and answers the same, and its figures mean nothing."""
+    small = {
+        "STEPS": 10_000,
+        "CELLS": 1000,
+        "ROWS": 10_000,
+        "LINES": 2000,
+        "DELETES": 1000,
+        "PART_ROWS": 4000,
+        "RANGES": 100,
+        "BATCHES": [(50, 10), (10, 100)],
+        "PIECES": 40,
+        "PENDING": 100,
+        "STEP_PIECES": 50,
+        "STEP_ROWS": 100,
+        "WORKER_ROWS": 500,
+        "WORKER_STEPS": 50,
+        "GATHER_ROWS": 500,
+        "MOST_PART_ROWS": 8000,
+        "TURNS": 200,
+        "LOOKUPS": 100,
+    }
+    globals().update(small)

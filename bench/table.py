@@ -1,0 +1,47 @@
+"""The lines of the table, and whether a ratio was above its bound."""
+
+
+# how wide what is told of is
+WIDTH = 80
+
+
+class Table:
+    def __init__(self):
+        self.is_well = True
+        print(f"{'what':{WIDTH}} {'measured':>12} {'beside it':>12} {'ratio':>7} {'bound':>6}")
+
+    def above(self, number, bound):
+        """The mark of a number that is above its bound, which isn't well."""
+        if bound is None or number <= bound:
+            return ""
+        self.is_well = False
+        return "  ABOVE"
+
+    def line(self, what, measured, beside, bound=None):
+        """A line of seconds beside others."""
+        ratio = measured / beside
+        shown = "-" if bound is None else f"{bound:.1f}"
+        print(f"{what:{WIDTH}} {measured * 1e3:9.2f} ms {beside * 1e3:9.2f} ms {ratio:7.2f} {shown:>6}{self.above(ratio, bound)}", flush=True)
+
+    def step(self, what, measured, beside, bound):
+        """A line of what one of many steps takes, in seconds, beside others."""
+        ratio = measured / beside
+        print(f"{what:{WIDTH}} {measured * 1e9:9.2f} ns {beside * 1e9:9.2f} ns {ratio:7.2f} {bound:6.1f}{self.above(ratio, bound)}", flush=True)
+
+    def numbers(self, what, measured, beside, bound):
+        """A line of instructions beside others."""
+        ratio = measured / beside
+        print(f"{what:{WIDTH}} {measured / 1e6:9.1f} M {beside / 1e6:9.1f} M {ratio:7.2f} {bound:>6}{self.above(ratio, bound)}", flush=True)
+
+    def gain(self, what, gained, beside, least=None):
+        """A line of how many times as much is done in the same time."""
+        ratio = gained / beside
+        mark = ""
+        if least is not None and ratio < least:
+            self.is_well, mark = False, "  BELOW"
+        shown = "-" if least is None else f"{least:.1f}"
+        print(f"{what:{WIDTH}} {gained:12.2f} {beside:12.2f} {ratio:7.2f} {shown:>6}{mark}", flush=True)
+
+    def count(self, what, each, bound):
+        """A line of instructions or bytes, where they are bounded by a number."""
+        print(f"{what:{WIDTH}} {each:12.0f} {'':12} {'':7} {bound:6}{self.above(each, bound)}", flush=True)
