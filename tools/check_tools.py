@@ -77,6 +77,11 @@ class Functions(unittest.TestCase):
         self.assertTrue(found.is_named(["a", "column", "alone", "closure"]))
         self.assertFalse(found.is_named(["a", "alone"]))
 
+    def test_a_function_reaches_what_it_calls_and_what_that_calls(self):
+        text = "fn a() {\n    b();\n}\n\nfn b() {\n    c(1);\n}\n\nfn c(n: u64) {\n    d(n);\n}\n"
+        found = {it.name: {of.name for of in reached} for it, reached in functions.reached({"src/lib.rt": text}).items()}
+        self.assertEqual(found, {"a": {"b", "c"}, "b": {"c"}, "c": set()})
+
     def test_its_first_line_is_in_a_function_and_a_type_is_in_none(self):
         self.assertEqual(function("fn alone").name, "alone")
         self.assertIsNone(function("places: Vec<T>"))
@@ -89,8 +94,8 @@ class Batches(unittest.TestCase):
             made = edits.batches(every, 8)
             self.assertEqual(sorted(it.name for batch in made for it in batch), sorted(it.name for it in every))
             for batch in made:
-                of = [it.function for it in batch]
-                self.assertTrue(len(batch) == 1 or (None not in of and len(set(of)) == len(of) <= 8))
+                self.assertTrue(len(batch) <= 8)
+                self.assertTrue(all(edits.are_apart(one, other) for one in batch for other in batch if one is not other))
 
     def test_each_edit_can_be_applied(self):
         self.assertEqual([it.label for crate in crates.listed().values() for it in edits.edits_of(crate) if it.fault], [])

@@ -6,8 +6,8 @@ many as there are processors and memory for, each over what was proved of its cr
 
 Edits that change different functions are tried together, in one check: a function's proof may cite what the others promise and nothing of their bodies,
 and a check says of each function whether its own proof stands, or lacks only that of another. An edit is refused where the function that it changes isn't
-proved itself. Where a check of several leaves one open (its function lacks another's proof, or is proved), that one is tried again among fewer, and at last
-by itself: then it is refused where the crate isn't proved. An edit that cannot be applied or read is a failure, as one that isn't refused is.
+proved itself. So functions of which one may call the other are tried apart. Where a check of several leaves an edit open all the same (its function lacks
+another's proof, or is proved), that one is tried again among fewer, and at last by itself: then it is refused where the crate isn't proved. An edit that cannot be applied or read is a failure, as one that isn't refused is.
 
 At the end stands a table of the processor seconds that an edit takes. Where all edits of all crates were refused, and the crates are those of the last
 commit, tools/edits-tried names that commit. The last line is 'N passed, M failed'.
@@ -30,7 +30,7 @@ import rooms
 
 TRIED = crates.TOP / "tools" / "edits-tried"
 # How many edits one check tries at the most, from round to round.
-SIZES = (8, 4, 2, 1)
+SIZES = (8, 3, 1)
 # What a check of several edits takes at the most, for a start; then what was seen decides.
 SECONDS = 60.0
 UNREAD = re.compile(r"is not in scope|has no field|is no name|operand is missing|expected the end|cannot continue")
@@ -96,16 +96,26 @@ def applied(edits):
     return texts
 
 
+@functools.lru_cache(maxsize=None)
+def reached_in(name):
+    """For each function of a crate those that it may come to call."""
+    crate = crates.listed()[name]
+    return functions.reached({str(it.relative_to(crate.folder)): it.read_text() for it in crate.sources() if it.suffix == ".rt"})
+
+
+def are_apart(one, other):
+    """Whether two edits of a crate change one function each, of which neither is the other nor may call it."""
+    if not one.function or not other.function or one.function == other.function:
+        return False
+    reached = reached_in(one.crate)
+    return other.function not in reached.get(one.function, ()) and one.function not in reached.get(other.function, ())
+
+
 def batches(edits, size):
-    """Parts these edits of one crate into lists of at most so many, each of edits that can be tried together: of one function each, and of different ones."""
+    """Parts these edits of one crate into lists of at most so many, each of edits that can be tried together: first those that go with the fewest."""
     made = []
-    for edit in edits:
-        fits = lambda batch: (
-            len(batch) < size
-            and edit.function
-            and all(it.function and it.function != edit.function for it in batch)
-            and applied([*batch, edit]) is not None
-        )
+    for edit in sorted(edits, key=lambda it: sum(are_apart(it, other) for other in edits)):
+        fits = lambda batch: len(batch) < size and all(are_apart(edit, it) for it in batch) and applied([*batch, edit]) is not None
         batch = next(filter(fits, made), None)
         if batch is None:
             made.append([edit])

@@ -1,8 +1,10 @@
-"""Functions in the texts of a crate: which one a place lies in, and how a check names it."""
+"""Functions in the texts of a crate: which one a place lies in, how a check names it, and which others it may call."""
 
+import collections
 import dataclasses
 import re
 
+CALL = re.compile(r"\b(\w+)(?:::<[^()]*>)?\(|::(\w+)\b")
 FUNCTION = re.compile(r"^(\s*)(?:pub(?:\([^)]*\))?\s+)?(?:const\s+)?(?:unsafe\s+)?fn\s+(\w+)")
 BLOCK = re.compile(r"^(?:pub(?:\([^)]*\))?\s+)?(?:unsafe\s+)?(impl|trait)\b(.*)")
 
@@ -79,3 +81,21 @@ def function_at(path, text, at):
         return None
     owner, trait = owner_of(block[2]) if block[1] == "impl" else (re.match(r"\s*(\w*)", block[2])[1], "")
     return Function(module_of(path), owner, trait, found[2])
+
+
+def reached(texts):
+    """For each function of these texts, by path, the functions that it may come to call: all whose names it calls, and what these call in turn."""
+    names, of_name = collections.defaultdict(set), collections.defaultdict(set)
+    for path, text in texts.items():
+        for found in CALL.finditer(text):
+            caller = function_at(path, text, found.start())
+            if caller:
+                names[caller].add(found[1] or found[2])
+                of_name[caller.name].add(caller)
+    called = {caller: set().union(*(of_name[it] for it in found)) - {caller} for caller, found in names.items()}
+    for _ in called:
+        more = {caller: found.union(*(called.get(it, ()) for it in found)) for caller, found in called.items()}
+        if more == called:
+            break
+        called = more
+    return called
