@@ -4,6 +4,7 @@ ghost use Rattle.crack_state.specs.Merge.{RefinesAt, Stands, AreEnds};
 ghost use Rattle.crack_store.specs.Inside.{lists_of, KeepsIntact, IsMissing};
 
 use crate::notes::Notes;
+use crate::serial_hash::SerialHashing;
 use crack_arena::{Arena, Handle};
 use crack_column::CrackerColumn;
 use crack_index::CrackerIndex;
@@ -11,6 +12,9 @@ use crack_pending::{PendingIn, PendingOut};
 use crack_row::{Bound, GREATEST_BOUND, Key, KeyRange, Row};
 use crack_state::MergeReport;
 use indexmap::IndexMap;
+
+/// The handles of rows, by the numbers of their serials.
+pub(crate) type Serials = IndexMap<u64, Handle<Row>, SerialHashing>;
 
 /// The partition's keys, its cells, and the lists in which they stand.
 #[derive(Drop)]
@@ -26,7 +30,7 @@ pub(crate) struct Inside {
     /// Where doomed rows were seen last.
     pub(crate) notes: Notes,
     /// The handle of each live row, by its serial.
-    pub(crate) serials: IndexMap<u64, Handle<Row>>,
+    pub(crate) serials: Serials,
     pub(crate) tally: MergeReport,
 }
 

@@ -11,6 +11,7 @@ pub mod onward;
 pub mod points;
 pub mod reads;
 mod search;
+pub mod serial_hash;
 mod steps;
 pub mod store;
 

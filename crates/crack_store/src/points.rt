@@ -9,9 +9,9 @@ ghost use Rattle.crack_state.specs.Steps.{SameButRoom};
 ghost use Rattle.crack_state.specs.Points.{row_by, pending_by, handle_by, Maps, MayFree, IsRenewable, IsRewritable, Cancels, Dooms, Renews, Rewrites, rewritten};
 
 use crate::Store;
+use crate::inside::Serials;
 use crack_arena::{Arena, Handle, key_of};
 use crack_row::{Key, Payload, Refusal, Row, Serial};
-use indexmap::IndexMap;
 
 impl Store {
     /// The row of this serial; none where there is no such row. O(1).
@@ -156,7 +156,7 @@ fn free(arena: &mut Arena<Row>, handle: Handle<Row>) -> Row
 }
 
 /// The handle of a serial that is in the map. O(1).
-fn handle_in(serials: &IndexMap<u64, Handle<Row>>, serial: Serial) -> Handle<Row>
+fn handle_in(serials: &Serials, serial: Serial) -> Handle<Row>
     requires { IsSome (handle_of serials.now.entries serial.0) }
     ensures { handle_of serials.now.entries serial.0 ≡ Some result }
 {
@@ -167,7 +167,7 @@ fn handle_in(serials: &IndexMap<u64, Handle<Row>>, serial: Serial) -> Handle<Row
 }
 
 /// Takes a serial that is in the map out of it; its handle. O(1).
-fn forget(serials: &mut IndexMap<u64, Handle<Row>>, serial: Serial) -> Handle<Row>
+fn forget(serials: &mut Serials, serial: Serial) -> Handle<Row>
     requires { IsSome (handle_of serials.old.entries serial.0) }
     ensures handle { handle_of serials.old.entries serial.0 ≡ Some result }
     ensures map { Maps serial.0 None serials.old.entries serials.new.entries }
@@ -179,11 +179,7 @@ fn forget(serials: &mut IndexMap<u64, Handle<Row>>, serial: Serial) -> Handle<Ro
 }
 
 /// Lets a serial that is in the map lead to another handle; the one before. Takes no memory. O(1).
-fn lead_to(
-    serials: &mut IndexMap<u64, Handle<Row>>,
-    serial: Serial,
-    handle: Handle<Row>,
-) -> Handle<Row>
+fn lead_to(serials: &mut Serials, serial: Serial, handle: Handle<Row>) -> Handle<Row>
     requires { IsSome (handle_of serials.old.entries serial.0) }
     ensures before { handle_of serials.old.entries serial.0 ≡ Some result }
     ensures map { Maps serial.0 (Some handle) serials.old.entries serials.new.entries }

@@ -14,6 +14,7 @@ ghost use Rattle.crack_store.specs.Inside.{no_cells, bound_above, IsLayoutOf};
 use crate::Carrying;
 use crate::inside::{Inside, crack_at, in_turn, is_missing};
 use crate::notes::Notes;
+use crate::serial_hash::SerialHashing;
 use crate::steps::{take_in, take_last};
 use crack_arena::{Arena, Handle};
 use crack_column::CrackerColumn;
@@ -62,7 +63,7 @@ impl Store {
                 pending_out: PendingOut::new(alloc),
                 in_room: 0,
                 notes: Notes::new(alloc),
-                serials: IndexMap::new(alloc),
+                serials: IndexMap::with_hasher(alloc, SerialHashing),
                 tally: MergeReport {
                     put_in: 0,
                     taken_out: 0,

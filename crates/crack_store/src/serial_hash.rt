@@ -1,0 +1,65 @@
+//! The hash by which the map of serials finds its places.
+ghost use Rattle.std.specs.Prelude.{◌+◌, ◌*◌, ◌/◌, ◌%◌, ◌^◌, ◌==◌, if◌then◌else◌, length, bit_xor};
+ghost use Rattle.std.specs.Int.{w64, from_le_bytes};
+
+use std::hash::{BuildHasher, Hasher};
+
+/// How many serials that follow one another share a group of the map's table.
+const NEIGHBOURS: u64 = 4;
+
+/// How many groups side by side are filled one after the other.
+const STRETCH: u64 = 8;
+
+/// Odd, so that stretches which follow one another have places of their own, for each power of two, and spread over all of them.
+const SPREAD: u64 = 0x9e37_79b9_7f4a_7c15;
+
+/// Hashes serials for `indexmap`: its table has a power of two of groups, of 12 rows each and 9 on average once it is full. The low
+/// bits of a hash choose the group, and the highest eight of its 32 tell rows of one group apart.
+///
+/// A partition gives its serials in order, so rows that are admitted one after the other go into a group whose line is in the cache,
+/// and a growth copies the table stretch by stretch. A client can't choose serials, so nothing has to be kept from those who would let
+/// them collide; and a hash that served worse would cost time alone, since a look-up compares serials.
+#[derive(Clone, Copy)]
+pub struct SerialHashing;
+
+impl BuildHasher for SerialHashing {
+    type Hasher = SerialHasher;
+
+    ghost build_hasher = { λ _. record { serial = 0 } };
+
+    fn build_hasher(&self) -> SerialHasher {
+        SerialHasher { serial: 0 }
+    }
+}
+
+/// The number of eight bytes that was written last.
+#[derive(Clone, Copy)]
+pub struct SerialHasher {
+    serial: u64,
+}
+
+impl Hasher for SerialHasher {
+    ghost write = { λ s bytes. if length bytes == 8 then record { serial = from_le_bytes w64 bytes } else s };
+
+    ghost finish = { λ s. let place = bit_xor (s.serial / 32) (s.serial / 32 / 256) * 11400714819323198485 % 2 ^ 64 in ((place * 8 % 2 ^ 64 + bit_xor (s.serial / 4) (place / 2 ^ 58) % 8) % 2 ^ 64 + s.serial * 16777216 % 2 ^ 64) % 2 ^ 64 % 4294967296 };
+
+    fn finish(&self) -> u64 {
+        let stretch = self.serial / (NEIGHBOURS * STRETCH);
+        // rows that are kept far apart differ in their higher bits, which move down here
+        let place = (stretch ^ stretch / 256).wrapping_mul(SPREAD);
+        let group = (self.serial / NEIGHBOURS ^ place >> 58) % STRETCH;
+        place
+            .wrapping_mul(STRETCH)
+            .wrapping_add(group)
+            .wrapping_add(self.serial.wrapping_mul(16777216))
+            % 4294967296
+    }
+
+    fn write(&mut self, bytes: &[u8]) {
+        if bytes.len() == 8 {
+            self.serial = u64::from_le_bytes([
+                bytes[0], bytes[1], bytes[2], bytes[3], bytes[4], bytes[5], bytes[6], bytes[7],
+            ]);
+        }
+    }
+}
