@@ -14,6 +14,8 @@ mod pending;
 #[cfg(test)]
 mod row;
 #[cfg(test)]
+mod serial_hash;
+#[cfg(test)]
 mod store;
 #[cfg(test)]
 mod store_points;

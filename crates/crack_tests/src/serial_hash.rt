@@ -1,0 +1,96 @@
+//! The hash of serials chooses groups of a map's table: one group for neighbours, others for rows that are kept far apart.
+ghost use Rattle.std.specs.Prelude.{◌<◌};
+
+use crate::store::admit;
+use crack_row::{KeyRange, Serial};
+use crack_store::Store;
+use crack_store::serial_hash::SerialHashing;
+use std::alloc::Global;
+use std::hash::BuildHasher;
+use std::process::Abort;
+
+/// How many rows a group of the map's table has places for.
+const PLACES: u32 = 12;
+
+/// How many rows a group has on average when the table is full.
+const LOAD: u64 = 9;
+
+/// The group of a serial in a table of so many groups, a power of two.
+fn group_of(serial: u64, groups: usize) -> usize
+    requires { 0 < groups }
+{
+    (SerialHashing.hash_one(serial) % groups as u64) as usize
+}
+
+/// The most rows that one group gets, of so many rows whose serials are a step apart.
+fn most_in_one(rt: &impl Abort, alloc: Global, groups: usize, step: u64, rows: u64) -> u32
+    requires { 0 < groups }
+{
+    let mut counts = vec![in alloc; 0u32; groups].expect(rt, "memory");
+    let mut most = 0;
+    for row in 0..rows {
+        let group = group_of(row.wrapping_mul(step), groups);
+        if let Some(count) = counts.get_mut(group) {
+            *count = count.saturating_add(1);
+            most = most.max(*count);
+        }
+    }
+    most
+}
+
+/// Asserts that the four serials from this one on share a group, and have hashes of their own.
+fn assert_neighbours(rt: &impl Abort, serial: u64) {
+    for next in 1..4 {
+        let other = serial.wrapping_add(next);
+        assert_eq!(rt; group_of(other, 512), group_of(serial, 512));
+        assert!(rt; SerialHashing.hash_one(other) != SerialHashing.hash_one(serial));
+    }
+}
+
+#[test]
+fn neighbours_share_a_group(rt: HostRuntime) {
+    for number in 0..1000u64 {
+        assert_neighbours(&rt, number.wrapping_mul(4));
+    }
+}
+
+/// Where serials follow one another from the first on, no group gets more rows than it has places, up to a full table of each size.
+#[test]
+fn rows_in_order_find_their_groups_free(rt: HostRuntime) {
+    for groups in [512, 4096, 65536] {
+        let rows = LOAD.wrapping_mul(groups as u64);
+        let most = most_in_one(&rt, rt.alloc(), groups, 1, rows);
+        assert!(rt; most <= PLACES);
+    }
+}
+
+/// Of a million serials each 8,192nd: no two share a group, be the table for a million rows or the smallest.
+#[test]
+fn rows_kept_far_apart_do_not_pile_up(rt: HostRuntime) {
+    let large = most_in_one(&rt, rt.alloc(), 131072, 8192, 123);
+    assert_eq!(rt; large, 1);
+    let small = most_in_one(&rt, rt.alloc(), 512, 8192, 123);
+    assert_eq!(rt; small, 1);
+}
+
+/// Asserts that a row of this serial is there, with this key.
+fn assert_there(rt: &impl Abort, store: &Store, serial: u64, key: u32) {
+    let row = store.row_of(Serial(serial)).expect(rt, "the row");
+    assert_eq!(rt; row.key.0, key);
+}
+
+/// Rows whose serials are far apart are found by them, and none between them.
+#[test]
+fn rows_kept_far_apart_are_found(rt: HostRuntime) {
+    let mut store = Store::new(rt.alloc(), KeyRange::all());
+    admit(&rt, &mut store, 0, 10);
+    admit(&rt, &mut store, 8192, 20);
+    admit(&rt, &mut store, 999424, 30);
+    admit(&rt, &mut store, u64::MAX, 40);
+    assert_there(&rt, &store, 0, 10);
+    assert_there(&rt, &store, 8192, 20);
+    assert_there(&rt, &store, 999424, 30);
+    assert_there(&rt, &store, u64::MAX, 40);
+    assert_eq!(rt; store.row_of(Serial(4096)), None);
+    drop(store);
+}
