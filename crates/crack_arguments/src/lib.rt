@@ -155,15 +155,19 @@ fn batch_command<'a>(alloc: Global) -> Result<Command<'a>, AllocError> {
     .arg(workers_option(alloc))
 }
 
-fn serve_command<'a>(alloc: Global) -> Result<Command<'a>, AllocError> {
+/// The subcommand of a server, without the number of its sessions.
+fn port_command<'a>(alloc: Global) -> Result<Command<'a>, AllocError> {
     opening_command(
         alloc,
         "serve",
         "Answers the statements of each connection to a port, as many at the same time as there are workers",
     )?
     .arg(port_option(alloc))?
-    .arg(workers_option(alloc))?
-    .arg(sessions_option(alloc))
+    .arg(workers_option(alloc))
+}
+
+fn serve_command<'a>(alloc: Global) -> Result<Command<'a>, AllocError> {
+    port_command(alloc)?.arg(sessions_option(alloc))
 }
 
 fn csv_command<'a>(alloc: Global) -> Result<Command<'a>, AllocError> {
@@ -244,12 +248,40 @@ fn service_of(alloc: Global, matches: &ArgMatches<'_>) -> Result<Service, Argume
     })
 }
 
+fn script_of(alloc: Global, matches: &ArgMatches<'_>) -> Result<Request, ArgumentsError> {
+    Ok(Request::Script(opening_of(alloc, matches)?))
+}
+
+fn batch_of(alloc: Global, matches: &ArgMatches<'_>) -> Result<Request, ArgumentsError> {
+    Ok(Request::Batch(staffed_of(alloc, matches)?))
+}
+
+fn serve_of(alloc: Global, matches: &ArgMatches<'_>) -> Result<Request, ArgumentsError> {
+    Ok(Request::Serve(service_of(alloc, matches)?))
+}
+
+fn csv_of(alloc: Global, matches: &ArgMatches<'_>) -> Result<Request, ArgumentsError> {
+    Ok(Request::Csv(opening_of(alloc, matches)?))
+}
+
 fn request_of(alloc: Global, matches: &ArgMatches<'_>) -> Result<Request, ArgumentsError> {
-    match matches.subcommand() {
-        Some(("script", found)) => Ok(Request::Script(opening_of(alloc, found)?)),
-        Some(("batch", found)) => Ok(Request::Batch(staffed_of(alloc, found)?)),
-        Some(("serve", found)) => Ok(Request::Serve(service_of(alloc, found)?)),
-        Some(("csv", found)) => Ok(Request::Csv(opening_of(alloc, found)?)),
+    let Some((name, found)) = matches.subcommand() else {
+        return Err(ArgumentsError::Bad);
+    };
+    match name {
+        "script" => script_of(alloc, found),
+        "batch" => batch_of(alloc, found),
+        "serve" => serve_of(alloc, found),
+        "csv" => csv_of(alloc, found),
+        _ => Err(ArgumentsError::Bad),
+    }
+}
+
+/// What the parser says where it gives no matches: the help that was asked for, or why there is no request.
+fn unmatched(alloc: Global, error: &clap::Error) -> Result<Request, ArgumentsError> {
+    match error.kind() {
+        ErrorKind::DisplayHelp => Ok(Request::Help(error.to_string(alloc)?)),
+        ErrorKind::OutOfMemory => Err(ArgumentsError::Refused(Refusal::OutOfMemory)),
         _ => Err(ArgumentsError::Bad),
     }
 }
@@ -257,11 +289,15 @@ fn request_of(alloc: Global, matches: &ArgMatches<'_>) -> Result<Request, Argume
 /// Reads the words of a command line, the program's name first.
 pub fn read(alloc: Global, words: &[String]) -> Result<Request, ArgumentsError> {
     match command_line(alloc)?.try_get_matches_from(words) {
-        Ok(matches) => request_of(alloc, &matches),
-        Err(error) => match error.kind() {
-            ErrorKind::DisplayHelp => Ok(Request::Help(error.to_string(alloc)?)),
-            ErrorKind::OutOfMemory => Err(ArgumentsError::Refused(Refusal::OutOfMemory)),
-            _ => Err(ArgumentsError::Bad),
-        },
+        Ok(matches) => {
+            let request = request_of(alloc, &matches);
+            drop(matches);
+            request
+        }
+        Err(error) => {
+            let request = unmatched(alloc, &error);
+            drop(error);
+            request
+        }
     }
 }
