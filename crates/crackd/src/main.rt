@@ -4,7 +4,7 @@
 use crack_arguments::{ArgumentsError, Opening, Request, Service, Staffed};
 use crack_core::Core;
 use crack_csv::{export_csv, load_csv};
-use crack_row::{Refusal, Watched};
+use crack_row::{Policy, Refusal, Watched};
 use crack_server::{REPLY_BYTES, run_batch, run_server};
 use crack_session::serve;
 use crack_table::{OpenGate, Table};
@@ -35,18 +35,21 @@ fn words(rt: &HostRuntime) -> io::Result<Vec<String>> {
 /// Answers the statements of standard input on standard output.
 fn script(rt: &HostRuntime, opening: &Opening) -> Result<(), Refusal> {
     let mut core = Core::open(rt.alloc(), opening.splits.as_slice(), opening.limit)?;
+    let served = serve_input(rt, &mut core, opening.policy);
+    drop(core);
+    served
+}
+
+/// Answers the statements of standard input over a core.
+fn serve_input(rt: &HostRuntime, core: &mut Core, policy: Policy) -> Result<(), Refusal> {
     let Ok(buffered) = BufWriter::with_capacity(rt.alloc(), REPLY_BYTES, rt.stdout()) else {
         return Err(Refusal::OutOfMemory);
     };
     let mut reader = Watched::new(rt.stdin());
     let mut writer = Watched::new(buffered);
-    match serve(
-        rt.alloc(),
-        &mut core,
-        opening.policy,
-        &mut reader,
-        &mut writer,
-    ) {
+    let served = serve(rt.alloc(), core, policy, &mut reader, &mut writer);
+    drop(writer);
+    match served {
         Ok(_) => Ok(()),
         Err(fault) => Err(fault.refusal),
     }
@@ -55,12 +58,21 @@ fn script(rt: &HostRuntime, opening: &Opening) -> Result<(), Refusal> {
 /// Loads the CSV records of standard input, and writes the rows to standard output.
 fn csv(rt: &HostRuntime, opening: &Opening) -> Result<(), Refusal> {
     let mut core = Core::open(rt.alloc(), opening.splits.as_slice(), opening.limit)?;
-    if let Err(fault) = load_csv(rt.alloc(), &mut core, opening.policy, rt.stdin()) {
+    let copied = copy_csv(rt, &mut core, opening.policy);
+    drop(core);
+    copied
+}
+
+/// Loads standard input into a core, and writes the core's rows to standard output.
+fn copy_csv(rt: &HostRuntime, core: &mut Core, policy: Policy) -> Result<(), Refusal> {
+    if let Err(fault) = load_csv(rt.alloc(), core, policy, rt.stdin()) {
         return Err(fault.refusal);
     }
     let mut writer = Watched::new(rt.stdout());
-    export_csv(rt.alloc(), &mut core, opening.policy, &mut writer)?;
-    Ok(())
+    match export_csv(rt.alloc(), core, policy, &mut writer) {
+        Ok(_) => Ok(()),
+        Err(refusal) => Err(refusal),
+    }
 }
 
 /// Has workers serve the lines of standard input.
@@ -99,22 +111,38 @@ fn serve_port<H: Threads + Wait + Net<Listener = TcpListener, Stream = TcpStream
         opening.limit,
         *workers,
     )?;
-    let Ok(listener) = TcpListener::bind(handle, (Ipv4Addr::LOCALHOST, service.port)) else {
+    let mut writer = rt.stdout();
+    match listen(handle, service.port, &mut writer) {
+        Ok(listener) => run_server(
+            handle,
+            rt.alloc(),
+            &listener,
+            table,
+            workers,
+            opening.policy,
+            service.sessions,
+            &OpenGate,
+            &mut writer,
+        ),
+        Err(refusal) => {
+            drop(workers);
+            drop(table);
+            Err(refusal)
+        }
+    }
+}
+
+/// Listens on a port, and tells so.
+fn listen<H: Net<Listener = TcpListener, Stream = TcpStream>, W: Write>(
+    handle: &H,
+    port: u16,
+    writer: &mut W,
+) -> Result<TcpListener, Refusal> {
+    let Ok(listener) = TcpListener::bind(handle, (Ipv4Addr::LOCALHOST, port)) else {
         return Err(Refusal::ReadFault);
     };
-    let mut writer = rt.stdout();
-    announce(service.port, &mut writer)?;
-    run_server(
-        handle,
-        rt.alloc(),
-        &listener,
-        table,
-        workers,
-        opening.policy,
-        service.sessions,
-        &OpenGate,
-        &mut writer,
-    )
+    announce(port, writer)?;
+    Ok(listener)
 }
 
 /// Tells which port is listened on.
@@ -143,13 +171,17 @@ fn perform<H: Threads + Wait + Net<Listener = TcpListener, Stream = TcpStream> +
 
 fn main(rt: HostRuntime) -> ExitCode {
     match request(&rt) {
-        Ok(request) => match perform(&rt, &rt, &request) {
-            Ok(()) => ExitCode::SUCCESS,
-            Err(refusal) => {
-                let _ = eprintln!(rt; "crackd: {refusal}");
-                ExitCode::FAILURE
+        Ok(request) => {
+            let done = perform(&rt, &rt, &request);
+            drop(request);
+            match done {
+                Ok(()) => ExitCode::SUCCESS,
+                Err(refusal) => {
+                    let _ = eprintln!(rt; "crackd: {refusal}");
+                    ExitCode::FAILURE
+                }
             }
-        },
+        }
         Err(error) => {
             let _ = eprintln!(rt; "crackd: {error}");
             match error {
