@@ -295,6 +295,9 @@ pub fn serve<D: Desk, R: Read, W: Write>(
         R.remaining (device reader.old) ≡ Some bytes → W.contents (device writer.old) ≡ Some out →
         D.tables desk.old ≡ Some tables →
         IsCutOff (D.limit desk.old) (D.splits desk.old) tables bytes out fault (D.tables desk.new) (W.contents (device writer.new))) }
+    // Whatever came, the desk's limit and splits are as they were, so another session, or an export, over it goes on from there.
+    ensures splits { D.splits desk.new ≡ D.splits desk.old }
+    ensures limit { D.limit desk.new ≡ D.limit desk.old }
     // Where it isn't cut off, no device has failed.
     ensures unfailed { OnOk result ((has_failed reader.new ≡ has_failed reader.old)
         × (has_failed writer.new ≡ has_failed writer.old)) }

@@ -40,6 +40,30 @@ returns-in-Err-clause-cut_off g c = λ bytes out s e f h.
     let inv = c.lines.invariant.going bytes e in
     Going-cut bytes out s c.fault.result (Going-kept _ _ inv.2 c.next_line.ensures.bytes) (ap (λ (x : Fault). x.done) c.fault.ensures) (ap (λ (x : Fault). x.first_short) c.fault.ensures) h f
 
+pub returns-in-Err-clause-splits : goal.returns-in-Err-clause-splits
+returns-in-Err-clause-splits g c = c.lines.invariant.splits
+
+pub returns-in-Err-clause-limit : goal.returns-in-Err-clause-limit
+returns-in-Err-clause-limit g c = c.lines.invariant.limit
+
+pub returns-in-Ok-false-clause-splits : goal.returns-in-Ok-false-clause-splits
+returns-in-Ok-false-clause-splits g c = c.lines.invariant.splits
+
+pub returns-in-Ok-false-clause-limit : goal.returns-in-Ok-false-clause-limit
+returns-in-Ok-false-clause-limit g c = c.lines.invariant.limit
+
+pub returns-then-says_quit-clause-splits : goal.returns-then-says_quit-clause-splits
+returns-then-says_quit-clause-splits g c = c.respond.ensures.splits ∙ c.lines.invariant.splits
+
+pub returns-then-says_quit-clause-limit : goal.returns-then-says_quit-clause-limit
+returns-then-says_quit-clause-limit g c = c.respond.ensures.limit ∙ c.lines.invariant.limit
+
+pub returns-in-Err-respond-clause-splits : goal.returns-in-Err-respond-clause-splits
+returns-in-Err-respond-clause-splits g c = c.respond.ensures.splits ∙ c.lines.invariant.splits
+
+pub returns-in-Err-respond-clause-limit : goal.returns-in-Err-respond-clause-limit
+returns-in-Err-respond-clause-limit g c = c.respond.ensures.limit ∙ c.lines.invariant.limit
+
 -- the input has ended
 at_end : (g : Over) (c : After-finish g) → IsOver (g.D.Desk.limit c.args.desk.now) (g.D.Desk.splits c.args.desk.now) (g.R.Read.remaining (device c.args.reader.now)) c.lines.progress InputEnded (g.D.Desk.tables c.args.desk.now) (g.D.Desk.tables c.lines.desk) (g.W.Write.contents (device c.args.writer.now)) (g.W.Write.contents (device c.finish.new.writer))
 at_end g c = λ bytes e.
