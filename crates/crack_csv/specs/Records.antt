@@ -2,7 +2,11 @@
 use Rattle.std.specs.Prelude.{◌≡◌, ℕ, Bool, true, false, List, [], ◌∷◌, Option, Some, None, ◌&&◌, codes, if◌then◌else◌}
 use Rattle.std.specs.Str.{bytes_eq}
 use Rattle.crack_row.specs.declared.TheConstants.{GREATEST_KEY, GREATEST_PAYLOAD}
+use Rattle.crack_row.specs.declared.refusal.Refusal.{Refusal}
+use Rattle.crack_row.specs.declared.refusal.Refusal.TheVariants.{ReadFault, OutOfMemory}
 use Rattle.crack_commands.specs.Grammar.{number_up_to}
+use Rattle.csv.specs.declared.error.ErrorKind.{ErrorKind}
+use Rattle.csv.specs.declared.error.ErrorKind.TheVariants as kind
 use Rattle.csv.specs.Reading.{default_config, Ready, Reached, AreRecords, reader_config, reader_trim, reader_state, is_flexible, source_of}
 use Rattle.csv.specs.declared.parser.State.{State}
 use Rattle.csv.specs.declared.parser.State.TheVariants as st
@@ -39,6 +43,11 @@ row_with None payload = None
 abbrev pub new_row_of : Fields → Option NewRow
 new_row_of (key ∷ payload ∷ []) = row_with (number_up_to GREATEST_KEY key) (number_up_to GREATEST_PAYLOAD payload)
 new_row_of _ = None
+
+-- the refusal that tells why a record isn't read: no memory was found, or else the reader failed
+abbrev pub unread_by : ErrorKind → Refusal
+unread_by kind.OutOfMemory = OutOfMemory
+unread_by _ = ReadFault
 
 -- a reader reads bytes as CSV by default, records of any number of fields, and takes none of them as a header itself
 pub record IsReady {R : Type 0} (reader : Reader R) : Type 0 where

@@ -3,7 +3,7 @@ ghost use Rattle.std.specs.Prelude.{◌≡◌, ◌≢◌, ◌⊎◌, ◌++◌, �
 ghost use Rattle.csv.specs.Reading.{AreRecords};
 ghost use Rattle.csv.specs.Records.{fields_of};
 ghost use Rattle.csv.specs.declared.parser.State.TheVariants as st;
-ghost use Rattle.crack_csv.specs.Records.{Fields, is_header, new_row_of, IsReady, IsBehind, AreAllOf};
+ghost use Rattle.crack_csv.specs.Records.{Fields, is_header, new_row_of, unread_by, IsReady, IsBehind, AreAllOf};
 
 use crack_commands::read_number_up_to;
 use crack_row::{GREATEST_KEY, GREATEST_PAYLOAD, Key, Payload, Refusal};
@@ -74,9 +74,16 @@ pub fn read_next<R: Read>(reader: &mut Reader<R>, fields: &mut ByteRecord) -> Re
 {
     match reader.read_byte_record(fields) {
         Ok(found) => Ok(found),
-        Err(error) => match error.kind() {
-            ErrorKind::OutOfMemory => Err(Refusal::OutOfMemory),
-            _ => Err(Refusal::ReadFault),
-        },
+        Err(error) => Err(unread_by(error.kind())),
+    }
+}
+
+/// The refusal that tells why a record isn't read: 8 where no memory was found, else 17.
+fn unread_by(kind: &ErrorKind) -> Refusal
+    ensures { result ≡ unread_by kind.now }
+{
+    match kind {
+        ErrorKind::OutOfMemory => Refusal::OutOfMemory,
+        _ => Refusal::ReadFault,
     }
 }
