@@ -12,6 +12,8 @@ mod desks;
 #[cfg(test)]
 mod devices;
 #[cfg(test)]
+mod one_core;
+#[cfg(test)]
 mod part;
 #[cfg(test)]
 mod partitions;

@@ -1,0 +1,87 @@
+//! Two sessions over one core, and a session and an export: the second starts from what the first left, by what `serve` promises.
+ghost use Rattle.std.specs.Prelude.{◌≡◌, ℕ, List, Some, IfOk};
+ghost use Rattle.crack_row.specs.Devices.{device};
+ghost use Rattle.crack_plain.specs.Plain.{Table};
+ghost use Rattle.crack_core.specs.Steps.{tables_of};
+ghost use Rattle.crack_session.specs.Served.{IsServed};
+ghost use Rattle.crack_csv.specs.Exports.{IsExported};
+
+use crack_core::Core;
+use crack_csv::export_csv;
+use crack_row::{Bound, Policy, Refusal, Watched};
+use crack_session::{End, serve};
+use std::alloc::Global;
+use std::io::{Read, Write};
+use std::process::Abort;
+use std::test::Fail;
+
+/// Serves one session and then another. Both are of the limit and the splits that the core had before, and the second is of the rows and the
+/// bytes that the first left.
+fn serve_both<R: Read, W: Write>(
+    alloc: Global,
+    core: &mut Core,
+    first: &mut Watched<R>,
+    second: &mut Watched<R>,
+    writer: &mut Watched<W>,
+) -> Result<(End, End), Refusal>
+    ensures { IfOk result (λ ends. (bytes more out : List ℕ) →
+        R.remaining (device first.old) ≡ Some bytes → R.remaining (device second.old) ≡ Some more →
+        W.contents (device writer.old) ≡ Some out → (between : List Table) × (written : List ℕ)
+        × IsServed core.old.limit core.old.splits (tables_of core.old.parts) bytes out ends.0 (Some between) (Some written)
+        × IsServed core.old.limit core.old.splits between more written ends.1 (Some (tables_of core.new.parts)) (W.contents (device writer.new))) }
+{
+    match serve(alloc, core, Policy::Ripple, first, writer) {
+        Ok(one) => match serve(alloc, core, Policy::Ripple, second, writer) {
+            Ok(other) => Ok((one, other)),
+            Err(fault) => Err(fault.refusal),
+        },
+        Err(fault) => Err(fault.refusal),
+    }
+}
+
+/// Serves a session, and then exports the rows. The export is of the splits that the core had before, and of the rows that the session left.
+fn serve_and_export<R: Read, W: Write>(
+    alloc: Global,
+    core: &mut Core,
+    reader: &mut Watched<R>,
+    writer: &mut Watched<W>,
+) -> Result<(End, u64), Refusal>
+    ensures { IfOk result (λ told. (bytes out : List ℕ) →
+        R.remaining (device reader.old) ≡ Some bytes → W.contents (device writer.old) ≡ Some out →
+        (between : List Table) × (written : List ℕ)
+        × IsServed core.old.limit core.old.splits (tables_of core.old.parts) bytes out told.0 (Some between) (Some written)
+        × IsExported core.old.splits between told.1 (Some (tables_of core.new.parts)) (Some written) (W.contents (device writer.new))) }
+{
+    match serve(alloc, core, Policy::Ripple, reader, writer) {
+        Ok(end) => match export_csv(alloc, core, Policy::Ripple, writer) {
+            Ok(count) => Ok((end, count)),
+            Err(refusal) => Err(refusal),
+        },
+        Err(fault) => Err(fault.refusal),
+    }
+}
+
+/// What the three write, one behind the other. It promises nothing, so that the test carries nothing of what they promise.
+fn tell_all(alloc: Global, core: &mut Core) -> Result<Vec<u8>, Refusal> {
+    let mut first = Watched::new(b"insert 150 6\nquit\ninsert 1 1\n".as_slice());
+    let mut second = Watched::new(b"insert 50 5\ncount 0 200\n".as_slice());
+    let mut third = Watched::new(b"delete 1.0\ninsert 160 7\n".as_slice());
+    let mut writer = Watched::new(Vec::new(alloc));
+    let both = serve_both(alloc, core, &mut first, &mut second, &mut writer);
+    let last = serve_and_export(alloc, core, &mut third, &mut writer);
+    let text = writer.into_inner();
+    both?;
+    last?;
+    Ok(text)
+}
+
+#[test]
+fn one_core_is_served_and_then_exported(rt: HostRuntime) -> Result<(), Fail> {
+    let mut core = Core::open(rt.alloc(), &[Bound(100)], 10)?;
+    let told = tell_all(rt.alloc(), &mut core);
+    drop(core);
+    let text = told?;
+    let wanted = b"row 1.0\nbye\nrow 0.0\ncount 2\ngone 150 6\nrow 1.1\nkey,payload\n50,5\n160,7\n";
+    assert_eq!(rt; text.as_slice(), wanted.as_slice());
+    Ok(())
+}
