@@ -6,7 +6,7 @@ ghost use Rattle.crack_part.specs.Parts.{Part};
 ghost use Rattle.crack_core.specs.Routes.{AreSplits, keys_at, route, parts_of};
 ghost use Rattle.crack_core.specs.Opening.{opening_fault, MayFault, AreParts};
 ghost use Rattle.crack_core.specs.Steps.{expected_at, IsOutcome, IsLayoutOutcome, tables_of, tables_after, histories_of, accepted_by, Keeps, AreExpectedReplies};
-ghost use Rattle.crack_store.specs.Inside.{IsLayoutOf};
+ghost use Rattle.crack_store.specs.Inside.{no_cells, IsLayoutOf};
 ghost use Rattle.crack_core.specs.Cores.{IsCore, ServesAt, SparesAt, MakesAll};
 
 use crate::opening::{limit_fault, open_partitions, splits_fault};
@@ -43,6 +43,7 @@ impl Core {
     pub fn open(alloc: Global, splits: &[Bound], limit: u64) -> Result<Core, Refusal>
         ensures opened { IfOk result (λ core. (core.splits ≡ splits.now) × (core.limit ≡ limit)) }
         ensures fresh { IfOk result (λ core. All (λ (part : Part). part.history ≡ []) core.parts) }
+        ensures empty { IfOk result (λ core. All (λ (part : Part). part.store ≡ no_cells part.keys part.store.column_room part.store.in_room) core.parts) }
         ensures none { OnOk result (opening_fault splits.now limit ≡ None) }
         ensures fault { IfErr result (λ e. MayFault splits.now limit e) }
     {

@@ -1,5 +1,6 @@
 //! The opening of partitions.
 ghost use Rattle.std.specs.Prelude.{◌≡◌, ◌≤◌, [], length, All, IfOk, IfErr};
+ghost use Rattle.crack_store.specs.Inside.{no_cells};
 ghost use Rattle.crack_part.specs.Parts.{Part, IsLimit};
 ghost use Rattle.crack_core.specs.Routes.{is_rising, AreSplits};
 ghost use Rattle.crack_core.specs.Opening.{splits_fault, limit_fault, AreParts};
@@ -46,6 +47,7 @@ pub fn open_partitions(
     requires limited { IsLimit limit }
     ensures parts { IfOk result (λ parts. AreParts splits.now limit parts.items) }
     ensures fresh { IfOk result (λ parts. All (λ (part : Part). part.history ≡ []) parts.items) }
+    ensures empty { IfOk result (λ parts. All (λ (part : Part). part.store ≡ no_cells part.keys part.store.column_room part.store.in_room) parts.items) }
     ensures err { IfErr result (λ e. e ≡ Refusal.OutOfMemory) }
 {
     let mut parts = Vec::with_capacity(alloc, splits.len() + 1)?;

@@ -4,6 +4,7 @@ use Rattle.std.proofs.lemmas.Bool.{cases_lt}
 use Rattle.std.proofs.lemmas.List.Elements.{All-push}
 use Rattle.std.proofs.Math.Seq.{get_or-append_seam}
 use Rattle.crack_row.specs.declared.Bound.{Bound}
+use Rattle.crack_store.specs.Inside.{no_cells}
 use Rattle.crack_part.specs.Parts.{Part, IsSound}
 use Rattle.crack_core.specs.Routes.{keys_at}
 use Rattle.crack_core.proofs.opening.open_partitions.Goals as goal
@@ -30,4 +31,5 @@ loop-part-preserved c =
       limits = All-push (λ (part : Part). part.limit ≡ c.args.limit) parts p before.limits opened.1;
       sound = All-push IsSound parts p before.sound c.facts.ensures;
       fresh = All-push (λ (part : Part). part.history ≡ []) parts p before.fresh opened.2;
+      empty = All-push (λ (part : Part). part.store ≡ no_cells part.keys part.store.column_room part.store.in_room) parts p before.empty (rw opened.0 c.in_ok-partition.ensures.empty);
     })

@@ -1,4 +1,5 @@
 use Rattle.std.proofs.Common.{◌≡◌, ◌<◌, ℕ, [], length, get_or, All}
+use Rattle.crack_store.specs.Inside.{no_cells}
 use Rattle.crack_part.specs.Parts.{Part, IsSound}
 use Rattle.crack_core.specs.Routes.{keys_at}
 use Rattle.crack_core.proofs.opening.open_partitions.Given as goal
@@ -10,4 +11,5 @@ invariant-loop-part l = record {
   limits : All (λ (part : Part). part.limit ≡ l.limit) l.parts.items;
   sound : All IsSound l.parts.items;
   fresh : All (λ (part : Part). part.history ≡ []) l.parts.items;
+  empty : All (λ (part : Part). part.store ≡ no_cells part.keys part.store.column_room part.store.in_room) l.parts.items;
 }

@@ -7,6 +7,9 @@ returns-clause-opened c = search rules
 pub returns-clause-fresh : goal.returns-clause-fresh
 returns-clause-fresh c = search rules
 
+pub returns-clause-empty : goal.returns-clause-empty
+returns-clause-empty c = search rules
+
 pub returns-clause-none : goal.returns-clause-none
 returns-clause-none c = search rules
 
