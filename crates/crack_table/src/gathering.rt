@@ -84,7 +84,8 @@ pub fn gather(alloc: Global, table: Table, workers: Vec<Worker>) -> Result<Close
     }
 }
 
-/// Takes the partitions out of their locks, and finds whether they and the workers come to one account; else there are as many locks again.
+/// Takes the partitions out of their locks, and finds whether they and the workers come to one account; else what `settle` gives back goes
+/// behind the locks again.
 fn close(
     alloc: Global,
     locks: &mut Vec<Mutex<Partition>>,
@@ -103,6 +104,34 @@ fn close(
 {
     let mut parts = Vec::with_capacity(alloc, locks.len())?;
     unlock(locks, &mut parts);
+    match settle(alloc, splits, limit, parts, workers) {
+        Ok(closed) => Ok(closed),
+        Err((refusal, mut back)) => {
+            lock(&mut back, locks);
+            Err(refusal)
+        }
+    }
+}
+
+/// Finds whether the partitions that were taken out of the locks, and the workers, come to one account. The list that goes behind the locks
+/// again is the one that was taken out.
+fn settle(
+    alloc: Global,
+    splits: &[Bound],
+    limit: u64,
+    parts: Vec<Partition>,
+    workers: &Vec<Worker>,
+) -> Result<Closed, (Refusal, Vec<Partition>)>
+    requires all { length parts.items ≡ length splits.now + 1 }
+    requires rising { AreSplits splits.now }
+    ensures taken { IfOk result (λ c. c.parts.items ≡ parts.items) }
+    ensures parts { IfOk result (λ c. AreParts splits.now limit c.parts.items) }
+    ensures covered { IfOk result (λ c. Covers (histories_of c.parts.items) (receipts_of workers.now.items)) }
+    ensures shares { IfOk result (λ c. AreShares workers.now.items c.accepted c.inserted c.deleted) }
+    ensures totals { IfOk result (λ c. AreTotals c.parts.items c.accepted c.inserted c.deleted c.held) }
+    ensures back { IfErr result (λ e. e.1.items ≡ parts.items) }
+    ensures causes { IfErr result (λ e. MayNotAgree splits.now limit workers.now.items e.0) }
+{
     match account(alloc, splits, limit, &parts, workers) {
         Ok(sums) => Ok(Closed {
             accepted: sums.accepted,
@@ -111,10 +140,7 @@ fn close(
             held: sums.held,
             parts,
         }),
-        Err(refusal) => {
-            lock(&mut parts, locks);
-            Err(refusal)
-        }
+        Err(refusal) => Err((refusal, parts)),
     }
 }
 
