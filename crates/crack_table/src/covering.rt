@@ -1,5 +1,5 @@
 //! Whether receipts cover histories.
-ghost use Rattle.std.specs.Prelude.{◌≡◌, ◌<◌, ◌≤◌, ℕ, List, [], ◌∷◌, ◌++◌, map, length, IfOk, IfErr, OnOk, IsTrue, ◌↔◌, IfSome, IfNone, Some, vec_len};
+ghost use Rattle.std.specs.Prelude.{◌≡◌, ◌<◌, ◌≤◌, ◌^◌, ℕ, List, [], ◌∷◌, ◌++◌, map, length, IfOk, IfErr, OnOk, IsTrue, ◌↔◌, IfSome, IfNone, Some, vec_len};
 ghost use Rattle.std.specs.List.{flat_map};
 ghost use Rattle.std.specs.Option.{option_map, option_copied};
 ghost use Rattle.crack_row.specs.declared.command.Entry.{Entry};
@@ -22,8 +22,9 @@ use std::alloc::{AllocError, Global};
 /// in the list names; where there is no stranger, at that of the first receipt whose place isn't above that of an earlier one of its worker
 /// in that partition. Refused with 8 where it finds no memory, of which it takes a byte for each entry.
 /// O(entries + receipts), but for a logarithm of the workers and partitions that the receipts name.
+/// The histories are at most as many as 32 bits number, since a refusal names one of them by its number.
 pub fn cover(alloc: Global, histories: &[&[Entry]], receipts: &[&[Receipt]]) -> Result<(), Refusal>
-    requires few { length histories.now ≤ 64 }
+    requires few { length histories.now ≤ 2 ^ 32 }
     ensures covers { OnOk result (Covers (map (λ h. h.now) histories.now) (flat_map (λ r. r.now) receipts.now)) }
     ensures fault { IfErr result (MayNotCover (map (λ h. h.now) histories.now) (flat_map (λ r. r.now) receipts.now)) }
 {
@@ -132,7 +133,7 @@ fn is_entry(entry: &Entry, receipt: &Receipt) -> bool
 
 /// The first place whose entry isn't met.
 fn first_open(marks: &Vec<MarkRow>) -> Option<(u32, u64)>
-    requires { length marks.now.items ≤ 64 }
+    requires { length marks.now.items ≤ 2 ^ 32 }
     ensures none { IfNone result ((part position : ℕ) (m : Mark) → at marks.now.items part position ≡ Some m → m ≡ Met) }
     ensures some { IfSome result (IsFirstOpen marks.now.items) }
 {
