@@ -1,5 +1,5 @@
 -- What callers see of handles at spots, and how each step keeps them.
-use Rattle.std.proofs.Common.{◌≡◌, ◌≢◌, ℕ, ◌+◌, ◌-◌, ◌<◌, ◌≤◌, ◌^◌, Bool, true, false, List, [], ◌∷◌, ◌++◌, length, get_or, set, Option, Some, None, refl, sym, ap, ◌∙◌, inl, inr, arith, length-append, length-set}
+use Rattle.std.proofs.Common.{◌≡◌, ◌≢◌, ℕ, ◌+◌, ◌-◌, ◌<◌, ◌≤◌, ◌^◌, Bool, true, false, List, [], ◌∷◌, ◌++◌, length, get_or, set, refl, sym, ap, ◌∙◌, inl, inr, arith, length-append, length-set}
 use Rattle.std.specs.List.{remove}
 use Rattle.std.proofs.lemmas.Bool.{cases_eq, cases_lt, true≢false}
 use Rattle.std.proofs.lemmas.List.{get_or_append_left, get_or_push, get_or-set_same, get_or-set_other, get_or_default}
@@ -10,7 +10,7 @@ use Rattle.crack_arena.specs.Rows.{key_at, keys_at, RemembersKeys}
 use Rattle.crack_arena.proofs.Times.{times_map_at}
 use Rattle.crack_arena.proofs.Remembering.{RemembersKeys-anew}
 use Rattle.crack_arena.proofs.Places.{place_in-within, place_in-slot, place_in-is, times_apart_once}
-use Rattle.std.specs.Prelude.{MatchOption, IsTrue, is_some, Result, Ok, Err, OnOk}
+use Rattle.std.specs.Prelude.{Result, Ok, Err, OnOk}
 use Rattle.crack_pending.specs.Pending.{Pending, NoneIn, IsFirstIn}
 use Rattle.crack_pending.specs.Spots.{kept, place_at, Stands, LeadBack, room_in, AreKept, KnowKeys, IsMissed, IsHit, IsSpotWith, IsNowhere}
 use Rattle.crack_pending.proofs.Kept.{place_at-le, place_at-more, place_at-before, place_at-hole_before, place_at-push, place_at-few, kept-full, Stands-within, length-kept, kept-at, kept-hole, kept-set, kept-at_place, spot_of}
@@ -272,14 +272,6 @@ OnOk_three (Err e) P Q R S p q s f = tt
 
 pub handle-is : (h k : Handle) → h.slot ≡ k.slot → h.generation ≡ k.generation → h ≡ k
 handle-is h k e f = rw (e, f) refl
-
--- what a look for a slot says of the list
-pub contained : (handles : List Handle) (stands : List Bool) → length stands ≡ length handles → (slot : ℕ) (found : Option ℕ) (b : Bool) → MatchOption found (IsNowhere handles stands slot) (λ spot. IsSpotWith handles stands slot spot) → b ≡ is_some found → (IsTrue b → 0 < times slot (slots (kept stands handles))) × (0 < times slot (slots (kept stands handles)) → IsTrue b)
-contained handles stands beside slot None b nowhere e = (
-  λ is. absurd (true≢false (sym is ∙ e)),
-  λ some. absurd (omega (arith, some, nowhere-times handles stands beside slot nowhere)),
-)
-contained handles stands beside slot (Some spot) b with e = (λ _. spot-times handles stands beside slot spot with, λ _. e)
 
 -- where holes are closed up
 pub record IsClosed (handles : List Handle) (keys : List ℕ) (stands : List Bool) (spots : List ℕ) (rows : ℕ) (handles' : List Handle) (keys' : List ℕ) (stands' : List Bool) (spots' : List ℕ) : Type 0 where

@@ -1,6 +1,7 @@
 //! The pending insertions and the pending deletions of a partition: handles in the order of their arrival.
 #![tactic(auto)]
 
+mod bits;
 mod closing;
 pub mod list;
 mod pass;

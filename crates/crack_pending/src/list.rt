@@ -6,7 +6,8 @@ ghost use Rattle.crack_arena.specs.Rows.{keys_at, unknown, RemembersKeys};
 ghost use Rattle.crack_arena.specs.Arena.{Cell, StandsAt, IsFirstAt, IsAbsent, times, slots, place_in};
 ghost use Rattle.crack_pending.specs.Pending.{Finds, StillRemembersKeys, RemembersOneMore, RemembersAnew};
 
-use crate::spots::{SpotList, UNKNOWN};
+use crate::bits::BitSet;
+use crate::spots::{SpotList, StoredKey, UNKNOWN};
 use crack_arena::{Arena, Handle};
 use crack_row::{Key, KeyRange, Refusal, Row};
 use std::alloc::Global;
@@ -32,15 +33,20 @@ pub type PendingOut = PendingList<Deletions>;
 #[derive(Drop)]
 pub struct PendingList<Kind> {
     list: SpotList,
+    /// The numbers of the cells that have a handle here.
+    marks: BitSet,
     kind: PhantomData<Kind>,
 }
 
 impl<Kind> Model for PendingList<Kind> {
     ghost use Rattle.crack_pending.specs.Pending.{Pending};
+    ghost use Rattle.crack_pending.specs.Bits.{AreMarked};
 
     ghost Value = { Pending };
 
     ghost view = { λ p. p.list };
+
+    ghost invariant = { λ p. AreMarked p.marks p.list.handles p.list.covered };
 }
 
 impl<Kind> PendingList<Kind> {
@@ -51,6 +57,7 @@ impl<Kind> PendingList<Kind> {
     {
         PendingList {
             list: SpotList::new(alloc),
+            marks: BitSet::new(alloc),
             kind: PhantomData,
         }
     }
@@ -88,7 +95,7 @@ impl<Kind> PendingList<Kind> {
         ensures err { IfErr result (λ e. e ≡ Refusal.OutOfMemory) }
         ensures remembered { StillRemembersKeys self.old self.new }
     {
-        self.list.cover(cells)
+        self.list.cover(cells, &mut self.marks)
     }
 
     /// Puts the handle behind all others; the key of its row isn't remembered. It takes no memory. O(1).
@@ -103,7 +110,7 @@ impl<Kind> PendingList<Kind> {
         } }
         ensures remembered { StillRemembersKeys self.old self.new }
     {
-        self.list.push(handle, UNKNOWN);
+        self.add(handle, UNKNOWN);
     }
 
     /// Puts the handle behind all others, and remembers the key of its row. It takes no memory. O(1).
@@ -119,7 +126,25 @@ impl<Kind> PendingList<Kind> {
         } }
         ensures remembered { RemembersOneMore handle key.0 self.old self.new }
     {
-        self.list.push(handle, key.0);
+        self.add(handle, key.0);
+    }
+
+    /// Puts the handle behind all others, with what stands beside it, and marks its cell.
+    #[inline(always)]
+    fn add(&mut self, handle: Handle<Row>, key: StoredKey)
+        requires room { 0 < self.old.room }
+        requires covered { handle.slot < self.old.covered }
+        requires absent { times handle.slot (slots self.old.handles) ≡ 0 }
+        ensures after { self.new ≡ record self.old {
+          handles = self.old.handles ++ handle ∷ [];
+          keys = self.old.keys ++ key ∷ [];
+          room = self.old.room - 1;
+        } }
+        ensures remembered { RemembersOneMore handle key self.old self.new }
+        ensures forgotten { key ≡ unknown → StillRemembersKeys self.old self.new }
+    {
+        self.marks.put(handle.slot());
+        self.list.push(handle, key);
     }
 
     /// The handle at the place, counted from the first arrival. O(1) where there are no holes, and else one pass over the marks
@@ -151,14 +176,18 @@ impl<Kind> PendingList<Kind> {
         ensures covered { self.new.covered ≡ self.old.covered }
         ensures remembered { StillRemembersKeys self.old self.new }
     {
-        self.list.take(place)
+        self.list.facts();
+        let handle = self.list.take(place);
+        self.marks.strike(handle.slot());
+        handle
     }
 
-    /// Whether a handle of the cell of this number is in the list. O(1).
+    /// Whether a handle of the cell of this number is in the list. O(1): it reads the cell's bit alone.
+    #[inline]
     pub fn contains(&self, slot: u32) -> bool
         ensures { IsTrue result ↔ (0 < times slot (slots self.now.handles)) }
     {
-        self.list.contains(slot)
+        self.marks.has(slot)
     }
 
     /// Takes out the handle of the cell that this one names, wherever it stands. It takes no memory; what room there was stays.
@@ -171,7 +200,10 @@ impl<Kind> PendingList<Kind> {
         ensures covered { self.new.covered ≡ self.old.covered }
         ensures remembered { StillRemembersKeys self.old self.new }
     {
-        self.list.strike(handle.slot());
+        let slot = handle.slot();
+        self.list.facts();
+        self.list.strike(slot);
+        self.marks.strike(slot);
     }
 
     /// Remembers another key for the row whose cell this handle names. O(1).

@@ -1,11 +1,13 @@
 //! A list that leaves a hole where a row goes.
-ghost use Rattle.std.specs.Prelude.{◌≡◌, ◌+◌, ◌-◌, ◌<◌, ◌≤◌, ◌^◌, ◌↔◌, ◌∷◌, [], ◌++◌, ℕ, length, All, IsTrue, MatchOption, false, IfErr, OnOk, OnErr, slice_set, slice_index, slice_index_or, vec_len, vec_capacity};
+ghost use Rattle.std.specs.Prelude.{◌≡◌, ◌+◌, ◌-◌, ◌*◌, ◌<◌, ◌≤◌, ◌^◌, ◌↔◌, ◌∷◌, [], ◌++◌, ℕ, length, All, MatchOption, false, IfErr, OnOk, OnErr, slice_set, slice_index, slice_index_or, vec_len, vec_capacity};
 ghost use Rattle.std.specs.List.{remove};
 ghost use Rattle.crack_arena.specs.Rows.{keys_at, unknown, RemembersKeys};
 ghost use Rattle.crack_arena.specs.Arena.{StandsAt, IsFirstAt, IsAbsent, times, slots, place_in, no_handle};
 ghost use Rattle.crack_pending.specs.Pending.{Finds, StillRemembersKeys, RemembersOneMore, RemembersAnew};
 ghost use Rattle.crack_pending.specs.Spots.{place_at, Stands, LeadBack, IsNowhere, IsSpotWith};
+ghost use Rattle.crack_pending.specs.Bits.{Has};
 
+use crate::bits::BitSet;
 use crate::closing::close_up;
 use crate::pass::first_hit;
 use crate::rows::{rows_between, spot_before, spot_of};
@@ -147,9 +149,10 @@ impl SpotList {
         grow(&mut self.handles, &mut self.keys, &mut self.stands, wanted)
     }
 
-    /// Makes place for so many cells; where there is place, it looks at no more than that.
+    /// Makes place for so many cells, and for a mark of each; where there is place, it looks at no more than that.
     #[inline(always)]
-    pub(crate) fn cover(&mut self, cells: usize) -> Result<(), Refusal>
+    pub(crate) fn cover(&mut self, cells: usize, marks: &mut BitSet) -> Result<(), Refusal>
+        requires { self.old.covered ≤ 64 * length marks.old }
         ensures same { self.new ≡ record self.old { covered = self.new.covered } }
         ensures covered { OnOk result (cells ≤ self.new.covered) }
         ensures kept { self.old.covered ≤ self.new.covered }
@@ -157,11 +160,13 @@ impl SpotList {
         ensures unchanged { OnErr result (self.new ≡ self.old) }
         ensures err { IfErr result (λ e. e ≡ Refusal.OutOfMemory) }
         ensures remembered { StillRemembersKeys self.old self.new }
+        ensures marks { (slot : ℕ) → Has marks.new slot ↔ Has marks.old slot }
+        ensures marked { self.new.covered ≤ 64 * length marks.new }
     {
         if cells <= self.spots.len() {
             return Ok(());
         }
-        lengthen(&mut self.spots, cells)
+        lengthen(&mut self.spots, marks, cells)
     }
 
     #[inline(always)]
@@ -283,12 +288,6 @@ impl SpotList {
         }
     }
 
-    pub(crate) fn contains(&self, slot: u32) -> bool
-        ensures { IsTrue result ↔ (0 < times slot (slots self.now.handles)) }
-    {
-        spot_with(&self.handles, &self.stands, &self.spots, slot).is_some()
-    }
-
     pub(crate) fn place_of(&self, handle: Handle<Row>) -> Option<usize>
         ensures { MatchOption result (IsAbsent self.now.handles handle) (IsFirstAt self.now.handles handle) }
     {
@@ -380,17 +379,21 @@ fn grow(
     Ok(())
 }
 
-/// Puts zeros at the end until there are so many numbers, and as many more as their memory holds.
+/// Puts zeros at the end until there are so many numbers, and as many more as their memory holds; makes place for a mark of each before.
 #[inline(never)]
-fn lengthen(spots: &mut Vec<u32>, cells: usize) -> Result<(), Refusal>
-    requires { vec_len spots.old < cells }
+fn lengthen(spots: &mut Vec<u32>, marks: &mut BitSet, cells: usize) -> Result<(), Refusal>
+    requires more { vec_len spots.old < cells }
+    requires marked { vec_len spots.old ≤ 64 * length marks.old }
     ensures same { (k : ℕ) → k < vec_len spots.old → slice_index spots.new.items k ≡ slice_index spots.old.items k }
     ensures long { OnOk result (cells ≤ vec_len spots.new) }
     ensures kept { vec_len spots.old ≤ vec_len spots.new }
     ensures unchanged { OnErr result (spots.new.items ≡ spots.old.items) }
     ensures err { IfErr result (λ e. e ≡ Refusal.OutOfMemory) }
+    ensures marks { (slot : ℕ) → Has marks.new slot ↔ Has marks.old slot }
+    ensures marked { vec_len spots.new ≤ 64 * length marks.new }
 {
     spots.reserve((cells - spots.len()).max(MORE_PLACES))?;
+    marks.cover(spots.capacity())?;
     'cells: while spots.len() < spots.capacity() {
         spots.push_reserved(0);
     }

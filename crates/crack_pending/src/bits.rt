@@ -1,0 +1,102 @@
+//! A set of numbers, a bit for each: that of half a million cells stays in the first caches.
+ghost use Rattle.std.specs.Prelude.{◌≡◌, ◌≢◌, ◌*◌, ◌<◌, ◌≤◌, ◌↔◌, [], ℕ, length, vec_len, slice_index, IsTrue, IfErr, OnOk};
+ghost use Rattle.crack_pending.specs.Bits.{Has};
+
+use crack_row::Refusal;
+use std::alloc::Global;
+use std::marker::Model;
+
+/// How many numbers have their bits in one word.
+const WORD: usize = 64;
+
+/// For how many words there is place at least, each time that a set grows.
+const MORE_WORDS: usize = 32;
+
+/// Numbers up to an end that `cover` moves, each in the set or not.
+#[derive(Drop)]
+pub(crate) struct BitSet {
+    words: Vec<u64>,
+}
+
+impl Model for BitSet {
+    ghost use Rattle.std.specs.Prelude.{List, ℕ};
+
+    ghost Value = { List ℕ };
+
+    ghost view = { λ s. s.words.items };
+}
+
+impl BitSet {
+    /// An empty set, with bits for no number. It takes no memory.
+    pub(crate) fn new(alloc: Global) -> BitSet
+        ensures { result ≡ [] }
+    {
+        BitSet {
+            words: Vec::new(alloc),
+        }
+    }
+
+    /// Makes place for the bits of so many numbers, counted from 0; amortised O(1) for each 64 that are new. Refused with 8 alone.
+    pub(crate) fn cover(&mut self, numbers: usize) -> Result<(), Refusal>
+        ensures same { (number : ℕ) → Has self.new number ↔ Has self.old number }
+        ensures covered { OnOk result (numbers ≤ 64 * length self.new) }
+        ensures kept { length self.old ≤ length self.new }
+        ensures err { IfErr result (λ e. e ≡ Refusal.OutOfMemory) }
+    {
+        let words = numbers / WORD + 1;
+        if words <= self.words.len() {
+            return Ok(());
+        }
+        lengthen_words(&mut self.words, words)
+    }
+
+    /// Whether the number is in the set. O(1).
+    #[inline]
+    pub(crate) fn has(&self, number: u32) -> bool
+        ensures { IsTrue result ↔ Has self.now number }
+    {
+        let place = number as usize / WORD;
+        if place >= self.words.len() {
+            return false;
+        }
+        (self.words[place] >> (number as usize % WORD)) & 1 == 1
+    }
+
+    /// Puts the number into the set. O(1).
+    #[inline]
+    pub(crate) fn put(&mut self, number: u32)
+        requires { number < 64 * length self.old }
+        ensures long { length self.new ≡ length self.old }
+        ensures there { Has self.new number }
+        ensures others { (other : ℕ) → other ≢ number → Has self.new other ↔ Has self.old other }
+    {
+        self.words[number as usize / WORD] |= 1u64 << (number as usize % WORD);
+    }
+
+    /// Takes the number out of the set. O(1).
+    #[inline]
+    pub(crate) fn strike(&mut self, number: u32)
+        requires { number < 64 * length self.old }
+        ensures long { length self.new ≡ length self.old }
+        ensures gone { ¬ Has self.new number }
+        ensures others { (other : ℕ) → other ≢ number → Has self.new other ↔ Has self.old other }
+    {
+        self.words[number as usize / WORD] &= !(1u64 << (number as usize % WORD));
+    }
+}
+
+/// Puts words without a bit at the end until there are so many, and as many more as their memory holds.
+#[inline(never)]
+fn lengthen_words(words: &mut Vec<u64>, wanted: usize) -> Result<(), Refusal>
+    requires { vec_len words.old < wanted }
+    ensures same { (k : ℕ) → slice_index words.new.items k ≡ slice_index words.old.items k }
+    ensures long { OnOk result (wanted ≤ vec_len words.new) }
+    ensures kept { vec_len words.old ≤ vec_len words.new }
+    ensures err { IfErr result (λ e. e ≡ Refusal.OutOfMemory) }
+{
+    words.reserve((wanted - words.len()).max(MORE_WORDS))?;
+    'words: while words.len() < words.capacity() {
+        words.push_reserved(0);
+    }
+    Ok(())
+}
