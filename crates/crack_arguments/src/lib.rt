@@ -155,19 +155,15 @@ fn batch_command<'a>(alloc: Global) -> Result<Command<'a>, AllocError> {
     .arg(workers_option(alloc))
 }
 
-/// The subcommand of a server, without the number of its sessions.
-fn port_command<'a>(alloc: Global) -> Result<Command<'a>, AllocError> {
+fn serve_command<'a>(alloc: Global) -> Result<Command<'a>, AllocError> {
     opening_command(
         alloc,
         "serve",
         "Answers the statements of each connection to a port, as many at the same time as there are workers",
     )?
     .arg(port_option(alloc))?
-    .arg(workers_option(alloc))
-}
-
-fn serve_command<'a>(alloc: Global) -> Result<Command<'a>, AllocError> {
-    port_command(alloc)?.arg(sessions_option(alloc))
+    .arg(workers_option(alloc))?
+    .arg(sessions_option(alloc))
 }
 
 fn csv_command<'a>(alloc: Global) -> Result<Command<'a>, AllocError> {
