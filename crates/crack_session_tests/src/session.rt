@@ -565,6 +565,31 @@ fn short_lines_get_few_writes(rt: HostRuntime) -> Result<(), Fail> {
     Ok(())
 }
 
+/// A session that ends by its `quit`, though its reader fails once its bytes are read.
+fn quit_it(rt: &impl Abort, alloc: Global, log: &Log) {
+    let mut desk = Core::open(alloc, &[], GREATEST_LIMIT).expect(rt, "a desk");
+    let mut reader = Watched::new(Source {
+        bytes: b"insert 1 1\nquit\n",
+        most: 4096,
+        fails: true,
+        log,
+    });
+    let mut writer = Watched::new(Sink { log });
+    let result = session(alloc, &mut desk, &mut reader, &mut writer);
+    drop(desk);
+    assert_eq!(rt; result.ok(), Some(ends(How::Quit, 2)));
+    assert!(rt; !reader.failed());
+}
+
+/// Behind `quit` nothing is read, and what is written is handed on: there is one read, with a flush before it and one at the end.
+#[test]
+fn quit_reads_no_more_and_hands_on(rt: HostRuntime) {
+    let log = Log::new();
+    quit_it(&rt, rt.alloc(), &log);
+    let told = [log.reads.get(), log.flushes.get(), log.left.get() as u64];
+    assert_eq!(rt; told, [1, 2, 0]);
+}
+
 /// Each whole line is answered before the next read, wherever the reads cut the lines.
 #[test]
 fn lines_are_answered_before_the_next_read(rt: HostRuntime) -> Result<(), Fail> {

@@ -81,6 +81,44 @@ rows 2\n1.1 199 3\n2.0 200 4\nrows 0\ncount 0\n",
     )
 }
 
+/// Two partitions, each with a row pending that the last range needs and with one that it doesn't.
+const TWO_PARTS: &str =
+    "insert 10 1\ninsert 20 1\ninsert 110 1\ninsert 130 1\ncount 0 4294967296\ncount 15 125\n\
+insert 5 1\ninsert 17 1\ninsert 117 1\ninsert 190 1\ncount 15 125\nlayout 0\nlayout 1\n";
+
+/// A session over two partitions whose first line names this policy, and whose last ones get these layouts.
+fn assert_policy(rt: &impl Abort, alloc: Global, name: &str, layouts: &str) -> Result<(), Fail> {
+    let input = format!(in alloc; "policy {name}\n{TWO_PARTS}")?;
+    let rows =
+        "row 0.0\nrow 0.1\nrow 1.0\nrow 1.1\ncount 4\ncount 2\nrow 0.2\nrow 0.3\nrow 1.2\nrow 1.3\ncount 4\n";
+    let replies = format!(in alloc; "policy {name}\n{rows}{layouts}")?;
+    assert_split(
+        rt,
+        alloc,
+        &[Bound(100)],
+        input.as_bytes(),
+        replies.as_bytes(),
+        ends(How::InputEnded, 14),
+    )
+}
+
+/// A statement asks each of its partitions by the session's policy.
+#[test]
+fn each_partition_is_asked_by_the_policy(rt: HostRuntime) -> Result<(), Fail> {
+    let all =
+        "layout 0 rows 4 column 4 out 0 in 0 cells 4 free 0 pieces 2\npiece 0 15 2\npiece 15 100 2\n\
+layout 1 rows 4 column 4 out 0 in 0 cells 4 free 0 pieces 2\npiece 100 125 2\npiece 125 4294967296 2\n";
+    let some =
+        "layout 0 rows 4 column 3 out 0 in 1 cells 4 free 0 pieces 2\npiece 0 15 1\npiece 15 100 2\n\
+layout 1 rows 4 column 3 out 0 in 1 cells 4 free 0 pieces 2\npiece 100 125 2\npiece 125 4294967296 1\n";
+    let near =
+        "layout 0 rows 4 column 3 out 0 in 1 cells 4 free 0 pieces 2\npiece 0 15 1\npiece 15 100 2\n\
+layout 1 rows 4 column 2 out 0 in 2 cells 4 free 0 pieces 2\npiece 100 125 2\npiece 125 4294967296 0\n";
+    assert_policy(&rt, rt.alloc(), "complete", all)?;
+    assert_policy(&rt, rt.alloc(), "gradual", some)?;
+    assert_policy(&rt, rt.alloc(), "ripple", near)
+}
+
 /// More partitions than a list has room for by itself.
 #[test]
 fn many_partitions_are_asked_in_turn(rt: HostRuntime) -> Result<(), Fail> {
