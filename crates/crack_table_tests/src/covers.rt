@@ -74,6 +74,17 @@ fn receipts_out_of_order_are_strange(rt: HostRuntime) {
     assert_eq!(rt; found, strange(0, 0));
 }
 
+/// A history's number is one of 32 bits, so there may be more of them than partitions.
+#[test]
+fn more_histories_than_partitions_are_covered(rt: HostRuntime) {
+    let history = [entry()];
+    let empty: [Entry; 0] = [];
+    let mut histories = [empty.as_slice(); 101];
+    histories[100] = history.as_slice();
+    let found = cover(rt.alloc(), &histories, &[&[receipt(100, 0)]]);
+    assert_eq!(rt; found, Ok(()));
+}
+
 /// An insert of key 1 with this payload.
 fn insert(payload: u32) -> Command {
     Command::Insert {

@@ -1,8 +1,9 @@
 //! Tables and workers, on one thread.
 use crate::values::{SPLITS, ask, ask_by, count, insert, totals};
-use crack_row::{Bound, Refusal};
+use crack_row::{Bound, Layout, Refusal};
 use crack_table::{Gate, GatherRefused, Table, gather};
 use std::alloc::Global;
+use std::sync::atomic::{AtomicBool, AtomicU32, Ordering};
 use std::test::Fail;
 
 /// A gate that always says no.
@@ -29,6 +30,52 @@ fn a_shut_gate_keeps_a_worker_out(rt: HostRuntime) -> Result<(), Fail> {
     Ok(())
 }
 
+/// A gate that says no and counts how often it was asked, and notes whether that was with the turns of one call, in order.
+#[derive(Drop)]
+struct CountingGate {
+    asked: AtomicU32,
+    in_order: AtomicBool,
+}
+
+impl Gate for CountingGate {
+    ghost may_refuse = { λ gate part turn. Unit {0} };
+
+    fn inside(&self, part: u32, turn: u32) -> bool {
+        let asked = self.asked.fetch_add(1, Ordering::SeqCst);
+        if part != 1 || turn != asked {
+            self.in_order.store(false, Ordering::SeqCst);
+        }
+        false
+    }
+}
+
+#[test]
+fn a_shut_gate_is_asked_at_a_thousand_turns_in_order(rt: HostRuntime) -> Result<(), Fail> {
+    let alloc: Global = rt.alloc();
+    let (table, mut workers) = Table::open(alloc, &SPLITS, 10, 1)?;
+    let mut worker = workers.pop().ok_or("worker")?;
+    let gate = CountingGate {
+        asked: AtomicU32::new(0),
+        in_order: AtomicBool::new(true),
+    };
+    let answer = ask_by(&rt, &mut worker, &table, &gate, 1, insert(1000007));
+    assert!(rt; matches!(answer, Err(Refusal::GateGaveUp)));
+    assert_eq!(rt; gate.asked.load(Ordering::SeqCst), 1000);
+    assert!(rt; gate.in_order.load(Ordering::SeqCst));
+    workers.push(worker)?;
+    assert_eq!(rt; totals(alloc, table, workers), Ok([0, 0, 0, 0]));
+    Ok(())
+}
+
+/// How many rows a layout tells of.
+fn rows_of(layout: Result<Layout, Refusal>) -> Option<u64> {
+    match layout {
+        Ok(layout) => Some(layout.rows),
+        Err(_) => None,
+    }
+}
+
+/// A layout isn't kept, so a full history refuses none.
 #[test]
 fn a_worker_is_refused_as_its_partition_is(rt: HostRuntime) -> Result<(), Fail> {
     let alloc: Global = rt.alloc();
@@ -41,6 +88,7 @@ fn a_worker_is_refused_as_its_partition_is(rt: HostRuntime) -> Result<(), Fail> 
     assert!(rt; ask(&rt, &mut worker, &table, 0, insert(7)).is_ok());
     let full = ask(&rt, &mut worker, &table, 0, insert(7));
     assert!(rt; matches!(full, Err(Refusal::HistoryFull { length: 1 })));
+    assert_eq!(rt; rows_of(worker.layout(&rt, &table, 0)), Some(1));
     workers.push(worker)?;
     assert_eq!(rt; totals(alloc, table, workers), Ok([1, 1, 0, 1]));
     Ok(())
@@ -109,5 +157,47 @@ fn a_stranger_of_the_same_number_is_found(rt: HostRuntime) -> Result<(), Fail> {
         position: 0,
     };
     assert_eq!(rt; totals(alloc, table, workers), Err(strange));
+    Ok(())
+}
+
+/// What a table and a stranger in the place of its one worker are refused with, and the table again.
+fn refused_with_a_stranger(alloc: Global, table: Table) -> Result<(Refusal, Table), Fail> {
+    let (other, strangers) = Table::open(alloc, &[], 10, 1)?;
+    drop(other);
+    match gather(alloc, table, strangers) {
+        Ok(closed) => {
+            drop(closed);
+            Err("gathered".into())
+        }
+        Err(refused) => {
+            let GatherRefused {
+                refusal,
+                table,
+                workers,
+            } = refused;
+            drop(workers);
+            Ok((refusal, table))
+        }
+    }
+}
+
+/// Behind the locks stands again, in its order, what was taken out: the table's own worker comes to its account.
+#[test]
+fn a_table_that_a_stranger_was_refused_is_gathered_by_its_own_worker(
+    rt: HostRuntime,
+) -> Result<(), Fail> {
+    let alloc: Global = rt.alloc();
+    let (table, mut workers) = Table::open(alloc, &SPLITS, 10, 1)?;
+    let mut own = workers.pop().ok_or("own")?;
+    assert!(rt; ask(&rt, &mut own, &table, 0, insert(7)).is_ok());
+    assert!(rt; ask(&rt, &mut own, &table, 1, insert(1000007)).is_ok());
+    let (refusal, table) = refused_with_a_stranger(alloc, table)?;
+    let strange = Refusal::StrangeReceipt {
+        part: 0,
+        position: 0,
+    };
+    assert_eq!(rt; refusal, strange);
+    workers.push(own)?;
+    assert_eq!(rt; totals(alloc, table, workers), Ok([2, 2, 0, 2]));
     Ok(())
 }

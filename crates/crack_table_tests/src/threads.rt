@@ -69,6 +69,65 @@ fn two_partitions_at_once(rt: HostRuntime) -> Result<(), Fail> {
     Ok(())
 }
 
+/// A gate that notes whether it is asked while someone else is inside. It says no twenty times, and gives way before each answer, long enough
+/// for the other thread to arrive.
+#[derive(Drop)]
+struct Alone {
+    inside: AtomicBool,
+    met: AtomicBool,
+}
+
+impl Gate for Alone {
+    ghost may_refuse = { λ gate part turn. Unit {0} };
+
+    fn inside(&self, _part: u32, turn: u32) -> bool {
+        if self.inside.swap(true, Ordering::SeqCst) {
+            self.met.store(true, Ordering::SeqCst);
+        }
+        for _ in 0..1000u32 {
+            thread::yield_now();
+        }
+        self.inside.store(false, Ordering::SeqCst);
+        turn >= 20
+    }
+}
+
+/// Inserts a key into partition 0 behind the gate, and tells whether it was placed.
+fn enter<R: Wait>(
+    rt: &R,
+    mut worker: Worker,
+    table: &Table,
+    gate: &Alone,
+    key: u32,
+) -> (Worker, bool) {
+    let reply = ask_by(rt, &mut worker, table, gate, 0, insert(key));
+    (worker, matches!(reply, Ok(Reply::Placed(_))))
+}
+
+/// Were the gate asked before its partition's lock is got, both threads would be inside.
+#[test]
+fn one_partition_lets_one_inside(rt: HostRuntime) -> Result<(), Fail> {
+    let alloc: Global = rt.alloc();
+    let (table, mut workers) = Table::open(alloc, &[], 10, 2)?;
+    let gate = Alone {
+        inside: AtomicBool::new(false),
+        met: AtomicBool::new(false),
+    };
+    let second = workers.pop().ok_or("second")?;
+    let first = workers.pop().ok_or("first")?;
+    let ((first, one), (second, two)) = thread::join(
+        &rt,
+        || enter(&rt, first, &table, &gate, 50),
+        || enter(&rt, second, &table, &gate, 60),
+    );
+    assert!(rt; one && two);
+    assert!(rt; !gate.met.load(Ordering::SeqCst));
+    workers.push(second)?;
+    workers.push(first)?;
+    assert_eq!(rt; totals(alloc, table, workers), Ok([2, 2, 0, 2]));
+    Ok(())
+}
+
 /// Inserts the worker's key of this number, into the partitions in turn; of each fourth row it is the last that is deleted again.
 fn insert_one<R: Wait>(rt: &R, worker: &mut Worker, table: &Table, own: u16, number: u16) -> bool {
     let part = u32::from(number % 2);
