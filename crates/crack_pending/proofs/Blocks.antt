@@ -1,21 +1,41 @@
 -- What a block of keys without a hit says of its rows.
-use Rattle.std.proofs.Common.{◌≡◌, ℕ, ◌+◌, ◌-◌, ◌<◌, Bool, List, get_or, take, drop, ap, ◌∙◌, inl, inr, arith}
+use Rattle.std.proofs.Common.{◌≡◌, ◌≢◌, ℕ, ◌+◌, ◌-◌, ◌<◌, ◌≤◌, ◌^◌, ◌%◌, Bool, true, false, List, get_or, take, drop, leb, refl, ap, ◌∙◌, inl, inr, arith, leb-false}
+use Rattle.std.specs.Prelude.{bit_or}
+use Rattle.std.proofs.lemmas.Nat.{le_or_l, le_or_r}
 use Rattle.std.proofs.lemmas.List.{get_or-take, get_or-drop}
+use mir.Val.{bool_byte}
 use Rattle.crack_row.specs.Ranges.{Range}
 use Rattle.crack_row.specs.declared.Row.{Row}
 use Rattle.crack_arena.specs.Arena.{Cell, Handle}
-use Rattle.crack_pending.specs.Spots.{KnowKeys, MayLie, IsMissed}
+use Rattle.crack_arena.specs.Rows.{unknown}
+use Rattle.crack_pending.specs.Spots.{KnowKeys, AreKnown, Lies, IsMissed}
 
--- where none of a block's keys may lie between the ends of the range, none of its rows has its key in the range
-pub missed_block : (range : Range) (cells : List (Cell Row)) (handles : List Handle) (keys : List ℕ) (stands : List Bool) (from low last : ℕ) → KnowKeys cells handles keys stands → range.low ≡ low → range.high ≡ last + 1 → ((k : ℕ) → k < 16 → ¬ MayLie low last (get_or (take (from + 16 - from) (drop from keys)) k 0)) → IsMissed range cells handles stands from (from + 16)
-missed_block range cells handles keys stands from low last known is_low is_high none spot after before at inside =
+-- where no flag was set, the last wasn't
+pub no_flag : (any : ℕ) (b : Bool) → bit_or any (bool_byte b) ≡ 0 → (any ≡ 0) × (b ≡ false)
+no_flag any true none = absurd (omega (arith, none, le_or_r any (bool_byte true)))
+no_flag any false none = (omega (arith, none, le_or_l any (bool_byte false)), refl)
+
+-- one comparison tells that a key doesn't lie between two
+pub apart : (key low last : ℕ) → low ≤ last → last < 4294967296 → leb ((key + (4294967296 - low)) % 4294967296) (last - low) ≡ false → ¬ Lies low last key
+apart key low last order small far lies =
+    let beyond : last - low < (key + (4294967296 - low)) % 4294967296 = leb-false _ _ far in
+    absurd (omega (arith, beyond, order, small, lies.0, lies.1))
+
+-- where none of a block's keys lies between the ends of the range, nor isn't known, none of its rows has its key in the range
+pub missed_block : (range : Range) (cells : List (Cell Row)) (handles : List Handle) (keys : List ℕ) (stands : List Bool) (from low last : ℕ) (some_unknown : Bool) → KnowKeys cells handles keys stands → (some_unknown ≡ false → AreKnown keys stands) → range.low ≡ low → range.high ≡ last + 1 → ((k : ℕ) → k < 16 → ¬ Lies low last (get_or (take (from + 16 - from) (drop from keys)) k 0)) → (some_unknown ≡ true → (k : ℕ) → k < 16 → get_or (take (from + 16 - from) (drop from keys)) k 0 ≢ unknown) → IsMissed range cells handles stands from (from + 16)
+missed_block range cells handles keys stands from low last some_unknown known all_known is_low is_high none none_unknown spot after before at inside =
     let k = spot - from in
     let within : k < 16 = omega (arith, after, before) in
     let place : from + k ≡ spot = omega (arith, after) in
     let same : get_or (take (from + 16 - from) (drop from keys)) k 0 ≡ get_or keys spot 0 =
     get_or-take (from + 16 - from) (drop from keys) k 0 (omega (arith, within)) ∙ get_or-drop from keys k 0 ∙ ap (λ n. get_or keys n 0) place in
-    let miss : ¬ MayLie low last (get_or keys spot 0) = rw same at (none k within) in
+    let miss : ¬ Lies low last (get_or keys spot 0) = rw same at (none k within) in
+    let is_known : get_or keys spot 0 ≢ unknown = by_case some_unknown (λ e. all_known e spot at) (λ e. rw same at (none_unknown e k within)) in
     elim (known spot at) [
-      | inl e ↦ miss (inr e)
-      | inr e ↦ miss (inl (omega (arith, e, inside.0, is_low), omega (arith, e, inside.1, is_high)))
+      | inl e ↦ absurd (is_known e)
+      | inr e ↦ miss (omega (arith, e, inside.0, is_low), omega (arith, e, inside.1, is_high))
     ]
+  where
+    by_case : {A : Type 0} (b : Bool) → (b ≡ false → A) → (b ≡ true → A) → A
+    by_case false known_all asked = known_all refl
+    by_case true known_all asked = asked refl

@@ -163,6 +163,17 @@ module _ (range : Range) (cells : List (Cell Row)) (handles : List Handle) (stan
         before = missed-NoneIn start spot hit.before (omega (arith, within));
       }
 
+pub kept_none : AreKept [] [] [] [] 0 0 0
+kept_none = record {
+  keys_beside = refl;
+  stands_beside = refl;
+  counted = refl;
+  few = omega arith;
+  led = λ spot at. absurd (true≢false (sym at));
+  near = omega arith;
+  hinted = refl;
+}
+
 module _ (handles : List Handle) (keys : List ℕ) (stands : List Bool) (spots : List ℕ) (rows hint_place hint_spot : ℕ) (are : AreKept handles keys stands spots rows hint_place hint_spot) where
   -- a hole more
   pub kept_hole : (spot hint_place' hint_spot' : ℕ) → Stands stands spot → hint_spot' ≤ length handles → hint_place' ≡ place_at (set stands spot false) hint_spot' → AreKept handles keys (set stands spot false) spots (rows - 1) hint_place' hint_spot'

@@ -1,6 +1,6 @@
 -- How a list of pending rows keeps its handles: at spots, of which those of rows that went are holes.
 -- No public clause cites this module.
-use Rattle.std.specs.Prelude.{◌≡◌, ℕ, zero, suc, ◌+◌, ◌-◌, ◌<◌, ◌≤◌, ◌^◌, Bool, true, false, cond, List, [], ◌∷◌, length, min, ◌⊎◌, slice_index, slice_index_or}
+use Rattle.std.specs.Prelude.{◌≡◌, ◌≢◌, ℕ, zero, suc, ◌+◌, ◌-◌, ◌<◌, ◌≤◌, ◌^◌, Bool, true, false, cond, List, [], ◌∷◌, length, min, ◌⊎◌, slice_index, slice_index_or}
 use Rattle.crack_row.specs.Ranges.{Range, IsIn}
 use Rattle.crack_row.specs.declared.Row.{Row}
 use Rattle.crack_arena.specs.Arena.{Cell, Handle, no_handle}
@@ -46,9 +46,13 @@ pub record AreKept (handles : List Handle) (keys : List ℕ) (stands : List Bool
   pub near : hint_spot ≤ length handles
   pub hinted : hint_place ≡ place_at stands hint_spot
 
--- a key that lies between the two, or isn't known
-abbrev pub MayLie : ℕ → ℕ → ℕ → Type 0
-MayLie low last key = ((low ≤ key) × (key ≤ last)) ⊎ (key ≡ unknown)
+-- a key that lies between the two
+abbrev pub Lies : ℕ → ℕ → ℕ → Type 0
+Lies low last key = (low ≤ key) × (key ≤ last)
+
+-- each key beside a row is known
+abbrev pub AreKnown : List ℕ → List Bool → Type 0
+AreKnown keys stands = (spot : ℕ) → Stands stands spot → slice_index keys spot ≢ unknown
 
 -- each key beside a row is unknown, or the row's
 abbrev pub KnowKeys : List (Cell Row) → List Handle → List ℕ → List Bool → Type 0

@@ -1,8 +1,8 @@
 //! The pass over the keys of pending rows.
-ghost use Rattle.std.specs.Prelude.{◌≡◌, ◌+◌, ◌<◌, ◌≤◌, ◌⊎◌, ℕ, length, slice_index, MatchOption};
+ghost use Rattle.std.specs.Prelude.{◌≡◌, ◌≢◌, ◌+◌, ◌<◌, ◌≤◌, ◌⊎◌, ℕ, length, slice_index, MatchOption, IsTrue, IsFalse};
 ghost use Rattle.std.specs.Bool.{OnFalse};
 ghost use Rattle.crack_arena.specs.Rows.{key_at, unknown};
-ghost use Rattle.crack_pending.specs.Spots.{MayLie, IsMissed, IsHit, KnowKeys};
+ghost use Rattle.crack_pending.specs.Spots.{Lies, AreKnown, IsMissed, IsHit, KnowKeys};
 
 use crate::spots::{StoredKey, UNKNOWN};
 use crack_arena::{Arena, Handle, key_of};
@@ -11,23 +11,51 @@ use crack_row::{Key, KeyRange, Row};
 /// Read at once, without a branch for each.
 const BLOCK: usize = 16;
 
-/// Whether a key may lie between the two: it does, or it isn't known.
-fn may_lie(key: StoredKey, low: StoredKey, last: StoredKey) -> bool
-    ensures { OnFalse result (¬ MayLie low last key) }
-{
-    ((low <= key) & (key <= last)) | (key == UNKNOWN)
+/// What a pass looks for: a key between the two; and whether it has to ask for keys that aren't known.
+#[derive(Clone, Copy)]
+pub(crate) struct Wanted {
+    low: StoredKey,
+    last: StoredKey,
+    some_unknown: bool,
 }
 
-/// Whether one of a block's keys may lie between the two. Counted in place of this, they would cost twice as much.
-fn any_may_lie(keys: &[StoredKey], low: StoredKey, last: StoredKey) -> bool
-    requires { length keys.now ≡ 16 }
-    ensures { OnFalse result ((k : ℕ) → k < 16 → ¬ MayLie low last (slice_index keys.now k)) }
+/// Whether one of a block's keys lies between the two. Found out in 32 bits, by one comparison for each key: a `bool` takes twice as long.
+fn any_lies(keys: &[StoredKey], low: StoredKey, last: StoredKey) -> bool
+    requires block { length keys.now ≡ 16 }
+    requires order { low ≤ last }
+    ensures { OnFalse result ((k : ℕ) → k < 16 → ¬ Lies low last (slice_index keys.now k)) }
 {
-    let mut found = false;
+    let width = last - low;
+    let mut any = 0u32;
     'keys: for i in 0..BLOCK {
-        found |= may_lie(keys[i], low, last);
+        any |= (keys[i].wrapping_sub(low) <= width) as u32;
     }
-    found
+    any != 0
+}
+
+/// Whether one of a block's keys isn't known.
+fn any_unknown(keys: &[StoredKey]) -> bool
+    requires { length keys.now ≡ 16 }
+    ensures { OnFalse result ((k : ℕ) → k < 16 → slice_index keys.now k ≢ unknown) }
+{
+    let mut any = 0u32;
+    'keys: for i in 0..BLOCK {
+        any |= (keys[i] == UNKNOWN) as u32;
+    }
+    any != 0
+}
+
+/// Whether a row of a block may have its key between the two, by the keys alone.
+fn may_hit(keys: &[StoredKey], wanted: Wanted) -> bool
+    requires block { length keys.now ≡ 16 }
+    requires order { wanted.low ≤ wanted.last }
+    ensures lies { OnFalse result ((k : ℕ) → k < 16 → ¬ Lies wanted.low wanted.last (slice_index keys.now k)) }
+    ensures none_unknown { OnFalse result (IsTrue wanted.some_unknown → (k : ℕ) → k < 16 → slice_index keys.now k ≢ unknown) }
+{
+    if any_lies(keys, wanted.low, wanted.last) {
+        return true;
+    }
+    wanted.some_unknown && any_unknown(keys)
 }
 
 /// The key of the handle's row, which stands beside it where it is known.
@@ -76,20 +104,22 @@ fn hit_in_block(
     stands: &[bool],
     from: usize,
     range: KeyRange,
-    ends: (StoredKey, StoredKey),
+    wanted: Wanted,
     arena: &Arena<Row>,
 ) -> Option<usize>
     requires keys { length keys.now ≡ length handles.now }
     requires stands { length stands.now ≡ length handles.now }
     requires within { from + 16 ≤ length handles.now }
     requires known { KnowKeys arena.now.cells handles.now keys.now stands.now }
-    requires low { range.low ≡ ends.0 }
-    requires last { range.high ≡ ends.1 + 1 }
+    requires all_known { IsFalse wanted.some_unknown → AreKnown keys.now stands.now }
+    requires low { range.low ≡ wanted.low }
+    requires last { range.high ≡ wanted.last + 1 }
+    requires order { wanted.low ≤ wanted.last }
     ensures { MatchOption result
         (IsMissed range arena.now.cells handles.now stands.now from (from + 16))
         (λ spot. IsHit range arena.now.cells handles.now stands.now from (from + 16) spot) }
 {
-    if !any_may_lie(&keys[from..from + BLOCK], ends.0, ends.1) {
+    if !may_hit(&keys[from..from + BLOCK], wanted) {
         return None;
     }
     hit_between(handles, keys, stands, from, from + BLOCK, range, arena)
@@ -102,22 +132,24 @@ fn hit_in_blocks(
     stands: &[bool],
     from: usize,
     range: KeyRange,
-    ends: (StoredKey, StoredKey),
+    wanted: Wanted,
     arena: &Arena<Row>,
 ) -> Option<usize>
     requires keys { length keys.now ≡ length handles.now }
     requires stands { length stands.now ≡ length handles.now }
     requires within { from ≤ length handles.now }
     requires known { KnowKeys arena.now.cells handles.now keys.now stands.now }
-    requires low { range.low ≡ ends.0 }
-    requires last { range.high ≡ ends.1 + 1 }
+    requires all_known { IsFalse wanted.some_unknown → AreKnown keys.now stands.now }
+    requires low { range.low ≡ wanted.low }
+    requires last { range.high ≡ wanted.last + 1 }
+    requires order { wanted.low ≤ wanted.last }
     ensures { MatchOption result
         (IsMissed range arena.now.cells handles.now stands.now from (length handles.now))
         (λ spot. IsHit range arena.now.cells handles.now stands.now from (length handles.now) spot) }
 {
     let mut spot = from;
     'far: while BLOCK <= keys.len() - spot {
-        if let Some(hit) = hit_in_block(handles, keys, stands, spot, range, ends, arena) {
+        if let Some(hit) = hit_in_block(handles, keys, stands, spot, range, wanted, arena) {
             return Some(hit);
         }
         spot += BLOCK;
@@ -125,7 +157,7 @@ fn hit_in_blocks(
     hit_between(handles, keys, stands, spot, keys.len(), range, arena)
 }
 
-/// The first spot at or after `from` whose row has its key in the range.
+/// The first spot at or after `from` whose row has its key in the range; whether a key isn't known is asked only where some aren't.
 pub(crate) fn first_hit(
     handles: &[Handle<Row>],
     keys: &[StoredKey],
@@ -133,11 +165,13 @@ pub(crate) fn first_hit(
     from: usize,
     range: KeyRange,
     arena: &Arena<Row>,
+    some_unknown: bool,
 ) -> Option<usize>
     requires keys { length keys.now ≡ length handles.now }
     requires stands { length stands.now ≡ length handles.now }
     requires within { from ≤ length handles.now }
     requires known { KnowKeys arena.now.cells handles.now keys.now stands.now }
+    requires all_known { IsFalse some_unknown → AreKnown keys.now stands.now }
     ensures { MatchOption result
         (IsMissed range arena.now.cells handles.now stands.now from (length handles.now))
         (λ spot. IsHit range arena.now.cells handles.now stands.now from (length handles.now) spot) }
@@ -147,6 +181,10 @@ pub(crate) fn first_hit(
     if high <= low {
         return None;
     }
-    let ends = (low as StoredKey, (high - 1) as StoredKey);
-    hit_in_blocks(handles, keys, stands, from, range, ends, arena)
+    let wanted = Wanted {
+        low: low as StoredKey,
+        last: (high - 1) as StoredKey,
+        some_unknown,
+    };
+    hit_in_blocks(handles, keys, stands, from, range, wanted, arena)
 }

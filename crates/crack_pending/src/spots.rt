@@ -42,6 +42,8 @@ pub(crate) struct SpotList {
     stands: Vec<bool>,
     /// How many rows stand.
     rows: usize,
+    /// Of how many of them the key isn't known.
+    unknowns: usize,
     /// By cell number: the spot of its handle, if it has one here.
     spots: Vec<u32>,
     /// How many rows stand before `hint_spot`, from which the next look for a place goes on.
@@ -50,7 +52,9 @@ pub(crate) struct SpotList {
 }
 
 impl Model for SpotList {
-    ghost use Rattle.std.specs.Prelude.{length, vec_len, vec_capacity};
+    ghost use Rattle.std.specs.Prelude.{◌≡◌, length, vec_len, vec_capacity};
+    ghost use Rattle.crack_arena.specs.Arena.{times};
+    ghost use Rattle.crack_arena.specs.Rows.{unknown};
     ghost use Rattle.crack_pending.specs.Pending.{Pending};
     ghost use Rattle.crack_pending.specs.Spots.{kept, room_in, AreKept};
 
@@ -63,7 +67,9 @@ impl Model for SpotList {
       covered = length l.spots.items;
     } };
 
-    ghost invariant = { λ l. AreKept l.handles.items l.keys.items l.stands.items l.spots.items l.rows l.hint_place l.hint_spot };
+    ghost invariant = { λ l.
+        AreKept l.handles.items l.keys.items l.stands.items l.spots.items l.rows l.hint_place l.hint_spot
+        × (l.unknowns ≡ times unknown (kept l.stands.items l.keys.items)) };
 }
 
 impl SpotList {
@@ -75,6 +81,7 @@ impl SpotList {
             keys: Vec::new(alloc),
             stands: Vec::new(alloc),
             rows: 0,
+            unknowns: 0,
             spots: Vec::new(alloc),
             hint_place: 0,
             hint_spot: 0,
@@ -187,6 +194,7 @@ impl SpotList {
         self.keys.push_reserved(key);
         self.stands.push_reserved(true);
         self.rows += 1;
+        self.unknowns += (key == UNKNOWN) as usize;
     }
 
     pub(crate) fn at(&self, place: usize) -> Handle<Row>
@@ -236,6 +244,7 @@ impl SpotList {
         let handle = self.handles[spot];
         self.stands[spot] = false;
         self.rows -= 1;
+        self.unknowns = unknowns_without(&self.keys, self.unknowns, spot);
         self.hint_place = place;
         self.hint_spot = spot;
         self.close_up_if_sparse();
@@ -256,6 +265,7 @@ impl SpotList {
         self.hint_place = hint_without(&self.stands, self.hint_place, self.hint_spot, spot);
         self.stands[spot] = false;
         self.rows -= 1;
+        self.unknowns = unknowns_without(&self.keys, self.unknowns, spot);
         self.close_up_if_sparse();
     }
 
@@ -284,6 +294,8 @@ impl SpotList {
         ensures remembered { RemembersAnew slot key self.old self.new }
     {
         if let Some(spot) = spot_with(&self.handles, &self.stands, &self.spots, slot) {
+            self.unknowns = unknowns_without(&self.keys, self.unknowns, spot)
+                + (key == UNKNOWN) as usize;
             self.keys[spot] = key;
         }
     }
@@ -316,7 +328,16 @@ impl SpotList {
             self.hint_spot,
             from,
         );
-        match first_hit(&self.handles, &self.keys, &self.stands, start, range, arena) {
+        let some_unknown = self.unknowns > 0;
+        match first_hit(
+            &self.handles,
+            &self.keys,
+            &self.stands,
+            start,
+            range,
+            arena,
+            some_unknown,
+        ) {
             Some(spot) => Some(from + rows_between(&self.stands, start, spot)),
             None => None,
         }
@@ -343,7 +364,16 @@ impl SpotList {
             self.hint_spot,
             from,
         );
-        match first_hit(&self.handles, &self.keys, &self.stands, start, range, arena) {
+        let some_unknown = self.unknowns > 0;
+        match first_hit(
+            &self.handles,
+            &self.keys,
+            &self.stands,
+            start,
+            range,
+            arena,
+            some_unknown,
+        ) {
             Some(spot) => {
                 let place = from + rows_between(&self.stands, start, spot);
                 self.hint_place = place;
@@ -427,6 +457,22 @@ fn place_of_spot(stands: &[bool], rows: usize, spot: usize) -> usize
         spot
     } else {
         rows_between(stands, 0, spot)
+    }
+}
+
+/// Of how many rows the key isn't known once the row at the spot has gone. Where all are known, no key is looked at.
+fn unknowns_without(keys: &[StoredKey], unknowns: usize, spot: usize) -> usize
+    requires within { spot < length keys.now }
+    requires counted { slice_index keys.now spot ≡ unknown → 0 < unknowns }
+    ensures { result + times unknown (slice_index keys.now spot ∷ []) ≡ unknowns }
+{
+    if unknowns == 0 {
+        return 0;
+    }
+    if keys[spot] == UNKNOWN {
+        unknowns - 1
+    } else {
+        unknowns
     }
 }
 

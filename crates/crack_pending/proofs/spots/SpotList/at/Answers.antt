@@ -5,13 +5,13 @@ use Rattle.crack_pending.proofs.spots.SpotList.at.Goals as goal
 
 pub spot_of-requires-clause-within : goal.spot_of-requires-clause-within
 spot_of-requires-clause-within c =
-    let a = c.self.invariant in
+    let a = c.self.invariant.0 in
     let within = rw (← c.self.view_is) at c.requires in
     omega (arith, within, length-kept c.self.inside.stands.items c.self.inside.handles.items a.stands_beside, a.counted)
 
 pub returns : goal.returns
 returns c =
-    let a = c.self.invariant in
+    let a = c.self.invariant.0 in
     let stands = rw (c.deref.ensures.value) at c.spot_of.ensures.stands in
     let place = rw (c.deref.ensures.value) at c.spot_of.ensures.place in
     let there = place-StandsAt c.self.inside.handles.items c.self.inside.stands.items a.stands_beside c.spot_of.result c.index.result.now stands c.index.ensures in

@@ -5,7 +5,7 @@ use Rattle.crack_pending.proofs.spots.SpotList.close_up_if_sparse.Goals as goal
 
 pub overflow_sub-len : goal.overflow_sub-len
 overflow_sub-len c =
-    let a = c.self.invariant in
+    let a = c.self.invariant.0 in
     omega (arith, a.counted, place_at-few c.self.inside.stands.items (length c.self.inside.stands.items), a.stands_beside, c.len.ensures)
 
 pub invariant_of-self : goal.invariant_of-self
@@ -17,8 +17,10 @@ invariant_of-self c =
       long = omega (arith, c.close_up.ensures.rows);
       full = c.close_up.ensures.full;
       led = c.close_up.ensures.led;
-    } in
-    closed-kept i.handles.items i.keys.items i.stands.items i.spots.items i.rows i.hint_place i.hint_spot c.self.invariant _ _ _ _ closed
+    } in (
+      closed-kept i.handles.items i.keys.items i.stands.items i.spots.items i.rows i.hint_place i.hint_spot c.self.invariant.0 _ _ _ _ closed,
+      rw (closed-keys i.handles.items i.keys.items i.stands.items i.spots.items i.rows i.hint_place i.hint_spot c.self.invariant.0 _ _ _ _ closed) c.self.invariant.1,
+    )
 
 pub returns-clause-same : goal.returns-clause-same
 returns-clause-same c =
@@ -32,8 +34,8 @@ returns-clause-same c =
     } in
     let covered : length c.close_up.new.spots.items ≡ length i.spots.items = omega (arith, c.close_up.ensures.covered) in
     rw (← c.self.view_is) (same_view _ _ _ _ _ _ _
-    (closed-handles i.handles.items i.keys.items i.stands.items i.spots.items i.rows i.hint_place i.hint_spot c.self.invariant _ _ _ _ closed)
-    (closed-keys i.handles.items i.keys.items i.stands.items i.spots.items i.rows i.hint_place i.hint_spot c.self.invariant _ _ _ _ closed)
+    (closed-handles i.handles.items i.keys.items i.stands.items i.spots.items i.rows i.hint_place i.hint_spot c.self.invariant.0 _ _ _ _ closed)
+    (closed-keys i.handles.items i.keys.items i.stands.items i.spots.items i.rows i.hint_place i.hint_spot c.self.invariant.0 _ _ _ _ closed)
     covered)
 
 pub returns-clause-kept : goal.returns-clause-kept
@@ -46,5 +48,5 @@ returns-clause-kept c =
       full = c.close_up.ensures.full;
       led = c.close_up.ensures.led;
     } in
-    let fewer = closed-fewer i.handles.items i.keys.items i.stands.items i.spots.items i.rows i.hint_place i.hint_spot c.self.invariant _ _ _ _ closed in
+    let fewer = closed-fewer i.handles.items i.keys.items i.stands.items i.spots.items i.rows i.hint_place i.hint_spot c.self.invariant.0 _ _ _ _ closed in
     rw (← c.self.view_is, c.close_up.ensures.handle_capacity, c.close_up.ensures.key_capacity, c.close_up.ensures.stand_capacity) (omega (arith, fewer))

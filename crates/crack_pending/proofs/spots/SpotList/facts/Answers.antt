@@ -6,15 +6,15 @@ use Rattle.crack_pending.proofs.spots.SpotList.facts.Goals as goal
 
 pub returns-clause-once : goal.returns-clause-once
 returns-clause-once c =
-    let a = c.self.invariant in
+    let a = c.self.invariant.0 in
     rw (← c.self.view_is) (once c.self.inside.handles.items c.self.inside.stands.items a.stands_beside c.self.inside.spots.items a.led)
 
 pub returns-clause-covered : goal.returns-clause-covered
 returns-clause-covered c =
-    let a = c.self.invariant in
+    let a = c.self.invariant.0 in
     rw (← c.self.view_is) (kept-covered c.self.inside.handles.items c.self.inside.stands.items c.self.inside.spots.items a.stands_beside a.led)
 
 pub returns-clause-beside : goal.returns-clause-beside
 returns-clause-beside c =
-    let a = c.self.invariant in
+    let a = c.self.invariant.0 in
     rw (← c.self.view_is) (length-kept c.self.inside.stands.items c.self.inside.keys.items (omega (arith, a.stands_beside, a.keys_beside)) ∙ sym (length-kept c.self.inside.stands.items c.self.inside.handles.items a.stands_beside))

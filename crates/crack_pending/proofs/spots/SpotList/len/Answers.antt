@@ -4,5 +4,5 @@ use Rattle.crack_pending.proofs.spots.SpotList.len.Goals as goal
 
 pub returns : goal.returns
 returns c =
-    let a = c.self.invariant in
+    let a = c.self.invariant.0 in
     rw (← c.self.view_is) (a.counted ∙ sym (length-kept c.self.inside.stands.items c.self.inside.handles.items a.stands_beside))

@@ -5,7 +5,7 @@ use Rattle.crack_pending.proofs.spots.SpotList.make_room.Goals as goal
 
 pub invariant_of-self : goal.invariant_of-self
 invariant_of-self c =
-    let a = c.self.invariant in
+    let a = c.self.invariant.0 in
     let i = c.self.inside in
     let closed : IsClosed i.handles.items i.keys.items i.stands.items i.spots.items i.rows c.close_up.new.handles.items c.close_up.new.keys.items c.close_up.new.stands.items c.close_up.new.spots.items = record {
       handles_are = c.close_up.ensures.handles;
@@ -14,11 +14,14 @@ invariant_of-self c =
       full = c.close_up.ensures.full;
       led = c.close_up.ensures.led;
     } in
-    rw (c.grow.ensures.handles, c.grow.ensures.keys, c.grow.ensures.stands) (closed-kept i.handles.items i.keys.items i.stands.items i.spots.items i.rows i.hint_place i.hint_spot a _ _ _ _ closed)
+    rw (c.grow.ensures.handles, c.grow.ensures.keys, c.grow.ensures.stands) (
+      closed-kept i.handles.items i.keys.items i.stands.items i.spots.items i.rows i.hint_place i.hint_spot a _ _ _ _ closed,
+      rw (closed-keys i.handles.items i.keys.items i.stands.items i.spots.items i.rows i.hint_place i.hint_spot a _ _ _ _ closed) c.self.invariant.1,
+    )
 
 pub returns-clause-same : goal.returns-clause-same
 returns-clause-same c =
-    let a = c.self.invariant in
+    let a = c.self.invariant.0 in
     let i = c.self.inside in
     let closed : IsClosed i.handles.items i.keys.items i.stands.items i.spots.items i.rows c.close_up.new.handles.items c.close_up.new.keys.items c.close_up.new.stands.items c.close_up.new.spots.items = record {
       handles_are = c.close_up.ensures.handles;
@@ -34,7 +37,7 @@ returns-clause-same c =
 
 pub returns-clause-room : goal.returns-clause-room
 returns-clause-room c =
-    let a = c.self.invariant in
+    let a = c.self.invariant.0 in
     let i = c.self.inside in
     let closed : IsClosed i.handles.items i.keys.items i.stands.items i.spots.items i.rows c.close_up.new.handles.items c.close_up.new.keys.items c.close_up.new.stands.items c.close_up.new.spots.items = record {
       handles_are = c.close_up.ensures.handles;
@@ -56,7 +59,7 @@ returns-clause-room c =
 
 pub returns-clause-kept : goal.returns-clause-kept
 returns-clause-kept c =
-    let a = c.self.invariant in
+    let a = c.self.invariant.0 in
     let i = c.self.inside in
     let closed : IsClosed i.handles.items i.keys.items i.stands.items i.spots.items i.rows c.close_up.new.handles.items c.close_up.new.keys.items c.close_up.new.stands.items c.close_up.new.spots.items = record {
       handles_are = c.close_up.ensures.handles;
@@ -71,7 +74,7 @@ returns-clause-kept c =
 
 pub returns-clause-remembered : goal.returns-clause-remembered
 returns-clause-remembered c = λ cells r.
-    let a = c.self.invariant in
+    let a = c.self.invariant.0 in
     let i = c.self.inside in
     let closed : IsClosed i.handles.items i.keys.items i.stands.items i.spots.items i.rows c.close_up.new.handles.items c.close_up.new.keys.items c.close_up.new.stands.items c.close_up.new.spots.items = record {
       handles_are = c.close_up.ensures.handles;

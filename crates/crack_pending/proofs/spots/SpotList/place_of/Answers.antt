@@ -8,14 +8,14 @@ use Rattle.crack_pending.proofs.spots.SpotList.place_of.Goals as goal
 
 pub returns-then-generation : goal.returns-then-generation
 returns-then-generation c =
-    let a = c.self.invariant in
+    let a = c.self.invariant.0 in
     let with = rw (c.deref.ensures.value, c.deref-2.ensures.value, c.slot.ensures) at c.in-Some.ensures in
     rw (← c.self.view_is) (other-absent c.self.inside.handles.items c.self.inside.stands.items a.stands_beside c.self.inside.spots.items a.led c.args.handle c.index.result.now c.in-Some.spot with c.index.ensures (λ same.
     c.if-generation.true (c.generation.ensures ∙ ap (λ (h : Handle). h.generation) same ∙ sym c.generation-in-Some.ensures)))
 
 pub returns-else-generation : goal.returns-else-generation
 returns-else-generation c =
-    let a = c.self.invariant in
+    let a = c.self.invariant.0 in
     let with = rw (c.deref.ensures.value, c.deref-2.ensures.value, c.slot.ensures) at c.in-Some.ensures in
     let within = Stands-within c.self.inside.stands.items c.in-Some.spot with.stands_there in
     let here = c.index.ensures ∙ get_or_default c.self.inside.handles.items c.in-Some.spot c.index.result.now no_handle (omega (arith, within, a.stands_beside)) in
@@ -28,6 +28,6 @@ returns-else-generation c =
 
 pub returns-in-None : goal.returns-in-None
 returns-in-None c =
-    let a = c.self.invariant in
+    let a = c.self.invariant.0 in
     let nowhere = rw (c.deref.ensures.value, c.deref-2.ensures.value, c.slot.ensures) at c.in-None.ensures in
     rw (← c.self.view_is) (nowhere-absent c.self.inside.handles.items c.self.inside.stands.items a.stands_beside c.args.handle nowhere)

@@ -1,29 +1,38 @@
-use Rattle.std.proofs.Common.{◌≡◌, ◌+◌, ◌-◌, ◌∷◌, [], ◌++◌, length, vec_capacity, ap, inl, inr, ◌∙◌, arith, length-append, length-set}
+use Rattle.std.proofs.Common.{◌≡◌, ◌+◌, ◌-◌, ◌∷◌, [], ◌++◌, length, nat_eq, vec_capacity, ap, inl, inr, ◌∙◌, arith, length-append, length-set}
 use Rattle.crack_arena.proofs.Remembering.{RemembersKeys-append}
 use Rattle.crack_pending.specs.Spots.{kept, room_in}
 use Rattle.crack_pending.proofs.Kept.{kept-push, place_at-few}
 use Rattle.crack_pending.proofs.Views.{kept_more, view_after, room-less, room-some}
+use Rattle.crack_pending.proofs.Unknown.{counted_one, counted_push, counted_few, byte_few}
 use Rattle.crack_pending.proofs.spots.SpotList.push.Goals as goal
 
 pub overflow_add-self : goal.overflow_add-self
 overflow_add-self c =
-    let a = c.self.invariant in
+    let a = c.self.invariant.0 in
     omega (arith, a.counted, a.stands_beside, a.few, place_at-few c.self.inside.stands.items (length c.self.inside.stands.items))
+
+pub overflow_add-self-2 : goal.overflow_add-self-2
+overflow_add-self-2 c =
+    let a = c.self.invariant.0 in
+    let i = c.self.inside in
+    omega (arith, c.self.invariant.1, counted_few i.keys.items i.stands.items (omega (arith, a.stands_beside, a.keys_beside)), a.few, a.keys_beside, byte_few (nat_eq c.args.key 4294967295))
 
 pub invariant_of-self : goal.invariant_of-self
 invariant_of-self c =
-    let a = c.self.invariant in
+    let a = c.self.invariant.0 in
     let i = c.self.inside in
     let room = rw (← c.self.view_is) at c.requires.room in
     let covered = rw (← c.self.view_is) at c.requires.covered in
     let absent = rw (← c.self.view_is) at c.requires.absent in
     let long : c.len.result ≡ length i.handles.items = omega (arith, c.len.ensures) in
-    rw (c.push_reserved.ensures.items, c.push_reserved-2.ensures.items, c.push_reserved-3.ensures.items, c.slot.ensures, long)
-    (kept_more i.handles.items i.keys.items i.stands.items i.spots.items i.rows i.hint_place i.hint_spot a c.args.handle c.args.key (room-some _ _ _ _ room).0 covered absent)
+    rw (c.push_reserved.ensures.items, c.push_reserved-2.ensures.items, c.push_reserved-3.ensures.items, c.slot.ensures, long) (
+      kept_more i.handles.items i.keys.items i.stands.items i.spots.items i.rows i.hint_place i.hint_spot a c.args.handle c.args.key (room-some _ _ _ _ room).0 covered absent,
+      omega (arith, c.self.invariant.1, counted_one c.args.key, counted_push i.keys.items i.stands.items (omega (arith, a.stands_beside, a.keys_beside)) c.args.key),
+    )
 
 pub returns-clause-after : goal.returns-clause-after
 returns-clause-after c =
-    let a = c.self.invariant in
+    let a = c.self.invariant.0 in
     let i = c.self.inside in
     let h = c.args.handle in
     let handles : kept c.push_reserved-3.new.self.items c.push_reserved.new.self.items ≡ kept i.stands.items i.handles.items ++ h ∷ [] =
@@ -37,7 +46,7 @@ returns-clause-after c =
 
 pub returns-clause-remembered : goal.returns-clause-remembered
 returns-clause-remembered c = λ cells is r.
-    let a = c.self.invariant in
+    let a = c.self.invariant.0 in
     let i = c.self.inside in
     let known = rw (← c.self.view_is) at r in
     let beside : length i.stands.items ≡ length i.keys.items = omega (arith, a.stands_beside, a.keys_beside) in
@@ -46,7 +55,7 @@ returns-clause-remembered c = λ cells is r.
 
 pub returns-clause-forgotten : goal.returns-clause-forgotten
 returns-clause-forgotten c = λ is cells r.
-    let a = c.self.invariant in
+    let a = c.self.invariant.0 in
     let i = c.self.inside in
     let known = rw (← c.self.view_is) at r in
     let beside : length i.stands.items ≡ length i.keys.items = omega (arith, a.stands_beside, a.keys_beside) in

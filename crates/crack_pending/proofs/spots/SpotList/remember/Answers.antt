@@ -1,17 +1,42 @@
-use Rattle.std.proofs.Common.{refl, arith}
-use Rattle.crack_pending.proofs.Views.{other_key, anew, same_view, nowhere-times}
+use Rattle.std.proofs.Common.{refl, nat_eq, arith}
+use Rattle.crack_pending.proofs.Views.{other_key, anew, same_view, nowhere-times, kept_key}
+use Rattle.crack_pending.proofs.Unknown.{counted_one, counted_set, counted_some, counted_few, byte_few}
 use Rattle.crack_pending.proofs.spots.SpotList.remember.Goals as goal
+
+pub unknowns_without-requires-clause-counted : goal.unknowns_without-requires-clause-counted
+unknowns_without-requires-clause-counted c = λ is.
+    let a = c.self.invariant.0 in
+    let i = c.self.inside in
+    let with = rw (c.deref.ensures.value, c.deref-2.ensures.value) at c.in-Some.ensures in
+    omega (arith, c.self.invariant.1, counted_some i.keys.items i.stands.items (omega (arith, a.stands_beside, a.keys_beside)) c.in-Some.spot with.stands_there (rw (c.deref-in-Some.ensures.value) at is))
+
+pub overflow_add-self : goal.overflow_add-self
+overflow_add-self c =
+    let a = c.self.invariant.0 in
+    let i = c.self.inside in
+    let less = rw (c.deref-in-Some.ensures.value) at c.unknowns_without.ensures in
+    omega (arith, c.self.invariant.1, less, counted_few i.keys.items i.stands.items (omega (arith, a.stands_beside, a.keys_beside)), a.few, a.keys_beside, byte_few (nat_eq c.args.key 4294967295))
+
+pub invariant_of-self : goal.invariant_of-self
+invariant_of-self c =
+    let a = c.self.invariant.0 in
+    let i = c.self.inside in
+    let with = rw (c.deref.ensures.value, c.deref-2.ensures.value) at c.in-Some.ensures in
+    let less = rw (c.deref-in-Some.ensures.value) at c.unknowns_without.ensures in (
+      kept_key i.handles.items i.keys.items i.stands.items i.spots.items i.rows i.hint_place i.hint_spot a c.in-Some.spot c.args.key,
+      omega (arith, c.self.invariant.1, less, counted_one c.args.key, counted_set i.keys.items i.stands.items (omega (arith, a.stands_beside, a.keys_beside)) c.in-Some.spot c.args.key with.stands_there),
+    )
 
 pub returns-in-Some-clause-after : goal.returns-in-Some-clause-after
 returns-in-Some-clause-after c =
-    let a = c.self.invariant in
+    let a = c.self.invariant.0 in
     let i = c.self.inside in
     let with = rw (c.deref.ensures.value, c.deref-2.ensures.value) at c.in-Some.ensures in
     rw (← c.self.view_is) (same_view _ _ _ _ _ _ _ refl (other_key i.handles.items i.keys.items i.stands.items i.spots.items a.stands_beside a.keys_beside a.led c.args.slot c.in-Some.spot with c.args.key) refl)
 
 pub returns-in-Some-clause-remembered : goal.returns-in-Some-clause-remembered
 returns-in-Some-clause-remembered c = λ cells cells' is others r.
-    let a = c.self.invariant in
+    let a = c.self.invariant.0 in
     let i = c.self.inside in
     let with = rw (c.deref.ensures.value, c.deref-2.ensures.value) at c.in-Some.ensures in
     let right = rw (← c.self.view_is) at is in
@@ -20,14 +45,14 @@ returns-in-Some-clause-remembered c = λ cells cells' is others r.
 
 pub returns-in_default-clause-after : goal.returns-in_default-clause-after
 returns-in_default-clause-after c =
-    let a = c.self.invariant in
+    let a = c.self.invariant.0 in
     let nowhere = rw (c.deref.ensures.value, c.deref-2.ensures.value) at c.in_default.ensures in
     let some = rw (← c.self.view_is) at c.requires in
     absurd (omega (arith, some, nowhere-times c.self.inside.handles.items c.self.inside.stands.items a.stands_beside c.args.slot nowhere))
 
 pub returns-in_default-clause-remembered : goal.returns-in_default-clause-remembered
 returns-in_default-clause-remembered c =
-    let a = c.self.invariant in
+    let a = c.self.invariant.0 in
     let nowhere = rw (c.deref.ensures.value, c.deref-2.ensures.value) at c.in_default.ensures in
     let some = rw (← c.self.view_is) at c.requires in
     absurd (omega (arith, some, nowhere-times c.self.inside.handles.items c.self.inside.stands.items a.stands_beside c.args.slot nowhere))

@@ -1,26 +1,34 @@
-use Rattle.std.proofs.Common.{arith}
+use Rattle.std.proofs.Common.{◌≡◌, arith, ltb-false}
 use Rattle.crack_pending.proofs.Kept.{length-kept, place_at-few}
 use Rattle.crack_pending.proofs.Searches.{length-keys_at}
 use Rattle.crack_pending.proofs.Views.{KnowKeys-kept, finds-none, finds-some}
 use Rattle.crack_pending.specs.Spots.{kept}
+use Rattle.crack_pending.proofs.Unknown.{counted_none}
 use Rattle.crack_pending.proofs.spots.SpotList.seek_in.Goals as goal
 
 pub returns-then-self-from-clause-finds : goal.returns-then-self-from-clause-finds
 returns-then-self-from-clause-finds c =
-    let a = c.self.invariant in
+    let a = c.self.invariant.0 in
     let rows = kept c.self.inside.stands.items c.self.inside.handles.items in
     rw (← c.self.view_is) (λ k after before inside.
     absurd (omega (arith, after, before, length-keys_at c.args.arena.now.cells rows, length-kept c.self.inside.stands.items c.self.inside.handles.items a.stands_beside, a.counted, c.if-self-from.true)))
 
 pub first_hit-requires-clause-known : goal.first_hit-requires-clause-known
 first_hit-requires-clause-known c =
-    let a = c.self.invariant in
+    let a = c.self.invariant.0 in
     let right = rw (← c.self.view_is) at c.requires in
     rw (c.deref-2.ensures.value, c.deref-3.ensures.value, c.deref-4.ensures.value) (KnowKeys-kept c.args.arena.now.cells c.self.inside.handles.items c.self.inside.keys.items c.self.inside.stands.items a.stands_beside a.keys_beside right)
 
+pub first_hit-requires-clause-all_known : goal.first_hit-requires-clause-all_known
+first_hit-requires-clause-all_known c = λ none.
+    let a = c.self.invariant.0 in
+    let i = c.self.inside in
+    let zero : i.unknowns ≡ 0 = omega (arith, ltb-false 0 i.unknowns none) in
+    rw (c.deref-3.ensures.value, c.deref-4.ensures.value) (counted_none i.keys.items i.stands.items (omega (arith, a.stands_beside, a.keys_beside)) (omega (arith, c.self.invariant.1, zero)))
+
 pub overflow_add-place : goal.overflow_add-place
 overflow_add-place c =
-    let a = c.self.invariant in
+    let a = c.self.invariant.0 in
     let place = rw (c.deref.ensures.value) at c.spot_before-start.ensures.place in
     let hit = rw (c.deref-2.ensures.value, c.deref-4.ensures.value) at c.in-Some.ensures in
     let more = rw (c.deref-in-Some.ensures.value) at c.rows_between.ensures in
@@ -28,7 +36,7 @@ overflow_add-place c =
 
 pub returns-in-Some-clause-finds : goal.returns-in-Some-clause-finds
 returns-in-Some-clause-finds c =
-    let a = c.self.invariant in
+    let a = c.self.invariant.0 in
     let place = rw (c.deref.ensures.value) at c.spot_before-start.ensures.place in
     let hit = rw (c.deref-2.ensures.value, c.deref-4.ensures.value) at c.in-Some.ensures in
     let more = rw (c.deref-in-Some.ensures.value) at c.rows_between.ensures in
@@ -37,7 +45,7 @@ returns-in-Some-clause-finds c =
 
 pub returns-in-None-clause-finds : goal.returns-in-None-clause-finds
 returns-in-None-clause-finds c =
-    let a = c.self.invariant in
+    let a = c.self.invariant.0 in
     let place = rw (c.deref.ensures.value) at c.spot_before-start.ensures.place in
     let missed = rw (c.deref-2.ensures.value, c.deref-4.ensures.value) at c.in-None.ensures in
     let none = finds-none c.args.range c.args.arena.now.cells c.self.inside.handles.items c.self.inside.stands.items a.stands_beside c.spot_before-start.result missed in

@@ -5,32 +5,43 @@ use Rattle.crack_pending.specs.Pending.{Pending}
 use Rattle.crack_pending.specs.Spots.{kept}
 use Rattle.crack_pending.proofs.Kept.{place_at-hole_behind, Stands-within, kept-hole, length-kept}
 use Rattle.crack_pending.proofs.Views.{kept_hole, place-StandsAt}
+use Rattle.crack_pending.proofs.Unknown.{counted_hole, counted_some}
 use Rattle.crack_pending.proofs.spots.SpotList.take.Goals as goal
 
 pub spot_of-spot-requires-clause-within : goal.spot_of-spot-requires-clause-within
 spot_of-spot-requires-clause-within c =
-    let a = c.self.invariant in
+    let a = c.self.invariant.0 in
     let within = rw (← c.self.view_is) at c.requires in
     omega (arith, within, length-kept c.self.inside.stands.items c.self.inside.handles.items a.stands_beside, a.counted)
 
 pub overflow_sub-self : goal.overflow_sub-self
 overflow_sub-self c =
-    let a = c.self.invariant in
+    let a = c.self.invariant.0 in
     let within = rw (← c.self.view_is) at c.requires in
     omega (arith, within, length-kept c.self.inside.stands.items c.self.inside.handles.items a.stands_beside, a.counted)
 
+pub unknowns_without-self-inside-requires-clause-counted : goal.unknowns_without-self-inside-requires-clause-counted
+unknowns_without-self-inside-requires-clause-counted c = λ is.
+    let a = c.self.invariant.0 in
+    let i = c.self.inside in
+    let stands = rw (c.deref.ensures.value) at c.spot_of-spot.ensures.stands in
+    omega (arith, c.self.invariant.1, counted_some i.keys.items i.stands.items (omega (arith, a.stands_beside, a.keys_beside)) c.spot_of-spot.result stands (rw (c.deref-2.ensures.value) at is))
+
 pub invariant_of-self : goal.invariant_of-self
 invariant_of-self c =
-    let a = c.self.invariant in
+    let a = c.self.invariant.0 in
     let i = c.self.inside in
     let spot = c.spot_of-spot.result in
     let stands = rw (c.deref.ensures.value) at c.spot_of-spot.ensures.stands in
     let place = rw (c.deref.ensures.value) at c.spot_of-spot.ensures.place in
-    kept_hole i.handles.items i.keys.items i.stands.items i.spots.items i.rows i.hint_place i.hint_spot a spot c.args.place spot stands (omega (arith, Stands-within i.stands.items spot stands, a.stands_beside)) (sym place ∙ sym (place_at-hole_behind i.stands.items spot spot (omega arith)))
+    let less = rw (c.deref-2.ensures.value) at c.unknowns_without-self-inside.ensures in (
+      kept_hole i.handles.items i.keys.items i.stands.items i.spots.items i.rows i.hint_place i.hint_spot a spot c.args.place spot stands (omega (arith, Stands-within i.stands.items spot stands, a.stands_beside)) (sym place ∙ sym (place_at-hole_behind i.stands.items spot spot (omega arith))),
+      omega (arith, c.self.invariant.1, less, counted_hole i.keys.items i.stands.items (omega (arith, a.stands_beside, a.keys_beside)) spot stands),
+    )
 
 pub returns-clause-value : goal.returns-clause-value
 returns-clause-value c =
-    let a = c.self.invariant in
+    let a = c.self.invariant.0 in
     let stands = rw (c.deref.ensures.value) at c.spot_of-spot.ensures.stands in
     let place = rw (c.deref.ensures.value) at c.spot_of-spot.ensures.place in
     let there = place-StandsAt c.self.inside.handles.items c.self.inside.stands.items a.stands_beside c.spot_of-spot.result c.index-handle.result.now stands c.index-handle.ensures in
@@ -38,7 +49,7 @@ returns-clause-value c =
 
 pub returns-clause-handles : goal.returns-clause-handles
 returns-clause-handles c =
-    let a = c.self.invariant in
+    let a = c.self.invariant.0 in
     let i = c.self.inside in
     let stands = rw (c.deref.ensures.value) at c.spot_of-spot.ensures.stands in
     let place = rw (c.deref.ensures.value) at c.spot_of-spot.ensures.place in
@@ -47,7 +58,7 @@ returns-clause-handles c =
 
 pub returns-clause-keys : goal.returns-clause-keys
 returns-clause-keys c =
-    let a = c.self.invariant in
+    let a = c.self.invariant.0 in
     let i = c.self.inside in
     let stands = rw (c.deref.ensures.value) at c.spot_of-spot.ensures.stands in
     let place = rw (c.deref.ensures.value) at c.spot_of-spot.ensures.place in
@@ -56,7 +67,7 @@ returns-clause-keys c =
 
 pub returns-clause-remembered : goal.returns-clause-remembered
 returns-clause-remembered c = λ cells r.
-    let a = c.self.invariant in
+    let a = c.self.invariant.0 in
     let i = c.self.inside in
     let known = rw (← c.self.view_is) at r in
     let within = rw (← c.self.view_is) at c.requires in
