@@ -2,7 +2,7 @@
 """Tries must-fail edits, wrong bodies that the prover has to refuse: edits.py [CRATE..]
 
 All of them, or those of the crates that are named. The crates are proved first, as far as they aren't up to date. Then edits are tried side by side, as
-many as there are processors and memory for, each over what was proved of its crate.
+many as there are processors and memory for, each over what a check of its crate kept.
 
 Edits that change different functions are tried together, in one check: a function's proof may cite what the others promise and nothing of their bodies,
 and a check says of each function whether its own proof stands, or lacks only that of another. An edit is refused where the function that it changes isn't
@@ -124,21 +124,34 @@ def batches(edits, size):
     return made
 
 
+def kept_stamp(crate):
+    """The file that tells of which text a crate's last check without edits was."""
+    return crate.out / "proved" / "kept-stamp"
+
+
+def is_kept(crate):
+    return kept_stamp(crate).exists() and kept_stamp(crate).read_text() == crates.sum_of(crate.name)
+
+
 class Check:
-    """What a check of a crate with some edits said."""
+    """What a check of a crate with some edits, or with none, said. Where it has none, what it keeps is what checks with edits begin with."""
 
     def __init__(self, crate, edits, jobs):
-        texts = applied(edits)
+        texts = applied(edits) if edits else {}
         with rooms.Room(crate) as room:
             for file, text in texts.items():
                 (room.folder / file).write_text(text)
+            if rooms.kept_of(crate).is_dir():
+                room.take_kept()
             begun = time.monotonic()
-            ran = room.start("check", "--jobs", str(jobs))
+            ran = room.start("check", str(jobs), "out/kept")
             self.said = ran.stdout.read()
             _, status, used = os.wait4(ran.pid, 0)
-            ran.returncode = os.waitstatus_to_exitcode(status)
-            self.status, self.taken = ran.returncode, time.monotonic() - begun
-            self.seconds = used.ru_utime + used.ru_stime
+            ran.returncode = self.status = os.waitstatus_to_exitcode(status)
+            self.taken, self.seconds = time.monotonic() - begun, used.ru_utime + used.ru_stime
+            if not edits and self.status == 0:
+                room.give("kept", rooms.kept_of(crate))
+                kept_stamp(crate).write_text(crates.sum_of(crate.name))
         self.lines = self.said.splitlines()
         self.verdict = next((it for it in reversed(self.lines) if it.startswith("logic=")), "")
         self.is_read = not any(self.is_unread(it, texts) for it in self.lines) and "could not be used" not in self.said
@@ -187,7 +200,7 @@ class Trials:
     def __init__(self, edits, ends=None, say=print):
         self.ends, self.say, self.results = ends, say, []
         self.waiting = [it for it in edits if not it.fault]
-        self.batch_seconds = SECONDS
+        self.batch_seconds, self.unkept = SECONDS, {}
         for it in edits:
             if it.fault:
                 self.end(it, False, 0.0, f"BAD EDIT: {it.fault}")
@@ -200,8 +213,21 @@ class Trials:
         """Whether a check that was begun now might end too late."""
         return self.ends is not None and time.monotonic() + self.batch_seconds > self.ends
 
+    def keep(self, crate, jobs):
+        """Checks a crate without edits, where what is kept isn't of its text."""
+        if not is_kept(crate):
+            check = Check(crate, [], jobs)
+            if check.status:
+                self.unkept[crate.name] = next((it for it in check.lines if ERROR.match(it)), check.lines[-1] if check.lines else "")
+        return []
+
     def try_batch(self, batch, jobs):
         """Tries some edits in one check. Returns those that it leaves open; one by itself is judged."""
+        why = self.unkept.get(batch[0].crate)
+        if why is not None:
+            for edit in batch:
+                self.end(edit, False, 0.0, f"BAD EDIT: the crate isn't proved without it: {why[:300]}")
+            return []
         check = Check(crates.listed()[batch[0].crate], batch, jobs)
         self.batch_seconds = max(check.taken, 0.8 * self.batch_seconds)
         seconds = check.seconds / len(batch)
@@ -243,14 +269,16 @@ class Trials:
         for name, edits in by_crate.items():
             crate = crates.listed()[name]
             need = lanes.need_of(crate, crates.below(name))
+            tasks[name, -1] = lanes.Task([], 1, need, functools.partial(self.keep, crate), most_jobs=1)
             for at, batch in enumerate(batches(edits, size)):
-                call = functools.partial(self.try_batch, batch)
                 # (those that come first in the list go first)
-                weight = -self.waiting.index(batch[0])
-                tasks[name, at], of[name, at] = lanes.Task([], weight, need, call, most_jobs=1), batch
-        open_ones = {key: batch for key, batch in of.items()}
+                weight = len(self.waiting) - min(self.waiting.index(it) for it in batch)
+                call = functools.partial(self.try_batch, batch)
+                tasks[name, at], of[name, at] = lanes.Task([(name, -1)], weight, need, call, most_jobs=1), batch
+        open_ones = dict(of)
         for key, left in lanes.run(tasks, self.is_over):
-            open_ones[key] = left
+            if key in open_ones:
+                open_ones[key] = left
         self.waiting = [edit for batch in open_ones.values() for edit in batch]
 
     def table(self):

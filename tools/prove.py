@@ -1,8 +1,9 @@
 #!/usr/bin/env python3
 """Proves crates side by side, each as soon as those below it are, and builds programs: prove.py NAME.. [-- WORD..]
 
-Crates that are up to date are passed over, and start no `rt`. What is done is told on standard error. A crate that fails ends all; what was proved is
-kept. With words behind `--` the one program that is named is then run with them, on standard input and output.
+Each is proved as the gate proves it, but that what didn't change isn't proved again: crates that are up to date are passed over, and start nothing of the
+toolchain. What is done is told on standard error. A crate that fails ends all; what was proved is kept. With words behind `--` the one program that is
+named is then run with them, on standard input and output.
 """
 
 import hashlib
@@ -20,15 +21,23 @@ import rooms
 NOISE = ("checked ", "so far: ", "statements ", "by-macro: ", "logic ", "rt: chose ")
 
 
+def made_of(crate):
+    """What is kept of a proved crate: its program, or its library."""
+    return crate.out / crate.name if crate.is_program else rooms.library_of(crate)
+
+
 def stamp_of(crate):
     """What stands beside what was made of a crate, if that is up to date."""
-    made = crate.out / (crate.name if crate.is_program else f"rlib/{crate.name}.rlib/format")
+    made = made_of(crate) if crate.is_program else made_of(crate) / "format"
     return f"{crates.sum_of(crate.name)} {hashlib.sha256(made.read_bytes()).hexdigest()}\n" if made.exists() else ""
 
 
+def stamp_file(crate):
+    return crate.out / "proved" / "stamp"
+
+
 def is_up_to_date(crate):
-    stamp = crate.out / "proved"
-    return stamp.exists() and stamp.read_text() == stamp_of(crate)
+    return stamp_file(crate).exists() and stamp_file(crate).read_text() == stamp_of(crate)
 
 
 def clock(seconds):
@@ -42,18 +51,11 @@ class Prover:
         self.say, self.started, self.printing = say, time.monotonic(), threading.Lock()
         self.running, self.failed, self.done, self.times = {}, None, 0, {}
 
-    def command_of(self, crate, jobs):
-        """The words by which `rt` proves a crate, and builds it: a program is run by its stored words, on nothing."""
-        if not crate.is_program:
-            return ["lib", "--jobs", str(jobs)]
-        words = crate.folder / "args"
-        return ["run", "--jobs", str(jobs), "--", *(words.read_text().split() if words.exists() else [])]
-
     def prove(self, crate, jobs):
-        """Proves one crate. What is kept of a check that fails is given back, too."""
+        """Proves one crate, and keeps what was made of it."""
         begun = time.monotonic()
         with rooms.Room(crate) as room:
-            ran = room.start(*self.command_of(crate, jobs))
+            ran = room.start("prove", str(jobs))
             with self.printing:
                 self.running[crate.name] = ran
                 if self.failed:
@@ -61,14 +63,15 @@ class Prover:
             said, _ = ran.communicate()
             with self.printing:
                 del self.running[crate.name]
-                is_well = ran.returncode == 0 and not self.failed
-                if not is_well:
+                if ran.returncode or self.failed:
                     self.fail(crate, said)
-            room.give_back(room.all_made() if is_well else [rooms.KEPT])
-        if is_well:
-            (crate.out / "proved").write_text(stamp_of(crate))
-            self.tell(crate, time.monotonic() - begun, jobs)
-        return is_well
+                    return False
+            stamp_file(crate).unlink(missing_ok=True)
+            room.give(crate.name if crate.is_program else f"rlib/{crate.name}.rlib", made_of(crate))
+        stamp_file(crate).parent.mkdir(exist_ok=True)
+        stamp_file(crate).write_text(stamp_of(crate))
+        self.tell(crate, time.monotonic() - begun, jobs)
+        return True
 
     def fail(self, crate, said):
         """Remembers the first crate that failed, says why, and ends the others."""

@@ -1,7 +1,8 @@
-"""Rooms: copies of a crate, with what was proved of those below it, in which `rt` works on this crate alone.
+"""Rooms: copies of a crate, with what was built of those below it, in which this crate alone is worked on.
 
 Two runs of `rt` in one folder wait for each other wherever they stand on the same crates. In rooms they don't: each has copies of its own. What was
-proved is handed on by hard links, or by copies where the room lies on another disk.
+built is handed on by hard links, or by copies where the room lies on another disk. What is kept of a crate stands in the folder proved of its out/,
+apart from what `rt` keeps there by itself.
 """
 
 import os
@@ -13,7 +14,17 @@ import tempfile
 
 import crates
 
-KEPT = "incremental"
+STEP = pathlib.Path(__file__).resolve().parent / "step.py"
+
+
+def library_of(crate):
+    """Where a crate's library is kept."""
+    return crate.out / "proved" / f"{crate.name}.rlib"
+
+
+def kept_of(crate):
+    """Where that is kept which checks of the crate's edits begin with."""
+    return crate.out / "proved" / "kept"
 
 
 def link_tree(source, target):
@@ -45,47 +56,32 @@ class Room:
             for part in crates.PARTS:
                 if (it.folder / part).is_dir():
                     shutil.copytree(it.folder / part, self.top / "crates" / it.name / part)
-        for it in [*self.below, self.crate]:
-            if (it.out / "rlib").is_dir():
-                link_tree(it.out / "rlib", self.top / "crates" / it.name / "out" / "rlib")
-        self.take_kept()
+        for it in self.below:
+            link_tree(library_of(it), self.top / "crates" / it.name / "out" / "rlib" / f"{it.name}.rlib")
         return self
 
     def __exit__(self, *_):
         shutil.rmtree(self.top, ignore_errors=True)
 
     def take_kept(self):
-        """Takes a copy of what earlier checks of the crate kept, and of a program that they built."""
-        if (self.crate.out / KEPT).is_dir():
-            shutil.copytree(self.crate.out / KEPT, self.folder / "out" / KEPT)
-        for it in self.crate.out.glob(f"{self.crate.name}*"):
-            if it.is_file():
-                (self.folder / "out").mkdir(exist_ok=True)
-                shutil.copy2(it, self.folder / "out" / it.name)
+        """Takes a copy of what earlier checks kept."""
+        shutil.copytree(kept_of(self.crate), self.folder / "out" / "kept")
 
     def start(self, *words):
-        """Starts `rt` on the crate. What it says is to be read from its output."""
+        """Starts a step in the room. What it says is to be read from its output."""
         how = {"cwd": self.folder, "stdin": subprocess.DEVNULL, "stdout": subprocess.PIPE, "stderr": subprocess.STDOUT}
-        return subprocess.Popen(["rt", *words], errors="replace", **how)
+        return subprocess.Popen([sys.executable, "-B", str(STEP), *words], errors="replace", **how)
 
-    def give_back(self, names):
-        """Moves these files and folders of the room's out/ to the crate's own."""
-        self.crate.out.mkdir(exist_ok=True)
-        for name in names:
-            source, target = self.folder / "out" / name, self.crate.out / name
-            if not source.exists():
-                continue
-            if target.is_dir():
-                shutil.rmtree(target)
-            shutil.move(str(source), str(target))
-
-    def all_made(self):
-        """The names of what stands in the room's out/."""
-        return [it.name for it in (self.folder / "out").iterdir()] if (self.folder / "out").is_dir() else []
+    def give(self, made, target):
+        """Moves what was made in the room's out/ to where it is kept."""
+        target.parent.mkdir(parents=True, exist_ok=True)
+        if target.is_dir():
+            shutil.rmtree(target)
+        shutil.move(str(self.folder / "out" / made), str(target))
 
 
 def held(names):
-    """Keeps other runs of `rt` out of these crates' folders, until what it returns is closed or the process ends."""
+    """Keeps others who work by rooms out of these crates, until what it returns is closed or the process ends."""
     import fcntl
 
     handles = []
