@@ -1,8 +1,9 @@
 """Which must-fail edits are due: those of the crates that changed since all were tried, and a tenth of the others.
 
-A crate has changed where its own text has (sources, definitions, proofs or edits), or where it names something of a crate below it whose meaning has: a
+A crate has changed where its own text has (sources, definitions or proofs), or where it names something of a crate below it whose meaning has: a
 definition, the statement of a law, a type, or a function's contract, be it that its own text changed or that of something which it names in turn. What
-stands in a function's body or in a law's proof is of no meaning for the crates above.
+stands in a function's body or in a law's proof is of no meaning for the crates above. Of a crate that hasn't changed, the edits are due that are new or
+changed themselves.
 """
 
 import hashlib
@@ -72,24 +73,22 @@ def items_of(path, text):
 def texts_before(commit, crate):
     """A crate's files at a commit, by path."""
     prefix = f"crates/{crate.name}/"
-    names = edits.git("ls-tree", "-r", "--name-only", commit, "--", prefix).splitlines()
+    folders = [f"{prefix}{it}" for it in crates.PARTS]
+    names = edits.git("ls-tree", "-r", "--name-only", commit, "--", *folders).splitlines()
     return {it.removeprefix(prefix): edits.git("show", f"{commit}:{it}") for it in names}
 
 
 def texts_now(crate):
     """A crate's files as they are, by path."""
-    folders = [*crates.PARTS, "must-fail"]
-    files = [it for folder in folders for it in (crate.folder / folder).rglob("*") if it.is_file()]
-    return {str(it.relative_to(crate.folder)): it.read_text(errors="replace").strip() for it in files}
+    return {str(it.relative_to(crate.folder)): it.read_text(errors="replace").strip() for it in crate.sources()}
 
 
 def stated(texts):
     """All that a crate's files state, by name."""
     found = {}
     for path, text in sorted(texts.items()):
-        if path.startswith(tuple(f"{it}/" for it in crates.PARTS)):
-            for name, said in items_of(path, text).items():
-                found[name] = found.get(name, "") + said
+        for name, said in items_of(path, text).items():
+            found[name] = found.get(name, "") + said
     return found
 
 
@@ -109,11 +108,10 @@ def changed_crates(commit):
     found, meanings = set(), {}
     lines_before = crates.parsed(edits.git("show", f"{commit}:crates.txt"))
     for crate in crates.listed().values():
-        before = {path: text for path, text in texts_before(commit, crate).items() if path.startswith((*crates.PARTS, "must-fail"))}
-        now = texts_now(crate)
+        before, now = texts_before(commit, crate), texts_now(crate)
         below = set().union(*(meanings[it.name] for it in crates.below(crate.name)))
         own = before != now or lines_before.get(crate.name, ("",))[0] != crate.line
-        cites = any(words_of(text) & below for path, text in now.items() if not path.startswith("must-fail"))
+        cites = any(words_of(text) & below for text in now.values())
         meanings[crate.name] = changed_names(stated(before), stated(now), below) if own or cites else set()
         if own or cites:
             found.add(crate.name)
@@ -126,6 +124,12 @@ def since():
     kind = edits.git("cat-file", "-t", commit) if re.fullmatch(r"[0-9a-f]{40}", commit) else ""
     base = edits.git("merge-base", commit, "HEAD") if kind == "commit" else ""
     return commit if commit and base == commit else ""
+
+
+def is_new(edit, commit):
+    """Whether an edit's own text isn't that of the commit."""
+    path = f"crates/{edit.crate}/must-fail/{edit.name}"
+    return edits.git("show", f"{commit}:{path}") != (crates.TOP / path).read_text(errors="replace").strip()
 
 
 def is_drawn(edit, commit):
@@ -141,8 +145,8 @@ def due():
         return every, "edits: no commit is known all of whose edits were tried, so all are due"
     changed = changed_crates(commit)
     head = edits.git("rev-parse", "HEAD")
-    first = [it for it in every if it.crate in changed]
-    others = [it for it in every if it.crate not in changed and is_drawn(it, head)]
-    of = ", ".join(sorted({it.crate for it in first})) or "none"
-    said = f"edits: {len(first)} are due of crates that changed since {commit[:12]} ({of}), and {len(others)} are drawn of the others"
+    first = [it for it in every if it.crate in changed or is_new(it, commit)]
+    others = [it for it in every if it not in first and is_drawn(it, head)]
+    of = ", ".join(sorted(changed & {it.crate for it in first})) or "none"
+    said = f"edits: {len(first)} are due, new ones or of crates that changed since {commit[:12]} ({of}), and {len(others)} are drawn of the others"
     return [*first, *others], said

@@ -228,11 +228,13 @@ class Trials:
             for edit in batch:
                 self.end(edit, False, 0.0, f"BAD EDIT: the crate isn't proved without it: {why[:300]}")
             return []
-        check = Check(crates.listed()[batch[0].crate], batch, jobs)
+        crate = crates.listed()[batch[0].crate]
+        check = Check(crate, batch, jobs)
         self.batch_seconds = max(check.taken, 0.8 * self.batch_seconds)
         seconds = check.seconds / len(batch)
         if len(batch) == 1:
-            self.judge(batch[0], check)
+            # (a check that ended in neither way, as one that was killed for want of memory, is made once more)
+            self.judge(batch[0], check if check.status in (0, 1) else Check(crate, batch, jobs))
             return []
         left = []
         for edit in batch:
