@@ -3,12 +3,13 @@
 it built, the examples, and the cases of the tools.
 
 The gate, `rt ci`, proves every crate from nothing, runs the tests, and runs each program as both compilers build it. It has no switch for the edits, so
-it runs on a copy of this checkout that has none, and the programs that it built are brought back. What it writes is passed on as it comes. Before the
-last line stands the processor time of each crate, for its proof and its tests, as far as that was seen. The last line is the sum of all, 'N passed, M
+it runs on a copy of this checkout that has none, and what it built is brought back: `make run` and `make edits` prove nothing again that it has proved.
+What it writes is passed on as it comes. Before the last line stands the processor time of each crate, for its proof and its tests, as far as that was seen. The last line is the sum of all, 'N passed, M
 failed'; the status is 0 only where nothing failed.
 """
 
 import contextlib
+import os
 import pathlib
 import re
 import shutil
@@ -20,9 +21,12 @@ TOP = pathlib.Path(__file__).resolve().parent.parent
 sys.path.insert(0, str(TOP / "tools"))
 
 import check_tools
+import crates
 import examples
 import processor
+import prove
 import random_script
+import rooms
 import run
 import server
 
@@ -51,19 +55,39 @@ def copied():
         yield top
 
 
-def bring_back(top):
-    """Brings the programs that were built in a copy back, and takes away what stands here of each that wasn't."""
-    for crate in sorted(it for it in (TOP / "crates").iterdir() if (it / "src" / "main.rt").exists()):
-        made, program = top / "crates" / crate.name / "out" / crate.name, crate / "out" / crate.name
-        program.unlink(missing_ok=True)
+def sums():
+    """The sum of what each crate's proof rests on, by its name."""
+    crates.sum_of.cache_clear()
+    return {name: crates.sum_of(name) for name in crates.listed()}
+
+
+def bring_back(top, unchanged):
+    """Brings what was built in a copy back, and takes away each program that wasn't. Of the crates that are named the copy has the text that stands here,
+    so what was built of them is up to date."""
+    held = rooms.held(crates.listed())
+    for crate in crates.listed().values():
+        target = prove.made_of(crate)
+        made = top / "crates" / crate.name / "out" / (crate.name if crate.is_program else f"rlib/{target.name}")
+        if not made.exists() and not crate.is_program:
+            continue
+        prove.stamp_file(crate).unlink(missing_ok=True)
+        if target.is_dir():
+            shutil.rmtree(target)
+        target.unlink(missing_ok=True)
         if made.exists():
-            program.parent.mkdir(exist_ok=True)
-            shutil.copy2(made, program)
+            prove.stamp_file(crate).parent.mkdir(parents=True, exist_ok=True)
+            shutil.move(str(made), str(target))
+            if crate.name in unchanged:
+                prove.stamp_file(crate).write_text(prove.stamp_of(crate))
+    for it in held:
+        os.close(it)
 
 
 def gate():
     """Runs the gate on a copy. How many passed, and how many failed; a gate that fails and counts nothing as failed is one failure."""
+    before = sums()
     with copied() as top:
+        unchanged = {name for name, it in sums().items() if before[name] == it}
         how = {"cwd": top, "stdin": subprocess.DEVNULL, "stdout": subprocess.PIPE, "stderr": subprocess.STDOUT, "errors": "replace"}
         started = subprocess.Popen(["rt", "ci"], **how)
         sampler = processor.Sampler(started.pid)
@@ -79,7 +103,7 @@ def gate():
         # (its processes are gone once its output ends)
         sampler.stop()
         status = started.wait()
-        bring_back(top)
+        bring_back(top, unchanged)
     passed, failed = (int(it) for it in last.groups()) if last else (0, 1)
     return passed, failed if failed or status == 0 else 1, sampler.lines()
 

@@ -9,7 +9,7 @@ and a check says of each function whether its own proof stands, or lacks only th
 proved itself. So functions of which one may call the other are tried apart. Where a check of several leaves an edit open all the same (its function lacks
 another's proof, or is proved), that one is tried again among fewer, and at last by itself: then it is refused where the crate isn't proved. An edit that cannot be applied or read is a failure, as one that isn't refused is.
 
-At the end stands a table of the processor seconds that an edit takes. Where all edits of all crates were refused, and the crates are those of the last
+At the end stands a table of the processor seconds that an edit takes, with its share of the check without edits that its crate pays first. Where all edits of all crates were refused, and the crates are those of the last
 commit, tools/edits-tried names that commit. The last line is 'N passed, M failed'.
 """
 
@@ -200,7 +200,7 @@ class Trials:
     def __init__(self, edits, ends=None, say=print):
         self.ends, self.say, self.results = ends, say, []
         self.waiting = [it for it in edits if not it.fault]
-        self.batch_seconds, self.unkept = SECONDS, {}
+        self.batch_seconds, self.unkept, self.kept_seconds = SECONDS, {}, {}
         for it in edits:
             if it.fault:
                 self.end(it, False, 0.0, f"BAD EDIT: {it.fault}")
@@ -217,6 +217,7 @@ class Trials:
         """Checks a crate without edits, where what is kept isn't of its text."""
         if not is_kept(crate):
             check = Check(crate, [], jobs)
+            self.kept_seconds[crate.name] = check.seconds
             if check.status:
                 self.unkept[crate.name] = next((it for it in check.lines if ERROR.match(it)), check.lines[-1] if check.lines else "")
         return []
@@ -270,13 +271,16 @@ class Trials:
         tasks, of = {}, {}
         for name, edits in by_crate.items():
             crate = crates.listed()[name]
-            need = lanes.need_of(crate, crates.below(name))
-            tasks[name, -1] = lanes.Task([], 1, need, functools.partial(self.keep, crate), most_jobs=1)
-            for at, batch in enumerate(batches(edits, size)):
+            need, parted, waits = lanes.need_of(crate, crates.below(name)), batches(edits, size), []
+            if len(parted) > 1:
+                # (a check that no other follows gains nothing from one without edits before it)
+                waits = [(name, -1)]
+                tasks[name, -1] = lanes.Task([], 1, need, functools.partial(self.keep, crate), most_jobs=1)
+            for at, batch in enumerate(parted):
                 # (those that come first in the list go first)
                 weight = len(self.waiting) - min(self.waiting.index(it) for it in batch)
                 call = functools.partial(self.try_batch, batch)
-                tasks[name, at], of[name, at] = lanes.Task([(name, -1)], weight, need, call, most_jobs=1), batch
+                tasks[name, at], of[name, at] = lanes.Task(waits, weight, need, call, most_jobs=1), batch
         open_ones = dict(of)
         for key, left in lanes.run(tasks, self.is_over):
             if key in open_ones:
@@ -284,16 +288,17 @@ class Trials:
         self.waiting = [edit for batch in open_ones.values() for edit in batch]
 
     def table(self):
-        """The processor seconds of the edits, by crate, and those that took most."""
+        """The processor seconds of the edits, by crate, with those of the check without edits that a crate pays first, and those that took most."""
         by_crate = collections.defaultdict(list)
         for it in self.results:
             by_crate[it.edit.crate].append(it)
-        rows = [(name, found) for name, found in by_crate.items()] + [("all", self.results)]
-        yield f"{'must-fail edits':24}{'tried':>7}{'refused':>9}{'seconds':>9}{'an edit':>9}"
-        for name, found in rows:
+        rows = [(name, found, self.kept_seconds.get(name, 0.0)) for name, found in by_crate.items()]
+        rows.append(("all", self.results, sum(self.kept_seconds.values())))
+        yield f"{'must-fail edits':24}{'tried':>7}{'refused':>9}{'seconds':>9}{'first':>7}{'an edit':>9}"
+        for name, found, first in rows:
             seconds = sum(it.seconds for it in found)
             refused = sum(it.is_refused for it in found)
-            yield f"{name:24}{len(found):7}{refused:9}{seconds:9.0f}{seconds / max(len(found), 1):9.1f}"
+            yield f"{name:24}{len(found):7}{refused:9}{seconds:9.0f}{first:7.0f}{(seconds + first) / max(len(found), 1):9.1f}"
         slowest = sorted(self.results, key=lambda it: -it.seconds)[:5]
         yield "slowest: " + ", ".join(f"{it.edit.label} {it.seconds:.0f}" for it in slowest)
 

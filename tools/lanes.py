@@ -53,7 +53,8 @@ def ranks(tasks):
 def run(tasks, is_over=lambda: False):
     """Runs the tasks, each once those that it waits for are done, and yields each key with what its call gave.
 
-    Of those that are ready the first gets all idle processors but one, which the next of them gets. Once is_over says so, no task is begun.
+    Of those that are ready each gets half of the processors, as long as some are idle, and the last of them all that are idle: a check gains little
+    from more than two, and what others wait for longest goes first. Once is_over says so, no task is begun.
     """
     lanes, room, rank = processors(), 0.85 * memory(), ranks(tasks)
     left, running, done = sorted(tasks, key=lambda it: -rank[it]), {}, set()
@@ -64,7 +65,7 @@ def run(tasks, is_over=lambda: False):
                 task = tasks[key]
                 idle = lanes - sum(jobs for _, jobs in running.values())
                 free = room - sum(tasks[it].need_at(jobs) for it, jobs in running.values())
-                most = min(task.most_jobs, idle - (at + 1 < len(ready)))
+                most = min(task.most_jobs, idle if at + 1 == len(ready) else min(idle, max(lanes // 2, 1)))
                 jobs = max([it for it in range(1, most + 1) if task.need_at(it) <= free], default=1)
                 if idle > 0 and (not running or task.need_at(jobs) <= free):
                     left.remove(key)

@@ -49,7 +49,7 @@ class Prover:
 
     def __init__(self, say):
         self.say, self.started, self.printing = say, time.monotonic(), threading.Lock()
-        self.running, self.failed, self.done, self.times = {}, None, 0, {}
+        self.running, self.failed, self.done = {}, None, 0
 
     def prove(self, crate, jobs):
         """Proves one crate, and keeps what was made of it."""
@@ -86,7 +86,6 @@ class Prover:
     def tell(self, crate, seconds, jobs):
         with self.printing:
             self.done += 1
-            self.times[crate.name] = seconds
             how = f"{clock(seconds)}{f' by {jobs} jobs' if jobs > 1 else ''}"
             so_far = clock(time.monotonic() - self.started)
             self.say(f"{crate.name}: proved ({how}), {self.done} of {self.whole}, {so_far} since the start")
