@@ -9,6 +9,7 @@ use crack_table::{OpenGate, Table};
 use crack_worker_desk::WorkerDesk;
 use std::alloc::Global;
 use std::process::Abort;
+use std::sync::Wait;
 use std::test::Fail;
 
 /// Two partitions, which meet at key 100.
@@ -33,6 +34,30 @@ piece 100 151 1\npiece 151 160 0\npiece 160 4294967296 0\n\
 policy gradual\nrow 0.2\nrow 0.3\ncount 1\n\
 layout 0 rows 4 column 3 out 0 in 1 cells 4 free 0 pieces 5\n\
 piece 0 10 0\npiece 10 11 1\npiece 11 50 0\npiece 50 60 0\npiece 60 100 2\nbye\n";
+
+/// The one partition of all keys.
+static UNDIVIDED: [Bound; 0] = [];
+
+/// A row of the range 10 to 20 pends, and one outside it, over bounds that stand at one place: by the complete merge both are put in.
+static COMPLETE: &[u8] = b"policy complete\ninsert 10 1\ninsert 40 4\ncount 0 4294967296\ncount 20 30\n\
+insert 15 5\ninsert 50 6\ncount 10 20\nlayout 0\n";
+static COMPLETED: &[u8] = b"policy complete\nrow 0.0\nrow 0.1\ncount 2\ncount 0\n\
+row 0.2\nrow 0.3\ncount 2\nlayout 0 rows 4 column 4 out 0 in 0 cells 4 free 0 pieces 4\n\
+piece 0 10 0\npiece 10 20 2\npiece 20 30 0\npiece 30 4294967296 2\n";
+
+/// By the gradual merge the one of the range is.
+static GRADUAL: &[u8] = b"policy gradual\ninsert 10 1\ninsert 40 4\ncount 0 4294967296\ncount 20 30\n\
+insert 15 5\ninsert 50 6\ncount 10 20\nlayout 0\n";
+static MERGED: &[u8] = b"policy gradual\nrow 0.0\nrow 0.1\ncount 2\ncount 0\n\
+row 0.2\nrow 0.3\ncount 2\nlayout 0 rows 4 column 3 out 0 in 1 cells 4 free 0 pieces 4\n\
+piece 0 10 0\npiece 10 20 2\npiece 20 30 0\npiece 30 4294967296 1\n";
+
+/// By ripple it is, and the row above the range that makes room for it pends again.
+static RIPPLE: &[u8] = b"policy ripple\ninsert 10 1\ninsert 40 4\ncount 0 4294967296\ncount 20 30\n\
+insert 15 5\ninsert 50 6\ncount 10 20\nlayout 0\n";
+static RIPPLED: &[u8] = b"policy ripple\nrow 0.0\nrow 0.1\ncount 2\ncount 0\n\
+row 0.2\nrow 0.3\ncount 2\nlayout 0 rows 4 column 2 out 0 in 2 cells 4 free 0 pieces 4\n\
+piece 0 10 0\npiece 10 20 2\npiece 20 30 0\npiece 30 4294967296 0\n";
 
 /// Serves a session over memory, which is to write these replies and to end so, with no want of room.
 fn assert_session<D: Desk>(
@@ -81,6 +106,31 @@ fn a_worker_desk_is_told_the_same(rt: HostRuntime) -> Result<(), Fail> {
     workers.push(desk.into_worker())?;
     assert_eq!(rt; totals(alloc, table, workers), Ok([18, 6, 1, 5]));
     Ok(())
+}
+
+/// A session of nine statements at a worker's desk over one partition.
+fn assert_desk<R: Abort + Wait>(
+    rt: &R,
+    alloc: Global,
+    input: &[u8],
+    replies: &[u8],
+) -> Result<(), Fail> {
+    let (table, mut workers) = Table::open(alloc, &UNDIVIDED, GREATEST_LIMIT, 1)?;
+    let worker = workers.pop().ok_or("worker")?;
+    let mut desk = WorkerDesk::new(rt, &table, &OpenGate, worker);
+    assert_session(rt, alloc, &mut desk, input, replies, (How::InputEnded, 9));
+    workers.push(desk.into_worker())?;
+    assert_eq!(rt; totals(alloc, table, workers), Ok([7, 4, 0, 4]));
+    Ok(())
+}
+
+/// A worker's desk asks by the session's policy, whichever that is.
+#[test]
+fn a_worker_desk_merges_by_the_policy(rt: HostRuntime) -> Result<(), Fail> {
+    let alloc: Global = rt.alloc();
+    assert_desk(&rt, alloc, COMPLETE, COMPLETED)?;
+    assert_desk(&rt, alloc, GRADUAL, MERGED)?;
+    assert_desk(&rt, alloc, RIPPLE, RIPPLED)
 }
 
 /// A layout goes through no gate.
