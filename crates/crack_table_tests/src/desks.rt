@@ -39,15 +39,19 @@ piece 0 10 0\npiece 10 11 1\npiece 11 50 0\npiece 50 60 0\npiece 60 100 2\nbye\n
 static UNDIVIDED: [Bound; 0] = [];
 
 /// A row of the range 10 to 20 pends, and one outside it, over bounds that stand at one place: by the complete merge both are put in.
-static COMPLETE: &[u8] = b"policy complete\ninsert 10 1\ninsert 40 4\ncount 0 4294967296\ncount 20 30\n\
+static COMPLETE: &[u8] =
+    b"policy complete\ninsert 10 1\ninsert 40 4\ncount 0 4294967296\ncount 20 30\n\
 insert 15 5\ninsert 50 6\ncount 10 20\nlayout 0\n";
+
 static COMPLETED: &[u8] = b"policy complete\nrow 0.0\nrow 0.1\ncount 2\ncount 0\n\
 row 0.2\nrow 0.3\ncount 2\nlayout 0 rows 4 column 4 out 0 in 0 cells 4 free 0 pieces 4\n\
 piece 0 10 0\npiece 10 20 2\npiece 20 30 0\npiece 30 4294967296 2\n";
 
 /// By the gradual merge the one of the range is.
-static GRADUAL: &[u8] = b"policy gradual\ninsert 10 1\ninsert 40 4\ncount 0 4294967296\ncount 20 30\n\
+static GRADUAL: &[u8] =
+    b"policy gradual\ninsert 10 1\ninsert 40 4\ncount 0 4294967296\ncount 20 30\n\
 insert 15 5\ninsert 50 6\ncount 10 20\nlayout 0\n";
+
 static MERGED: &[u8] = b"policy gradual\nrow 0.0\nrow 0.1\ncount 2\ncount 0\n\
 row 0.2\nrow 0.3\ncount 2\nlayout 0 rows 4 column 3 out 0 in 1 cells 4 free 0 pieces 4\n\
 piece 0 10 0\npiece 10 20 2\npiece 20 30 0\npiece 30 4294967296 1\n";
@@ -55,6 +59,7 @@ piece 0 10 0\npiece 10 20 2\npiece 20 30 0\npiece 30 4294967296 1\n";
 /// By ripple it is, and the row above the range that makes room for it pends again.
 static RIPPLE: &[u8] = b"policy ripple\ninsert 10 1\ninsert 40 4\ncount 0 4294967296\ncount 20 30\n\
 insert 15 5\ninsert 50 6\ncount 10 20\nlayout 0\n";
+
 static RIPPLED: &[u8] = b"policy ripple\nrow 0.0\nrow 0.1\ncount 2\ncount 0\n\
 row 0.2\nrow 0.3\ncount 2\nlayout 0 rows 4 column 2 out 0 in 2 cells 4 free 0 pieces 4\n\
 piece 0 10 0\npiece 10 20 2\npiece 20 30 0\npiece 30 4294967296 0\n";
