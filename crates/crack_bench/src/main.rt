@@ -20,7 +20,7 @@ use crack_column::CrackerColumn;
 use crack_part::Partition;
 use crack_row::{GREATEST_LIMIT, KeyRange, Policy, Row};
 use numbers::Numbers;
-use partition::Table;
+use partition::Measured;
 use std::env;
 use std::time::Instant;
 
@@ -122,7 +122,7 @@ fn policy_of(name: &str) -> anyhow::Result<Policy> {
 
 fn run_partition(rt: &HostRuntime, policy: Policy, rows: u32, work: Work) -> anyhow::Result<()> {
     let partition = Partition::open(rt.alloc(), KeyRange::all(), GREATEST_LIMIT)?;
-    let mut table = Table { partition, policy };
+    let mut table = Measured { partition, policy };
     let told = measure_partition(rt, &mut table, rows, work);
     drop(table);
     told
@@ -130,7 +130,7 @@ fn run_partition(rt: &HostRuntime, policy: Policy, rows: u32, work: Work) -> any
 
 fn measure_partition(
     rt: &HostRuntime,
-    table: &mut Table,
+    table: &mut Measured,
     rows: u32,
     work: Work,
 ) -> anyhow::Result<()> {
@@ -147,7 +147,7 @@ fn measure_partition(
 
 fn measure_load(
     rt: &HostRuntime,
-    table: &mut Table,
+    table: &mut Measured,
     rows: u32,
     numbers: &mut Numbers,
 ) -> anyhow::Result<()> {
@@ -163,7 +163,7 @@ fn measure_load(
 
 fn measure_loaded(
     rt: &HostRuntime,
-    table: &mut Table,
+    table: &mut Measured,
     rows: u32,
     work: Loaded,
     numbers: &mut Numbers,
@@ -185,7 +185,7 @@ fn measure_loaded(
 /// The sums of random ranges with every row pending, and what their merges did.
 fn measure_cold(
     rt: &HostRuntime,
-    table: &mut Table,
+    table: &mut Measured,
     rows: u32,
     ranges: u64,
     numbers: &mut Numbers,
@@ -199,7 +199,7 @@ fn measure_cold(
 }
 
 /// Writes what the merges did.
-fn report_tally(rt: &HostRuntime, table: &Table) -> anyhow::Result<()> {
+fn report_tally(rt: &HostRuntime, table: &Measured) -> anyhow::Result<()> {
     let did = table.partition.tally();
     eprintln!(rt; "put_in {}", did.put_in)?;
     eprintln!(rt; "taken_out {}", did.taken_out)?;
@@ -212,7 +212,7 @@ fn report_tally(rt: &HostRuntime, table: &Table) -> anyhow::Result<()> {
 /// The sums of random ranges that have no row, with every row pending.
 fn measure_pass(
     rt: &HostRuntime,
-    table: &mut Table,
+    table: &mut Measured,
     rows: u32,
     ranges: u64,
     numbers: &mut Numbers,
@@ -227,7 +227,7 @@ fn measure_pass(
 
 fn measure_counts(
     rt: &HostRuntime,
-    table: &mut Table,
+    table: &mut Measured,
     ranges: u64,
     numbers: &mut Numbers,
 ) -> anyhow::Result<()> {
@@ -240,7 +240,7 @@ fn measure_counts(
 
 fn measure_sums(
     rt: &HostRuntime,
-    table: &mut Table,
+    table: &mut Measured,
     ranges: u64,
     numbers: &mut Numbers,
 ) -> anyhow::Result<()> {
@@ -257,7 +257,7 @@ fn measure_sums(
 
 fn measure_each(
     rt: &HostRuntime,
-    table: &mut Table,
+    table: &mut Measured,
     ranges: u64,
     numbers: &mut Numbers,
 ) -> anyhow::Result<()> {
@@ -273,7 +273,7 @@ fn measure_each(
 
 fn measure_updates(
     rt: &HostRuntime,
-    table: &mut Table,
+    table: &mut Measured,
     rows: u32,
     batches: u64,
     size: u64,
@@ -289,7 +289,7 @@ fn measure_updates(
 
 fn measure_merge(
     rt: &HostRuntime,
-    table: &mut Table,
+    table: &mut Measured,
     pieces: u32,
     pending: u32,
     numbers: &mut Numbers,
@@ -301,7 +301,7 @@ fn measure_merge(
 
 fn measure_pulls(
     rt: &HostRuntime,
-    table: &mut Table,
+    table: &mut Measured,
     rows: u32,
     pieces: u32,
     deletes: u32,
@@ -313,7 +313,7 @@ fn measure_pulls(
 }
 
 /// The count of everything, which merges, by its name.
-fn measure_count(rt: &HostRuntime, table: &mut Table, name: &str) -> anyhow::Result<()> {
+fn measure_count(rt: &HostRuntime, table: &mut Measured, name: &str) -> anyhow::Result<()> {
     let start = Instant::now(rt)?;
     let after = table.count_all()?;
     report(rt, name, start)?;

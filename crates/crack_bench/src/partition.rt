@@ -11,12 +11,12 @@ const WIDTH: u64 = 42949672;
 
 /// A partition that merges by one policy.
 #[derive(Drop)]
-pub struct Table {
+pub struct Measured {
     pub partition: Partition,
     pub policy: Policy,
 }
 
-impl Table {
+impl Measured {
     /// Asks the partition, and gives the number that it replies; 0 where it replies none.
     fn ask(&mut self, command: Command) -> Result<u64, Refusal> {
         let (reply, _) = self.partition.apply(0, command, self.policy)?;

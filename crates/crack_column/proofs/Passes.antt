@@ -15,7 +15,7 @@ use Rattle.crack_row.specs.declared.Row.{Row}
 use Rattle.crack_column.specs.declared.tag.Tag.{Tag}
 use Rattle.crack_arena.specs.Rows.{payload_at, unknown}
 use Rattle.crack_column.specs.Column.{Memory, memory_at, IsDividedAt}
-use Rattle.crack_column.specs.Tickets.{no_tag, remembered_key, handle_of, forgotten, Knows, Read}
+use Rattle.crack_column.specs.Tickets.{no_tag, remembered_key, tag_handle, forgotten, Knows, Read}
 
 -- a tag comes in at the place, and the one that stood there fills the gap
 abbrev pub shifted : List Tag → ℕ → ℕ → Tag → List Tag
@@ -137,7 +137,7 @@ drawn-IsLearned cells gs ts ts' n i k d so_far drawn inside =
     omega (arith, same, drawn k no_tag (omega arith))
 
 -- the i-th tag is read
-pub IsLearned-read : (cells : List (Cell Row)) (gs : List ℕ) (ts ts1 ts2 : List Tag) (n n2 i : ℕ) (m : Memory) → i < length ts1 → m ≡ memory_at cells (handle_of gs (get_or ts1 i no_tag)) → ts2 ≡ set ts1 i (record (get_or ts1 i no_tag) { key = m.key; payload = m.payload }) → (get_or ts1 i no_tag).key ≡ unknown → ((m.key ≡ unknown) × (n2 ≡ n)) ⊎ ((m.key ≢ unknown) × (n2 ≡ n + 1)) → IsLearned cells gs ts ts1 n i → IsLearned cells gs ts ts2 n2 (i + 1)
+pub IsLearned-read : (cells : List (Cell Row)) (gs : List ℕ) (ts ts1 ts2 : List Tag) (n n2 i : ℕ) (m : Memory) → i < length ts1 → m ≡ memory_at cells (tag_handle gs (get_or ts1 i no_tag)) → ts2 ≡ set ts1 i (record (get_or ts1 i no_tag) { key = m.key; payload = m.payload }) → (get_or ts1 i no_tag).key ≡ unknown → ((m.key ≡ unknown) × (n2 ≡ n)) ⊎ ((m.key ≢ unknown) × (n2 ≡ n + 1)) → IsLearned cells gs ts ts1 n i → IsLearned cells gs ts ts2 n2 (i + 1)
 IsLearned-read cells gs ts ts1 ts2 n n2 i m inside is after was which so_far =
     let t : Tag = record (get_or ts1 i no_tag) { key = m.key; payload = m.payload } in
     let long : length ts2 ≡ length ts1 = rw after (length-set ts1 i t) in
@@ -191,11 +191,11 @@ all_read cells gs ts none known = λ k d h. elim (known k d h) [
 ]
 
 -- what the tags bear sums up to what their rows do
-pub sum_all : (cells : List (Cell Row)) (gs : List ℕ) (ts : List Tag) → All (Read cells gs) ts → sum_by (λ (t : Tag). t.payload) ts ≡ sum_by (λ t. payload_at cells (handle_of gs t)) ts
+pub sum_all : (cells : List (Cell Row)) (gs : List ℕ) (ts : List Tag) → All (Read cells gs) ts → sum_by (λ (t : Tag). t.payload) ts ≡ sum_by (λ t. payload_at cells (tag_handle gs t)) ts
 sum_all cells gs [] all = refl
 sum_all cells gs (t ∷ ts) all =
-    let here : t.payload ≡ payload_at cells (handle_of gs t) = ap (λ (m : Memory). m.payload) (all 0 t (omega arith)) in
-    omega (arith, here, sum_by-cons (λ (t : Tag). t.payload) t ts, sum_by-cons (λ t. payload_at cells (handle_of gs t)) t ts, sum_all cells gs ts (λ k d l. all (suc k) d (omega arith)))
+    let here : t.payload ≡ payload_at cells (tag_handle gs t) = ap (λ (m : Memory). m.payload) (all 0 t (omega arith)) in
+    omega (arith, here, sum_by-cons (λ (t : Tag). t.payload) t ts, sum_by-cons (λ t. payload_at cells (tag_handle gs t)) t ts, sum_all cells gs ts (λ k d l. all (suc k) d (omega arith)))
 
 -- a handle is the same as itself
 pub same_handle-refl : (h : Handle) → same_handle h h ≡ true

@@ -18,7 +18,7 @@ use Rattle.crack_column.specs.declared.tag.Tag.{Tag}
 use Rattle.crack_arena.specs.Rows.{key_at, unknown}
 use Rattle.crack_column.specs.Column.{Memory, Aside, no_aside, nothing, memory_at, Remembers, Cracks}
 use Rattle.crack_column.proofs.Cracking.{Replaced, replaced}
-use Rattle.crack_column.specs.Tickets.{no_tag, tag_for, ticket_of, remembered_key, memory_of, handle_of, handles_in, remembered_in, aside_of, aside_in, unread_in, Knows, AreDrawn, Kept, Turns, forgotten}
+use Rattle.crack_column.specs.Tickets.{no_tag, tag_for, ticket_of, remembered_key, memory_of, tag_handle, handles_in, remembered_in, aside_of, aside_in, unread_in, Knows, AreDrawn, Kept, Turns, forgotten}
 
 -- two tags don't bear one ticket
 apart : (ts : List Tag) (i j : ℕ) → i < length ts → j < length ts → j ≢ i → times (get_or ts i no_tag).ticket (map ticket_of ts) ≤ 1 → (get_or ts j no_tag).ticket ≢ (get_or ts i no_tag).ticket
@@ -48,14 +48,14 @@ times_none (t ∷ ts) n all =
 
 -- a column's handles, and what it remembers, place by place
 pub length-in : (gs : List ℕ) (ts : List Tag) (len : ℕ) → len ≤ length ts → length (handles_in gs ts len) ≡ len
-length-in gs ts len within = length-map (take len ts) (handle_of gs) ∙ length-take-le len ts within
+length-in gs ts len within = length-map (take len ts) (tag_handle gs) ∙ length-take-le len ts within
 
 pub length-remembered_in : (ts : List Tag) (len : ℕ) → len ≤ length ts → length (remembered_in ts len) ≡ len
 length-remembered_in ts len within = length-map (take len ts) memory_of ∙ length-take-le len ts within
 
-pub handle_in : (gs : List ℕ) (ts : List Tag) (len k : ℕ) (d : Handle) → len ≤ length ts → k < len → get_or (handles_in gs ts len) k d ≡ handle_of gs (get_or ts k no_tag)
+pub handle_in : (gs : List ℕ) (ts : List Tag) (len k : ℕ) (d : Handle) → len ≤ length ts → k < len → get_or (handles_in gs ts len) k d ≡ tag_handle gs (get_or ts k no_tag)
 handle_in gs ts len k d within inside =
-    rw (get_or-map (handle_of gs) (take len ts) k no_tag d (omega (arith, length-take-le len ts within)), get_or-take len ts k no_tag inside) refl
+    rw (get_or-map (tag_handle gs) (take len ts) k no_tag d (omega (arith, length-take-le len ts within)), get_or-take len ts k no_tag inside) refl
 
 pub memory_in : (ts : List Tag) (len k : ℕ) (d : Memory) → len ≤ length ts → k < len → get_or (remembered_in ts len) k d ≡ memory_of (get_or ts k no_tag)
 memory_in ts len k d within inside =
@@ -72,8 +72,8 @@ remembered-longer ts ts' len t longer = ap (λ (xs : List Tag). map memory_of xs
 pub unread-longer : (ts ts' : List Tag) (len : ℕ) (t : Tag) → take (len + 1) ts' ≡ take len ts ++ t ∷ [] → unread_in (take (len + 1) ts') ≡ unread_in (take len ts) + times unknown (t.key ∷ [])
 unread-longer ts ts' len t longer = ap unread_in longer ∙ times-map-append unknown remembered_key (take len ts) (t ∷ [])
 
-pub handles-last : (gs : List ℕ) (ts : List Tag) (len : ℕ) → len < length ts → handles_in gs ts (len + 1) ≡ handles_in gs ts len ++ handle_of gs (get_or ts len no_tag) ∷ []
-handles-last gs ts len inside = ap (λ (xs : List Tag). map (handle_of gs) xs) (take_more ts len no_tag inside) ∙ map-append (handle_of gs) (take len ts) (get_or ts len no_tag ∷ [])
+pub handles-last : (gs : List ℕ) (ts : List Tag) (len : ℕ) → len < length ts → handles_in gs ts (len + 1) ≡ handles_in gs ts len ++ tag_handle gs (get_or ts len no_tag) ∷ []
+handles-last gs ts len inside = ap (λ (xs : List Tag). map (tag_handle gs) xs) (take_more ts len no_tag inside) ∙ map-append (tag_handle gs) (take len ts) (get_or ts len no_tag ∷ [])
 
 pub remembered-last : (ts : List Tag) (len : ℕ) → len < length ts → remembered_in ts (len + 1) ≡ remembered_in ts len ++ memory_of (get_or ts len no_tag) ∷ []
 remembered-last ts len inside = remembered-longer ts ts len (get_or ts len no_tag) (take_more ts len no_tag inside)
@@ -126,12 +126,12 @@ module _ (gs : List ℕ) (ts : List Tag) (place : ℕ) (h : Handle) (m : Memory)
       ] in
       get_or-map ticket_of ts' k no_tag 0 (omega arith) ∙ same ∙ sym (get_or-map ticket_of ts k no_tag 0 (omega (arith, length-Kept))))
 
-  handle_now : handle_of gs' (get_or ts' place no_tag) ≡ h
+  handle_now : tag_handle gs' (get_or ts' place no_tag) ≡ h
   handle_now =
       let generation : get_or gs' (get_or ts place no_tag).ticket 0 ≡ h.generation = rw kept.generations_are (get_or-set_same gs (get_or ts place no_tag).ticket h.generation 0 (are.drawn place no_tag inside)) in
       rw tag_now (ap (λ g. let k : Handle = record { slot = h.slot; generation = g } in k) generation)
 
-  other_handle : (k : ℕ) → k ≢ place → k < length ts → handle_of gs' (get_or ts' k no_tag) ≡ handle_of gs (get_or ts k no_tag)
+  other_handle : (k : ℕ) → k ≢ place → k < length ts → tag_handle gs' (get_or ts' k no_tag) ≡ tag_handle gs (get_or ts k no_tag)
   other_handle k ne within =
       let generation : get_or gs' (get_or ts k no_tag).ticket 0 ≡ get_or gs (get_or ts k no_tag).ticket 0 = rw kept.generations_are (get_or-set_other gs (get_or ts place no_tag).ticket (get_or ts k no_tag).ticket h.generation 0 (apart ts place k inside within ne (are.once (get_or ts place no_tag).ticket))) in
       rw (other_tag k ne) (ap (λ g. let n : Handle = record { slot = (get_or ts k no_tag).slot; generation = g } in n) generation)
@@ -189,7 +189,7 @@ module _ (gs : List ℕ) (ts : List Tag) (place : ℕ) (h : Handle) (m : Memory)
   other_aside : (k : ℕ) → k ≢ place → k < length ts → aside_of gs' (get_or ts' k no_tag) ≡ aside_of gs (get_or ts k no_tag)
   other_aside k ne within =
       let by_handle : Handle → Aside = λ x. record { handle = x; memory = memory_of (get_or ts' k no_tag) } in
-      let by_tag : Tag → Aside = λ t. record { handle = handle_of gs (get_or ts k no_tag); memory = memory_of t } in
+      let by_tag : Tag → Aside = λ t. record { handle = tag_handle gs (get_or ts k no_tag); memory = memory_of t } in
       ap by_handle (other_handle k ne within) ∙ ap by_tag (other_tag k ne)
 
   -- what stands aside behind it stays
@@ -296,8 +296,8 @@ module _ (gs : List ℕ) (ts ts' : List Tag) (len place : ℕ) (are : AreDrawn g
   first_tags-exchange =
       ap (λ (xs : List Tag). take len xs) swapped ∙ take-set-le len (set ts place (get_or ts len no_tag)) len (get_or ts place no_tag) (omega arith) ∙ take-set-lt len ts place (get_or ts len no_tag) first
 
-  pub handles-exchange : handles_in gs ts' len ≡ set (handles_in gs ts len) place (handle_of gs (get_or ts len no_tag))
-  handles-exchange = ap (λ (xs : List Tag). map (handle_of gs) xs) first_tags-exchange ∙ map-set (handle_of gs) (take len ts) place (get_or ts len no_tag)
+  pub handles-exchange : handles_in gs ts' len ≡ set (handles_in gs ts len) place (tag_handle gs (get_or ts len no_tag))
+  handles-exchange = ap (λ (xs : List Tag). map (tag_handle gs) xs) first_tags-exchange ∙ map-set (tag_handle gs) (take len ts) place (get_or ts len no_tag)
 
   pub remembered-exchange : remembered_in ts' len ≡ set (remembered_in ts len) place (memory_of (get_or ts len no_tag))
   remembered-exchange = ap (λ (xs : List Tag). map memory_of xs) first_tags-exchange ∙ map-set memory_of (take len ts) place (get_or ts len no_tag)
@@ -348,9 +348,9 @@ sum_by-map f g (x ∷ xs) = omega (arith, sum_by-cons f (g x) (map g xs), sum_by
 -- a stretch of the column was turned
 module _ (cells : List (Cell Row)) (gs : List ℕ) (bound from to : ℕ) (ts ts' : List Tag) (place learned len : ℕ) (are : AreDrawn gs ts len) (order : from ≤ to) (end : to ≤ len) (turned : Turns cells gs bound from to ts ts' place learned) where
   -- handles and tickets are read off what a crack keeps
-  handles_bare : (xs : List Tag) → map (handle_of gs) xs ≡ map (handle_of gs) (map forgotten xs)
+  handles_bare : (xs : List Tag) → map (tag_handle gs) xs ≡ map (tag_handle gs) (map forgotten xs)
   handles_bare [] = refl
-  handles_bare (t ∷ xs) = ap (λ ys. handle_of gs t ∷ ys) (handles_bare xs)
+  handles_bare (t ∷ xs) = ap (λ ys. tag_handle gs t ∷ ys) (handles_bare xs)
 
   tickets_bare : (xs : List Tag) → map ticket_of xs ≡ map ticket_of (map forgotten xs)
   tickets_bare [] = refl
@@ -395,17 +395,17 @@ module _ (cells : List (Cell Row)) (gs : List ℕ) (bound from to : ℕ) (ts ts'
   long_old : length (handles_in gs ts len) ≡ len
   long_old = length-in gs ts len are.within
 
-  keys_read : map remembered_key turned.stretch ≡ map (key_at cells) (map (handle_of gs) turned.stretch)
+  keys_read : map remembered_key turned.stretch ≡ map (key_at cells) (map (tag_handle gs) turned.stretch)
   keys_read =
-      ext_get_or 0 (map remembered_key turned.stretch) (map (key_at cells) (map (handle_of gs) turned.stretch)) (omega (arith, length-map turned.stretch remembered_key, length-map (map (handle_of gs) turned.stretch) (key_at cells), length-map turned.stretch (handle_of gs))) (λ k l.
+      ext_get_or 0 (map remembered_key turned.stretch) (map (key_at cells) (map (tag_handle gs) turned.stretch)) (omega (arith, length-map turned.stretch remembered_key, length-map (map (tag_handle gs) turned.stretch) (key_at cells), length-map turned.stretch (tag_handle gs))) (λ k l.
       let inside : k < length turned.stretch = omega (arith, length-map turned.stretch remembered_key) in
-      rw (get_or-map remembered_key turned.stretch k no_tag 0 inside, get_or-map (key_at cells) (map (handle_of gs) turned.stretch) k no_handle 0 (omega (arith, length-map turned.stretch (handle_of gs))), get_or-map (handle_of gs) turned.stretch k no_tag no_handle inside) (ap (λ (m : Memory). m.key) (turned.read k no_tag inside)))
+      rw (get_or-map remembered_key turned.stretch k no_tag 0 inside, get_or-map (key_at cells) (map (tag_handle gs) turned.stretch) k no_handle 0 (omega (arith, length-map turned.stretch (tag_handle gs))), get_or-map (tag_handle gs) turned.stretch k no_tag no_handle inside) (ap (λ (m : Memory). m.key) (turned.read k no_tag inside)))
 
-  rows_read : map memory_of turned.stretch ≡ map (memory_at cells) (map (handle_of gs) turned.stretch)
+  rows_read : map memory_of turned.stretch ≡ map (memory_at cells) (map (tag_handle gs) turned.stretch)
   rows_read =
-      ext_get_or nothing (map memory_of turned.stretch) (map (memory_at cells) (map (handle_of gs) turned.stretch)) (omega (arith, length-map turned.stretch memory_of, length-map (map (handle_of gs) turned.stretch) (memory_at cells), length-map turned.stretch (handle_of gs))) (λ k l.
+      ext_get_or nothing (map memory_of turned.stretch) (map (memory_at cells) (map (tag_handle gs) turned.stretch)) (omega (arith, length-map turned.stretch memory_of, length-map (map (tag_handle gs) turned.stretch) (memory_at cells), length-map turned.stretch (tag_handle gs))) (λ k l.
       let inside : k < length turned.stretch = omega (arith, length-map turned.stretch memory_of) in
-      rw (get_or-map memory_of turned.stretch k no_tag nothing inside, get_or-map (memory_at cells) (map (handle_of gs) turned.stretch) k no_handle nothing (omega (arith, length-map turned.stretch (handle_of gs))), get_or-map (handle_of gs) turned.stretch k no_tag no_handle inside) (turned.read k no_tag inside))
+      rw (get_or-map memory_of turned.stretch k no_tag nothing inside, get_or-map (memory_at cells) (map (tag_handle gs) turned.stretch) k no_handle nothing (omega (arith, length-map turned.stretch (tag_handle gs))), get_or-map (tag_handle gs) turned.stretch k no_tag no_handle inside) (turned.read k no_tag inside))
 
   -- a list over the column's tags, whose middle is read off the stretch
   module _ {X : Type 0} (f : Tag → X) (d : X) where
@@ -431,9 +431,9 @@ module _ (cells : List (Cell Row)) (gs : List ℕ) (bound from to : ℕ) (ts ts'
   pub Cracks-Turns : Cracks cells bound from to (handles_in gs ts len) (remembered_in ts len) (handles_in gs ts' len) (remembered_in ts' len) place
   Cracks-Turns = record {
     within = omega (arith, long_old);
-    piece = map (handle_of gs) turned.stretch;
-    kept = rw (stretch_of (handle_of gs) no_handle ts len from to are.within end, handles_bare (between from to ts), handles_bare turned.stretch) (IsPermutation-map (handle_of gs) (map forgotten (between from to ts)) (map forgotten turned.stretch) turned.kept);
-    handles_are = over_tags (handle_of gs) no_handle;
+    piece = map (tag_handle gs) turned.stretch;
+    kept = rw (stretch_of (tag_handle gs) no_handle ts len from to are.within end, handles_bare (between from to ts), handles_bare turned.stretch) (IsPermutation-map (tag_handle gs) (map forgotten (between from to ts)) (map forgotten turned.stretch) turned.kept);
+    handles_are = over_tags (tag_handle gs) no_handle;
     remembered_are = rw (← rows_read) (over_tags memory_of nothing);
     low = turned.low;
     high = turned.high;
@@ -472,7 +472,7 @@ drawn-between gs ts from to within all = λ k d l.
     rw (get_or-between ts from to k d inside) (all (from + k) d (omega arith))
 
 -- the handle that stands at a place
-pub stands_at : (gs : List ℕ) (ts : List Tag) (len place : ℕ) → len ≤ length ts → place < len → slice_get (handles_in gs ts len) place ≡ Some (handle_of gs (get_or ts place no_tag))
+pub stands_at : (gs : List ℕ) (ts : List Tag) (len place : ℕ) → len ≤ length ts → place < len → slice_get (handles_in gs ts len) place ≡ Some (tag_handle gs (get_or ts place no_tag))
 stands_at gs ts len place within inside =
     slice_get-get_or (handles_in gs ts len) place no_handle (omega (arith, length-in gs ts len within)) ∙ ap (λ (h : Handle). Some h) (handle_in gs ts len place no_handle within inside)
 

@@ -20,12 +20,12 @@ abbrev pub memory_of : Tag → Memory
 memory_of t = record { key = t.key; payload = t.payload }
 
 -- the handle of the tag's slot, and of the generation under its ticket
-abbrev pub handle_of : List ℕ → Tag → Handle
-handle_of generations t = record { slot = t.slot; generation = slice_index generations t.ticket }
+abbrev pub tag_handle : List ℕ → Tag → Handle
+tag_handle generations t = record { slot = t.slot; generation = slice_index generations t.ticket }
 
 -- the handles of the column that has so many places
 abbrev pub handles_in : List ℕ → List Tag → ℕ → List Handle
-handles_in generations tags len = map (handle_of generations) (take len tags)
+handles_in generations tags len = map (tag_handle generations) (take len tags)
 
 -- and what is remembered of them
 abbrev pub remembered_in : List Tag → ℕ → List Memory
@@ -33,7 +33,7 @@ remembered_in tags len = map memory_of (take len tags)
 
 -- what stands aside under a tag
 abbrev pub aside_of : List ℕ → Tag → Aside
-aside_of generations t = record { handle = handle_of generations t; memory = memory_of t }
+aside_of generations t = record { handle = tag_handle generations t; memory = memory_of t }
 
 -- what stands behind the column that has so many places
 abbrev pub aside_in : List ℕ → List Tag → ℕ → List Aside
@@ -49,11 +49,11 @@ room_in tickets generation_capacity tag_capacity len = tickets - len + min (2 ^ 
 
 -- what the tag remembers is right of its handle's row
 abbrev pub Knows : List (Cell Row) → List ℕ → Tag → Type 0
-Knows cells generations t = Agrees cells (handle_of generations t) (memory_of t)
+Knows cells generations t = Agrees cells (tag_handle generations t) (memory_of t)
 
 -- the tag bears key and payload of its handle's row
 abbrev pub Read : List (Cell Row) → List ℕ → Tag → Type 0
-Read cells generations t = memory_of t ≡ memory_at cells (handle_of generations t)
+Read cells generations t = memory_of t ≡ memory_at cells (tag_handle generations t)
 
 -- each ticket is drawn by one tag; those behind the column's end keep theirs for a later row
 pub record AreDrawn (generations : List ℕ) (tags : List Tag) (len : ℕ) : Type 0 where
@@ -84,7 +84,7 @@ no_tag = record { key = 0; ticket = 0; payload = 0; slot = 0 }
 pub record Kept (generations : List ℕ) (tags : List Tag) (place : ℕ) (handle : Handle) (memory : Memory) (generations' : List ℕ) (tags' : List Tag) (out : Handle) (known : Memory) : Type 0 where
   pub generations_are : generations' ≡ slice_set generations (slice_index_or tags place no_tag).ticket handle.generation
   pub tags_are : tags' ≡ slice_set tags place (tag_for (slice_index_or tags place no_tag).ticket handle memory)
-  pub out_is : out ≡ handle_of generations (slice_index_or tags place no_tag)
+  pub out_is : out ≡ tag_handle generations (slice_index_or tags place no_tag)
   pub known_is : known ≡ memory_of (slice_index_or tags place no_tag)
 
 -- from `from` up to `to` the same tickets and slots stand in some order, divided by the bound at the place, their rows read, so many of

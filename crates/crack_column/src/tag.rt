@@ -4,7 +4,7 @@ ghost use Rattle.std.specs.List.Sorted.{IsPermutation};
 ghost use Rattle.crack_arena.specs.Arena.{times, IsAbsent, IsFirstAt};
 ghost use Rattle.crack_arena.specs.Rows.{key_at, payload_at, unknown};
 ghost use Rattle.crack_column.specs.Column.{IsDividedAt};
-ghost use Rattle.crack_column.specs.Tickets.{remembered_key, memory_of, handle_of, tag_for, forgotten, unread_in, Knows, Read};
+ghost use Rattle.crack_column.specs.Tickets.{remembered_key, memory_of, tag_handle, tag_for, forgotten, unread_in, Knows, Read};
 
 use crate::remembered::{Remembered, UNKNOWN};
 use crack_arena::{Arena, Handle, key_of, payload_of};
@@ -40,7 +40,7 @@ impl Tag {
 
     pub(crate) fn handle(&self, generations: &[u64]) -> Handle<Row>
         requires { self.now.ticket < length generations.now }
-        ensures { result ≡ handle_of generations.now self.now }
+        ensures { result ≡ tag_handle generations.now self.now }
     {
         Handle::new(self.slot, generations[self.ticket as usize])
     }
@@ -56,7 +56,7 @@ impl Tag {
     pub(crate) fn key(&self, generations: &[u64], arena: &Arena<Row>) -> Key
         requires drawn { self.now.ticket < length generations.now }
         requires known { Knows arena.now.cells generations.now self.now }
-        ensures { result.0 ≡ key_at arena.now.cells (handle_of generations.now self.now) }
+        ensures { result.0 ≡ key_at arena.now.cells (tag_handle generations.now self.now) }
     {
         if self.key == UNKNOWN {
             return key_of(arena, self.handle(generations));
@@ -79,7 +79,7 @@ impl Tag {
     fn payload(&self, generations: &[u64], arena: &Arena<Row>) -> u32
         requires drawn { self.now.ticket < length generations.now }
         requires known { Knows arena.now.cells generations.now self.now }
-        ensures { result ≡ payload_at arena.now.cells (handle_of generations.now self.now) }
+        ensures { result ≡ payload_at arena.now.cells (tag_handle generations.now self.now) }
     {
         if self.key == UNKNOWN {
             return payload_of(arena, self.handle(generations)).0;
@@ -162,7 +162,7 @@ pub(crate) fn sum(tags: &[Tag], unread: usize, generations: &[u64], arena: &Aren
     requires drawn { All (λ t. t.ticket < length generations.now) tags.now }
     requires known { All (Knows arena.now.cells generations.now) tags.now }
     requires unread { unread_in tags.now ≤ unread }
-    ensures { result ≡ sum_by (λ t. payload_at arena.now.cells (handle_of generations.now t)) tags.now }
+    ensures { result ≡ sum_by (λ t. payload_at arena.now.cells (tag_handle generations.now t)) tags.now }
 {
     if unread == 0 {
         sum_remembered(tags)
@@ -188,7 +188,7 @@ fn sum_read(tags: &[Tag], generations: &[u64], arena: &Arena<Row>) -> u64
     requires few { length tags.now ≤ 2 ^ 32 }
     requires drawn { All (λ t. t.ticket < length generations.now) tags.now }
     requires known { All (Knows arena.now.cells generations.now) tags.now }
-    ensures { result ≡ sum_by (λ t. payload_at arena.now.cells (handle_of generations.now t)) tags.now }
+    ensures { result ≡ sum_by (λ t. payload_at arena.now.cells (tag_handle generations.now t)) tags.now }
 {
     let mut sum = 0u64;
     'tags: for i in 0..tags.len() {
@@ -201,8 +201,8 @@ fn sum_read(tags: &[Tag], generations: &[u64], arena: &Arena<Row>) -> u64
 pub(crate) fn find(tags: &[Tag], generations: &[u64], handle: Handle<Row>) -> Option<usize>
     requires drawn { All (λ t. t.ticket < length generations.now) tags.now }
     ensures { MatchOption result
-        (IsAbsent (map (handle_of generations.now) tags.now) handle)
-        (IsFirstAt (map (handle_of generations.now) tags.now) handle) }
+        (IsAbsent (map (tag_handle generations.now) tags.now) handle)
+        (IsFirstAt (map (tag_handle generations.now) tags.now) handle) }
 {
     let slot = handle.slot();
     'tags: for i in 0..tags.len() {

@@ -10,7 +10,7 @@ use Rattle.std.proofs.lemmas.List.Sums.{count_by-le-length, sum_by-append}
 use Rattle.crack_row.specs.Ranges.{Range, IsIn, clipped}
 use Rattle.crack_row.specs.declared.TheConstants.{GREATEST_BOUND}
 use Rattle.crack_row.specs.declared.Bound.{Bound}
-use Rattle.crack_core.specs.Routes.{is_rising, AreSplits, keys_at, route, part_at, has_keys, parts_of}
+use Rattle.crack_core.specs.Routes.{is_rising, AreSplits, keys_of_part, route, part_at, has_keys, parts_of}
 
 -- no splits
 pub AreSplits-nil : AreSplits []
@@ -134,14 +134,14 @@ pub route-le : (splits : List Bound) (n : ℕ) → route splits n ≤ length spl
 route-le splits n = count_by-le-length (λ (split : Bound). nat_le split.0 n) splits
 
 -- the partition in which a number falls has it among its keys
-pub within-route : (splits : List Bound) (n : ℕ) → AreSplits splits → n < GREATEST_BOUND → IsIn (keys_at splits (route splits n)) n
+pub within-route : (splits : List Bound) (n : ℕ) → AreSplits splits → n < GREATEST_BOUND → IsIn (keys_of_part splits (route splits n)) n
 within-route splits n are below =
     let front = low-le n 0 splits (route splits n) 0 are.rising (omega arith) (omega arith) in
     let back = high-gt n 0 splits (route splits n) are.rising below (omega arith) in
     (front, back)
 
 -- keys of a partition begin below where they end, and end at the greatest bound at most
-pub ends-ordered : (splits : List Bound) (part : ℕ) → AreSplits splits → part ≤ length splits → (keys_at splits part).low < (keys_at splits part).high
+pub ends-ordered : (splits : List Bound) (part : ℕ) → AreSplits splits → part ≤ length splits → (keys_of_part splits part).low < (keys_of_part splits part).high
 ends-ordered splits part are within = low-lt-high 0 splits part are.rising (omega arith) within
 
 high-le : (low : ℕ) (splits : List Bound) (part : ℕ) → is_rising low splits ≡ true → get_or (numbers splits) part GREATEST_BOUND ≤ GREATEST_BOUND
@@ -149,17 +149,17 @@ high-le low [] part rising = omega arith
 high-le low (split ∷ splits) zero rising = let now = rising-cons low split splits rising in omega (arith, now.1)
 high-le low (split ∷ splits) (suc part) rising = high-le split.0 splits part (rising-cons low split splits rising).2
 
-pub ends-bounded : (splits : List Bound) (part : ℕ) → AreSplits splits → (keys_at splits part).high ≤ GREATEST_BOUND
+pub ends-bounded : (splits : List Bound) (part : ℕ) → AreSplits splits → (keys_of_part splits part).high ≤ GREATEST_BOUND
 ends-bounded splits part are = high-le 0 splits part are.rising
 
 -- a partition before the one in which a number falls ends at or below the number
-high-before : (splits : List Bound) (n part : ℕ) → AreSplits splits → part < route splits n → (keys_at splits part).high ≤ n
+high-before : (splits : List Bound) (n part : ℕ) → AreSplits splits → part < route splits n → (keys_of_part splits part).high ≤ n
 high-before splits n part are before =
     let within = route-le splits n in
     low-le n 0 splits (suc part) GREATEST_BOUND are.rising (omega arith) (omega (arith, before))
 
 -- a partition behind the one in which a number falls begins above the number
-low-behind : (splits : List Bound) (n part : ℕ) → AreSplits splits → n < GREATEST_BOUND → route splits n < part → part ≤ length splits → n < (keys_at splits part).low
+low-behind : (splits : List Bound) (n part : ℕ) → AreSplits splits → n < GREATEST_BOUND → route splits n < part → part ≤ length splits → n < (keys_of_part splits part).low
 low-behind splits n zero are below behind within = absurd (omega (arith, behind))
 low-behind splits n (suc part) are below behind within =
     let above = high-gt n 0 splits part are.rising below (omega (arith, behind)) in
@@ -167,11 +167,11 @@ low-behind splits n (suc part) are below behind within =
     subst (λ (end : ℕ). n < end) (get_or_default (numbers splits) part GREATEST_BOUND 0 (omega (arith, long, within))) above
 
 -- a partition from the one on in which a number falls ends above it
-pub high-behind : (splits : List Bound) (n part : ℕ) → AreSplits splits → n < GREATEST_BOUND → route splits n ≤ part → n < (keys_at splits part).high
+pub high-behind : (splits : List Bound) (n part : ℕ) → AreSplits splits → n < GREATEST_BOUND → route splits n ≤ part → n < (keys_of_part splits part).high
 high-behind splits n part are below behind = high-gt n 0 splits part are.rising below behind
 
 -- a partition up to the one in which a number falls begins at or below it
-pub low-before : (splits : List Bound) (n part : ℕ) → AreSplits splits → part ≤ route splits n → (keys_at splits part).low ≤ n
+pub low-before : (splits : List Bound) (n part : ℕ) → AreSplits splits → part ≤ route splits n → (keys_of_part splits part).low ≤ n
 low-before splits n part are before = low-le n 0 splits part 0 are.rising (omega arith) before
 
 -- whether a range has keys of others is whether their ends leave room
@@ -185,7 +185,7 @@ clipped-has r s = by_test (nat_lt (max r.low s.low) (min r.high s.high)) refl
 -- a partition before the first that a range meets, or behind the last, has no keys of it
 pub part-none : (splits : List Bound) (r : Range) (part : ℕ) → AreSplits splits → r.low < r.high → r.high ≤ GREATEST_BOUND → part ≤ length splits → (part < route splits r.low) ⊎ (route splits (r.high - 1) < part) → has_keys (part_at splits r part) ≡ false
 part-none splits r part are filled bounded within beside =
-    let keys = keys_at splits part in
+    let keys = keys_of_part splits part in
     clipped-has r keys ∙ le-ltb (max r.low keys.low) (min r.high keys.high) (elim beside [
       | inl before ↦ let end = high-before splits r.low part are before in omega (arith, end)
       | inr behind ↦ let begin = low-behind splits (r.high - 1) part are (omega (arith, filled, bounded)) behind within in omega (arith, begin, filled)
@@ -194,7 +194,7 @@ part-none splits r part are filled bounded within beside =
 -- a partition from the first to the last that a range meets has keys of it
 pub part-some : (splits : List Bound) (r : Range) (part : ℕ) → AreSplits splits → r.low < r.high → r.high ≤ GREATEST_BOUND → part ≤ length splits → route splits r.low ≤ part → part ≤ route splits (r.high - 1) → has_keys (part_at splits r part) ≡ true
 part-some splits r part are filled bounded within from to =
-    let keys = keys_at splits part in
+    let keys = keys_of_part splits part in
     let begin = low-before splits (r.high - 1) part are to in
     let end = high-behind splits r.low part are (omega (arith, filled, bounded)) from in
     let ordered = ends-ordered splits part are within in
@@ -288,7 +288,7 @@ clipped-inside r s filled low high =
     rw (test, below, above) refl
 
 -- a range inside the partition of its low end has one part
-pub parts_of-one : (splits : List Bound) (r : Range) → AreSplits splits → r.low < r.high → r.high ≤ GREATEST_BOUND → r.high ≤ (keys_at splits (route splits r.low)).high → parts_of splits r ≡ (route splits r.low, r) ∷ []
+pub parts_of-one : (splits : List Bound) (r : Range) → AreSplits splits → r.low < r.high → r.high ≤ GREATEST_BOUND → r.high ≤ (keys_of_part splits (route splits r.low)).high → parts_of splits r ≡ (route splits r.low, r) ∷ []
 parts_of-one splits r are filled bounded inside =
     let first = route splits r.low in
     let order = first-le-last splits r are filled bounded in
@@ -299,13 +299,13 @@ parts_of-one splits r are filled bounded inside =
     let within = route-le splits r.low in
     let has = part-some splits r first are filled bounded within (omega arith) (omega (arith, last)) in
     let front = low-before splits r.low first are (omega arith) in
-    let part : part_at splits r first ≡ (first, r) = ap (λ (range : Range). (first, range)) (clipped-inside r (keys_at splits first) filled front inside) in
+    let part : part_at splits r first ≡ (first, r) = ap (λ (range : Range). (first, range)) (clipped-inside r (keys_of_part splits first) filled front inside) in
     parts_of-last splits r are filled bounded ∙ ap (λ (n : ℕ). parts_below splits r (n + 1)) last ∙ parts_below-some splits r first has
     ∙ ap (λ (parts : List (ℕ × Range)). parts ++ part_at splits r first ∷ []) (parts_below-front splits r first are filled bounded (omega arith))
     ∙ ap (λ (p : ℕ × Range). p ∷ []) part
 
 -- a range that goes on behind the partition of its low end has several parts
-pub parts_of-several : (splits : List Bound) (r : Range) → AreSplits splits → r.low < r.high → r.high ≤ GREATEST_BOUND → (keys_at splits (route splits r.low)).high < r.high → 1 < length (parts_of splits r)
+pub parts_of-several : (splits : List Bound) (r : Range) → AreSplits splits → r.low < r.high → r.high ≤ GREATEST_BOUND → (keys_of_part splits (route splits r.low)).high < r.high → 1 < length (parts_of splits r)
 parts_of-several splits r are filled bounded beyond =
     let first = route splits r.low in
     let more : first < route splits (r.high - 1) = elim (cases_lt first (route splits (r.high - 1))) [

@@ -17,13 +17,13 @@ use Rattle.crack_row.specs.declared.command.Entry.{Entry}
 use Rattle.crack_row.specs.declared.command.Reply.{Reply}
 use Rattle.crack_row.specs.declared.refusal.Refusal.{Refusal}
 use Rattle.crack_row.specs.declared.refusal.Refusal.TheVariants.{KeyOutside, NoSuchPartition, HistoryFull, OutOfMemory}
-use Rattle.crack_plain.specs.Plain.{Table, IsWithin, reply_to, replay}
+use Rattle.crack_plain.specs.Plain.{PlainView, IsWithin, reply_to, replay}
 use Rattle.crack_plain.proofs.Laws.{replay-push}
 use Rattle.crack_part.specs.Parts.{Part, IsSound}
 use Rattle.crack_core.specs.declared.step.Step.{Step}
-use Rattle.crack_core.specs.Routes.{keys_at}
+use Rattle.crack_core.specs.Routes.{keys_of_part}
 use Rattle.crack_core.specs.Opening.{AreParts}
-use Rattle.crack_core.specs.Steps.{is_key_in, expected, expected_at, IsOutcome, fresh_table, table_after, table_after_all, tables_after, table_of, tables_of, histories_of, accepted_by, entries_at, Keeps, answered_at, table_at, AreExpectedReplies}
+use Rattle.crack_core.specs.Steps.{is_key_in, expected, expected_at, IsOutcome, fresh_table, table_after, table_after_all, tables_after, table_of, tables_of, histories_of, accepted_by, entries_at, KeepsEntries, answered_at, table_at, AreExpectedReplies}
 use Rattle.crack_core.specs.Cores.{Makes, MakesAll}
 
 -- whether a command brings a key of others, by the test
@@ -63,7 +63,7 @@ table_of-push history e =
 pub table_of-append : (history es : List Entry) → table_after_all (table_of history) (map (λ (e : Entry). e.command) es) ≡ table_of (history ++ es)
 table_of-append history [] = ap table_of (sym (append-nil history))
 table_of-append history (e ∷ es) =
-    ap (λ (t : Table). table_after_all t (map (λ (x : Entry). x.command) es)) (sym (table_of-push history e)) ∙ table_of-append (history ++ e ∷ []) es ∙ ap table_of (append_assoc history (e ∷ []) es)
+    ap (λ (t : PlainView). table_after_all t (map (λ (x : Entry). x.command) es)) (sym (table_of-push history e)) ∙ table_of-append (history ++ e ∷ []) es ∙ ap table_of (append_assoc history (e ∷ []) es)
 
 -- the tables are those of the histories
 pub tables-histories : (parts : List Part) (part : ℕ) → slice_get (tables_of parts) part ≡ option_map table_of (slice_get (histories_of parts) part)
@@ -103,15 +103,15 @@ option-same None none is = refl
 option-same (Some history) none is = ap Some (ap (λ (es : List Entry). history ++ es) is ∙ append-nil history)
 
 -- no step
-pub Keeps-nil : (histories : List (List Entry)) → Keeps histories [] [] histories
+pub Keeps-nil : (histories : List (List Entry)) → KeepsEntries histories [] [] histories
 Keeps-nil histories = λ part. sym (option-same (slice_get histories part) [] refl)
 
 -- a step that was refused
-pub Keeps-refused : (histories : List (List Entry)) (s : Step) (e : Refusal) → Keeps histories (s ∷ []) (Err e ∷ []) histories
+pub Keeps-refused : (histories : List (List Entry)) (s : Step) (e : Refusal) → KeepsEntries histories (s ∷ []) (Err e ∷ []) histories
 Keeps-refused histories s e = λ part. sym (option-same (slice_get histories part) [] refl)
 
 -- one step more
-pub Keeps-push : (old now new : List (List Entry)) (steps : List Step) (results : List (Result Reply Refusal)) (s : Step) (r : Result Reply Refusal) → length results ≡ length steps → Keeps old steps results now → Keeps now (s ∷ []) (r ∷ []) new → Keeps old (steps ++ s ∷ []) (results ++ r ∷ []) new
+pub Keeps-push : (old now new : List (List Entry)) (steps : List Step) (results : List (Result Reply Refusal)) (s : Step) (r : Result Reply Refusal) → length results ≡ length steps → KeepsEntries old steps results now → KeepsEntries now (s ∷ []) (r ∷ []) new → KeepsEntries old (steps ++ s ∷ []) (results ++ r ∷ []) new
 Keeps-push old now new steps results s r same before step = λ part.
     let more = entries_at part (s ∷ []) (r ∷ []) in
     step part ∙ ap (option_map (λ (history : List Entry). history ++ more)) (before part) ∙ joined (slice_get old part) (entries_at part steps results) more (entries_at part (steps ++ s ∷ []) (results ++ r ∷ [])) (entries_at-push part steps results s r same)
@@ -121,16 +121,16 @@ Keeps-push old now new steps results s r same before step = λ part.
     joined (Some history) es more all is = ap Some (append_assoc history es more ∙ ap (λ (x : List Entry). history ++ x) (sym is))
 
 -- what one partition is after its answered steps, by what its history is
-pub table_at-kept : (old now : List Part) (part : ℕ) (steps : List Step) (results : List (Result Reply Refusal)) → Keeps (histories_of old) steps results (histories_of now) → slice_get (tables_of now) part ≡ table_at (tables_of old) part steps results
+pub table_at-kept : (old now : List Part) (part : ℕ) (steps : List Step) (results : List (Result Reply Refusal)) → KeepsEntries (histories_of old) steps results (histories_of now) → slice_get (tables_of now) part ≡ table_at (tables_of old) part steps results
 table_at-kept old now part steps results kept =
-    tables-histories now part ∙ ap (option_map table_of) (kept part) ∙ by_history (slice_get (histories_of old) part) ∙ ap (option_map (λ (t : Table). table_after_all t (answered_at part steps results))) (sym (tables-histories old part))
+    tables-histories now part ∙ ap (option_map table_of) (kept part) ∙ by_history (slice_get (histories_of old) part) ∙ ap (option_map (λ (t : PlainView). table_after_all t (answered_at part steps results))) (sym (tables-histories old part))
   where
-    by_history : (o : Option (List Entry)) → option_map table_of (option_map (λ (history : List Entry). history ++ entries_at part steps results) o) ≡ option_map (λ (t : Table). table_after_all t (answered_at part steps results)) (option_map table_of o)
+    by_history : (o : Option (List Entry)) → option_map table_of (option_map (λ (history : List Entry). history ++ entries_at part steps results) o) ≡ option_map (λ (t : PlainView). table_after_all t (answered_at part steps results)) (option_map table_of o)
     by_history None = refl
     by_history (Some history) = ap Some (sym (table_of-append history (entries_at part steps results)))
 
 -- no step
-pub AreExpectedReplies-nil : (limit : ℕ) (splits : List Bound) (tables : List Table) → AreExpectedReplies limit splits tables [] []
+pub AreExpectedReplies-nil : (limit : ℕ) (splits : List Bound) (tables : List PlainView) → AreExpectedReplies limit splits tables [] []
 AreExpectedReplies-nil limit splits tables = record { each = refl; outcomes = λ k s r at. absurd (omega (arith, slice_get_within {A = Step} [] k s at)) }
 
 -- the last of a list
@@ -144,7 +144,7 @@ get-front (y ∷ xs) x zero within = refl
 get-front (y ∷ xs) x (suc k) within = get-front xs x k (omega (arith, within))
 
 -- one step more
-pub AreExpectedReplies-push : (limit : ℕ) (splits : List Bound) (tables : List Table) (steps : List Step) (results : List (Result Reply Refusal)) (s : Step) (r : Result Reply Refusal) → AreExpectedReplies limit splits tables steps results → IsOutcome (expected limit (keys_at splits s.part) (table_at tables s.part steps results) s.command) r → AreExpectedReplies limit splits tables (steps ++ s ∷ []) (results ++ r ∷ [])
+pub AreExpectedReplies-push : (limit : ℕ) (splits : List Bound) (tables : List PlainView) (steps : List Step) (results : List (Result Reply Refusal)) (s : Step) (r : Result Reply Refusal) → AreExpectedReplies limit splits tables steps results → IsOutcome (expected limit (keys_of_part splits s.part) (table_at tables s.part steps results) s.command) r → AreExpectedReplies limit splits tables (steps ++ s ∷ []) (results ++ r ∷ [])
 AreExpectedReplies-push limit splits tables steps results s r before now = record {
   each = omega (arith, before.each, length-append steps (s ∷ []), length-append results (r ∷ []));
   outcomes = λ k s' r' at_step at_result. ⊎_elim
@@ -194,7 +194,7 @@ get-set_other (x ∷ xs) (suc i) zero y differs = refl
 get-set_other (x ∷ xs) (suc i) (suc k) y differs = get-set_other xs i k y (λ e. differs (ap suc e))
 
 -- the partition of a step is replaced by one that keeps its entry
-pub Keeps-set : (parts : List Part) (q d : Part) (s : Step) (r : Result Reply Refusal) → s.part < length parts → q.history ≡ (get_or parts s.part d).history ++ entries_at s.part (s ∷ []) (r ∷ []) → Keeps (histories_of parts) (s ∷ []) (r ∷ []) (histories_of (set parts s.part q))
+pub Keeps-set : (parts : List Part) (q d : Part) (s : Step) (r : Result Reply Refusal) → s.part < length parts → q.history ≡ (get_or parts s.part d).history ++ entries_at s.part (s ∷ []) (r ∷ []) → KeepsEntries (histories_of parts) (s ∷ []) (r ∷ []) (histories_of (set parts s.part q))
 Keeps-set parts q d s r within kept = λ k. ⊎_elim
     (λ (same : k ≡ s.part). subst (λ (n : ℕ). slice_get (histories_of (set parts s.part q)) n ≡ option_map (λ (h : List Entry). h ++ entries_at n (s ∷ []) (r ∷ [])) (slice_get (histories_of parts) n)) (sym same) own)
     (λ (other : k ≢ s.part).
@@ -218,7 +218,7 @@ tables-set parts q d s (Ok reply) within kept =
     let entry : Entry = record { worker = s.worker; command = s.command; reply = reply } in
     let old = get_or parts s.part d in
     let grown = kept ∙ ap (λ (es : List Entry). old.history ++ es) (entries-own s reply) in
-    map-set table parts s.part q ∙ ap (set (tables_of parts) s.part) (ap table_of grown ∙ table_of-push old.history entry ∙ ap (λ (t : Table). table_after t s.command) (sym (get_or-map table parts s.part d fresh_table within)))
+    map-set table parts s.part q ∙ ap (set (tables_of parts) s.part) (ap table_of grown ∙ table_of-push old.history entry ∙ ap (λ (t : PlainView). table_after t s.command) (sym (get_or-map table parts s.part d fresh_table within)))
 tables-set parts q d s (Err e) within kept =
     map-set_same (λ (p : Part). table_of p.history) parts s.part q d (ap table_of (kept ∙ append-nil (get_or parts s.part d).history))
 
@@ -250,7 +250,7 @@ AreParts-set splits limit parts i q d within are keys limits sound = record {
 pub outcome-nowhere : (splits : List Bound) (limit : ℕ) (parts : List Part) (s : Step) → length parts ≤ s.part → IsOutcome (expected_at limit splits (tables_of parts) s.part s.command) (Err NoSuchPartition)
 outcome-nowhere splits limit parts s beyond =
     let none = slice_get_past (tables_of parts) s.part (omega (arith, beyond, length-map parts (λ (p : Part). table_of p.history))) in
-    inl (sym (ap (λ (t : Option Table). expected limit (keys_at splits s.part) t s.command) none))
+    inl (sym (ap (λ (t : Option PlainView). expected limit (keys_of_part splits s.part) t s.command) none))
 
 -- what a partition of these splits is to answer is what the one of this number is to answer
 pub outcome-at : (splits : List Bound) (limit : ℕ) (parts : List Part) (s : Step) (r : Result Reply Refusal) (d : Part) → AreParts splits limit parts → s.part < length parts → IsOutcome (expected (get_or parts s.part d).limit (get_or parts s.part d).keys (Some (table_of (get_or parts s.part d).history)) s.command) r → IsOutcome (expected_at limit splits (tables_of parts) s.part s.command) r

@@ -8,7 +8,7 @@ use Rattle.crack_row.specs.declared.refusal.Refusal.TheVariants.{OutOfMemory}
 use Rattle.crack_part.specs.Parts.{Part, IsLimit, Serves, Spares}
 use Rattle.crack_core.specs.Routes.{AreSplits}
 use Rattle.crack_core.specs.Opening.{AreParts}
-use Rattle.crack_core.specs.Steps.{histories_of, Keeps}
+use Rattle.crack_core.specs.Steps.{histories_of, KeepsEntries}
 use Rattle.crack_core.specs.declared.step.Step.{Step}
 
 -- its splits, how many entries the history of a partition may have, and its partitions
@@ -35,7 +35,7 @@ SparesAt step old new = (p q : Part) → slice_get old step.part ≡ Some p → 
 -- step's policy, the others are as they were, and so are all after 4, 5 and 6
 pub record Makes (splits : List Bound) (limit : ℕ) (step : Step) (result : Result Reply Refusal) (old new : List Part) : Type 0 where
   pub parts : AreParts splits limit new
-  pub kept : Keeps (histories_of old) (step ∷ []) (result ∷ []) (histories_of new)
+  pub kept : KeepsEntries (histories_of old) (step ∷ []) (result ∷ []) (histories_of new)
   pub others : (k : ℕ) → k ≢ step.part → slice_get new k ≡ slice_get old k
   pub store : OnOk result (ServesAt step old new)
   pub spared : OnErr result (SparesAt step old new)

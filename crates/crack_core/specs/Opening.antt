@@ -7,7 +7,7 @@ use Rattle.crack_row.specs.declared.refusal.Refusal.{Refusal}
 use Rattle.crack_row.specs.declared.refusal.Refusal.TheVariants.{BadSplits, TooManyPartitions, BadLimit, OutOfMemory}
 use Rattle.crack_part.specs.Parts.{Part, IsSound}
 use Rattle.crack_core.specs.declared.TheConstants.{MOST_SPLITS}
-use Rattle.crack_core.specs.Routes.{is_rising, keys_at}
+use Rattle.crack_core.specs.Routes.{is_rising, keys_of_part}
 
 -- what is wrong with splits, if anything: first whether they rise as they should, then whether they are too many
 abbrev pub splits_fault : List Bound → Option Refusal
@@ -28,6 +28,6 @@ MayFault splits limit e = (opening_fault splits limit ≡ Some e) ⊎ ((opening_
 -- the partitions of these splits: each has the keys between its splits, the limit of all, and is sound
 pub record AreParts (splits : List Bound) (limit : ℕ) (parts : List Part) : Type 0 where
   pub count : length parts ≡ length splits + 1
-  pub keys : (k : ℕ) (d : Part) → k < length parts → (slice_index_or parts k d).keys ≡ keys_at splits k
+  pub keys : (k : ℕ) (d : Part) → k < length parts → (slice_index_or parts k d).keys ≡ keys_of_part splits k
   pub limits : All (λ (part : Part). part.limit ≡ limit) parts
   pub sound : All IsSound parts

@@ -17,8 +17,8 @@ pub record AreSplits (splits : List Bound) : Type 0 where
   pub few : length splits ≤ MOST_SPLITS
 
 -- the keys of a partition: from the split before it, or 0, to the split behind it, or the greatest bound
-abbrev pub keys_at : List Bound → ℕ → Range
-keys_at splits part = record { low = slice_index_or (0 ∷ map (λ (b : Bound). b.0) splits) part 0; high = slice_index_or (map (λ (b : Bound). b.0) splits) part GREATEST_BOUND }
+abbrev pub keys_of_part : List Bound → ℕ → Range
+keys_of_part splits part = record { low = slice_index_or (0 ∷ map (λ (b : Bound). b.0) splits) part 0; high = slice_index_or (map (λ (b : Bound). b.0) splits) part GREATEST_BOUND }
 
 -- the partition in which a number falls: as many splits are at or below it
 abbrev pub route : List Bound → ℕ → ℕ
@@ -26,7 +26,7 @@ route splits number = count_by (λ (split : Bound). nat_le split.0 number) split
 
 -- a partition, with the part of a range that is among its keys
 abbrev pub part_at : List Bound → Range → ℕ → ℕ × Range
-part_at splits range part = (part, clipped range (keys_at splits part))
+part_at splits range part = (part, clipped range (keys_of_part splits part))
 
 -- whether a key is in the part of a range
 abbrev pub has_keys : ℕ × Range → Bool

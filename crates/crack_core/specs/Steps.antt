@@ -12,9 +12,9 @@ use Rattle.crack_row.specs.declared.command.Reply.{Reply}
 use Rattle.crack_row.specs.declared.layout.Layout.{Layout}
 use Rattle.crack_row.specs.declared.refusal.Refusal.{Refusal}
 use Rattle.crack_row.specs.declared.refusal.Refusal.TheVariants.{KeyOutside, NoSuchPartition, HistoryFull, OutOfMemory}
-use Rattle.crack_plain.specs.Plain.{Table, no_rows, reply_to, after, replay}
+use Rattle.crack_plain.specs.Plain.{PlainView, no_rows, reply_to, after, replay}
 use Rattle.crack_part.specs.Parts.{Part}
-use Rattle.crack_core.specs.Routes.{keys_at}
+use Rattle.crack_core.specs.Routes.{keys_of_part}
 use Rattle.crack_core.specs.declared.step.Step.{Step}
 
 -- whether a key, if there is one, is one of these
@@ -23,49 +23,49 @@ is_key_in keys None = true
 is_key_in keys (Some key) = is_in keys key.0
 
 -- what a partition of these keys, whose history may have so many entries, is to answer; there may be none
-abbrev pub expected : ℕ → Range → Option Table → Command → Result Reply Refusal
+abbrev pub expected : ℕ → Range → Option PlainView → Command → Result Reply Refusal
 expected limit keys None command = Err NoSuchPartition
 expected limit keys (Some table) command = if is_key_in keys (key_of command) then (if nat_le limit table.accepted then Err (HistoryFull limit) else Ok (reply_to table.state command)) else Err KeyOutside
 
 -- what the partition of this number is to answer
-abbrev pub expected_at : ℕ → List Bound → List Table → ℕ → Command → Result Reply Refusal
-expected_at limit splits tables part command = expected limit (keys_at splits part) (slice_get tables part) command
+abbrev pub expected_at : ℕ → List Bound → List PlainView → ℕ → Command → Result Reply Refusal
+expected_at limit splits tables part command = expected limit (keys_of_part splits part) (slice_get tables part) command
 
 -- what comes out is what is expected, or, in place of a reply, a want of memory
 abbrev pub IsOutcome : Result Reply Refusal → Result Reply Refusal → Type 0
 IsOutcome expected outcome = (outcome ≡ expected) ⊎ ((outcome ≡ Err OutOfMemory) × IsOk expected)
 
 -- a partition without rows, that has answered nothing
-abbrev pub fresh_table : Table
+abbrev pub fresh_table : PlainView
 fresh_table = record { state = no_rows; accepted = 0 }
 
 -- a partition after an answered command: its rows, and one entry more
-abbrev pub table_after : Table → Command → Table
+abbrev pub table_after : PlainView → Command → PlainView
 table_after table command = record { state = after table.state command; accepted = table.accepted + 1 }
 
 -- a partition after several answered commands
-abbrev pub table_after_all : Table → List Command → Table
+abbrev pub table_after_all : PlainView → List Command → PlainView
 table_after_all table [] = table
 table_after_all table (command ∷ commands) = table_after_all (table_after table command) commands
 
 -- the partitions after what came out of asking one of them: a refusal leaves all as they were
-abbrev pub tables_after : List Table → ℕ → Command → Result Reply Refusal → List Table
+abbrev pub tables_after : List PlainView → ℕ → Command → Result Reply Refusal → List PlainView
 tables_after tables part command (Ok reply) = slice_set tables part (table_after (slice_index_or tables part fresh_table) command)
 tables_after tables part command (Err e) = tables
 
 -- what comes out of asking for a layout: 5 where there is no such partition, else any layout between the partition's ends
 -- that has as many rows as there are plain rows, or a want of memory
-abbrev pub IsLayoutOutcome : Range → Option Table → Result Layout Refusal → Type 0
+abbrev pub IsLayoutOutcome : Range → Option PlainView → Result Layout Refusal → Type 0
 IsLayoutOutcome keys None outcome = outcome ≡ Err NoSuchPartition
 IsLayoutOutcome keys (Some table) (Ok layout) = IsLayout keys layout × (layout.rows ≡ length table.state.rows)
 IsLayoutOutcome keys (Some table) (Err e) = e ≡ OutOfMemory
 
 -- the plain rows after a history, and how many entries it has
-abbrev pub table_of : List Entry → Table
+abbrev pub table_of : List Entry → PlainView
 table_of history = record { state = replay history; accepted = length history }
 
 -- the same of each partition
-abbrev pub tables_of : List Part → List Table
+abbrev pub tables_of : List Part → List PlainView
 tables_of parts = map (λ (part : Part). table_of part.history) parts
 
 -- the histories of partitions
@@ -84,20 +84,20 @@ entries_at part (step ∷ steps) (Ok reply ∷ results) = if step.part == part t
 entries_at part (step ∷ steps) (Err e ∷ results) = entries_at part steps results
 
 -- each history is the old one, and then the entries of its answered steps
-abbrev pub Keeps : List (List Entry) → List Step → List (Result Reply Refusal) → List (List Entry) → Type 0
-Keeps old steps results new = (part : ℕ) → slice_get new part ≡ option_map (λ history. history ++ entries_at part steps results) (slice_get old part)
+abbrev pub KeepsEntries : List (List Entry) → List Step → List (Result Reply Refusal) → List (List Entry) → Type 0
+KeepsEntries old steps results new = (part : ℕ) → slice_get new part ≡ option_map (λ history. history ++ entries_at part steps results) (slice_get old part)
 
 -- the commands that one partition answered of these steps, in order
 abbrev pub answered_at : ℕ → List Step → List (Result Reply Refusal) → List Command
 answered_at part steps results = map (λ (entry : Entry). entry.command) (entries_at part steps results)
 
 -- one partition after its answered steps, if there is such a partition
-abbrev pub table_at : List Table → ℕ → List Step → List (Result Reply Refusal) → Option Table
+abbrev pub table_at : List PlainView → ℕ → List Step → List (Result Reply Refusal) → Option PlainView
 table_at tables part steps results = option_map (λ table. table_after_all table (answered_at part steps results)) (slice_get tables part)
 
 -- the expected replies: each step comes out as its partition is to answer after those of its own steps that it answered before; neither
 -- workers nor policies nor other partitions' steps matter
-pub record AreExpectedReplies (limit : ℕ) (splits : List Bound) (tables : List Table) (steps : List Step) (results : List (Result Reply Refusal)) : Type 0 where
+pub record AreExpectedReplies (limit : ℕ) (splits : List Bound) (tables : List PlainView) (steps : List Step) (results : List (Result Reply Refusal)) : Type 0 where
   pub each : length results ≡ length steps
   pub outcomes : (k : ℕ) (step : Step) (result : Result Reply Refusal) → slice_get steps k ≡ Some step → slice_get results k ≡ Some result →
-      IsOutcome (expected limit (keys_at splits step.part) (table_at tables step.part (take k steps) (take k results)) step.command) result
+      IsOutcome (expected limit (keys_of_part splits step.part) (table_at tables step.part (take k steps) (take k results)) step.command) result

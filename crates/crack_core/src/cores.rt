@@ -1,11 +1,11 @@
 //! Partitions that one thread asks.
 ghost use Rattle.std.specs.Prelude.{◌≡◌, ◌≢◌, ℕ, ◌+◌, ◌≤◌, vec_capacity, List, [], ◌∷◌, length, All, is_ok, IsOk, None, Some, IfOk, IfErr, OnErr, OnOk, slice_get, if◌then◌else◌};
 ghost use Rattle.crack_row.specs.declared.Bound.{Bound};
-ghost use Rattle.crack_plain.specs.Plain.{Table, IsNumbered, IsSmall};
+ghost use Rattle.crack_plain.specs.Plain.{PlainView, IsNumbered, IsSmall};
 ghost use Rattle.crack_part.specs.Parts.{Part};
-ghost use Rattle.crack_core.specs.Routes.{AreSplits, keys_at, route, parts_of};
+ghost use Rattle.crack_core.specs.Routes.{AreSplits, keys_of_part, route, parts_of};
 ghost use Rattle.crack_core.specs.Opening.{opening_fault, MayFault, AreParts};
-ghost use Rattle.crack_core.specs.Steps.{expected_at, IsOutcome, IsLayoutOutcome, tables_of, tables_after, histories_of, accepted_by, Keeps, AreExpectedReplies};
+ghost use Rattle.crack_core.specs.Steps.{expected_at, IsOutcome, IsLayoutOutcome, tables_of, tables_after, histories_of, accepted_by, KeepsEntries, AreExpectedReplies};
 ghost use Rattle.crack_store.specs.Inside.{no_cells, IsLayoutOf};
 ghost use Rattle.crack_core.specs.Cores.{IsCore, ServesAt, SparesAt, MakesAll};
 
@@ -74,7 +74,7 @@ impl Core {
         ensures value { result.now ≡ self.now.splits }
         ensures good { AreSplits self.now.splits }
         ensures partitions { length (tables_of self.now.parts) ≡ length self.now.splits + 1 }
-        ensures numbered { All (λ (table : Table). IsNumbered table.state) (tables_of self.now.parts) }
+        ensures numbered { All (λ (table : PlainView). IsNumbered table.state) (tables_of self.now.parts) }
     {
         self.splits.as_slice()
     }
@@ -99,7 +99,7 @@ impl Core {
     /// What stands where in one partition. It cracks and merges nothing, and isn't kept. Refused with 5 where there is no such
     /// partition, and with 8 where it finds no memory. O(pieces).
     pub fn layout(&self, part: u32) -> Result<Layout, Refusal>
-        ensures outcome { IsLayoutOutcome (keys_at self.now.splits part) (slice_get (tables_of self.now.parts) part) result }
+        ensures outcome { IsLayoutOutcome (keys_of_part self.now.splits part) (slice_get (tables_of self.now.parts) part) result }
         ensures store { IfOk result (λ layout. (p : Part) → slice_get self.now.parts part ≡ Some p → IsLayoutOf p.store layout) }
     {
         match self.partitions.get(part as usize) {
@@ -117,7 +117,7 @@ impl Core {
         ensures outcome { IsOutcome (expected_at self.old.limit self.old.splits (tables_of self.old.parts) step.part step.command) result }
         // The plain rows change as the reply says, and a refusal leaves them.
         ensures after { tables_of self.new.parts ≡ tables_after (tables_of self.old.parts) step.part step.command result }
-        ensures kept { Keeps (histories_of self.old.parts) (step ∷ []) (result ∷ []) (histories_of self.new.parts) }
+        ensures kept { KeepsEntries (histories_of self.old.parts) (step ∷ []) (result ∷ []) (histories_of self.new.parts) }
         ensures accepted { accepted_by self.new.parts ≡ (if is_ok result then accepted_by self.old.parts + 1 else accepted_by self.old.parts) }
         ensures small { IfOk result IsSmall }
         ensures opened { (self.new.splits ≡ self.old.splits) × (self.new.limit ≡ self.old.limit) }
@@ -127,14 +127,14 @@ impl Core {
         ensures spared { OnErr result (SparesAt step self.old.parts self.new.parts) }
         ensures same { IfErr result (λ e. e ≢ Refusal.OutOfMemory → self.new ≡ self.old) }
     {
-        ask_part(&mut self.partitions, step)
+        ask_at(&mut self.partitions, step)
     }
 
     /// Makes these steps one after the other, and answers what comes out of each. A step that is refused leaves what `step` says, and the
     /// next one is made. Refused with 8, before the first step, where the list of the answers finds no memory.
     pub fn run_steps(&mut self, steps: &[Step]) -> Result<Vec<Result<Reply, Refusal>>, Refusal>
         ensures replies { IfOk result (λ results. AreExpectedReplies self.old.limit self.old.splits (tables_of self.old.parts) steps.now results.items) }
-        ensures kept { IfOk result (λ results. Keeps (histories_of self.old.parts) steps.now results.items (histories_of self.new.parts)) }
+        ensures kept { IfOk result (λ results. KeepsEntries (histories_of self.old.parts) steps.now results.items (histories_of self.new.parts)) }
         // Each store is served by the policy of its own steps, in their order, and by nothing else.
         ensures stores { IfOk result (λ results. MakesAll self.old.splits self.old.limit steps.now results.items self.old.parts self.new.parts) }
         ensures opened { (self.new.splits ≡ self.old.splits) × (self.new.limit ≡ self.old.limit) }
@@ -161,10 +161,10 @@ impl Core {
 
 /// Asks the partition of a step, if there is one.
 #[inline(always)]
-fn ask_part(partitions: &mut [Partition], step: Step) -> Result<Reply, Refusal>
+fn ask_at(partitions: &mut [Partition], step: Step) -> Result<Reply, Refusal>
     ensures outcome { (splits : List Bound) (limit : ℕ) → AreParts splits limit partitions.old → IsOutcome (expected_at limit splits (tables_of partitions.old) step.part step.command) result }
     ensures after { tables_of partitions.new ≡ tables_after (tables_of partitions.old) step.part step.command result }
-    ensures kept { Keeps (histories_of partitions.old) (step ∷ []) (result ∷ []) (histories_of partitions.new) }
+    ensures kept { KeepsEntries (histories_of partitions.old) (step ∷ []) (result ∷ []) (histories_of partitions.new) }
     ensures accepted { accepted_by partitions.new ≡ (if is_ok result then accepted_by partitions.old + 1 else accepted_by partitions.old) }
     ensures parts { (splits : List Bound) (limit : ℕ) → AreParts splits limit partitions.old → AreParts splits limit partitions.new }
     ensures small { IfOk result IsSmall }
@@ -185,12 +185,12 @@ fn run_all(partitions: &mut [Partition], steps: &[Step], results: &mut Vec<Resul
     requires empty { results.old.items ≡ [] }
     requires room { length steps.now ≤ vec_capacity results.old }
     ensures replies { (splits : List Bound) (limit : ℕ) → AreParts splits limit partitions.old → AreExpectedReplies limit splits (tables_of partitions.old) steps.now results.new.items }
-    ensures kept { Keeps (histories_of partitions.old) steps.now results.new.items (histories_of partitions.new) }
+    ensures kept { KeepsEntries (histories_of partitions.old) steps.now results.new.items (histories_of partitions.new) }
     ensures stores { (splits : List Bound) (limit : ℕ) → AreParts splits limit partitions.old → MakesAll splits limit steps.now results.new.items partitions.old partitions.new }
     ensures parts { (splits : List Bound) (limit : ℕ) → AreParts splits limit partitions.old → AreParts splits limit partitions.new }
 {
     'steps: for step in steps {
-        let result = ask_part(partitions, *step);
+        let result = ask_at(partitions, *step);
         results.push_reserved(result);
     }
 }

@@ -12,7 +12,7 @@ pub use book::Book;
 pub use cores::Core;
 pub use opening::{limit_fault, open_partitions, splits_fault};
 pub use receipt::Receipt;
-pub use routes::{keys_at, only_part, parts_of, route};
+pub use routes::{keys_of_part, only_part, parts_of, route};
 pub use step::Step;
 
 /// The greatest number of splits, one fewer than that of partitions.

@@ -6,7 +6,7 @@ ghost use Rattle.crack_core.specs.Routes.{is_rising, AreSplits};
 ghost use Rattle.crack_core.specs.Opening.{splits_fault, limit_fault, AreParts};
 
 use crate::MOST_SPLITS;
-use crate::routes::keys_at;
+use crate::routes::keys_of_part;
 use crack_part::Partition;
 use crack_row::{Bound, GREATEST_BOUND, GREATEST_LIMIT, Refusal};
 use std::alloc::Global;
@@ -52,7 +52,7 @@ pub fn open_partitions(
 {
     let mut parts = Vec::with_capacity(alloc, splits.len() + 1)?;
     for part in 0..splits.len() + 1 {
-        let partition = Partition::open(alloc, keys_at(splits, part), limit)?;
+        let partition = Partition::open(alloc, keys_of_part(splits, part), limit)?;
         partition.facts();
         parts.push(partition)?;
     }

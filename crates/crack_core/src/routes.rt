@@ -1,7 +1,7 @@
 //! Which partitions a key or a range meets, where splits cut the keys into partitions.
 ghost use Rattle.std.specs.Prelude.{◌≡◌, ◌+◌, ◌-◌, ◌<◌, ◌≤◌, [], ◌∷◌, length, IsOk, IfOk, IfErr, IfSome, IfNone};
 ghost use Rattle.crack_row.specs.Ranges.{IsIn};
-ghost use Rattle.crack_core.specs.Routes.{AreSplits, keys_at, route, parts_of};
+ghost use Rattle.crack_core.specs.Routes.{AreSplits, keys_of_part, route, parts_of};
 ghost use Rattle.smallvec.specs.SmallVec.{HasRoomFor};
 
 use crack_row::{Bound, GREATEST_BOUND, Key, KeyRange, Refusal};
@@ -14,7 +14,7 @@ pub fn route(splits: &[Bound], key: Key) -> u32
     requires { AreSplits splits.now }
     ensures value { result ≡ route splits.now key.0 }
     ensures there { result ≤ length splits.now }
-    ensures within { IsIn (keys_at splits.now result) key.0 }
+    ensures within { IsIn (keys_of_part splits.now result) key.0 }
 {
     splits_up_to(splits, u64::from(key.0)) as u32
 }
@@ -64,10 +64,10 @@ pub fn only_part(splits: &[Bound], range: KeyRange) -> Option<u32>
 }
 
 /// The keys of a partition.
-pub fn keys_at(splits: &[Bound], part: usize) -> KeyRange
+pub fn keys_of_part(splits: &[Bound], part: usize) -> KeyRange
     requires splits { AreSplits splits.now }
     requires there { part ≤ length splits.now }
-    ensures { result ≡ keys_at splits.now part }
+    ensures { result ≡ keys_of_part splits.now part }
 {
     let low = low_end(splits, part);
     let high = high_end(splits, part);
@@ -95,7 +95,7 @@ fn push_parts(
     ensures { parts.new.items ≡ parts_of splits.now range }
 {
     for part in first..last + 1 {
-        parts.push_reserved((part as u32, range.clip(keys_at(splits, part))));
+        parts.push_reserved((part as u32, range.clip(keys_of_part(splits, part))));
     }
 }
 
@@ -111,14 +111,14 @@ fn splits_up_to(splits: &[Bound], number: u64) -> usize
 /// The low end of a partition's keys.
 fn low_end(splits: &[Bound], part: usize) -> u64
     requires { part ≤ length splits.now }
-    ensures { result ≡ (keys_at splits.now part).low }
+    ensures { result ≡ (keys_of_part splits.now part).low }
 {
     if part == 0 { 0 } else { splits[part - 1].0 }
 }
 
 /// The high end of a partition's keys.
 fn high_end(splits: &[Bound], part: usize) -> u64
-    ensures { result ≡ (keys_at splits.now part).high }
+    ensures { result ≡ (keys_of_part splits.now part).high }
 {
     match splits.get(part) {
         Some(split) => split.0,

@@ -13,8 +13,8 @@ use Rattle.crack_row.specs.declared.command.Command.TheVariants.{Select}
 use Rattle.crack_row.specs.declared.command.Reply.{Reply}
 use Rattle.crack_row.specs.declared.refusal.Refusal.{Refusal}
 use Rattle.crack_row.specs.declared.refusal.Refusal.TheVariants.{WriteFault}
-use Rattle.crack_plain.specs.Plain.{Table, rows_in}
-use Rattle.crack_core.specs.Routes.{keys_at}
+use Rattle.crack_plain.specs.Plain.{PlainView, rows_in}
+use Rattle.crack_core.specs.Routes.{keys_of_part}
 use Rattle.crack_core.specs.Steps.{expected, expected_at, IsOutcome, tables_after, table_after, fresh_table}
 use Rattle.crack_session.specs.Queries.{listed}
 use Rattle.crack_commands.specs.Texts.{AppendsFront}
@@ -60,14 +60,14 @@ get_there [] i below = absurd (omega (arith, below))
 get_there (x ∷ xs) zero below = (x, refl)
 get_there (x ∷ xs) (suc i) below = get_there xs i (omega (arith, below))
 
-refuses_list : (limit : ℕ) (splits : List Bound) (part : ℕ) (keys : Range) (there : Option Table) (table : Table) (e : Refusal) → keys ≡ keys_at splits part → there ≡ Some table
-    → IsOutcome (expected limit (keys_at splits part) there (Select keys)) (Err e) → RefusesList limit splits part (table ∷ []) e
+refuses_list : (limit : ℕ) (splits : List Bound) (part : ℕ) (keys : Range) (there : Option PlainView) (table : PlainView) (e : Refusal) → keys ≡ keys_of_part splits part → there ≡ Some table
+    → IsOutcome (expected limit (keys_of_part splits part) there (Select keys)) (Err e) → RefusesList limit splits part (table ∷ []) e
 refuses_list limit splits part keys there table e all is outcome =
-    subst (λ (k : Range). IsOutcome (expected limit (keys_at splits part) (Some table) (Select k)) (Err e)) all
-    (subst (λ (o : Option Table). IsOutcome (expected limit (keys_at splits part) o (Select keys)) (Err e)) is outcome)
+    subst (λ (k : Range). IsOutcome (expected limit (keys_of_part splits part) (Some table) (Select k)) (Err e)) all
+    (subst (λ (o : Option PlainView). IsOutcome (expected limit (keys_of_part splits part) o (Select keys)) (Err e)) is outcome)
 
 -- a partition refuses the list of the rows of all its keys
-pub part_unlisted : (limit : ℕ) (splits : List Bound) (tables : List Table) (part : ℕ) (keys : Range) (e : Refusal) (receipts receipts' : ℕ) (failed : Bool) (left : Option (List Table)) (out : Option (List ℕ)) → keys ≡ keys_at splits part → part < length tables
+pub part_unlisted : (limit : ℕ) (splits : List Bound) (tables : List PlainView) (part : ℕ) (keys : Range) (e : Refusal) (receipts receipts' : ℕ) (failed : Bool) (left : Option (List PlainView)) (out : Option (List ℕ)) → keys ≡ keys_of_part splits part → part < length tables
     → IsOutcome (expected_at limit splits tables part (Select keys)) (Err e) → left ≡ Some tables → receipts' ≡ receipts → Keeps out out → IsPartCut limit splits tables part e receipts receipts' failed failed left out out
 part_unlisted limit splits tables part keys e receipts receipts' failed left out all within outcome after none kept =
     let found = get_there tables part within in
@@ -78,24 +78,24 @@ part_unlisted limit splits tables part keys e receipts receipts' failed left out
     }
 
 -- a partition lists the rows of all its keys, and their records aren't all written
-pub part_unwritten : (limit : ℕ) (splits : List Bound) (tables : List Table) (part : ℕ) (keys : Range) (reply : Reply) (e : Refusal) (receipts receipts' : ℕ) (failed failed' : Bool) (left : Option (List Table)) (out out' : Option (List ℕ)) → keys ≡ keys_at splits part
+pub part_unwritten : (limit : ℕ) (splits : List Bound) (tables : List PlainView) (part : ℕ) (keys : Range) (reply : Reply) (e : Refusal) (receipts receipts' : ℕ) (failed failed' : Bool) (left : Option (List PlainView)) (out out' : Option (List ℕ)) → keys ≡ keys_of_part splits part
     → IsOutcome (expected_at limit splits tables part (Select keys)) (Ok reply) → left ≡ Some (tables_after tables part (Select keys) (Ok reply)) → receipts' ≡ receipts + 1
     → AreUnsent (map record_text (listed reply)) e failed failed' out out' → IsPartCut limit splits tables part e receipts receipts' failed failed' left out out'
 part_unwritten limit splits tables part keys reply e receipts receipts' failed failed' left out out' all outcome after one unsent =
-    let replied = replied_rows limit (keys_at splits part) (slice_get tables part) keys reply outcome in
+    let replied = replied_rows limit (keys_of_part splits part) (slice_get tables part) keys reply outcome in
     let rows : listed reply ≡ rows_at splits part replied.0 = ap listed replied.2 ∙ ap (λ (k : Range). rows_in k replied.0.state.rows) all in
     record {
       table = replied.0;
       there = replied.1;
       how = inr (record {
         cause = subst (λ rows. AreUnsent (map record_text rows) e failed failed' out out') rows unsent;
-        left_is = after ∙ ap (λ (t : Table). Some (slice_set tables part (table_after t (Select keys)))) (index_there tables part replied.0 fresh_table replied.1);
+        left_is = after ∙ ap (λ (t : PlainView). Some (slice_set tables part (table_after t (Select keys)))) (index_there tables part replied.0 fresh_table replied.1);
         receipts_are = one;
       });
     }
 
 -- the header isn't written
-pub header_unsent : (limit : ℕ) (splits : List Bound) (tables : List Table) (e : Refusal) (receipts : ℕ) (failed failed' : Bool) (left : Option (List Table)) (out out' : Option (List ℕ)) → left ≡ Some tables → IsUnsent header_text e failed failed' out out'
+pub header_unsent : (limit : ℕ) (splits : List Bound) (tables : List PlainView) (e : Refusal) (receipts : ℕ) (failed failed' : Bool) (left : Option (List PlainView)) (out out' : Option (List ℕ)) → left ≡ Some tables → IsUnsent header_text e failed failed' out out'
     → IsExportCut limit splits tables e receipts receipts failed failed' left out out'
 header_unsent limit splits tables e receipts failed failed' left out out' known unsent = record {
   done = [];
@@ -106,17 +106,17 @@ header_unsent limit splits tables e receipts failed failed' left out out' known 
   cause = inl (one_unsent header_text e failed failed' out out' unsent);
 }
 
-lines_text : (splits : List Bound) (done : List Table) (out out' : Option (List ℕ)) → Appends out out' (header_text ++ flat_map record_text (rows_from splits 0 done)) → Appends out out' (concat (lines_of splits done))
+lines_text : (splits : List Bound) (done : List PlainView) (out out' : Option (List ℕ)) → Appends out out' (header_text ++ flat_map record_text (rows_from splits 0 done)) → Appends out out' (concat (lines_of splits done))
 lines_text splits done out out' written = subst (Appends out out') (ap (λ z. header_text ++ z) (sym (concat_map record_text (rows_from splits 0 done)))) written
 
 -- the next partition refuses the list of its rows
-unlisted_next : (limit : ℕ) (splits : List Bound) (tables : List Table) (part : ℕ) (table : Table) (e : Refusal) (receipts now receipts' : ℕ) (failed failed' : Bool) (left : Option (List Table)) (out out' out'' : Option (List ℕ)) (done rest : List Table)
+unlisted_next : (limit : ℕ) (splits : List Bound) (tables : List PlainView) (part : ℕ) (table : PlainView) (e : Refusal) (receipts now receipts' : ℕ) (failed failed' : Bool) (left : Option (List PlainView)) (out out' out'' : Option (List ℕ)) (done rest : List PlainView)
     → tables ≡ done ++ rest → length done ≡ part → now ≡ receipts + part → Appends out out' (header_text ++ flat_map record_text (rows_from splits 0 done)) → slice_get (map asked done ++ rest) part ≡ Some table
     → IsUnlisted limit splits (map asked done ++ rest) part table e now receipts' failed failed' left out' out'' → IsExportCut limit splits tables e receipts receipts' failed failed' left out out''
 unlisted_next limit splits tables part table e receipts now receipts' failed failed' left out out' out'' done [] split reached so_far written there next = absurd (next_is_there done part table reached there)
 unlisted_next limit splits tables part table e receipts now receipts' failed failed' left out out' out'' done (t ∷ rest) split reached so_far written there next =
     let same : table ≡ t = next_is done t rest part table reached there in
-    let here : RefusesList limit splits part (t ∷ rest) e = subst (λ (x : Table). RefusesList limit splits part (x ∷ rest) e) same next.cause in
+    let here : RefusesList limit splits part (t ∷ rest) e = subst (λ (x : PlainView). RefusesList limit splits part (x ∷ rest) e) same next.cause in
     record {
       done = done;
       rest = t ∷ rest;
@@ -131,7 +131,7 @@ unlisted_next limit splits tables part table e receipts now receipts' failed fai
     }
 
 -- the records of the next partition aren't all written
-unwritten_next : (limit : ℕ) (splits : List Bound) (tables : List Table) (part : ℕ) (table : Table) (e : Refusal) (receipts now receipts' : ℕ) (failed failed' : Bool) (left : Option (List Table)) (out out' out'' : Option (List ℕ)) (done rest : List Table)
+unwritten_next : (limit : ℕ) (splits : List Bound) (tables : List PlainView) (part : ℕ) (table : PlainView) (e : Refusal) (receipts now receipts' : ℕ) (failed failed' : Bool) (left : Option (List PlainView)) (out out' out'' : Option (List ℕ)) (done rest : List PlainView)
     → tables ≡ done ++ rest → length done ≡ part → now ≡ receipts + part → Appends out out' (header_text ++ flat_map record_text (rows_from splits 0 done)) → slice_get (map asked done ++ rest) part ≡ Some table
     → IsUnwritten splits (map asked done ++ rest) part table e now receipts' failed failed' left out' out'' → IsExportCut limit splits tables e receipts receipts' failed failed' left out out''
 unwritten_next limit splits tables part table e receipts now receipts' failed failed' left out out' out'' done [] split reached so_far written there next = absurd (next_is_there done part table reached there)
@@ -149,7 +149,7 @@ unwritten_next limit splits tables part table e receipts now receipts' failed fa
       cause = inl (subst (λ z. AreUnsent z e failed failed' out out'') (sym lines) (unsent_behind (lines_of splits done) (map record_text (rows_at splits part table)) e failed failed' out out' out'' (lines_text splits done out out' written) next.cause));
     }
 
-how_next : (limit : ℕ) (splits : List Bound) (tables : List Table) (part : ℕ) (table : Table) (e : Refusal) (receipts now receipts' : ℕ) (failed failed' : Bool) (left : Option (List Table)) (out out' out'' : Option (List ℕ)) (done rest : List Table)
+how_next : (limit : ℕ) (splits : List Bound) (tables : List PlainView) (part : ℕ) (table : PlainView) (e : Refusal) (receipts now receipts' : ℕ) (failed failed' : Bool) (left : Option (List PlainView)) (out out' out'' : Option (List ℕ)) (done rest : List PlainView)
     → tables ≡ done ++ rest → length done ≡ part → now ≡ receipts + part → Appends out out' (header_text ++ flat_map record_text (rows_from splits 0 done)) → slice_get (map asked done ++ rest) part ≡ Some table
     → IsUnlisted limit splits (map asked done ++ rest) part table e now receipts' failed failed' left out' out'' ⊎ IsUnwritten splits (map asked done ++ rest) part table e now receipts' failed failed' left out' out''
     → IsExportCut limit splits tables e receipts receipts' failed failed' left out out''
@@ -159,8 +159,8 @@ how_next limit splits tables part table e receipts now receipts' failed failed' 
     unwritten_next limit splits tables part table e receipts now receipts' failed failed' left out out' out'' done rest split reached so_far written there next
 
 -- the export of the next partition is refused
-pub Exporting-cut : {splits : List Bound} {tables : List Table} {part count : ℕ} {left : Option (List Table)} {out out' : Option (List ℕ)} (limit : ℕ) (e : Refusal) (receipts now receipts' : ℕ) (failed failed' : Bool) (left' : Option (List Table)) (out'' : Option (List ℕ)) → Exporting splits tables part count left out out' → now ≡ receipts + part
-    → ((known : List Table) → left ≡ Some known → IsPartCut limit splits known part e now receipts' failed failed' left' out' out'') → IsExportCut limit splits tables e receipts receipts' failed failed' left' out out''
+pub Exporting-cut : {splits : List Bound} {tables : List PlainView} {part count : ℕ} {left : Option (List PlainView)} {out out' : Option (List ℕ)} (limit : ℕ) (e : Refusal) (receipts now receipts' : ℕ) (failed failed' : Bool) (left' : Option (List PlainView)) (out'' : Option (List ℕ)) → Exporting splits tables part count left out out' → now ≡ receipts + part
+    → ((known : List PlainView) → left ≡ Some known → IsPartCut limit splits known part e now receipts' failed failed' left' out' out'') → IsExportCut limit splits tables e receipts receipts' failed failed' left' out out''
 Exporting-cut {splits} {tables} {part} {out = out} {out' = out'} limit e receipts now receipts' failed failed' left' out'' was so_far cut =
     let next = cut _ was.left_is in
     how_next limit splits tables part next.table e receipts now receipts' failed failed' left' out out' out'' was.done was.rest was.split was.reached so_far was.written next.there next.how
@@ -170,7 +170,7 @@ no_rest xs done [] split all = refl
 no_rest xs done (x ∷ rest) split all = absurd (let l = length-append done (x ∷ rest) in let n = ap length split in omega (arith, l, n, all))
 
 -- what is written can't be handed on
-pub Exporting-kept : {splits : List Bound} {tables : List Table} {part count : ℕ} {left : Option (List Table)} {out out' : Option (List ℕ)} (limit receipts receipts' : ℕ) (failed failed' : Bool) (out'' : Option (List ℕ)) → Exporting splits tables part count left out out' → receipts' ≡ receipts + part → part ≡ length tables → failed' ≡ true
+pub Exporting-kept : {splits : List Bound} {tables : List PlainView} {part count : ℕ} {left : Option (List PlainView)} {out out' : Option (List ℕ)} (limit receipts receipts' : ℕ) (failed failed' : Bool) (out'' : Option (List ℕ)) → Exporting splits tables part count left out out' → receipts' ≡ receipts + part → part ≡ length tables → failed' ≡ true
     → Keeps out' out'' → IsExportCut limit splits tables WriteFault receipts receipts' failed failed' left out out''
 Exporting-kept {splits} {tables} {out = out} {out' = out'} limit receipts receipts' failed failed' out'' was so_far all is kept = record {
   done = was.done;

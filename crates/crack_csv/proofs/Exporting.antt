@@ -11,8 +11,8 @@ use Rattle.crack_row.specs.declared.command.Command.TheVariants.{Select}
 use Rattle.crack_row.specs.declared.command.Reply.{Reply}
 use Rattle.crack_row.specs.declared.command.Reply.TheVariants.{Rows}
 use Rattle.crack_row.specs.declared.refusal.Refusal.TheVariants.{HistoryFull}
-use Rattle.crack_plain.specs.Plain.{Table, rows_in}
-use Rattle.crack_core.specs.Routes.{keys_at}
+use Rattle.crack_plain.specs.Plain.{PlainView, rows_in}
+use Rattle.crack_core.specs.Routes.{keys_of_part}
 use Rattle.crack_core.specs.Steps.{expected, expected_at, IsOutcome, tables_after, table_after, fresh_table}
 use Rattle.crack_session.specs.Queries.{listed}
 use Rattle.crack_commands.proofs.Sending.{Appends-then}
@@ -27,27 +27,27 @@ set_behind : {X : Type 0} (xs : List X) (y : X) (ys : List X) (z : X) → slice_
 set_behind [] y ys z = refl
 set_behind (x ∷ xs) y ys z = ap (λ t. x ∷ t) (set_behind xs y ys z)
 
-length-map : (tables : List Table) → length (map asked tables) ≡ length tables
+length-map : (tables : List PlainView) → length (map asked tables) ≡ length tables
 length-map [] = refl
 length-map (t ∷ tables) = let l = length-map tables in omega (arith, l)
 
-rows_from-push : (splits : List Bound) (part : ℕ) (tables : List Table) (table : Table) (next : ℕ) → part + length tables ≡ next → rows_from splits part (tables ++ table ∷ []) ≡ rows_from splits part tables ++ rows_at splits next table
+rows_from-push : (splits : List Bound) (part : ℕ) (tables : List PlainView) (table : PlainView) (next : ℕ) → part + length tables ≡ next → rows_from splits part (tables ++ table ∷ []) ≡ rows_from splits part tables ++ rows_at splits next table
 rows_from-push splits part [] table next e = append-nil (rows_at splits part table) ∙ ap (λ n. rows_at splits n table) (let same : part ≡ next = omega (arith, e) in same)
 rows_from-push splits part (t ∷ tables) table next e =
     ap (λ z. rows_at splits part t ++ z) (rows_from-push splits (part + 1) tables table next (omega (arith, e)))
     ∙ sym (append_assoc (rows_at splits part t) (rows_from splits (part + 1) tables) (rows_at splits next table))
 
 -- The partitions up to this one are asked, and their rows are written.
-pub record Exporting (splits : List Bound) (tables : List Table) (part count : ℕ) (left : Option (List Table)) (out out' : Option (List ℕ)) : Type 0 where
-  pub done : List Table
-  pub rest : List Table
+pub record Exporting (splits : List Bound) (tables : List PlainView) (part count : ℕ) (left : Option (List PlainView)) (out out' : Option (List ℕ)) : Type 0 where
+  pub done : List PlainView
+  pub rest : List PlainView
   pub split : tables ≡ done ++ rest
   pub reached : length done ≡ part
   pub count_is : count ≡ length (rows_from splits 0 done)
   pub left_is : left ≡ Some (map asked done ++ rest)
   pub written : Appends out out' (header_text ++ flat_map record_text (rows_from splits 0 done))
 
-pub Exporting-start : (splits : List Bound) (tables : List Table) (left : Option (List Table)) (out out' : Option (List ℕ)) → left ≡ Some tables → Appends out out' header_text → Exporting splits tables 0 0 left out out'
+pub Exporting-start : (splits : List Bound) (tables : List PlainView) (left : Option (List PlainView)) (out out' : Option (List ℕ)) → left ≡ Some tables → Appends out out' header_text → Exporting splits tables 0 0 left out out'
 Exporting-start splits tables left out out' known written = record {
   done = [];
   rest = tables;
@@ -59,21 +59,21 @@ Exporting-start splits tables left out out' known written = record {
 }
 
 -- the partition that is asked next is the first of the rest
-pub next_is : (done : List Table) (t : Table) (rest : List Table) (part : ℕ) (table : Table) → length done ≡ part → slice_get (map asked done ++ t ∷ rest) part ≡ Some table → table ≡ t
+pub next_is : (done : List PlainView) (t : PlainView) (rest : List PlainView) (part : ℕ) (table : PlainView) → length done ≡ part → slice_get (map asked done ++ t ∷ rest) part ≡ Some table → table ≡ t
 next_is done t rest part table reached there =
     let n : length (map asked done) ≡ part = length-map done ∙ reached in
     let first : slice_get (map asked done ++ t ∷ rest) part ≡ Some t = ap (slice_get (map asked done ++ t ∷ rest)) (sym n) ∙ get_behind (map asked done) (t ∷ rest) in
     cc (first, there)
 
 -- so there is one
-pub next_is_there : (done : List Table) (part : ℕ) (table : Table) → length done ≡ part → slice_get (map asked done ++ []) part ≡ Some table → ⊥
+pub next_is_there : (done : List PlainView) (part : ℕ) (table : PlainView) → length done ≡ part → slice_get (map asked done ++ []) part ≡ Some table → ⊥
 next_is_there done part table reached there =
     let n : length (map asked done) ≡ part = length-map done ∙ reached in
     let none : slice_get (map asked done ++ []) part ≡ None = ap (slice_get (map asked done ++ [])) (sym n) ∙ get_behind (map asked done) [] in
     cc (none, there)
 
 -- and then it is one of those that are asked
-pub next_asked : (done : List Table) (t : Table) (rest : List Table) (part : ℕ) (table : Table) → length done ≡ part → table ≡ t → slice_set (map asked done ++ t ∷ rest) part (asked table) ≡ map asked (done ++ t ∷ []) ++ rest
+pub next_asked : (done : List PlainView) (t : PlainView) (rest : List PlainView) (part : ℕ) (table : PlainView) → length done ≡ part → table ≡ t → slice_set (map asked done ++ t ∷ rest) part (asked table) ≡ map asked (done ++ t ∷ []) ++ rest
 next_asked done t rest part table reached same =
     let n : length (map asked done) ≡ part = length-map done ∙ reached in
     ap (λ x. slice_set (map asked done ++ t ∷ rest) part (asked x)) same
@@ -83,11 +83,11 @@ next_asked done t rest part table reached same =
     ∙ ap (λ z. z ++ rest) (sym (map-append asked done (t ∷ [])))
 
 -- the rows of one more partition
-pub next_rows : (splits : List Bound) (done : List Table) (t : Table) (part : ℕ) (table : Table) → length done ≡ part → table ≡ t → rows_from splits 0 (done ++ t ∷ []) ≡ rows_from splits 0 done ++ rows_at splits part table
+pub next_rows : (splits : List Bound) (done : List PlainView) (t : PlainView) (part : ℕ) (table : PlainView) → length done ≡ part → table ≡ t → rows_from splits 0 (done ++ t ∷ []) ≡ rows_from splits 0 done ++ rows_at splits part table
 next_rows splits done t part table reached same = rows_from-push splits 0 done t part (omega (arith, reached)) ∙ ap (λ x. rows_from splits 0 done ++ rows_at splits part x) (sym same)
 
 -- the rest begins with the partition that is asked next
-Exporting-next : {splits : List Bound} {tables : List Table} {part count : ℕ} {out out' : Option (List ℕ)} (more : ℕ) (left' : Option (List Table)) (out'' : Option (List ℕ)) (done rest : List Table)
+Exporting-next : {splits : List Bound} {tables : List PlainView} {part count : ℕ} {out out' : Option (List ℕ)} (more : ℕ) (left' : Option (List PlainView)) (out'' : Option (List ℕ)) (done rest : List PlainView)
     → tables ≡ done ++ rest → length done ≡ part → count ≡ length (rows_from splits 0 done) → Appends out out' (header_text ++ flat_map record_text (rows_from splits 0 done))
     → IsPartExported splits (map asked done ++ rest) part more left' out' out'' → Exporting splits tables (part + 1) (count + more) left' out out''
 Exporting-next {splits} {tables} {part} {count} {out} {out'} more left' out'' done [] split reached counted written next = absurd (next_is_there done part next.table reached next.there)
@@ -109,20 +109,20 @@ Exporting-next {splits} {tables} {part} {count} {out} {out'} more left' out'' do
     }
 
 -- one more partition
-pub Exporting-more : {splits : List Bound} {tables : List Table} {part count : ℕ} {left : Option (List Table)} {out out' : Option (List ℕ)} (more : ℕ) (left' : Option (List Table)) (out'' : Option (List ℕ)) → Exporting splits tables part count left out out' → ((known : List Table) → left ≡ Some known → IsPartExported splits known part more left' out' out'') → Exporting splits tables (part + 1) (count + more) left' out out''
+pub Exporting-more : {splits : List Bound} {tables : List PlainView} {part count : ℕ} {left : Option (List PlainView)} {out out' : Option (List ℕ)} (more : ℕ) (left' : Option (List PlainView)) (out'' : Option (List ℕ)) → Exporting splits tables part count left out out' → ((known : List PlainView) → left ≡ Some known → IsPartExported splits known part more left' out' out'') → Exporting splits tables (part + 1) (count + more) left' out out''
 Exporting-more more left' out'' was next = Exporting-next more left' out'' was.done was.rest was.split was.reached was.count_is was.written (next _ was.left_is)
 
 pub kept_written : (out a b : Option (List ℕ)) (text : List ℕ) → Appends out a text → Appends a b [] → Appends out b text
 kept_written out a b text h k = Appends-then out a b text [] text h k (sym (append-nil text))
 
-Exporting-whole : {splits : List Bound} {tables : List Table} {count : ℕ} {left : Option (List Table)} {out out' : Option (List ℕ)} (done rest : List Table) → tables ≡ done ++ rest → length done ≡ length tables → count ≡ length (rows_from splits 0 done) → left ≡ Some (map asked done ++ rest) → Appends out out' (header_text ++ flat_map record_text (rows_from splits 0 done)) → IsExported splits tables count left out out'
+Exporting-whole : {splits : List Bound} {tables : List PlainView} {count : ℕ} {left : Option (List PlainView)} {out out' : Option (List ℕ)} (done rest : List PlainView) → tables ≡ done ++ rest → length done ≡ length tables → count ≡ length (rows_from splits 0 done) → left ≡ Some (map asked done ++ rest) → Appends out out' (header_text ++ flat_map record_text (rows_from splits 0 done)) → IsExported splits tables count left out out'
 Exporting-whole {splits} {tables} done [] split all counted known written =
     let same : tables ≡ done = split ∙ append-nil done in
     record { count_is = rw same counted; left_is = known ∙ ap Some (append-nil (map asked done) ∙ ap (map asked) (sym same)); written = rw same written }
 Exporting-whole {splits} {tables} done (t ∷ rest) split all counted known written = absurd (let l = length-append done (t ∷ rest) in let n = ap length split in omega (arith, l, n, all))
 
 -- all partitions
-pub Exporting-end : {splits : List Bound} {tables : List Table} {part count : ℕ} {left : Option (List Table)} {out out' : Option (List ℕ)} (out'' : Option (List ℕ)) → Exporting splits tables part count left out out' → part ≡ length tables → Appends out' out'' [] → IsExported splits tables count left out out''
+pub Exporting-end : {splits : List Bound} {tables : List PlainView} {part count : ℕ} {left : Option (List PlainView)} {out out' : Option (List ℕ)} (out'' : Option (List ℕ)) → Exporting splits tables part count left out out' → part ≡ length tables → Appends out' out'' [] → IsExported splits tables count left out out''
 Exporting-end out'' was all kept = Exporting-whole was.done was.rest was.split (was.reached ∙ all) was.count_is was.left_is (kept_written _ _ _ _ was.written kept)
 
 -- what is handed on by a flush is nothing more
@@ -139,28 +139,28 @@ reply_is false limit said reply (inl same) = cc same
 reply_is false limit said reply (inr short) = cc (short.0)
 
 -- a partition that answers a select is there, and lists its rows of the range
-pub replied_rows : (limit : ℕ) (keys : Range) (there : Option Table) (range : Range) (reply : Reply) → IsOutcome (expected limit keys there (Select range)) (Ok reply) → (table : Table) × (there ≡ Some table) × (reply ≡ Rows (rows_in range table.state.rows))
+pub replied_rows : (limit : ℕ) (keys : Range) (there : Option PlainView) (range : Range) (reply : Reply) → IsOutcome (expected limit keys there (Select range)) (Ok reply) → (table : PlainView) × (there ≡ Some table) × (reply ≡ Rows (rows_in range table.state.rows))
 replied_rows limit keys None range reply (inl same) = cc same
 replied_rows limit keys None range reply (inr short) = cc (short.0)
 replied_rows limit keys (Some table) range reply outcome = (table, refl, reply_is (nat_le limit table.accepted) limit (Rows (rows_in range table.state.rows)) reply outcome)
 
-pub index_there : (tables : List Table) (i : ℕ) (table other : Table) → slice_get tables i ≡ Some table → slice_index_or tables i other ≡ table
+pub index_there : (tables : List PlainView) (i : ℕ) (table other : PlainView) → slice_get tables i ≡ Some table → slice_index_or tables i other ≡ table
 index_there [] i table other e = cc e
 index_there (t ∷ tables) zero table other e = cc e
 index_there (t ∷ tables) (suc i) table other e = index_there tables i table other e
 
 -- a partition that lists the rows of all its keys is asked, and their records are written
-pub part_exported : (limit : ℕ) (splits : List Bound) (tables : List Table) (part : ℕ) (keys : Range) (reply : Reply) (left : Option (List Table)) (out out' : Option (List ℕ)) → keys ≡ keys_at splits part
+pub part_exported : (limit : ℕ) (splits : List Bound) (tables : List PlainView) (part : ℕ) (keys : Range) (reply : Reply) (left : Option (List PlainView)) (out out' : Option (List ℕ)) → keys ≡ keys_of_part splits part
     → IsOutcome (expected_at limit splits tables part (Select keys)) (Ok reply) → left ≡ Some (tables_after tables part (Select keys) (Ok reply)) → Appends out out' (flat_map record_text (listed reply))
     → IsPartExported splits tables part (length (listed reply)) left out out'
 part_exported limit splits tables part keys reply left out out' all outcome after written =
-    let replied = replied_rows limit (keys_at splits part) (slice_get tables part) keys reply outcome in
+    let replied = replied_rows limit (keys_of_part splits part) (slice_get tables part) keys reply outcome in
     let rows : listed reply ≡ rows_at splits part replied.0 = ap listed replied.2 ∙ ap (λ (k : Range). rows_in k replied.0.state.rows) all in
     record {
       table = replied.0;
       there = replied.1;
       count_is = ap length rows;
-      left_is = after ∙ ap (λ (t : Table). Some (slice_set tables part (table_after t (Select keys)))) (index_there tables part replied.0 fresh_table replied.1);
+      left_is = after ∙ ap (λ (t : PlainView). Some (slice_set tables part (table_after t (Select keys)))) (index_there tables part replied.0 fresh_table replied.1);
       written = rw (← rows) written;
     }
 

@@ -8,7 +8,7 @@ use Rattle.csv.specs.declared.reader.Reader.{Reader}
 use Rattle.crack_row.specs.declared.Bound.{Bound}
 use Rattle.crack_row.specs.declared.refusal.Refusal.{Refusal}
 use Rattle.crack_row.specs.declared.refusal.Refusal.TheVariants.{ReadFault, OutOfMemory}
-use Rattle.crack_plain.specs.Plain.{Table}
+use Rattle.crack_plain.specs.Plain.{PlainView}
 use Rattle.crack_csv.specs.declared.record.NewRow.{NewRow}
 use Rattle.crack_csv.specs.Records.{Fields, is_header, is_header_behind, without_header, new_row_of, IsBehind, AreAllOf}
 use Rattle.crack_csv.specs.Loads.{with_row, with_rows, BringsRow, AreInserted, IsLoaded, IsCause, IsCutShort}
@@ -22,12 +22,12 @@ without_header-push : (records : List Fields) (fields : Fields) → is_header_be
 without_header-push [] fields e = rw e refl
 without_header-push (first ∷ records) fields e = without_header-more (is_header first) first records fields
 
-with_rows-push : (splits : List Bound) (tables : List Table) (rows : List NewRow) (row : NewRow) → with_rows splits tables (rows ++ row ∷ []) ≡ with_row splits (with_rows splits tables rows) row
+with_rows-push : (splits : List Bound) (tables : List PlainView) (rows : List NewRow) (row : NewRow) → with_rows splits tables (rows ++ row ∷ []) ≡ with_row splits (with_rows splits tables rows) row
 with_rows-push splits tables [] row = refl
 with_rows-push splits tables (first ∷ rows) row = with_rows-push splits (with_row splits tables first) rows row
 
 -- one more row is inserted
-AreInserted-push : {splits : List Bound} {tables : List Table} {count : ℕ} {left : Option (List Table)} (records : List Fields) (fields : Fields) (left' : Option (List Table)) (was : AreInserted splits tables records count left) → is_header_behind records fields ≡ false → BringsRow splits (with_rows splits tables was.rows) fields left' → AreInserted splits tables (records ++ fields ∷ []) (count + 1) left'
+AreInserted-push : {splits : List Bound} {tables : List PlainView} {count : ℕ} {left : Option (List PlainView)} (records : List Fields) (fields : Fields) (left' : Option (List PlainView)) (was : AreInserted splits tables records count left) → is_header_behind records fields ≡ false → BringsRow splits (with_rows splits tables was.rows) fields left' → AreInserted splits tables (records ++ fields ∷ []) (count + 1) left'
 AreInserted-push {splits} {tables} records fields left' was plain brings = record {
   rows = was.rows ++ brings.0 ∷ [];
   are = ap (map new_row_of) (without_header-push records fields plain) ∙ map-append new_row_of (without_header records) (fields ∷ [])
@@ -38,7 +38,7 @@ AreInserted-push {splits} {tables} records fields left' was plain brings = recor
 }
 
 -- a header is skipped
-AreInserted-header : {splits : List Bound} {tables : List Table} {count : ℕ} {left : Option (List Table)} (records : List Fields) (fields : Fields) (number : ℕ) → length records + 1 ≡ number → (number == 1 && is_header fields) ≡ true → AreInserted splits tables records count left → AreInserted splits tables (records ++ fields ∷ []) count left
+AreInserted-header : {splits : List Bound} {tables : List PlainView} {count : ℕ} {left : Option (List PlainView)} (records : List Fields) (fields : Fields) (number : ℕ) → length records + 1 ≡ number → (number == 1 && is_header fields) ≡ true → AreInserted splits tables records count left → AreInserted splits tables (records ++ fields ∷ []) count left
 AreInserted-header [] fields number n header was = record { rows = was.rows; are = (let is : is_header fields ≡ true = rw (← n) at header in rw is was.are); count_is = was.count_is; left_is = was.left_is }
 AreInserted-header (first ∷ records) fields number n header was = absurd (let other : (number == 1) ≡ false = ne_eqb number 1 (λ one. omega (arith, n, one)) in cc (rw other at header))
 
@@ -48,7 +48,7 @@ no_header [] fields number n e = rw (← n) at e
 no_header (first ∷ records) fields number n e = refl
 
 -- A reader stands before the record of this number, and the rows of the records before it are inserted.
-pub record Going {R : Type 0} (remaining : R → Option (List ℕ)) (reader : Reader R) (splits : List Bound) (tables : List Table) (bytes : List ℕ) (number loaded : ℕ) (left : Option (List Table)) : Type 0 where
+pub record Going {R : Type 0} (remaining : R → Option (List ℕ)) (reader : Reader R) (splits : List Bound) (tables : List PlainView) (bytes : List ℕ) (number loaded : ℕ) (left : Option (List PlainView)) : Type 0 where
   pub records : List Fields
   pub behind : IsBehind remaining reader (strip_bom bytes) records
   pub inserted : AreInserted splits tables records loaded left
@@ -58,7 +58,7 @@ pub record Going {R : Type 0} (remaining : R → Option (List ℕ)) (reader : Re
 abbrev pub ReadsOne : {R : Type 0} → (R → Option (List ℕ)) → Reader R → Reader R → Fields → Type 0
 ReadsOne remaining old new fields = (text : List ℕ) (records : List Fields) → IsBehind remaining old text records → IsBehind remaining new text (records ++ fields ∷ [])
 
-pub Going-start : {R : Type 0} (remaining : R → Option (List ℕ)) (reader : Reader R) (splits : List Bound) (tables : List Table) (bytes : List ℕ) (left : Option (List Table)) → source_of remaining reader ≡ Some (strip_bom bytes) → reader_state reader ≡ st.StartRecord → left ≡ Some tables → Going remaining reader splits tables bytes 1 0 left
+pub Going-start : {R : Type 0} (remaining : R → Option (List ℕ)) (reader : Reader R) (splits : List Bound) (tables : List PlainView) (bytes : List ℕ) (left : Option (List PlainView)) → source_of remaining reader ≡ Some (strip_bom bytes) → reader_state reader ≡ st.StartRecord → left ≡ Some tables → Going remaining reader splits tables bytes 1 0 left
 unfolding Reached
 Going-start remaining reader splits tables bytes left source state known = record {
   records = [];
@@ -67,7 +67,7 @@ Going-start remaining reader splits tables bytes left source state known = recor
   count = refl;
 }
 
-pub Going-header : {R : Type 0} {remaining : R → Option (List ℕ)} {old : Reader R} {splits : List Bound} {tables : List Table} {bytes : List ℕ} {number loaded : ℕ} {left : Option (List Table)} (new : Reader R) (fields : Fields) → Going remaining old splits tables bytes number loaded left → ReadsOne remaining old new fields → (number == 1 && is_header fields) ≡ true → Going remaining new splits tables bytes (number + 1) loaded left
+pub Going-header : {R : Type 0} {remaining : R → Option (List ℕ)} {old : Reader R} {splits : List Bound} {tables : List PlainView} {bytes : List ℕ} {number loaded : ℕ} {left : Option (List PlainView)} (new : Reader R) (fields : Fields) → Going remaining old splits tables bytes number loaded left → ReadsOne remaining old new fields → (number == 1 && is_header fields) ≡ true → Going remaining new splits tables bytes (number + 1) loaded left
 Going-header new fields g reads header = record {
   records = g.records ++ fields ∷ [];
   behind = reads _ g.records g.behind;
@@ -75,7 +75,7 @@ Going-header new fields g reads header = record {
   count = let l = length-append g.records (fields ∷ []) in let c = g.count in omega (arith, l, c);
 }
 
-pub Going-row : {R : Type 0} {remaining : R → Option (List ℕ)} {old : Reader R} {splits : List Bound} {tables : List Table} {bytes : List ℕ} {number loaded : ℕ} {left : Option (List Table)} (new : Reader R) (fields : Fields) (left' : Option (List Table)) → Going remaining old splits tables bytes number loaded left → ReadsOne remaining old new fields → (number == 1 && is_header fields) ≡ false → ((known : List Table) → left ≡ Some known → BringsRow splits known fields left') → Going remaining new splits tables bytes (number + 1) (loaded + 1) left'
+pub Going-row : {R : Type 0} {remaining : R → Option (List ℕ)} {old : Reader R} {splits : List Bound} {tables : List PlainView} {bytes : List ℕ} {number loaded : ℕ} {left : Option (List PlainView)} (new : Reader R) (fields : Fields) (left' : Option (List PlainView)) → Going remaining old splits tables bytes number loaded left → ReadsOne remaining old new fields → (number == 1 && is_header fields) ≡ false → ((known : List PlainView) → left ≡ Some known → BringsRow splits known fields left') → Going remaining new splits tables bytes (number + 1) (loaded + 1) left'
 Going-row new fields left' g reads plain brings = record {
   records = g.records ++ fields ∷ [];
   behind = reads _ g.records g.behind;
@@ -83,10 +83,10 @@ Going-row new fields left' g reads plain brings = record {
   count = let l = length-append g.records (fields ∷ []) in let c = g.count in omega (arith, l, c);
 }
 
-pub Going-end : {R : Type 0} {remaining : R → Option (List ℕ)} {old : Reader R} {splits : List Bound} {tables : List Table} {bytes : List ℕ} {number loaded : ℕ} {left : Option (List Table)} → Going remaining old splits tables bytes number loaded left → ((text : List ℕ) (records : List Fields) → IsBehind remaining old text records → AreAllOf text records) → IsLoaded splits tables bytes loaded left
+pub Going-end : {R : Type 0} {remaining : R → Option (List ℕ)} {old : Reader R} {splits : List Bound} {tables : List PlainView} {bytes : List ℕ} {number loaded : ℕ} {left : Option (List PlainView)} → Going remaining old splits tables bytes number loaded left → ((text : List ℕ) (records : List Fields) → IsBehind remaining old text records → AreAllOf text records) → IsLoaded splits tables bytes loaded left
 Going-end g ends = record { records = g.records; all = ends _ g.records g.behind; inserted = g.inserted }
 
-pub Going-unread : {R : Type 0} {remaining : R → Option (List ℕ)} {old : Reader R} {splits : List Bound} {tables : List Table} {bytes : List ℕ} {number loaded : ℕ} {left : Option (List Table)} (limit : ℕ) (e : Refusal) → Going remaining old splits tables bytes number loaded left → (e ≡ ReadFault) ⊎ (e ≡ OutOfMemory) → IsCutShort limit splits tables bytes (record { refusal = e; loaded = loaded }) left
+pub Going-unread : {R : Type 0} {remaining : R → Option (List ℕ)} {old : Reader R} {splits : List Bound} {tables : List PlainView} {bytes : List ℕ} {number loaded : ℕ} {left : Option (List PlainView)} (limit : ℕ) (e : Refusal) → Going remaining old splits tables bytes number loaded left → (e ≡ ReadFault) ⊎ (e ≡ OutOfMemory) → IsCutShort limit splits tables bytes (record { refusal = e; loaded = loaded }) left
 Going-unread limit e g cause = inl (record {
   records = g.records;
   first = (_, g.behind.rest, g.behind.reached);
@@ -94,7 +94,7 @@ Going-unread limit e g cause = inl (record {
   cause = cause;
 })
 
-pub Going-refused : {R : Type 0} {remaining : R → Option (List ℕ)} {old : Reader R} {splits : List Bound} {tables : List Table} {bytes : List ℕ} {number loaded : ℕ} {left : Option (List Table)} (limit : ℕ) (e : Refusal) (new : Reader R) (fields : Fields) (left' : Option (List Table)) → Going remaining old splits tables bytes number loaded left → ReadsOne remaining old new fields → (number == 1 && is_header fields) ≡ false → ((known : List Table) → left ≡ Some known → left' ≡ Some known) → ((known : List Table) → left ≡ Some known → IsCause limit splits known loaded number fields e) → IsCutShort limit splits tables bytes (record { refusal = e; loaded = loaded }) left'
+pub Going-refused : {R : Type 0} {remaining : R → Option (List ℕ)} {old : Reader R} {splits : List Bound} {tables : List PlainView} {bytes : List ℕ} {number loaded : ℕ} {left : Option (List PlainView)} (limit : ℕ) (e : Refusal) (new : Reader R) (fields : Fields) (left' : Option (List PlainView)) → Going remaining old splits tables bytes number loaded left → ReadsOne remaining old new fields → (number == 1 && is_header fields) ≡ false → ((known : List PlainView) → left ≡ Some known → left' ≡ Some known) → ((known : List PlainView) → left ≡ Some known → IsCause limit splits known loaded number fields e) → IsCutShort limit splits tables bytes (record { refusal = e; loaded = loaded }) left'
 Going-refused {loaded = loaded} limit e new fields left' g reads plain kept cause =
     let behind = reads _ g.records g.behind in
     inr (record {

@@ -14,7 +14,7 @@ use Rattle.crack_row.specs.declared.command.Command.TheVariants.{Insert, Delete,
 use Rattle.crack_row.specs.declared.command.Entry.{Entry}
 use Rattle.crack_plain.specs.Plain.{PlainState, after, replay_from, no_rows, IsWithin, BringWithin}
 use Rattle.crack_part.specs.Parts.{Part, IsSound}
-use Rattle.crack_core.specs.Routes.{keys_at}
+use Rattle.crack_core.specs.Routes.{keys_of_part}
 use Rattle.crack_core.specs.Steps.{tables_of}
 use Rattle.crack_csv.specs.Exports.{rows_from, all_rows}
 
@@ -66,13 +66,13 @@ within_replay keys s (entry ∷ entries) within e =
     (within_after keys s entry.command (All-head (λ (x : Entry). IsWithin keys x.command) entry entries within) e)
 
 -- the rows of sound partitions are all of theirs
-pub all_rows-sound : (splits : List Bound) (first : ℕ) (parts : List Part) → ((k : ℕ) (d : Part) → k < length parts → (get_or parts k d).keys ≡ keys_at splits (first + k)) → All IsSound parts → rows_from splits first (tables_of parts) ≡ all_rows (tables_of parts)
+pub all_rows-sound : (splits : List Bound) (first : ℕ) (parts : List Part) → ((k : ℕ) (d : Part) → k < length parts → (get_or parts k d).keys ≡ keys_of_part splits (first + k)) → All IsSound parts → rows_from splits first (tables_of parts) ≡ all_rows (tables_of parts)
 all_rows-sound splits first [] keys sound = refl
 all_rows-sound splits first (part ∷ parts) keys sound =
-    let here : part.keys ≡ keys_at splits first = keys 0 part (omega arith) ∙ ap (keys_at splits) (omega arith) in
+    let here : part.keys ≡ keys_of_part splits first = keys 0 part (omega arith) ∙ ap (keys_of_part splits) (omega arith) in
     let legal = (All-head IsSound part parts sound).legal in
     let rows = (replay_from no_rows part.history).rows in
-    let within : list_all (in_range (keys_at splits first)) rows ≡ true = rw here at (within_replay part.keys no_rows part.history legal.within refl) in
-    let rest = all_rows-sound splits (first + 1) parts (λ k d below. keys (suc k) d (omega (arith, below)) ∙ ap (keys_at splits) (omega arith)) (All-tail IsSound part parts sound) in
-    ap (λ z. z ++ rows_from splits (first + 1) (tables_of parts)) (filter_all (in_range (keys_at splits first)) rows within)
+    let within : list_all (in_range (keys_of_part splits first)) rows ≡ true = rw here at (within_replay part.keys no_rows part.history legal.within refl) in
+    let rest = all_rows-sound splits (first + 1) parts (λ k d below. keys (suc k) d (omega (arith, below)) ∙ ap (keys_of_part splits) (omega arith)) (All-tail IsSound part parts sound) in
+    ap (λ z. z ++ rows_from splits (first + 1) (tables_of parts)) (filter_all (in_range (keys_of_part splits first)) rows within)
     ∙ ap (λ z. rows ++ z) rest

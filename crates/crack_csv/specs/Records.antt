@@ -34,14 +34,14 @@ without_header [] = []
 without_header (first ∷ records) = if is_header first then records else first ∷ records
 
 -- the row of this key and payload
-abbrev pub row_with : Option ℕ → Option ℕ → Option NewRow
-row_with (Some key) (Some payload) = Some (record { key = record { 0 = key }; payload = record { 0 = payload } })
-row_with (Some key) None = None
-row_with None payload = None
+abbrev pub row_of_numbers : Option ℕ → Option ℕ → Option NewRow
+row_of_numbers (Some key) (Some payload) = Some (record { key = record { 0 = key }; payload = record { 0 = payload } })
+row_of_numbers (Some key) None = None
+row_of_numbers None payload = None
 
 -- the row that a record brings: it has just two fields, both NUMBERs, each at most the greatest of its kind
 abbrev pub new_row_of : Fields → Option NewRow
-new_row_of (key ∷ payload ∷ []) = row_with (number_up_to GREATEST_KEY key) (number_up_to GREATEST_PAYLOAD payload)
+new_row_of (key ∷ payload ∷ []) = row_of_numbers (number_up_to GREATEST_KEY key) (number_up_to GREATEST_PAYLOAD payload)
 new_row_of _ = None
 
 -- the refusal that tells why a record isn't read: no memory was found, or else the reader failed

@@ -3,14 +3,14 @@ ghost use Rattle.std.specs.Prelude.{◌≡◌, ◌+◌, ◌≤◌, ◌<◌, ◌^
 ghost use Rattle.std.specs.List.{flat_map};
 ghost use Rattle.std.specs.Io.KnownBytes.{Appends, Keeps};
 ghost use Rattle.crack_row.specs.Devices.{device, has_failed};
-ghost use Rattle.crack_plain.specs.Plain.{Table};
+ghost use Rattle.crack_plain.specs.Plain.{PlainView};
 ghost use Rattle.crack_core.specs.Steps.{tables_of};
 ghost use Rattle.crack_session.specs.Queries.{listed};
 ghost use Rattle.crack_csv.specs.Exports.{header_text, record_text, rows_from, all_rows, IsExported, IsPartExported, IsUnsent, AreUnsent, IsPartCut, IsExportCut};
 
 use crate::text::{header_text, rows_text};
 use crack_commands::send;
-use crack_core::{Core, keys_at};
+use crack_core::{Core, keys_of_part};
 use crack_row::{Command, Policy, Refusal, Reply, Row, Watched};
 use crack_session::Desk;
 use std::alloc::Global;
@@ -29,10 +29,10 @@ pub fn export_csv<D: Desk, W: Write>(
     policy: Policy,
     writer: &mut Watched<W>,
 ) -> Result<u64, Refusal>
-    ensures exported { IfOk result (λ count. (tables : List Table) → D.tables desk.old ≡ Some tables →
+    ensures exported { IfOk result (λ count. (tables : List PlainView) → D.tables desk.old ≡ Some tables →
         IsExported (D.splits desk.old) tables count (D.tables desk.new) (W.contents (device writer.old)) (W.contents (device writer.new))) }
     // On a refusal the first partitions are asked, and no row is changed. Their records are written up to what the cause says.
-    ensures cut { IfErr result (λ e. (tables : List Table) → D.tables desk.old ≡ Some tables →
+    ensures cut { IfErr result (λ e. (tables : List PlainView) → D.tables desk.old ≡ Some tables →
         IsExportCut (D.limit desk.old) (D.splits desk.old) tables e (D.receipts desk.old) (D.receipts desk.new)
         (has_failed writer.old) (has_failed writer.new) (D.tables desk.new) (W.contents (device writer.old)) (W.contents (device writer.new))) }
     ensures unfailed { OnOk result (has_failed writer.new ≡ has_failed writer.old) }
@@ -73,9 +73,9 @@ fn export_part<D: Desk, W: Write>(
     writer: &mut Watched<W>,
 ) -> Result<u64, Refusal>
     requires { part ≤ length (D.splits desk.old) }
-    ensures exported { IfOk result (λ count. (tables : List Table) → D.tables desk.old ≡ Some tables →
+    ensures exported { IfOk result (λ count. (tables : List PlainView) → D.tables desk.old ≡ Some tables →
         IsPartExported (D.splits desk.old) tables part count (D.tables desk.new) (W.contents (device writer.old)) (W.contents (device writer.new))) }
-    ensures cut { IfErr result (λ e. (tables : List Table) → D.tables desk.old ≡ Some tables →
+    ensures cut { IfErr result (λ e. (tables : List PlainView) → D.tables desk.old ≡ Some tables →
         IsPartCut (D.limit desk.old) (D.splits desk.old) tables part e (D.receipts desk.old) (D.receipts desk.new)
         (has_failed writer.old) (has_failed writer.new) (D.tables desk.new) (W.contents (device writer.old)) (W.contents (device writer.new))) }
     ensures small { IfOk result (λ count. count < 2 ^ 32) }
@@ -84,7 +84,7 @@ fn export_part<D: Desk, W: Write>(
     ensures splits { D.splits desk.new ≡ D.splits desk.old }
     ensures limit { D.limit desk.new ≡ D.limit desk.old }
 {
-    let keys = keys_at(desk.splits(), part as usize);
+    let keys = keys_of_part(desk.splits(), part as usize);
     match desk.ask(part, Command::Select(keys), policy) {
         Ok(reply) => {
             let rows = listed(&reply);

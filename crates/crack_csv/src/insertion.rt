@@ -1,7 +1,7 @@
 //! The insertion of a record's row.
 ghost use Rattle.std.specs.Prelude.{◌≡◌, ◌+◌, List, Some, Err, is_ok, IfErr, OnOk, if◌then◌else◌};
 ghost use Rattle.csv.specs.Records.{fields_of};
-ghost use Rattle.crack_plain.specs.Plain.{Table};
+ghost use Rattle.crack_plain.specs.Plain.{PlainView};
 ghost use Rattle.crack_core.specs.Routes.{route};
 ghost use Rattle.crack_core.specs.Steps.{expected_at, IsOutcome};
 ghost use Rattle.crack_csv.specs.Records.{new_row_of};
@@ -20,10 +20,10 @@ pub fn insert_record<D: Desk>(
     number: u64,
     fields: &ByteRecord,
 ) -> Result<(), Refusal>
-    ensures inserted { OnOk result ((tables : List Table) → D.tables desk.old ≡ Some tables →
+    ensures inserted { OnOk result ((tables : List PlainView) → D.tables desk.old ≡ Some tables →
         BringsRow (D.splits desk.old) tables (fields_of fields.now) (D.tables desk.new)) }
-    ensures kept { IfErr result (λ _. (tables : List Table) → D.tables desk.old ≡ Some tables → D.tables desk.new ≡ Some tables) }
-    ensures refused { IfErr result (λ e. (tables : List Table) → D.tables desk.old ≡ Some tables →
+    ensures kept { IfErr result (λ _. (tables : List PlainView) → D.tables desk.old ≡ Some tables → D.tables desk.new ≡ Some tables) }
+    ensures refused { IfErr result (λ e. (tables : List PlainView) → D.tables desk.old ≡ Some tables →
         Refuses (D.limit desk.old) (D.splits desk.old) tables number (new_row_of (fields_of fields.now)) e) }
     ensures splits { D.splits desk.new ≡ D.splits desk.old }
     ensures limit { D.limit desk.new ≡ D.limit desk.old }
@@ -37,10 +37,10 @@ pub fn insert_record<D: Desk>(
 
 /// Inserts a row into the partition of its key.
 fn insert_row<D: Desk>(desk: &mut D, policy: Policy, row: NewRow) -> Result<(), Refusal>
-    ensures inserted { OnOk result ((tables : List Table) → D.tables desk.old ≡ Some tables →
+    ensures inserted { OnOk result ((tables : List PlainView) → D.tables desk.old ≡ Some tables →
         D.tables desk.new ≡ Some (with_row (D.splits desk.old) tables row)) }
-    ensures kept { IfErr result (λ _. (tables : List Table) → D.tables desk.old ≡ Some tables → D.tables desk.new ≡ Some tables) }
-    ensures refused { IfErr result (λ e. (tables : List Table) → D.tables desk.old ≡ Some tables →
+    ensures kept { IfErr result (λ _. (tables : List PlainView) → D.tables desk.old ≡ Some tables → D.tables desk.new ≡ Some tables) }
+    ensures refused { IfErr result (λ e. (tables : List PlainView) → D.tables desk.old ≡ Some tables →
         IsOutcome (expected_at (D.limit desk.old) (D.splits desk.old) tables (route (D.splits desk.old) row.key.0) (insertion row)) (Err e)) }
     ensures splits { D.splits desk.new ≡ D.splits desk.old }
     ensures limit { D.limit desk.new ≡ D.limit desk.old }

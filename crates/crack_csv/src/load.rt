@@ -1,6 +1,6 @@
 //! Loads rows from CSV.
 ghost use Rattle.std.specs.Prelude.{◌≡◌, ◌+◌, ◌≤◌, ℕ, List, Some, IfOk, IfErr};
-ghost use Rattle.crack_plain.specs.Plain.{Table};
+ghost use Rattle.crack_plain.specs.Plain.{PlainView};
 ghost use Rattle.crack_csv.specs.Loads.{IsLoaded, IsCutShort};
 
 use crate::MOST_RECORDS;
@@ -32,11 +32,11 @@ pub fn load_csv<D: Desk, R: Read + Drop>(
     reader: R,
 ) -> Result<u64, LoadFault>
     // All records that the bytes have are inserted.
-    ensures loaded { IfOk result (λ count. (bytes : List ℕ) (tables : List Table) →
+    ensures loaded { IfOk result (λ count. (bytes : List ℕ) (tables : List PlainView) →
         R.remaining reader ≡ Some bytes → D.tables desk.old ≡ Some tables →
         IsLoaded (D.splits desk.old) tables bytes count (D.tables desk.new)) }
     // The first of them are, up to where the reader failed, or up to one that is refused.
-    ensures cut_short { IfErr result (λ fault. (bytes : List ℕ) (tables : List Table) →
+    ensures cut_short { IfErr result (λ fault. (bytes : List ℕ) (tables : List PlainView) →
         R.remaining reader ≡ Some bytes → D.tables desk.old ≡ Some tables →
         IsCutShort (D.limit desk.old) (D.splits desk.old) tables bytes fault (D.tables desk.new)) }
     ensures few { IfOk result (λ count. count ≤ MOST_RECORDS) }

@@ -9,7 +9,7 @@ use Rattle.crack_row.specs.declared.Bound.{Bound}
 use Rattle.crack_row.specs.declared.layout.PieceSize.{PieceSize}
 use Rattle.crack_row.specs.Layouts.{AreJoined}
 use Rattle.crack_index.specs.declared.mark.Mark.{Mark}
-use Rattle.crack_index.specs.Marks.{no_mark, InOrder, Rising, Fits, bounds_of, HasBound, place_of, next_mark, last_mark, first_behind, last_before, start_of, end_of, size_between, pieces_from, added, one_up, one_down, raised, lowered, lowered_at}
+use Rattle.crack_index.specs.Marks.{no_mark, InOrder, Rising, Fits, bounds_of, HasBound, position_of, next_mark, last_mark, first_behind, last_before, start_of, end_of, size_between, pieces_from, added, one_up, one_down, raised, lowered, lowered_at}
 
 -- Rising
 
@@ -58,7 +58,7 @@ HasBound-contains marks b there =
     (get_or marks there.0 no_mark, Contains-get_or marks there.0 no_mark short, sym (get_or-map bound marks there.0 no_mark b short) ∙ there.2)
 
 -- where a mark's bound stands
-pub place_of-mark : (marks : List Mark) (m : Mark) → Rising marks → Contains marks m → place_of m.bound.0 marks ≡ m.position
+pub place_of-mark : (marks : List Mark) (m : Mark) → Rising marks → Contains marks m → position_of m.bound.0 marks ≡ m.position
 place_of-mark [] m rising is = absurd (let h = is.1 in omega arith)
 place_of-mark (n ∷ ns) m rising (zero, h, e) = rw (e, eq-eqb m.bound.0 m.bound.0 refl) refl
 place_of-mark (n ∷ ns) m rising (suc i, h, e) =

@@ -13,7 +13,7 @@ use Rattle.crack_row.specs.declared.layout.PieceSize.{PieceSize}
 use Rattle.crack_index.specs.declared.mark.Mark.{Mark}
 use Rattle.crack_index.specs.declared.near.NearBound.{NearBound}
 use Rattle.crack_index.proofs.MarkLaws.{last_mark-is, last_mark-none, HasBound-mark, HasBound-contains, place_of-mark}
-use Rattle.crack_index.specs.Marks.{no_mark, Rising, HasBound, place_of, raised, lowered, lowered_at, one_up, one_down, next_mark, last_mark, near_mark, first_behind, last_before, added, size_between, pieces_from}
+use Rattle.crack_index.specs.Marks.{no_mark, Rising, HasBound, position_of, raised, lowered, lowered_at, one_up, one_down, next_mark, last_mark, near_mark, first_behind, last_before, added, size_between, pieces_from}
 
 pub bounds_rise : (marks : List Mark) → Rising marks → IsNonDecreasingBy (λ (m : Mark). m.bound.0) marks
 bounds_rise marks rising = λ i j d h k. elim (cases_eq i j) [
@@ -106,7 +106,7 @@ found_up_to marks b end rising there within split =
     (omega arith, omega (arith, order, at.2, below))
 
 -- where a bound that is there stands
-place_of-at : (b : ℕ) (marks : List Mark) (i : ℕ) → Rising marks → i < length marks → (get_or marks i no_mark).bound.0 ≡ b → place_of b marks ≡ (get_or marks i no_mark).position
+place_of-at : (b : ℕ) (marks : List Mark) (i : ℕ) → Rising marks → i < length marks → (get_or marks i no_mark).bound.0 ≡ b → position_of b marks ≡ (get_or marks i no_mark).position
 place_of-at b [] i rising h e = absurd (omega arith)
 place_of-at b (m ∷ ms) zero rising h e = rw (eq-eqb m.bound.0 b e) refl
 place_of-at b (m ∷ ms) (suc i) rising h e =
@@ -141,7 +141,7 @@ lowered_at_same place m e = rw (eq-eqb m.position place e) refl
 pub record IsFound (marks : List Mark) (b at : ℕ) : Type 0 where
   pub within : at < length marks
   pub bound : (get_or marks at no_mark).bound.0 ≡ b
-  pub place : place_of b marks ≡ (get_or marks at no_mark).position
+  pub place : position_of b marks ≡ (get_or marks at no_mark).position
 
 pub IsFound-below : (marks : List Mark) (b start : ℕ) → Rising marks → HasBound marks b → IsPartitionPoint (λ (m : Mark). m.bound.0 < b) (λ m. b ≤ m.bound.0) marks start → IsFound marks b start
 IsFound-below marks b start rising there split =
@@ -158,10 +158,10 @@ IsFound-up_to marks b end rising there within split =
 pub Moves-raised : (marks : List Mark) (b start end : ℕ) → Rising marks → HasBound marks b → end ≤ length marks
     → IsPartitionPoint (λ (m : Mark). m.bound.0 < b) (λ m. b ≤ m.bound.0) marks start
     → IsPartitionPoint (λ (m : Mark). m.position ≤ (get_or marks start no_mark).position) (λ m. (get_or marks start no_mark).position < m.position) marks end
-    → Moves (raised b (place_of b marks)) one_up marks (place_of b marks) start end
+    → Moves (raised b (position_of b marks)) one_up marks (position_of b marks) start end
 Moves-raised marks b start end rising there within low high =
     let found = IsFound-below marks b start rising there low in
-    let place = place_of b marks in
+    let place = position_of b marks in
     let is : place ≡ (get_or marks start no_mark).position = found.place in
     let before : start < end = elim (cases_lt start end) [ inl l ↦ l | inr l ↦ absurd (let past = high.1 start no_mark l found.within in omega arith) ] in
     let level : (k : ℕ) (d : Mark) → start ≤ k → k < end → (get_or marks k d).position ≡ place = λ k d h j.
@@ -178,12 +178,12 @@ Moves-raised marks b start end rising there within low high =
 pub Moves-lowered : (marks : List Mark) (b start end : ℕ) → Rising marks → HasBound marks b → end ≤ length marks
     → IsPartitionPoint (λ (m : Mark). m.bound.0 ≤ b) (λ m. b < m.bound.0) marks end
     → IsPartitionPoint (λ (m : Mark). m.position < (get_or marks (end - 1) no_mark).position) (λ m. (get_or marks (end - 1) no_mark).position ≤ m.position) marks start
-    → Moves (lowered b (place_of b marks)) one_down marks (place_of b marks) start end
+    → Moves (lowered b (position_of b marks)) one_down marks (position_of b marks) start end
 Moves-lowered marks b start end rising there within high low =
     let at = IsFound-up_to marks b end rising there within high in
     let some : 0 < end = at.0 in
     let found = at.1 in
-    let place = place_of b marks in
+    let place = position_of b marks in
     let is : place ≡ (get_or marks (end - 1) no_mark).position = found.place in
     let before : start < end = elim (cases_lt start end) [ inl l ↦ l | inr l ↦ absurd (let past = low.0 (end - 1) no_mark (omega arith) (omega arith) in omega arith) ] in
     let level : (k : ℕ) (d : Mark) → start ≤ k → k < end → (get_or marks k d).position ≡ place = λ k d h j.
@@ -360,7 +360,7 @@ Moves-raised_at marks m start end rising found within split =
       λ k d h j. omega (arith, bounds_rise marks rising start k d h j, bound d),
     ) in
     let there : HasBound marks m.bound.0 = rw found.is at (HasBound-mark marks (get_or marks start no_mark) (Contains-get_or marks start no_mark inside)) in
-    let place : place_of m.bound.0 marks ≡ m.position = place_of-at m.bound.0 marks start rising inside (bound no_mark) ∙ ap (λ (x : Mark). x.position) found.is in
+    let place : position_of m.bound.0 marks ≡ m.position = place_of-at m.bound.0 marks start rising inside (bound no_mark) ∙ ap (λ (x : Mark). x.position) found.is in
     rw place at (Moves-raised marks m.bound.0 start end rising there within low split)
 
 -- a lowering up to one of the marks moves those up to it, from where they stand at its place
@@ -375,7 +375,7 @@ Moves-lowered_from marks m start last rising found split =
       λ k d h j. omega (arith, (rising last k d (omega arith) j).bounds, bound d),
     ) in
     let there : HasBound marks m.bound.0 = rw found.is at (HasBound-mark marks (get_or marks last no_mark) (Contains-get_or marks last no_mark inside)) in
-    let place : place_of m.bound.0 marks ≡ m.position = place_of-at m.bound.0 marks last rising inside (bound no_mark) ∙ ap (λ (x : Mark). x.position) found.is in
+    let place : position_of m.bound.0 marks ≡ m.position = place_of-at m.bound.0 marks last rising inside (bound no_mark) ∙ ap (λ (x : Mark). x.position) found.is in
     let end : last + 1 - 1 ≡ last = omega arith in
     let low : IsPartitionPoint (λ (n : Mark). n.position < (get_or marks (last + 1 - 1) no_mark).position) (λ n. (get_or marks (last + 1 - 1) no_mark).position ≤ n.position) marks start = rw end split in
     rw place at (Moves-lowered marks m.bound.0 start (last + 1) rising there (omega arith) high low)
@@ -390,7 +390,7 @@ insert-added (n ∷ ns) m (suc at) h split =
     (ap (λ xs. n ∷ xs) (insert-added ns m at (omega arith) (λ k d i j. split.0 (suc k) d (omega arith) (omega arith), λ k d i j. split.1 (suc k) d (omega arith) (omega arith))))
 
 -- a bound that is there is that of the last mark at or below it
-pub position-found : (b : ℕ) (marks : List Mark) (m : Mark) → Rising marks → last_mark b marks ≡ Some m → m.bound.0 ≡ b → HasBound marks b × (m.position ≡ place_of b marks)
+pub position-found : (b : ℕ) (marks : List Mark) (m : Mark) → Rising marks → last_mark b marks ≡ Some m → m.bound.0 ≡ b → HasBound marks b × (m.position ≡ position_of b marks)
 position-found b marks m rising found same =
     let last = last_mark-is b marks m rising found in
     (rw same at (HasBound-mark marks m last.listed), rw same at (sym (place_of-mark marks m rising last.listed)))

@@ -39,9 +39,9 @@ abbrev pub HasBound : List Mark → ℕ → Type 0
 HasBound marks bound = Contains (bounds_of marks) bound
 
 -- where the bound stands
-abbrev pub place_of : ℕ → List Mark → ℕ
-place_of bound [] = 0
-place_of bound (m ∷ ms) = cond (m.bound.0 == bound) m.position (place_of bound ms)
+abbrev pub position_of : ℕ → List Mark → ℕ
+position_of bound [] = 0
+position_of bound (m ∷ ms) = cond (m.bound.0 == bound) m.position (position_of bound ms)
 
 -- the first mark whose bound is above the number
 abbrev pub next_mark : ℕ → List Mark → Option Mark

@@ -2,7 +2,7 @@
 ghost use Rattle.std.specs.Prelude.{◌≡◌, ℕ, ◌+◌, ◌-◌, ◌<◌, ◌≤◌, ◌==◌, ◌↔◌, [], map, length, All, Contains, sum_by, IsOk, IsSome, IfSome, IfOk, IfErr, OnOk, IsTrue};
 ghost use Rattle.std.specs.Option.{option_map};
 ghost use Rattle.crack_row.specs.Layouts.{AreJoined};
-ghost use Rattle.crack_index.specs.Marks.{Rising, Fits, HasBound, place_of, next_mark, last_mark, near_mark, first_behind, last_before, pair_of, added, raised, lowered, lowered_at, piece_at, pieces_from};
+ghost use Rattle.crack_index.specs.Marks.{Rising, Fits, HasBound, position_of, next_mark, last_mark, near_mark, first_behind, last_before, pair_of, added, raised, lowered, lowered_at, piece_at, pieces_from};
 
 use crate::{Mark, NearBound, sorted};
 use crack_row::{Bound, Key, KeyRange, PieceSize, Refusal};
@@ -93,7 +93,7 @@ impl CrackerIndex {
     /// Where the bound stands, if it is there. O(log bounds).
     pub fn position(&self, bound: Bound) -> Option<usize>
         ensures found { IsSome result ↔ HasBound self.now.marks bound.0 }
-        ensures place { IfSome result (λ place. place ≡ place_of bound.0 self.now.marks) }
+        ensures place { IfSome result (λ place. place ≡ position_of bound.0 self.now.marks) }
         ensures rising { Rising self.now.marks }
     {
         match sorted::neighbours(&self.marks, bound.0).0 {
@@ -160,8 +160,8 @@ impl CrackerIndex {
     /// O(log bounds) and the bounds at that place.
     pub fn raise_from(&mut self, bound: Bound)
         requires there { HasBound self.old.marks bound.0 }
-        requires small { place_of bound.0 self.old.marks < usize.MAX }
-        ensures marks { self.new.marks ≡ map (raised bound.0 (place_of bound.0 self.old.marks)) self.old.marks }
+        requires small { position_of bound.0 self.old.marks < usize.MAX }
+        ensures marks { self.new.marks ≡ map (raised bound.0 (position_of bound.0 self.old.marks)) self.old.marks }
         ensures room { self.new.room ≡ self.old.room }
         ensures rising { Rising self.new.marks }
     {
@@ -172,8 +172,8 @@ impl CrackerIndex {
     /// O(log bounds) and the bounds at that place.
     pub fn lower_to(&mut self, bound: Bound)
         requires there { HasBound self.old.marks bound.0 }
-        requires above_zero { 0 < place_of bound.0 self.old.marks }
-        ensures marks { self.new.marks ≡ map (lowered bound.0 (place_of bound.0 self.old.marks)) self.old.marks }
+        requires above_zero { 0 < position_of bound.0 self.old.marks }
+        ensures marks { self.new.marks ≡ map (lowered bound.0 (position_of bound.0 self.old.marks)) self.old.marks }
         ensures room { self.new.room ≡ self.old.room }
         ensures rising { Rising self.new.marks }
     {

@@ -1,7 +1,7 @@
 //! Marks in rising order in a slice: searches by halves, and the moves of the bounds at one place.
 ghost use Rattle.std.specs.Prelude.{◌≡◌, ◌+◌, ◌-◌, ◌<◌, ◌≤◌, map, take, length, get_or, slice_get, All, Contains, IfOk, IfErr, vec_len, vec_capacity};
 ghost use Rattle.std.specs.List.Sorted.{IsPartitionPoint};
-ghost use Rattle.crack_index.specs.Marks.{no_mark, Rising, HasBound, last_mark, next_mark, near_mark, first_behind, last_before, place_of, raised, lowered, lowered_at, one_up, one_down, added, pieces_from, size_between};
+ghost use Rattle.crack_index.specs.Marks.{no_mark, Rising, HasBound, last_mark, next_mark, near_mark, first_behind, last_before, position_of, raised, lowered, lowered_at, one_up, one_down, added, pieces_from, size_between};
 
 use crate::{Mark, NearBound};
 use crack_row::{Bound, KeyRange, PieceSize, Refusal};
@@ -171,8 +171,8 @@ pub(crate) fn lower_past(marks: &mut [Mark], near: NearBound) -> Option<NearBoun
 pub(crate) fn raise_from(marks: &mut [Mark], bound: u64)
     requires rising { Rising marks.old }
     requires there { HasBound marks.old bound }
-    requires small { place_of bound marks.old < usize.MAX }
-    ensures { marks.new ≡ map (raised bound (place_of bound marks.old)) marks.old }
+    requires small { position_of bound marks.old < usize.MAX }
+    ensures { marks.new ≡ map (raised bound (position_of bound marks.old)) marks.old }
 {
     let start = bounds_below(marks, bound);
     let end = places_up_to(marks, marks[start].position);
@@ -183,8 +183,8 @@ pub(crate) fn raise_from(marks: &mut [Mark], bound: u64)
 pub(crate) fn lower_to(marks: &mut [Mark], bound: u64)
     requires rising { Rising marks.old }
     requires there { HasBound marks.old bound }
-    requires above_zero { 0 < place_of bound marks.old }
-    ensures { marks.new ≡ map (lowered bound (place_of bound marks.old)) marks.old }
+    requires above_zero { 0 < position_of bound marks.old }
+    ensures { marks.new ≡ map (lowered bound (position_of bound marks.old)) marks.old }
 {
     let end = bounds_up_to(marks, bound);
     let start = places_below(marks, marks[end - 1].position);

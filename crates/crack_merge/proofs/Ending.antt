@@ -15,14 +15,14 @@ use Rattle.crack_state.proofs.PullLaws.{IsIntact-returned}
 use Rattle.crack_state.proofs.StepLaws.{IsIntact-appended}
 use Rattle.crack_merge.specs.declared.carries.CarryEnd.{CarryEnd}
 use Rattle.crack_merge.specs.declared.carries.CarryEnd.TheVariants.{Buries, Evicts, Appends}
-use Rattle.crack_merge.specs.Merges.{IsBelow, IsLimit}
+use Rattle.crack_merge.specs.Merges.{IsBelow, IsCeiling}
 use Rattle.crack_merge.specs.Loops.{MayEnd, EvictsOver, ended}
 
 pub not_doomed : (c : Carried) → times c.hand.slot (slots c.store.pending_out) ≡ 0 → ¬ IsDoomed c
 not_doomed c kept = λ doomed. absurd (omega (arith, kept, doomed))
 
-pub not_below : (limit : Option ℕ) (key bound : ℕ) → limit ≡ Some bound → bound ≤ key → ¬ IsBelow limit key
-not_below limit key bound is above = λ below. absurd (let less : key < bound = rw is at below in omega arith)
+pub not_below : (ceiling : Option ℕ) (key bound : ℕ) → ceiling ≡ Some bound → bound ≤ key → ¬ IsBelow ceiling key
+not_below ceiling key bound is above = λ below. absurd (let less : key < bound = rw is at below in omega arith)
 
 -- the keys of the pending insertions
 abbrev pub pending_keys : State → List ℕ
@@ -33,8 +33,8 @@ IsIntact-ended Buries c may intact = IsIntact-buried c may intact
 IsIntact-ended Evicts c may intact = IsIntact-returned c may intact
 IsIntact-ended Appends c may intact = IsIntact-appended c may.1 intact
 
--- a key that isn't below the limit isn't in the range
-pub not_inside : (limit : Option ℕ) (r : Range) (key : ℕ) → IsLimit limit r → ¬ IsBelow limit key → ¬ IsIn r key
+-- a key that isn't below the ceiling isn't in the range
+pub not_inside : (ceiling : Option ℕ) (r : Range) (key : ℕ) → IsCeiling ceiling r → ¬ IsBelow ceiling key → ¬ IsIn r key
 not_inside None r key high over = absurd (over tt)
 not_inside (Some bound) r key high over = λ inside. over (omega (arith, inside.1, high))
 
@@ -64,11 +64,11 @@ pending_keys-buried c intact =
 pub pending_keys-returned : (c : Carried) → pending_keys (ended Evicts c) ≡ pending_keys c.store ++ hand_key c ∷ []
 pending_keys-returned c = map-append (key_at c.store.cells) c.store.pending_in (c.hand ∷ [])
 
-module _ (limit : Option ℕ) (r : Range) (high : IsLimit limit r) where
+module _ (ceiling : Option ℕ) (r : Range) (high : IsCeiling ceiling r) where
   -- a search finds the same before a carry ends and behind it
-  pub Finds-ended : (rule : CarryEnd) (c : Carried) (from : ℕ) (found : Option ℕ) → IsIntact c.store (c.hand ∷ []) → EvictsOver limit rule (hand_key c) → Finds r (pending_keys c.store) from found → Finds r (pending_keys (ended rule c)) from found
+  pub Finds-ended : (rule : CarryEnd) (c : Carried) (from : ℕ) (found : Option ℕ) → IsIntact c.store (c.hand ∷ []) → EvictsOver ceiling rule (hand_key c) → Finds r (pending_keys c.store) from found → Finds r (pending_keys (ended rule c)) from found
   Finds-ended Buries c from found intact over finds = rw (pending_keys-buried c intact) finds
-  Finds-ended Evicts c from found intact over finds = rw (pending_keys-returned c) (Finds-push r (pending_keys c.store) (hand_key c) from found (not_inside limit r (hand_key c) high over) finds)
+  Finds-ended Evicts c from found intact over finds = rw (pending_keys-returned c) (Finds-push r (pending_keys c.store) (hand_key c) from found (not_inside ceiling r (hand_key c) high over) finds)
   Finds-ended Appends c from found intact over finds = finds
 
 ended_room : (rule : CarryEnd) (c : Carried) (column_room in_room : ℕ) → SameButRoom (ended rule c) (ended rule (record { store = record c.store { column_room = column_room; in_room = in_room }; hand = c.hand }))

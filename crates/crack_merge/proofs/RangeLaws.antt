@@ -27,11 +27,11 @@ kept_hand c kept = elim (cases_lt 0 (times c.hand.slot (slots c.store.pending_ou
   | inr l ↦ omega arith
 ]
 
-pub IsIntact-Carries : (limit : Option ℕ) (c : Carried) (t : State) → IsIntact c.store (c.hand ∷ []) → Carries limit c t → IsIntact t []
-IsIntact-Carries limit c t intact (buries d doomed) = IsIntact-buried d doomed intact
-IsIntact-Carries limit c t intact (evicts d bound kept is above) = IsIntact-returned d (kept_hand d kept) intact
-IsIntact-Carries limit c t intact (ends d kept below at_end) = IsIntact-appended d at_end intact
-IsIntact-Carries limit c t intact (goes_on d u kept below before rest) = IsIntact-Carries limit (pushed_on d) u (IsIntact-pushed_on d before intact) rest
+pub IsIntact-Carries : (ceiling : Option ℕ) (c : Carried) (t : State) → IsIntact c.store (c.hand ∷ []) → Carries ceiling c t → IsIntact t []
+IsIntact-Carries ceiling c t intact (buries d doomed) = IsIntact-buried d doomed intact
+IsIntact-Carries ceiling c t intact (evicts d bound kept is above) = IsIntact-returned d (kept_hand d kept) intact
+IsIntact-Carries ceiling c t intact (ends d kept below at_end) = IsIntact-appended d at_end intact
+IsIntact-Carries ceiling c t intact (goes_on d u kept below before rest) = IsIntact-Carries ceiling (pushed_on d) u (IsIntact-pushed_on d before intact) rest
 
 -- where room was made, the row that a search found is there still
 pub found_within : (r : Range) (t u : State) (from place : ℕ) → Finds r (keys_at t.cells t.pending_in) from (Some place) → SameButRoom t u → place < length u.pending_in
@@ -65,30 +65,30 @@ found_inside r cells hs from place found outside =
     ]
 
 -- so no row is left for a carry
-left_inside : (limit : Option ℕ) (r : Range) (s : State) (from : ℕ) (t : State) (place : ℕ) → CarriesIn limit r s from t → Finds r (keys_at t.cells t.pending_in) from (Some place) → All (ReadsOutside s.cells r) s.pending_in → ⊥
-left_inside limit r s from t place begins found outside = found_inside r s.cells s.pending_in 0 place found outside
-left_inside limit r s from t place (carries before at u v w rest first room carried) found outside = left_inside limit r s before u at rest first outside
+left_inside : (ceiling : Option ℕ) (r : Range) (s : State) (from : ℕ) (t : State) (place : ℕ) → CarriesIn ceiling r s from t → Finds r (keys_at t.cells t.pending_in) from (Some place) → All (ReadsOutside s.cells r) s.pending_in → ⊥
+left_inside ceiling r s from t place begins found outside = found_inside r s.cells s.pending_in 0 place found outside
+left_inside ceiling r s from t place (carries before at u v w rest first room carried) found outside = left_inside ceiling r s before u at rest first outside
 
-carried_none : (limit : Option ℕ) (r : Range) (s : State) (from : ℕ) (t : State) → CarriesIn limit r s from t → All (ReadsOutside s.cells r) s.pending_in → t ≡ s
-carried_none limit r s from t begins outside = refl
-carried_none limit r s from t (carries before at u v w rest first room carried) outside = absurd (left_inside limit r s before u at rest first outside)
+carried_none : (ceiling : Option ℕ) (r : Range) (s : State) (from : ℕ) (t : State) → CarriesIn ceiling r s from t → All (ReadsOutside s.cells r) s.pending_in → t ≡ s
+carried_none ceiling r s from t begins outside = refl
+carried_none ceiling r s from t (carries before at u v w rest first room carried) outside = absurd (left_inside ceiling r s before u at rest first outside)
 
 -- and none is carried, nor refused
-pub CarriesAll-outside : (limit : Option ℕ) (r : Range) (s t : State) → CarriesAll limit r s t → All (ReadsOutside s.cells r) s.pending_in → t ≡ s
-CarriesAll-outside limit r s t all outside = carried_none limit r s all.from t all.carries outside
+pub CarriesAll-outside : (ceiling : Option ℕ) (r : Range) (s t : State) → CarriesAll ceiling r s t → All (ReadsOutside s.cells r) s.pending_in → t ≡ s
+CarriesAll-outside ceiling r s t all outside = carried_none ceiling r s all.from t all.carries outside
 
-pub CarriesSome-outside : (limit : Option ℕ) (r : Range) (s t : State) → CarriesSome limit r s t → All (ReadsOutside s.cells r) s.pending_in → ⊥
-CarriesSome-outside limit r s t some outside = left_inside limit r s some.from some.last some.next some.carries some.left outside
+pub CarriesSome-outside : (ceiling : Option ℕ) (r : Range) (s t : State) → CarriesSome ceiling r s t → All (ReadsOutside s.cells r) s.pending_in → ⊥
+CarriesSome-outside ceiling r s t some outside = left_inside ceiling r s some.from some.last some.next some.carries some.left outside
 
 -- the result of the carries of a range
-module _ (limit : Option ℕ) (r : Range) (s : State) where
-  pub carried_same : (result : Result State (State × Refusal)) → IfOk result (λ t. CarriesAll limit r s t) → All (ReadsOutside s.cells r) s.pending_in → IfOk result (λ t. t ≡ s)
-  carried_same (Ok t) all outside = CarriesAll-outside limit r s t all outside
+module _ (ceiling : Option ℕ) (r : Range) (s : State) where
+  pub carried_same : (result : Result State (State × Refusal)) → IfOk result (λ t. CarriesAll ceiling r s t) → All (ReadsOutside s.cells r) s.pending_in → IfOk result (λ t. t ≡ s)
+  carried_same (Ok t) all outside = CarriesAll-outside ceiling r s t all outside
   carried_same (Err e) all outside = tt
 
-  pub carried_spare : (result : Result State (State × Refusal)) → IfErr result (λ e. CarriesSome limit r s e.0) → All (ReadsOutside s.cells r) s.pending_in → IsOk result
+  pub carried_spare : (result : Result State (State × Refusal)) → IfErr result (λ e. CarriesSome ceiling r s e.0) → All (ReadsOutside s.cells r) s.pending_in → IsOk result
   carried_spare (Ok t) some outside = refl
-  carried_spare (Err e) some outside = absurd (CarriesSome-outside limit r s e.0 some outside)
+  carried_spare (Err e) some outside = absurd (CarriesSome-outside ceiling r s e.0 some outside)
 
 -- likewise for a pull
 pulled_inside : (r : Range) (s : State) (from : ℕ) (t : State) (place : ℕ) → PullsOut r s from t → Finds r (keys_at t.cells t.pending_out) from (Some place) → All (ReadsOutside s.cells r) s.pending_out → ⊥

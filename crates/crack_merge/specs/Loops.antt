@@ -16,20 +16,20 @@ ended Evicts c = returned c
 ended Appends c = appended c
 
 -- the hand isn't a pending deletion
-abbrev pub IsKept : Carried → Type 0
-IsKept c = times c.hand.slot (slots c.store.pending_out) ≡ 0
+abbrev pub IsLasting : Carried → Type 0
+IsLasting c = times c.hand.slot (slots c.store.pending_out) ≡ 0
 
 -- a carry may end by this rule
 abbrev pub MayEnd : CarryEnd → Carried → Type 0
 MayEnd Buries c = IsDoomed c
-MayEnd Evicts c = IsKept c
-MayEnd Appends c = IsKept c × (piece_end c.store (hand_key c) ≡ length c.store.column)
+MayEnd Evicts c = IsLasting c
+MayEnd Appends c = IsLasting c × (piece_end c.store (hand_key c) ≡ length c.store.column)
 
--- a row that is evicted isn't below the limit
+-- a row that is evicted isn't below the ceiling
 abbrev pub EvictsOver : Option ℕ → CarryEnd → ℕ → Type 0
-EvictsOver limit Buries key = ⊤
-EvictsOver limit Evicts key = ¬ IsBelow limit key
-EvictsOver limit Appends key = ⊤
+EvictsOver ceiling Buries key = ⊤
+EvictsOver ceiling Evicts key = ¬ IsBelow ceiling key
+EvictsOver ceiling Appends key = ⊤
 
 -- pending insertions were carried in; each carry buried one row at most
 pub record PutsIn (policy : Policy) (s t : State) : Type 0 where

@@ -12,50 +12,50 @@ use Rattle.crack_state.specs.Steps.{hand_key, piece_start, piece_end, IsDoomed, 
 use Rattle.crack_state.specs.Merge.{Follows, Tallies, SomeOf, edge, outside_of, without_first, count_inside}
 
 -- the number of a bound, if there is one
-abbrev pub limit_of : Option Bound → Option ℕ
-limit_of None = None
-limit_of (Some bound) = Some bound.0
+abbrev pub ceiling_of : Option Bound → Option ℕ
+ceiling_of None = None
+ceiling_of (Some bound) = Some bound.0
 
--- the key is below the limit, if there is one
+-- the key is below the ceiling, if there is one
 abbrev pub IsBelow : Option ℕ → ℕ → Type 0
 IsBelow None key = ⊤
 IsBelow (Some bound) key = key < bound
 
--- the limit, if there is one, is at or above the range's high end
-abbrev pub IsLimit : Option ℕ → Range → Type 0
-IsLimit None r = ⊤
-IsLimit (Some bound) r = r.high ≤ bound
+-- the ceiling, if there is one, is at or above the range's high end
+abbrev pub IsCeiling : Option ℕ → Range → Type 0
+IsCeiling None r = ⊤
+IsCeiling (Some bound) r = r.high ≤ bound
 
 -- a carry, step by step, each by the first rule that holds
-pub data Carries (limit : Option ℕ) : Carried → State → Type 0 where
+pub data Carries (ceiling : Option ℕ) : Carried → State → Type 0 where
   -- the hand is doomed: it is buried, and the carry ends
-  buries : (c : Carried) → IsDoomed c → Carries limit c (buried c)
-  -- else, its key is at or above the limit: the row is evicted, and the carry ends
-  evicts : (c : Carried) (bound : ℕ) → ¬ IsDoomed c → limit ≡ Some bound → bound ≤ hand_key c → Carries limit c (returned c)
+  buries : (c : Carried) → IsDoomed c → Carries ceiling c (buried c)
+  -- else, its key is at or above the ceiling: the row is evicted, and the carry ends
+  evicts : (c : Carried) (bound : ℕ) → ¬ IsDoomed c → ceiling ≡ Some bound → bound ≤ hand_key c → Carries ceiling c (returned c)
   -- else, the own piece of the hand ends at the column's end: the hand becomes the column's last row, and the carry ends
-  ends : (c : Carried) → ¬ IsDoomed c → IsBelow limit (hand_key c) → piece_end c.store (hand_key c) ≡ length c.store.column → Carries limit c (appended c)
+  ends : (c : Carried) → ¬ IsDoomed c → IsBelow ceiling (hand_key c) → piece_end c.store (hand_key c) ≡ length c.store.column → Carries ceiling c (appended c)
   -- else, it ends before that: the hand takes the place of the row there, and the carry goes on with that row in hand
-  goes_on : (c : Carried) (t : State) → ¬ IsDoomed c → IsBelow limit (hand_key c) → piece_end c.store (hand_key c) < length c.store.column → Carries limit (pushed_on c) t → Carries limit c t
+  goes_on : (c : Carried) (t : State) → ¬ IsDoomed c → IsBelow ceiling (hand_key c) → piece_end c.store (hand_key c) < length c.store.column → Carries ceiling (pushed_on c) t → Carries ceiling c t
 
 -- pending insertions of a range were carried, in the order of arrival: each was lifted where the search found it that went on from the
 -- place of the one before, the last of all at this place
-pub data CarriesIn (limit : Option ℕ) (r : Range) (s : State) : ℕ → State → Type 0 where
+pub data CarriesIn (ceiling : Option ℕ) (r : Range) (s : State) : ℕ → State → Type 0 where
   -- none was
-  begins : CarriesIn limit r s 0 s
+  begins : CarriesIn ceiling r s 0 s
   -- one more was: room was made, and it was lifted and carried
-  carries : (from place : ℕ) (t u v : State) → CarriesIn limit r s from t → Finds r (keys_at t.cells t.pending_in) from (Some place) → SameButRoom t u → Carries limit (lifted place u) v → CarriesIn limit r s place v
+  carries : (from place : ℕ) (t u v : State) → CarriesIn ceiling r s from t → Finds r (keys_at t.cells t.pending_in) from (Some place) → SameButRoom t u → Carries ceiling (lifted place u) v → CarriesIn ceiling r s place v
 
 -- all pending insertions of a range were carried: the search finds none behind the last
-pub record CarriesAll (limit : Option ℕ) (r : Range) (s t : State) : Type 0 where
+pub record CarriesAll (ceiling : Option ℕ) (r : Range) (s t : State) : Type 0 where
   pub from : ℕ
-  pub carries : CarriesIn limit r s from t
+  pub carries : CarriesIn ceiling r s from t
   pub none : Finds r (keys_at t.cells t.pending_in) from None
 
 -- some of them were, the first ones, and no memory was found for the next, which the search finds
-pub record CarriesSome (limit : Option ℕ) (r : Range) (s t : State) : Type 0 where
+pub record CarriesSome (ceiling : Option ℕ) (r : Range) (s t : State) : Type 0 where
   pub from : ℕ
   pub last : State
-  pub carries : CarriesIn limit r s from last
+  pub carries : CarriesIn ceiling r s from last
   pub next : ℕ
   pub left : Finds r (keys_at last.cells last.pending_in) from (Some next)
   pub room : SameButRoom last t

@@ -1,7 +1,7 @@
 //! The carry, and the carries of a range.
 ghost use Rattle.std.specs.Prelude.{◌≡◌, ◌≤◌, ◌<◌, ℕ, length, Some, IsTrue, IsFalse, IfOk, IfErr};
 ghost use Rattle.crack_state.specs.Steps.{hand_key, lifted};
-ghost use Rattle.crack_merge.specs.Merges.{Carries, CarriesAll, CarriesSome, IsBelow, IsLimit, limit_of};
+ghost use Rattle.crack_merge.specs.Merges.{Carries, CarriesAll, CarriesSome, IsBelow, IsCeiling, ceiling_of};
 ghost use Rattle.crack_merge.specs.Loops.{MayEnd, EvictsOver, ended};
 
 use crack_row::{Bound, KeyRange, Refusal};
@@ -12,24 +12,24 @@ use crack_store::{Carrying, Store};
 pub(crate) enum CarryEnd {
     /// The hand is doomed: it is buried.
     Buries,
-    /// The hand's key is at or above the limit: its row is evicted.
+    /// The hand's key is at or above the ceiling: its row is evicted.
     Evicts,
     /// The hand's own piece ends where the column does: the hand becomes the column's last row.
     Appends,
 }
 
-/// Carries the pending insertions of a range, each as far as to the limit, in the order of arrival; passes over the others once. The limit
+/// Carries the pending insertions of a range, each as far as to the ceiling, in the order of arrival; passes over the others once. The ceiling
 /// lies at or above the range's high end, so no row that is evicted is one of these again.
 /// O(1) for each pending row that it passes, and O(log bounds) and the pieces on its way for each that it carries.
 /// Refused with 8 where it finds no memory; the rows that it had carried stay where they are.
 pub fn carry_range(
     mut store: Store,
     range: KeyRange,
-    limit: Option<Bound>,
+    ceiling: Option<Bound>,
 ) -> Result<Store, (Store, Refusal)>
-    requires { IsLimit (limit_of limit) range }
-    ensures ok { IfOk result (λ t. CarriesAll (limit_of limit) range store t) }
-    ensures stops { IfErr result (λ e. CarriesSome (limit_of limit) range store e.0) }
+    requires { IsCeiling (ceiling_of ceiling) range }
+    ensures ok { IfOk result (λ t. CarriesAll (ceiling_of ceiling) range store t) }
+    ensures stops { IfErr result (λ e. CarriesSome (ceiling_of ceiling) range store e.0) }
     ensures err { IfErr result (λ e. e.1 ≡ Refusal.OutOfMemory) }
 {
     let Some(first) = store.next_in(range, 0) else {
@@ -41,7 +41,7 @@ pub fn carry_range(
     let mut carrying = store.lift(first);
     let mut from = first;
     'insertions: loop {
-        let rule = carry(&mut carrying, limit);
+        let rule = carry(&mut carrying, ceiling);
         carrying.facts();
         let Some(place) = carrying.seek_in(range, from) else {
             return Ok(end(carrying, rule));
@@ -57,10 +57,10 @@ pub fn carry_range(
 /// Carries the hand up through the pieces until a rule holds that ends the carry, and tells which. As long as none does, the hand
 /// takes the place where its own piece ends, and the row that stood there is in hand.
 /// O(1) for each piece, and the bounds at its place; takes no memory.
-pub(crate) fn carry(carrying: &mut Carrying, limit: Option<Bound>) -> CarryEnd
+pub(crate) fn carry(carrying: &mut Carrying, ceiling: Option<Bound>) -> CarryEnd
     ensures ends { MayEnd result carrying.new }
-    ensures evicts { EvictsOver (limit_of limit) result (hand_key carrying.new) }
-    ensures carries { Carries (limit_of limit) carrying.old (ended result carrying.new) }
+    ensures evicts { EvictsOver (ceiling_of ceiling) result (hand_key carrying.new) }
+    ensures carries { Carries (ceiling_of ceiling) carrying.old (ended result carrying.new) }
     ensures column_room { carrying.new.store.column_room ≡ carrying.old.store.column_room }
     ensures in_room { carrying.new.store.in_room ≡ carrying.old.store.in_room }
     ensures pending_in { carrying.new.store.pending_in ≡ carrying.old.store.pending_in }
@@ -70,7 +70,7 @@ pub(crate) fn carry(carrying: &mut Carrying, limit: Option<Bound>) -> CarryEnd
         if carrying.is_doomed() {
             return CarryEnd::Buries;
         }
-        if is_at_limit(carrying, limit) {
+        if is_at_ceiling(carrying, ceiling) {
             return CarryEnd::Evicts;
         }
         if carrying.piece_ends_at() == carrying.column_len() {
@@ -81,12 +81,12 @@ pub(crate) fn carry(carrying: &mut Carrying, limit: Option<Bound>) -> CarryEnd
     }
 }
 
-/// Whether the key of the hand is at or above the limit.
-fn is_at_limit(carrying: &Carrying, limit: Option<Bound>) -> bool
-    ensures at { IsTrue result → (bound : ℕ) × (limit_of limit ≡ Some bound) × (bound ≤ hand_key carrying.now) }
-    ensures below { IsFalse result → IsBelow (limit_of limit) (hand_key carrying.now) }
+/// Whether the key of the hand is at or above the ceiling.
+fn is_at_ceiling(carrying: &Carrying, ceiling: Option<Bound>) -> bool
+    ensures at { IsTrue result → (bound : ℕ) × (ceiling_of ceiling ≡ Some bound) × (bound ≤ hand_key carrying.now) }
+    ensures below { IsFalse result → IsBelow (ceiling_of ceiling) (hand_key carrying.now) }
 {
-    match limit {
+    match ceiling {
         Some(bound) => bound.0 <= carrying.hand_key().0 as u64,
         None => false,
     }

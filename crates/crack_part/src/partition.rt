@@ -154,7 +154,7 @@ impl Partition {
     {
         self.may_keep(&command)?;
         make_room(&mut self.history)?;
-        let reply = serve(
+        let reply = answer(
             &mut self.store,
             &mut self.next,
             self.alloc,
@@ -215,7 +215,7 @@ fn allows(keys: KeyRange, command: &Command) -> bool
 
 /// Answers a command: reads its range, replies, and makes its change.
 #[inline(always)]
-fn serve(
+fn answer(
     store: &mut Store,
     next: &mut u64,
     alloc: Global,

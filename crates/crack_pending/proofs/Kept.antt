@@ -4,7 +4,7 @@ use Rattle.std.specs.List.{remove}
 use Rattle.std.proofs.lemmas.List.{length-take-le}
 use mir.Val.{bool_byte}
 use Rattle.std.proofs.lemmas.Bool.{true≢false, cases_lt}
-use Rattle.crack_pending.specs.Spots.{kept, place_at, Stands}
+use Rattle.crack_pending.specs.Spots.{kept, place_at, HasRow}
 
 -- one spot more: a row there is one place more
 pub place_at-more : (bs : List Bool) (spot : ℕ) → spot < length bs → place_at bs (spot + 1) ≡ place_at bs spot + cond (get_or bs spot false) 1 0
@@ -55,13 +55,13 @@ spot-there bs spot place before within = elim (cases_lt spot (length bs)) [
 ]
 
 -- a row stands at a spot that is there
-pub Stands-within : (bs : List Bool) (spot : ℕ) → Stands bs spot → spot < length bs
+pub Stands-within : (bs : List Bool) (spot : ℕ) → HasRow bs spot → spot < length bs
 Stands-within [] spot stands = absurd (true≢false (sym stands))
 Stands-within (b ∷ bs) zero stands = omega arith
 Stands-within (b ∷ bs) (suc n) stands = omega (arith, Stands-within bs n stands)
 
 -- behind a row the places are higher
-pub place_at-before : (bs : List Bool) (spot n : ℕ) → Stands bs spot → spot < n → place_at bs spot < place_at bs n
+pub place_at-before : (bs : List Bool) (spot n : ℕ) → HasRow bs spot → spot < n → place_at bs spot < place_at bs n
 place_at-before bs spot n stands before =
     let more = place_at-more bs spot (Stands-within bs spot stands) in
     let one : place_at bs (spot + 1) ≡ place_at bs spot + 1 = rw stands at more in
@@ -74,7 +74,7 @@ place_at-hole_behind [] spot (suc n) order = refl
 place_at-hole_behind (b ∷ bs) zero (suc n) order = absurd (omega (arith, order))
 place_at-hole_behind (b ∷ bs) (suc s) (suc n) order = omega (arith, place_at-hole_behind bs s n (omega (arith, order)))
 
-pub place_at-hole_before : (bs : List Bool) (spot n : ℕ) → Stands bs spot → spot < n → place_at (set bs spot false) n + 1 ≡ place_at bs n
+pub place_at-hole_before : (bs : List Bool) (spot n : ℕ) → HasRow bs spot → spot < n → place_at (set bs spot false) n + 1 ≡ place_at bs n
 place_at-hole_before [] spot n stands order = absurd (true≢false (sym stands))
 place_at-hole_before (b ∷ bs) spot zero stands order = absurd (omega (arith, order))
 place_at-hole_before (true ∷ bs) zero (suc n) stands order = omega arith
@@ -88,7 +88,7 @@ place_at-push [] b (suc n) within = absurd (omega (arith, within))
 place_at-push (c ∷ bs) b (suc n) within = omega (arith, place_at-push bs b n (omega (arith, within)))
 
 -- where there are as many rows as spots, no spot is a hole
-pub full-Stands : (bs : List Bool) (n : ℕ) → place_at bs (length bs) ≡ length bs → n < length bs → Stands bs n
+pub full-Stands : (bs : List Bool) (n : ℕ) → place_at bs (length bs) ≡ length bs → n < length bs → HasRow bs n
 full-Stands [] n full within = absurd (omega (arith, within))
 full-Stands (true ∷ bs) zero full within = refl
 full-Stands (true ∷ bs) (suc n) full within = full-Stands bs n (omega (arith, full)) (omega (arith, within))
@@ -100,7 +100,7 @@ full-place_at [] (suc n) full within = absurd (omega (arith, within))
 full-place_at (true ∷ bs) (suc n) full within = omega (arith, full-place_at bs n (omega (arith, full)) (omega (arith, within)))
 full-place_at (false ∷ bs) (suc n) full within = absurd (omega (arith, full, place_at-few bs (length bs)))
 
-pub full-from : (bs : List Bool) → ((n : ℕ) → n < length bs → Stands bs n) → place_at bs (length bs) ≡ length bs
+pub full-from : (bs : List Bool) → ((n : ℕ) → n < length bs → HasRow bs n) → place_at bs (length bs) ≡ length bs
 full-from [] all = refl
 full-from (true ∷ bs) all = omega (arith, full-from bs (λ n within. all (suc n) (omega (arith, within))))
 full-from (false ∷ bs) all = absurd (true≢false (sym (all 0 (omega arith))))
@@ -131,7 +131,7 @@ module _ {X : Type 0} where
   length-kept (false ∷ bs) (x ∷ xs) beside = omega (arith, length-kept bs xs (omega (arith, beside)))
 
   -- what stands at a spot is what is kept at its place
-  pub kept-at : (bs : List Bool) (xs : List X) (spot : ℕ) (d : X) → length bs ≡ length xs → Stands bs spot → get_or (kept bs xs) (place_at bs spot) d ≡ get_or xs spot d
+  pub kept-at : (bs : List Bool) (xs : List X) (spot : ℕ) (d : X) → length bs ≡ length xs → HasRow bs spot → get_or (kept bs xs) (place_at bs spot) d ≡ get_or xs spot d
   kept-at [] xs spot d beside stands = absurd (true≢false (sym stands))
   kept-at (b ∷ bs) [] spot d beside stands = absurd (omega (arith, beside))
   kept-at (true ∷ bs) (x ∷ xs) zero d beside stands = refl
@@ -144,7 +144,7 @@ module _ {X : Type 0} where
       rw none (kept-at bs xs n d (omega (arith, beside)) stands)
 
   -- a hole more takes out what stood there
-  pub kept-hole : (bs : List Bool) (xs : List X) (spot : ℕ) → length bs ≡ length xs → Stands bs spot → kept (set bs spot false) xs ≡ remove (kept bs xs) (place_at bs spot)
+  pub kept-hole : (bs : List Bool) (xs : List X) (spot : ℕ) → length bs ≡ length xs → HasRow bs spot → kept (set bs spot false) xs ≡ remove (kept bs xs) (place_at bs spot)
   kept-hole [] xs spot beside stands = absurd (true≢false (sym stands))
   kept-hole (b ∷ bs) [] spot beside stands = absurd (omega (arith, beside))
   kept-hole (true ∷ bs) (x ∷ xs) zero beside stands = refl
@@ -157,7 +157,7 @@ module _ {X : Type 0} where
       rw none (kept-hole bs xs n (omega (arith, beside)) stands)
 
   -- another one at a spot
-  pub kept-set : (bs : List Bool) (xs : List X) (spot : ℕ) (y : X) → length bs ≡ length xs → Stands bs spot → kept bs (set xs spot y) ≡ set (kept bs xs) (place_at bs spot) y
+  pub kept-set : (bs : List Bool) (xs : List X) (spot : ℕ) (y : X) → length bs ≡ length xs → HasRow bs spot → kept bs (set xs spot y) ≡ set (kept bs xs) (place_at bs spot) y
   kept-set [] xs spot y beside stands = absurd (true≢false (sym stands))
   kept-set (b ∷ bs) [] spot y beside stands = absurd (omega (arith, beside))
   kept-set (true ∷ bs) (x ∷ xs) zero y beside stands = refl
@@ -188,7 +188,7 @@ module _ {X : Type 0} where
 -- the spot of the row at a place
 pub record IsSpotOf (bs : List Bool) (place : ℕ) : Type 0 where
   pub spot : ℕ
-  pub stands : Stands bs spot
+  pub stands : HasRow bs spot
   pub is : place_at bs spot ≡ place
 
 pub spot_of : (bs : List Bool) (place : ℕ) → place < place_at bs (length bs) → IsSpotOf bs place
@@ -202,7 +202,7 @@ spot_of (false ∷ bs) place within =
     record { spot = suc rest.spot; stands = rest.stands; is = omega (arith, rest.is) }
 
 -- no two rows stand at one place
-pub spot-once : (bs : List Bool) (s t : ℕ) → Stands bs s → Stands bs t → place_at bs s ≡ place_at bs t → s ≡ t
+pub spot-once : (bs : List Bool) (s t : ℕ) → HasRow bs s → HasRow bs t → place_at bs s ≡ place_at bs t → s ≡ t
 spot-once bs s t at_s at_t same = elim (cases_lt s t) [
   | inl l ↦ absurd (omega (arith, place_at-before bs s t at_s l, same))
   | inr l ↦ elim (cases_lt t s) [

@@ -3,7 +3,7 @@ use Rattle.std.proofs.Common.{◌≡◌, ℕ, ◌+◌, ◌<◌, ◌≤◌, Bool,
 use Rattle.std.proofs.lemmas.Bool.{cases_eq}
 use Rattle.std.proofs.lemmas.List.{get_or-set_same, get_or-set_other, get_or_default, get_or-take, length-take-le, ext_get_or}
 use Rattle.crack_arena.specs.Arena.{Handle, no_handle}
-use Rattle.crack_pending.specs.Spots.{kept, place_at, Stands, AreMoved, AreLed, AreApart, LeadBack}
+use Rattle.crack_pending.specs.Spots.{kept, place_at, HasRow, AreMoved, AreLed, AreApart, LeadBack}
 use Rattle.crack_pending.proofs.Kept.{place_at-more, place_at-few, length-kept, kept-at, kept-at_place, spot_of, Stands-within}
 
 module _ {X : Type 0} where
@@ -16,7 +16,7 @@ module _ {X : Type 0} where
   }
 
   -- a row moves to the front
-  pub moved_row : (bs : List Bool) (old new : List X) (spot low : ℕ) (x : X) → length bs ≡ length old → spot < length bs → Stands bs spot → x ≡ get_or new spot x → AreMoved bs old new spot low → AreMoved bs old (set new low x) (spot + 1) (low + 1)
+  pub moved_row : (bs : List Bool) (old new : List X) (spot low : ℕ) (x : X) → length bs ≡ length old → spot < length bs → HasRow bs spot → x ≡ get_or new spot x → AreMoved bs old new spot low → AreMoved bs old (set new low x) (spot + 1) (low + 1)
   moved_row bs old new spot low x beside within stands is moved =
       let few : low ≤ spot = omega (arith, moved.low_is, place_at-few bs spot) in
       let more : place_at bs (spot + 1) ≡ place_at bs spot + 1 = rw stands at (place_at-more bs spot within) in

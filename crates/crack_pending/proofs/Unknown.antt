@@ -5,7 +5,7 @@ use mir.Val.{bool_byte}
 use Rattle.crack_arena.specs.Arena.{times}
 use Rattle.crack_arena.specs.Rows.{unknown}
 use Rattle.crack_arena.proofs.Times.{times-nil, times_one, times_head, times-append, times-set, times-map-remove, times-le-length}
-use Rattle.crack_pending.specs.Spots.{kept, place_at, Stands, AreKnown}
+use Rattle.crack_pending.specs.Spots.{kept, place_at, HasRow, AreKnown}
 use Rattle.crack_pending.proofs.Kept.{length-kept, kept-at, kept-hole, kept-set, kept-push, place_at-few, place_at-before, Stands-within}
 
 -- a key more, as it is counted
@@ -24,23 +24,23 @@ module _ (keys : List ℕ) (stands : List Bool) (beside : length stands ≡ leng
   pub counted_push : (key : ℕ) → times unknown (kept (stands ++ true ∷ []) (keys ++ key ∷ [])) ≡ times unknown (kept stands keys) + times unknown (key ∷ [])
   counted_push key = ap (times unknown) (kept-push stands keys key beside) ∙ times-append unknown (kept stands keys) (key ∷ [])
 
-  place_within : (spot : ℕ) → Stands stands spot → place_at stands spot < length (kept stands keys)
+  place_within : (spot : ℕ) → HasRow stands spot → place_at stands spot < length (kept stands keys)
   place_within spot at =
       omega (arith, length-kept stands keys beside, place_at-before stands spot (length stands) at (Stands-within stands spot at))
 
-  pub counted_hole : (spot : ℕ) → Stands stands spot → times unknown (kept (set stands spot false) keys) + times unknown (get_or keys spot 0 ∷ []) ≡ times unknown (kept stands keys)
+  pub counted_hole : (spot : ℕ) → HasRow stands spot → times unknown (kept (set stands spot false) keys) + times unknown (get_or keys spot 0 ∷ []) ≡ times unknown (kept stands keys)
   counted_hole spot at =
       let less = times-map-remove unknown (λ (x : ℕ). x) (kept stands keys) (place_at stands spot) 0 (place_within spot at) in
       let less' : times unknown (remove (kept stands keys) (place_at stands spot)) + times unknown (get_or (kept stands keys) (place_at stands spot) 0 ∷ []) ≡ times unknown (kept stands keys) =
       rw (map-id (remove (kept stands keys) (place_at stands spot)), map-id (kept stands keys)) at less in
       rw (kept-hole stands keys spot beside at, ← kept-at stands keys spot 0 beside at) less'
 
-  pub counted_set : (spot key : ℕ) → Stands stands spot → times unknown (kept stands (set keys spot key)) + times unknown (get_or keys spot 0 ∷ []) ≡ times unknown (kept stands keys) + times unknown (key ∷ [])
+  pub counted_set : (spot key : ℕ) → HasRow stands spot → times unknown (kept stands (set keys spot key)) + times unknown (get_or keys spot 0 ∷ []) ≡ times unknown (kept stands keys) + times unknown (key ∷ [])
   counted_set spot key at =
       rw (kept-set stands keys spot key beside at, ← kept-at stands keys spot 0 beside at) (times-set unknown (kept stands keys) (place_at stands spot) key 0 (place_within spot at))
 
   -- where one isn't known, some are counted
-  pub counted_some : (spot : ℕ) → Stands stands spot → get_or keys spot 0 ≡ unknown → 0 < times unknown (kept stands keys)
+  pub counted_some : (spot : ℕ) → HasRow stands spot → get_or keys spot 0 ≡ unknown → 0 < times unknown (kept stands keys)
   counted_some spot at is =
       let hole = rw is at (counted_hole spot at) in
       omega (arith, hole, times_head unknown [])

@@ -12,20 +12,20 @@ use Rattle.crack_arena.proofs.Remembering.{RemembersKeys-anew}
 use Rattle.crack_arena.proofs.Places.{place_in-within, place_in-slot, place_in-is, times_apart_once}
 use Rattle.std.specs.Prelude.{Result, Ok, Err, OnOk}
 use Rattle.crack_pending.specs.Pending.{Pending, NoneIn, IsFirstIn}
-use Rattle.crack_pending.specs.Spots.{kept, place_at, Stands, LeadBack, room_in, AreKept, KnowKeys, IsMissed, IsHit, IsSpotWith, IsNowhere}
+use Rattle.crack_pending.specs.Spots.{kept, place_at, HasRow, LeadBack, spot_room, AreKept, KnowKeys, IsMissed, IsHit, IsSpotWith, IsNowhere}
 use Rattle.crack_pending.proofs.Kept.{place_at-le, place_at-more, place_at-before, place_at-hole_before, place_at-push, place_at-few, kept-full, Stands-within, length-kept, kept-at, kept-hole, kept-set, kept-at_place, spot_of}
 use Rattle.crack_pending.proofs.Moves.{kept-apart}
 use Rattle.crack_pending.proofs.Searches.{keys_at-StandsAt, length-keys_at, StandsAt-get_or}
 
 module _ (handles : List Handle) (stands : List Bool) (beside : length stands ≡ length handles) where
   -- a row's place is one of the list
-  pub place-within : (spot : ℕ) → Stands stands spot → place_at stands spot < length (kept stands handles)
+  pub place-within : (spot : ℕ) → HasRow stands spot → place_at stands spot < length (kept stands handles)
   place-within spot at =
       let within = Stands-within stands spot at in
       omega (arith, length-kept stands handles beside, place_at-before stands spot (length stands) at within)
 
   -- and it stands there
-  pub place-StandsAt : (spot : ℕ) (h : Handle) → Stands stands spot → h ≡ get_or handles spot h → StandsAt (kept stands handles) (place_at stands spot) h
+  pub place-StandsAt : (spot : ℕ) (h : Handle) → HasRow stands spot → h ≡ get_or handles spot h → StandsAt (kept stands handles) (place_at stands spot) h
   place-StandsAt spot h at is = record { within = place-within spot at; is = is ∙ sym (kept-at stands handles spot h beside at) }
 
   pub spot-times : (slot spot : ℕ) → IsSpotWith handles stands slot spot → 0 < times slot (slots (kept stands handles))
@@ -176,7 +176,7 @@ kept_none = record {
 
 module _ (handles : List Handle) (keys : List ℕ) (stands : List Bool) (spots : List ℕ) (rows hint_place hint_spot : ℕ) (are : AreKept handles keys stands spots rows hint_place hint_spot) where
   -- a hole more
-  pub kept_hole : (spot hint_place' hint_spot' : ℕ) → Stands stands spot → hint_spot' ≤ length handles → hint_place' ≡ place_at (set stands spot false) hint_spot' → AreKept handles keys (set stands spot false) spots (rows - 1) hint_place' hint_spot'
+  pub kept_hole : (spot hint_place' hint_spot' : ℕ) → HasRow stands spot → hint_spot' ≤ length handles → hint_place' ≡ place_at (set stands spot false) hint_spot' → AreKept handles keys (set stands spot false) spots (rows - 1) hint_place' hint_spot'
   kept_hole spot hint_place' hint_spot' at near hinted =
       let within = Stands-within stands spot at in
       let long = length-set stands spot false in
@@ -216,7 +216,7 @@ module _ (handles : List Handle) (keys : List ℕ) (stands : List Bool) (spots :
           })
           | inr ne ↦
               let inside : spot < length handles = omega (arith, Stands-within (stands ++ true ∷ []) spot at, whole, are.stands_beside, ne) in
-              let old : Stands stands spot = sym (get_or_append_left stands (true ∷ []) false spot (omega (arith, inside, are.stands_beside))) ∙ at in
+              let old : HasRow stands spot = sym (get_or_append_left stands (true ∷ []) false spot (omega (arith, inside, are.stands_beside))) ∙ at in
               let one = are.led spot old in
               let other : (get_or handles spot no_handle).slot ≢ h.slot = λ e.
               absurd (omega (arith, absent, spot-times handles stands are.stands_beside h.slot spot (record { stands_there = old; of = e }))) in
@@ -264,16 +264,16 @@ pub view_after : (hs hs' : List Handle) (ks ks' : List ℕ) (room room' covered 
 view_after hs hs' ks ks' room room' covered covered' e f h g = rw (e, f, h, g) refl
 
 -- fewer spots and more memory: no less room
-pub room-more : (n n' h h' k k' s s' : ℕ) → n' ≤ n → h ≤ h' → k ≤ k' → s ≤ s' → room_in n h k s ≤ room_in n' h' k' s'
+pub room-more : (n n' h h' k k' s s' : ℕ) → n' ≤ n → h ≤ h' → k ≤ k' → s ≤ s' → spot_room n h k s ≤ spot_room n' h' k' s'
 room-more n n' h h' k k' s s' a b c d = omega (arith, a, b, c, d)
 
-pub room-enough : (n more h k s : ℕ) → n + more ≤ 2 ^ 32 → n + more ≤ h → n + more ≤ k → n + more ≤ s → more ≤ room_in n h k s
+pub room-enough : (n more h k s : ℕ) → n + more ≤ 2 ^ 32 → n + more ≤ h → n + more ≤ k → n + more ≤ s → more ≤ spot_room n h k s
 room-enough n more h k s a b c d = omega (arith, a, b, c, d)
 
-pub room-less : (n h k s : ℕ) → room_in (n + 1) h k s ≡ room_in n h k s - 1
+pub room-less : (n h k s : ℕ) → spot_room (n + 1) h k s ≡ spot_room n h k s - 1
 room-less n h k s = omega arith
 
-pub room-some : (n h k s : ℕ) → 0 < room_in n h k s → (n < 2 ^ 32) × (n < h) × (n < k) × (n < s)
+pub room-some : (n h k s : ℕ) → 0 < spot_room n h k s → (n < 2 ^ 32) × (n < h) × (n < k) × (n < s)
 room-some n h k s some = (omega (arith, some), omega (arith, some), omega (arith, some), omega (arith, some))
 
 -- what follows from three things, where all is well

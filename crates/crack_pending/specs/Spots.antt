@@ -19,12 +19,12 @@ place_at [] (suc n) = 0
 place_at (b ∷ bs) (suc n) = cond b 1 0 + place_at bs n
 
 -- a row stands at the spot
-abbrev pub Stands : List Bool → ℕ → Type 0
-Stands stands spot = slice_index_or stands spot false ≡ true
+abbrev pub HasRow : List Bool → ℕ → Type 0
+HasRow stands spot = slice_index_or stands spot false ≡ true
 
 -- how many more spots need no memory, of 2^32 that there can be
-abbrev pub room_in : ℕ → ℕ → ℕ → ℕ → ℕ
-room_in spots handle_capacity key_capacity stand_capacity = min (2 ^ 32) (min handle_capacity (min key_capacity stand_capacity)) - spots
+abbrev pub spot_room : ℕ → ℕ → ℕ → ℕ → ℕ
+spot_room spots handle_capacity key_capacity stand_capacity = min (2 ^ 32) (min handle_capacity (min key_capacity stand_capacity)) - spots
 
 -- the spot of the cell of this slot is known to be this one
 pub record LeadsTo (spots : List ℕ) (slot spot : ℕ) : Type 0 where
@@ -33,7 +33,7 @@ pub record LeadsTo (spots : List ℕ) (slot spot : ℕ) : Type 0 where
 
 -- each row's cell leads to its spot
 abbrev pub LeadBack : List Handle → List Bool → List ℕ → Type 0
-LeadBack handles stands spots = (spot : ℕ) → Stands stands spot → LeadsTo spots (slice_index_or handles spot no_handle).slot spot
+LeadBack handles stands spots = (spot : ℕ) → HasRow stands spot → LeadsTo spots (slice_index_or handles spot no_handle).slot spot
 
 -- a key and a mark stand beside each handle, the rows are counted, each row's cell leads to its spot, and so many rows stand before
 -- the spot at which the last row was taken
@@ -52,23 +52,23 @@ Lies low last key = (low ≤ key) × (key ≤ last)
 
 -- each key beside a row is known
 abbrev pub AreKnown : List ℕ → List Bool → Type 0
-AreKnown keys stands = (spot : ℕ) → Stands stands spot → slice_index keys spot ≢ unknown
+AreKnown keys stands = (spot : ℕ) → HasRow stands spot → slice_index keys spot ≢ unknown
 
 -- each key beside a row is unknown, or the row's
 abbrev pub KnowKeys : List (Cell Row) → List Handle → List ℕ → List Bool → Type 0
 KnowKeys cells handles keys stands =
-    (spot : ℕ) → Stands stands spot → (slice_index keys spot ≡ unknown) ⊎ (slice_index keys spot ≡ key_at cells (slice_index_or handles spot no_handle))
+    (spot : ℕ) → HasRow stands spot → (slice_index keys spot ≡ unknown) ⊎ (slice_index keys spot ≡ key_at cells (slice_index_or handles spot no_handle))
 
 -- no row from one spot up to another has its key in the range
 abbrev pub IsMissed : Range → List (Cell Row) → List Handle → List Bool → ℕ → ℕ → Type 0
 IsMissed range cells handles stands from to =
-    (spot : ℕ) → from ≤ spot → spot < to → Stands stands spot → ¬ IsIn range (key_at cells (slice_index_or handles spot no_handle))
+    (spot : ℕ) → from ≤ spot → spot < to → HasRow stands spot → ¬ IsIn range (key_at cells (slice_index_or handles spot no_handle))
 
 -- the spot is the first, of those from one up to another, whose row has its key in the range
 pub record IsHit (range : Range) (cells : List (Cell Row)) (handles : List Handle) (stands : List Bool) (from to spot : ℕ) : Type 0 where
   pub after : from ≤ spot
   pub within : spot < to
-  pub stands_there : Stands stands spot
+  pub stands_there : HasRow stands spot
   pub holds : IsIn range (key_at cells (slice_index_or handles spot no_handle))
   pub before : IsMissed range cells handles stands from spot
 
@@ -83,7 +83,7 @@ AreApart handles =
 
 -- the row at the spot has the handle of this slot
 pub record IsSpotWith (handles : List Handle) (stands : List Bool) (slot spot : ℕ) : Type 0 where
-  pub stands_there : Stands stands spot
+  pub stands_there : HasRow stands spot
   pub of : (slice_index_or handles spot no_handle).slot ≡ slot
 
 -- no row has the handle of this slot

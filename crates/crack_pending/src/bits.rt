@@ -12,7 +12,7 @@ const WORD: usize = 64;
 /// For how many words there is place at least, each time that a set grows.
 const MORE_WORDS: usize = 32;
 
-/// Numbers up to an end that `cover` moves, each in the set or not.
+/// Numbers up to an end that `make_places` moves, each in the set or not.
 #[derive(Drop)]
 pub(crate) struct BitSet {
     words: Vec<u64>,
@@ -37,7 +37,7 @@ impl BitSet {
     }
 
     /// Makes place for the bits of so many numbers, counted from 0; amortised O(1) for each 64 that are new. Refused with 8 alone.
-    pub(crate) fn cover(&mut self, numbers: usize) -> Result<(), Refusal>
+    pub(crate) fn make_places(&mut self, numbers: usize) -> Result<(), Refusal>
         ensures same { (number : ℕ) → Has self.new number ↔ Has self.old number }
         ensures covered { OnOk result (numbers ≤ 64 * length self.new) }
         ensures kept { length self.old ≤ length self.new }

@@ -86,7 +86,7 @@ impl<Kind> PendingList<Kind> {
 
     /// Makes place for the handles of as many cells, counted from the first; amortised O(1) for each that is new.
     /// Refused with 8 alone.
-    pub fn cover(&mut self, cells: usize) -> Result<(), Refusal>
+    pub fn make_places(&mut self, cells: usize) -> Result<(), Refusal>
         ensures same { self.new ≡ record self.old { covered = self.new.covered } }
         ensures covered { OnOk result (cells ≤ self.new.covered) }
         ensures kept { self.old.covered ≤ self.new.covered }
@@ -95,7 +95,7 @@ impl<Kind> PendingList<Kind> {
         ensures err { IfErr result (λ e. e ≡ Refusal.OutOfMemory) }
         ensures remembered { StillRemembersKeys self.old self.new }
     {
-        self.list.cover(cells, &mut self.marks)
+        self.list.make_places(cells, &mut self.marks)
     }
 
     /// Puts the handle behind all others; the key of its row isn't remembered. It takes no memory. O(1).

@@ -1,6 +1,6 @@
 //! Spots at which a row stands, counted: the place of a row is how many stand before it.
 ghost use Rattle.std.specs.Prelude.{◌≡◌, ◌+◌, ◌<◌, ◌≤◌, length};
-ghost use Rattle.crack_pending.specs.Spots.{place_at, Stands};
+ghost use Rattle.crack_pending.specs.Spots.{place_at, HasRow};
 
 /// Counted at once, in 8 bits.
 const BLOCK: usize = 64;
@@ -58,7 +58,7 @@ fn spot_from(stands: &[bool], before: usize, from: usize, place: usize) -> usize
     requires before { before ≡ place_at stands.now from }
     requires order { before ≤ place }
     requires within { place < place_at stands.now (length stands.now) }
-    ensures stands { Stands stands.now result }
+    ensures stands { HasRow stands.now result }
     ensures place { place_at stands.now result ≡ place }
 {
     let (near, rows_before) = skip_blocks(stands, before, from, place);
@@ -86,7 +86,7 @@ pub(crate) fn spot_of(
     requires rows { rows ≡ place_at stands.now (length stands.now) }
     requires before { before ≡ place_at stands.now from }
     requires within { place < rows }
-    ensures stands { Stands stands.now result }
+    ensures stands { HasRow stands.now result }
     ensures place { place_at stands.now result ≡ place }
 {
     if rows == stands.len() {

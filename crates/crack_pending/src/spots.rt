@@ -4,7 +4,7 @@ ghost use Rattle.std.specs.List.{remove};
 ghost use Rattle.crack_arena.specs.Rows.{keys_at, unknown, RemembersKeys};
 ghost use Rattle.crack_arena.specs.Arena.{StandsAt, IsFirstAt, IsAbsent, times, slots, place_in, no_handle};
 ghost use Rattle.crack_pending.specs.Pending.{Finds, StillRemembersKeys, RemembersOneMore, RemembersAnew};
-ghost use Rattle.crack_pending.specs.Spots.{place_at, Stands, LeadBack, IsNowhere, IsSpotWith};
+ghost use Rattle.crack_pending.specs.Spots.{place_at, HasRow, LeadBack, IsNowhere, IsSpotWith};
 ghost use Rattle.crack_pending.specs.Bits.{Has};
 
 use crate::bits::BitSet;
@@ -19,7 +19,7 @@ use std::marker::Model;
 /// What stands beside a handle.
 pub(crate) type StoredKey = u32;
 
-/// Stands for a key that isn't remembered. A row with this very key is always looked up.
+/// HasRow for a key that isn't remembered. A row with this very key is always looked up.
 pub(crate) const UNKNOWN: StoredKey = StoredKey::MAX;
 
 /// A spot is numbered by 32 bits.
@@ -56,14 +56,14 @@ impl Model for SpotList {
     ghost use Rattle.crack_arena.specs.Arena.{times};
     ghost use Rattle.crack_arena.specs.Rows.{unknown};
     ghost use Rattle.crack_pending.specs.Pending.{Pending};
-    ghost use Rattle.crack_pending.specs.Spots.{kept, room_in, AreKept};
+    ghost use Rattle.crack_pending.specs.Spots.{kept, spot_room, AreKept};
 
     ghost Value = { Pending };
 
     ghost view = { λ l. record {
       handles = kept l.stands.items l.handles.items;
       keys = kept l.stands.items l.keys.items;
-      room = room_in (length l.handles.items) (vec_capacity l.handles) (vec_capacity l.keys) (vec_capacity l.stands);
+      room = spot_room (length l.handles.items) (vec_capacity l.handles) (vec_capacity l.keys) (vec_capacity l.stands);
       covered = length l.spots.items;
     } };
 
@@ -158,7 +158,7 @@ impl SpotList {
 
     /// Makes place for so many cells, and for a mark of each; where there is place, it looks at no more than that.
     #[inline(always)]
-    pub(crate) fn cover(&mut self, cells: usize, marks: &mut BitSet) -> Result<(), Refusal>
+    pub(crate) fn make_places(&mut self, cells: usize, marks: &mut BitSet) -> Result<(), Refusal>
         requires { self.old.covered ≤ 64 * length marks.old }
         ensures same { self.new ≡ record self.old { covered = self.new.covered } }
         ensures covered { OnOk result (cells ≤ self.new.covered) }
@@ -423,7 +423,7 @@ fn lengthen(spots: &mut Vec<u32>, marks: &mut BitSet, cells: usize) -> Result<()
     ensures marked { vec_len spots.new ≤ 64 * length marks.new }
 {
     spots.reserve((cells - spots.len()).max(MORE_PLACES))?;
-    marks.cover(spots.capacity())?;
+    marks.make_places(spots.capacity())?;
     'cells: while spots.len() < spots.capacity() {
         spots.push_reserved(0);
     }
@@ -479,7 +479,7 @@ fn unknowns_without(keys: &[StoredKey], unknowns: usize, spot: usize) -> usize
 /// How many rows stand before the hint once the row at the spot has gone.
 fn hint_without(stands: &[bool], hint_place: usize, hint_spot: usize, spot: usize) -> usize
     requires hinted { hint_place ≡ place_at stands.now hint_spot }
-    requires stands { Stands stands.now spot }
+    requires stands { HasRow stands.now spot }
     ensures { result ≡ place_at (slice_set stands.now spot false) hint_spot }
 {
     if spot < hint_spot {

@@ -122,7 +122,7 @@ pub record IsLegal (keys : Range) (limit : ℕ) (history : List Entry) : Type 0 
   pub limited : length history ≤ limit
 
 -- a plain table: its state, and how many commands it accepted
-pub record Table : Type 0 where
+pub record PlainView : Type 0 where
   pub state : PlainState
   pub accepted : ℕ
 

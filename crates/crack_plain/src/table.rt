@@ -23,10 +23,10 @@ pub struct PlainTable {
 
 impl Model for PlainTable {
     ghost use Rattle.std.specs.Prelude.{◌≤◌, length};
-    ghost use Rattle.crack_plain.specs.Plain.{Table, PlainState, IsNumbered};
+    ghost use Rattle.crack_plain.specs.Plain.{PlainView, PlainState, IsNumbered};
     ghost use Rattle.crack_plain.specs.declared.TheConstants.{MOST_ACCEPTED};
 
-    ghost Value = { Table };
+    ghost Value = { PlainView };
 
     ghost view = { λ t. record { state = record { rows = t.rows.items; next = t.next }; accepted = t.accepted } };
 
@@ -105,7 +105,7 @@ impl PlainTable {
             });
         }
         let reply = self.reply_to(command)?;
-        perform(&mut self.rows, &mut self.next, command.change())?;
+        change_rows(&mut self.rows, &mut self.next, command.change())?;
         self.accepted += 1;
         Ok(reply)
     }
@@ -139,7 +139,7 @@ impl PlainTable {
 }
 
 /// Makes a change of the rows, if there is one: O(rows), and O(1) for a row more. Refused with 8 where a row more finds no memory.
-fn perform(rows: &mut Vec<Row>, next: &mut u64, change: Option<Change>) -> Result<(), Refusal>
+fn change_rows(rows: &mut Vec<Row>, next: &mut u64, change: Option<Change>) -> Result<(), Refusal>
     requires small { next.old + 1 < 2 ^ 64 }
     ensures changed { OnOk result (let old : PlainState = record { rows = rows.old.items; next = next.old } in let new : PlainState = record { rows = rows.new.items; next = next.new } in new ≡ changed old change) }
     ensures same { OnErr result ((rows.new.items ≡ rows.old.items) × (next.new ≡ next.old)) }

@@ -6,7 +6,7 @@ use Rattle.crack_row.specs.Ranges.{Range}
 use Rattle.crack_arena.specs.Arena.{Handle}
 use Rattle.crack_arena.specs.Rows.{key_at}
 use Rattle.crack_index.specs.declared.mark.Mark.{Mark}
-use Rattle.crack_index.specs.Marks.{next_mark, end_of, place_of}
+use Rattle.crack_index.specs.Marks.{next_mark, end_of, position_of}
 use Rattle.crack_index.proofs.MarkLaws.{next_mark-is, HasBound-contains, place_of-mark}
 use Rattle.crack_column.specs.Column.{IsDividedAt}
 use Rattle.crack_column.proofs.Divisions.{IsDividedAt-order, IsDividedAt-set_below, IsDividedAt-set_above, IsDividedAt-raised, IsDividedAt-append_above, IsDividedAt-append_below}
@@ -69,7 +69,7 @@ piece_end-high s hand r key of intact below =
     elim (cases_lt r.high s.keys.high) [
       | inl l ↦
           let at = HasBound-contains s.marks r.high (of.cracked.1 above l) in
-          let place : place_of r.high s.marks ≡ at.0.position = rw at.2 at (place_of-mark s.marks at.0 intact.rising at.1) in
+          let place : position_of r.high s.marks ≡ at.0.position = rw at.2 at (place_of-mark s.marks at.0 intact.rising at.1) in
           let found : get_or s.marks at.1.0 at.0 ≡ at.0 = at.1.2 in
           let ends : piece_end s key ≤ (get_or s.marks at.1.0 at.0).position = piece_end-before s key at.1.0 at.0 intact.rising intact.obeyed at.1.1 (rw (found, at.2) below) in
           rw (lt-leb r.high s.keys.low above, lt-leb s.keys.high r.high l, place) (rw found at ends)

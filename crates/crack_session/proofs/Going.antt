@@ -7,7 +7,7 @@ use Rattle.std.specs.Io.KnownBytes.{Appends, Keeps}
 use Rattle.crack_row.specs.declared.Bound.{Bound}
 use Rattle.crack_row.specs.declared.refusal.Refusal.{Refusal}
 use Rattle.crack_row.specs.declared.refusal.Refusal.TheVariants.{ReadFault, WriteFault}
-use Rattle.crack_plain.specs.Plain.{Table}
+use Rattle.crack_plain.specs.Plain.{PlainView}
 use Rattle.crack_session.specs.declared.answer.Answer.{Answer}
 use Rattle.crack_session.specs.declared.session.Progress.{Progress}
 use Rattle.crack_session.specs.declared.session.End.{End}
@@ -19,19 +19,19 @@ use Rattle.crack_session.specs.Readings.{statements, is_quit, reading_of}
 use Rattle.crack_session.specs.Lines.{first_line, after_line, kept_of}
 use Rattle.crack_session.specs.Answers.{IsAnswer, is_short_answer, answer_text}
 use Rattle.crack_session.specs.Sessions.{AreAnswers, first_short, ending}
-use Rattle.crack_session.specs.Served.{AreAnswered, AreTold, IsCounted, IsServed, IsDone, IsCutOff}
+use Rattle.crack_session.specs.Served.{AreAnswered, AreTold, CountsStatements, IsServed, IsDone, IsCutOff}
 use Rattle.crack_session.specs.Responses.{IsResponse, marked}
 use Rattle.crack_session.proofs.Following.{next_some}
 
 -- one more statement and its answer
-AreAnswers-push : (limit : ℕ) (splits : List Bound) (tables : List Table) (rs : List Reading) (answers : List Answer) (new : List Table) (r : Reading) (a : Answer) (next : List Table) → AreAnswers limit splits tables rs answers new → IsAnswer limit splits new r a next → AreAnswers limit splits tables (rs ++ r ∷ []) (answers ++ a ∷ []) next
+AreAnswers-push : (limit : ℕ) (splits : List Bound) (tables : List PlainView) (rs : List Reading) (answers : List Answer) (new : List PlainView) (r : Reading) (a : Answer) (next : List PlainView) → AreAnswers limit splits tables rs answers new → IsAnswer limit splits new r a next → AreAnswers limit splits tables (rs ++ r ∷ []) (answers ++ a ∷ []) next
 AreAnswers-push limit splits tables [] [] new r a next are is = (next, rw are at is, refl)
 AreAnswers-push limit splits tables [] (b ∷ answers) new r a next are is = absurd are
 AreAnswers-push limit splits tables (q ∷ rs) [] new r a next are is = absurd are
 AreAnswers-push limit splits tables (q ∷ rs) (b ∷ answers) new r a next are is = (are.0, are.1, AreAnswers-push limit splits are.0 rs answers new r a next are.2 is)
 
 -- an answer for each statement
-length-are : (limit : ℕ) (splits : List Bound) (tables : List Table) (rs : List Reading) (answers : List Answer) (new : List Table) → AreAnswers limit splits tables rs answers new → length answers ≡ length rs
+length-are : (limit : ℕ) (splits : List Bound) (tables : List PlainView) (rs : List Reading) (answers : List Answer) (new : List PlainView) → AreAnswers limit splits tables rs answers new → length answers ≡ length rs
 length-are limit splits tables [] [] new are = refl
 length-are limit splits tables [] (b ∷ answers) new are = absurd are
 length-are limit splits tables (q ∷ rs) [] new are = absurd are
@@ -57,7 +57,7 @@ first_short-push (b ∷ answers) a n e =
     ∙ ap (λ m. marked (first_short (b ∷ answers)) m (is_short_answer a)) (let same : length answers + 1 + 1 ≡ n = omega (arith, e) in same)
 
 -- one more answered statement
-AreAnswered-push : {limit : ℕ} {splits : List Bound} {tables : List Table} {rs : List Reading} {texts : List (List ℕ)} {short : Option ℕ} {s : Option (List Table)} (r : Reading) (a : Answer) (next : List Table) (short' : Option ℕ) (s' : Option (List Table)) (was : AreAnswered limit splits tables rs texts short s) → IsAnswer limit splits was.new r a next → s' ≡ Some next → short' ≡ marked short (length rs + 1) (is_short_answer a) → AreAnswered limit splits tables (rs ++ r ∷ []) (texts ++ answer_text a ∷ []) short' s'
+AreAnswered-push : {limit : ℕ} {splits : List Bound} {tables : List PlainView} {rs : List Reading} {texts : List (List ℕ)} {short : Option ℕ} {s : Option (List PlainView)} (r : Reading) (a : Answer) (next : List PlainView) (short' : Option ℕ) (s' : Option (List PlainView)) (was : AreAnswered limit splits tables rs texts short s) → IsAnswer limit splits was.new r a next → s' ≡ Some next → short' ≡ marked short (length rs + 1) (is_short_answer a) → AreAnswered limit splits tables (rs ++ r ∷ []) (texts ++ answer_text a ∷ []) short' s'
 AreAnswered-push {limit} {splits} {tables} {rs} {texts} {short} {s} r a next short' s' was is left first = record {
   answers = was.answers ++ a ∷ [];
   new = next;
@@ -89,14 +89,14 @@ kept_known (Some x) None o h e = absurd h
 kept_known (Some x) (Some y) o h e = ap Some h ∙ e
 
 -- Of all statements these are left. k are done: they are answered, and the texts of the answers are written.
-pub record Going (limit : ℕ) (splits : List Bound) (all left : List Reading) (k : ℕ) (short : Option ℕ) (how : How) (s0 s : Option (List Table)) (out0 out : Option (List ℕ)) : Type 0 where
+pub record Going (limit : ℕ) (splits : List Bound) (all left : List Reading) (k : ℕ) (short : Option ℕ) (how : How) (s0 s : Option (List PlainView)) (out0 out : Option (List ℕ)) : Type 0 where
   pub done : List Reading
   pub split : all ≡ done ++ left
   pub count : length done ≡ k
   pub ends : ending done ≡ how
-  pub told : (x : List Table) (o : List ℕ) → s0 ≡ Some x → out0 ≡ Some o → AreTold limit splits x done o short s out
+  pub told : (x : List PlainView) (o : List ℕ) → s0 ≡ Some x → out0 ≡ Some o → AreTold limit splits x done o short s out
 
-pub Going-start : (limit : ℕ) (splits : List Bound) (all : List Reading) (s : Option (List Table)) (out : Option (List ℕ)) → Going limit splits all all 0 None InputEnded s s out out
+pub Going-start : (limit : ℕ) (splits : List Bound) (all : List Reading) (s : Option (List PlainView)) (out : Option (List ℕ)) → Going limit splits all all 0 None InputEnded s s out out
 Going-start limit splits all s out = record {
   done = [];
   split = refl;
@@ -110,7 +110,7 @@ Going-start limit splits all s out = record {
 }
 
 -- the bytes are as they were
-pub Going-kept : {limit : ℕ} {splits : List Bound} {all left : List Reading} {k : ℕ} {short : Option ℕ} {how : How} {s0 s : Option (List Table)} {out0 : Option (List ℕ)} (out out' : Option (List ℕ)) → Going limit splits all left k short how s0 s out0 out → Keeps out out' → Going limit splits all left k short how s0 s out0 out'
+pub Going-kept : {limit : ℕ} {splits : List Bound} {all left : List Reading} {k : ℕ} {short : Option ℕ} {how : How} {s0 s : Option (List PlainView)} {out0 : Option (List ℕ)} (out out' : Option (List ℕ)) → Going limit splits all left k short how s0 s out0 out → Keeps out out' → Going limit splits all left k short how s0 s out0 out'
 Going-kept out out' g h = record {
   done = g.done;
   split = g.split;
@@ -120,19 +120,19 @@ Going-kept out out' g h = record {
 }
 
 -- the same statements left
-pub Going-left : {limit : ℕ} {splits : List Bound} {all left : List Reading} {k : ℕ} {short : Option ℕ} {how : How} {s0 s : Option (List Table)} {out0 out : Option (List ℕ)} (left' : List Reading) → Going limit splits all left k short how s0 s out0 out → left ≡ left' → Going limit splits all left' k short how s0 s out0 out
+pub Going-left : {limit : ℕ} {splits : List Bound} {all left : List Reading} {k : ℕ} {short : Option ℕ} {how : How} {s0 s : Option (List PlainView)} {out0 out : Option (List ℕ)} (left' : List Reading) → Going limit splits all left k short how s0 s out0 out → left ≡ left' → Going limit splits all left' k short how s0 s out0 out
 Going-left left' g e = record { done = g.done; split = g.split ∙ ap (λ z. g.done ++ z) e; count = g.count; ends = g.ends; told = g.told }
 
 -- what a statement is answered where these are done
-abbrev pub Responds : ℕ → List Bound → Reading → Progress → Progress → Result (Unit {0}) Refusal → Option (List Table) → Option (List Table) → Option (List ℕ) → Option (List ℕ) → Type 0
-Responds limit splits r old new result s s' out out' = (tables : List Table) → s ≡ Some tables → IsResponse limit splits tables r old new result s' out out'
+abbrev pub Responds : ℕ → List Bound → Reading → Progress → Progress → Result (Unit {0}) Refusal → Option (List PlainView) → Option (List PlainView) → Option (List ℕ) → Option (List ℕ) → Type 0
+Responds limit splits r old new result s s' out out' = (tables : List PlainView) → s ≡ Some tables → IsResponse limit splits tables r old new result s' out out'
 
 -- the desk's limit and splits stay
-pub Responds-desk : {limit limit' : ℕ} {splits splits' : List Bound} {r : Reading} {old new : Progress} {result : Result (Unit {0}) Refusal} {s s' : Option (List Table)} {out out' : Option (List ℕ)} → Responds limit splits r old new result s s' out out' → limit ≡ limit' → splits ≡ splits' → Responds limit' splits' r old new result s s' out out'
+pub Responds-desk : {limit limit' : ℕ} {splits splits' : List Bound} {r : Reading} {old new : Progress} {result : Result (Unit {0}) Refusal} {s s' : Option (List PlainView)} {out out' : Option (List ℕ)} → Responds limit splits r old new result s s' out out' → limit ≡ limit' → splits ≡ splits' → Responds limit' splits' r old new result s s' out out'
 Responds-desk a e f = rw (← e, ← f) a
 
 -- one more statement
-pub Going-more : {limit : ℕ} {splits : List Bound} {all left : List Reading} {s0 s : Option (List Table)} {out0 out : Option (List ℕ)} (r : Reading) (old new : Progress) (s' : Option (List Table)) (out' : Option (List ℕ)) → Going limit splits all (r ∷ left) old.statements old.first_short InputEnded s0 s out0 out → Responds limit splits r old new (Ok tt) s s' out out' → new.statements ≡ old.statements + 1 → Going limit splits all left new.statements new.first_short (cond (is_quit r) Quit InputEnded) s0 s' out0 out'
+pub Going-more : {limit : ℕ} {splits : List Bound} {all left : List Reading} {s0 s : Option (List PlainView)} {out0 out : Option (List ℕ)} (r : Reading) (old new : Progress) (s' : Option (List PlainView)) (out' : Option (List ℕ)) → Going limit splits all (r ∷ left) old.statements old.first_short InputEnded s0 s out0 out → Responds limit splits r old new (Ok tt) s s' out out' → new.statements ≡ old.statements + 1 → Going limit splits all left new.statements new.first_short (cond (is_quit r) Quit InputEnded) s0 s' out0 out'
 Going-more {limit} {splits} {all} {left} {s0} {s} {out0} {out} r old new s' out' g responds n = record {
   done = g.done ++ r ∷ [];
   split = g.split ∙ sym (append_assoc g.done (r ∷ []) left);
@@ -151,12 +151,12 @@ Going-more {limit} {splits} {all} {left} {s0} {s} {out0} {out} r old new s' out'
 }
 
 -- a session that ended
-pub Going-counted : (bytes : List ℕ) (end : End) {limit : ℕ} {splits : List Bound} {k : ℕ} {short : Option ℕ} {how : How} {s0 s : Option (List Table)} {out0 out : Option (List ℕ)} → Going limit splits (statements bytes) [] k short how s0 s out0 out → end.statements ≡ k → end.how ≡ how → IsCounted bytes end
+pub Going-counted : (bytes : List ℕ) (end : End) {limit : ℕ} {splits : List Bound} {k : ℕ} {short : Option ℕ} {how : How} {s0 s : Option (List PlainView)} {out0 out : Option (List ℕ)} → Going limit splits (statements bytes) [] k short how s0 s out0 out → end.statements ≡ k → end.how ≡ how → CountsStatements bytes end
 Going-counted bytes end g e f =
     let all : statements bytes ≡ g.done = g.split ∙ append-nil g.done in
     record { statements_are = e ∙ sym g.count ∙ ap length (sym all); how_is = f ∙ sym g.ends ∙ ap ending (sym all) }
 
-pub Going-served : (bytes o : List ℕ) (x : List Table) (end : End) {limit : ℕ} {splits : List Bound} {k : ℕ} {short : Option ℕ} {how : How} {s0 s : Option (List Table)} {out0 out : Option (List ℕ)} → Going limit splits (statements bytes) [] k short how s0 s out0 out → end.first_short ≡ short → s0 ≡ Some x → out0 ≡ Some o → IsServed limit splits x bytes o end s out
+pub Going-served : (bytes o : List ℕ) (x : List PlainView) (end : End) {limit : ℕ} {splits : List Bound} {k : ℕ} {short : Option ℕ} {how : How} {s0 s : Option (List PlainView)} {out0 out : Option (List ℕ)} → Going limit splits (statements bytes) [] k short how s0 s out0 out → end.first_short ≡ short → s0 ≡ Some x → out0 ≡ Some o → IsServed limit splits x bytes o end s out
 Going-served bytes o x end {limit} {splits} {k} {short} {how} {s0} {s} {out0} {out} g fs e f =
     rw (g.split ∙ append-nil g.done, fs) (g.told x o e f)
 
@@ -164,23 +164,23 @@ Going-served bytes o x end {limit} {splits} {k} {short} {how} {s0} {s} {out0} {o
 done_first : (all done left : List Reading) (n : ℕ) → all ≡ done ++ left → length done ≡ n → take n all ≡ done
 done_first all done left n split count = ap (take n) split ∙ take_at done left n count
 
-pub Going-within : {limit : ℕ} {splits : List Bound} {all left : List Reading} {k : ℕ} {short : Option ℕ} {how : How} {s0 s : Option (List Table)} {out0 out : Option (List ℕ)} → Going limit splits all left k short how s0 s out0 out → k + length left ≡ length all
+pub Going-within : {limit : ℕ} {splits : List Bound} {all left : List Reading} {k : ℕ} {short : Option ℕ} {how : How} {s0 s : Option (List PlainView)} {out0 out : Option (List ℕ)} → Going limit splits all left k short how s0 s out0 out → k + length left ≡ length all
 Going-within {limit} {splits} {all} {left} g = let l = ap length g.split in let l2 = length-append g.done left in let c = g.count in omega (arith, l, l2, c)
 
 -- a session that the writer cut off
-pub Going-done : (bytes : List ℕ) (fault : Fault) (remaining : Option (List ℕ)) {limit : ℕ} {splits : List Bound} {left : List Reading} {k : ℕ} {short : Option ℕ} {how : How} {s0 s : Option (List Table)} {out0 out : Option (List ℕ)} → Going limit splits (statements bytes) left k short how s0 s out0 out → fault.done ≡ k → fault.refusal ≡ WriteFault → IsDone bytes fault remaining
+pub Going-done : (bytes : List ℕ) (fault : Fault) (remaining : Option (List ℕ)) {limit : ℕ} {splits : List Bound} {left : List Reading} {k : ℕ} {short : Option ℕ} {how : How} {s0 s : Option (List PlainView)} {out0 out : Option (List ℕ)} → Going limit splits (statements bytes) left k short how s0 s out0 out → fault.done ≡ k → fault.refusal ≡ WriteFault → IsDone bytes fault remaining
 Going-done bytes fault remaining g d w = record {
   within = let all = Going-within g in omega (arith, all, d);
   whole = λ is. absurd (let both : ◌≡◌ {A = Refusal} WriteFault ReadFault = sym w ∙ is in cc);
 }
 
 -- a session that was cut off between two answers
-pub Going-cut : (bytes o : List ℕ) (x : List Table) (fault : Fault) {limit : ℕ} {splits : List Bound} {left : List Reading} {k : ℕ} {short : Option ℕ} {how : How} {s0 s : Option (List Table)} {out0 out : Option (List ℕ)} → Going limit splits (statements bytes) left k short how s0 s out0 out → fault.done ≡ k → fault.first_short ≡ short → s0 ≡ Some x → out0 ≡ Some o → IsCutOff limit splits x bytes o fault s out
+pub Going-cut : (bytes o : List ℕ) (x : List PlainView) (fault : Fault) {limit : ℕ} {splits : List Bound} {left : List Reading} {k : ℕ} {short : Option ℕ} {how : How} {s0 s : Option (List PlainView)} {out0 out : Option (List ℕ)} → Going limit splits (statements bytes) left k short how s0 s out0 out → fault.done ≡ k → fault.first_short ≡ short → s0 ≡ Some x → out0 ≡ Some o → IsCutOff limit splits x bytes o fault s out
 Going-cut bytes o x fault {limit} {splits} {left} {k} {short} {how} {s0} {s} {out0} {out} g d fs e f =
     inl (rw (done_first (statements bytes) g.done left fault.done g.split (g.count ∙ sym d), fs) (g.told x o e f))
 
 -- and within one
-pub Going-cut_in : (bytes o : List ℕ) (x : List Table) (fault : Fault) {limit : ℕ} {splits : List Bound} {left : List Reading} {s0 s : Option (List Table)} {out0 out : Option (List ℕ)} (r : Reading) (old new : Progress) (problem : Refusal) (s' : Option (List Table)) (out' : Option (List ℕ)) → Going limit splits (statements bytes) (r ∷ left) old.statements old.first_short InputEnded s0 s out0 out → Responds limit splits r old new (Err problem) s s' out out' → fault.done ≡ old.statements → fault.first_short ≡ new.first_short → fault.refusal ≡ WriteFault → s0 ≡ Some x → out0 ≡ Some o → IsCutOff limit splits x bytes o fault s' out'
+pub Going-cut_in : (bytes o : List ℕ) (x : List PlainView) (fault : Fault) {limit : ℕ} {splits : List Bound} {left : List Reading} {s0 s : Option (List PlainView)} {out0 out : Option (List ℕ)} (r : Reading) (old new : Progress) (problem : Refusal) (s' : Option (List PlainView)) (out' : Option (List ℕ)) → Going limit splits (statements bytes) (r ∷ left) old.statements old.first_short InputEnded s0 s out0 out → Responds limit splits r old new (Err problem) s s' out out' → fault.done ≡ old.statements → fault.first_short ≡ new.first_short → fault.refusal ≡ WriteFault → s0 ≡ Some x → out0 ≡ Some o → IsCutOff limit splits x bytes o fault s' out'
 Going-cut_in bytes o x fault {limit} {splits} {left} {s0} {s} {out0} {out} r old new problem s' out' g responds d fs w e f =
     let was = g.told x o e f in
     let now = responds was.answered.new was.answered.left_is in
@@ -200,16 +200,16 @@ Going-cut_in bytes o x fault {limit} {splits} {left} {s0} {s} {out0} {out} r old
     })
 
 -- a session goes on behind a statement, or ends at a quit
-pub Going-on : {limit : ℕ} {splits : List Bound} {all : List Reading} (rest : List Reading) {k : ℕ} {short : Option ℕ} {s0 s : Option (List Table)} {out0 out : Option (List ℕ)} (q : Bool) → Going limit splits all (cond q [] rest) k short (cond q Quit InputEnded) s0 s out0 out → q ≡ false → Going limit splits all rest k short InputEnded s0 s out0 out
+pub Going-on : {limit : ℕ} {splits : List Bound} {all : List Reading} (rest : List Reading) {k : ℕ} {short : Option ℕ} {s0 s : Option (List PlainView)} {out0 out : Option (List ℕ)} (q : Bool) → Going limit splits all (cond q [] rest) k short (cond q Quit InputEnded) s0 s out0 out → q ≡ false → Going limit splits all rest k short InputEnded s0 s out0 out
 Going-on {limit} {splits} {all} rest {k} {short} {s0} {s} {out0} {out} q g e = subst (λ (b : Bool). Going limit splits all (cond b [] rest) k short (cond b Quit InputEnded) s0 s out0 out) e g
 
-pub Going-quit : {limit : ℕ} {splits : List Bound} {all : List Reading} (rest : List Reading) {k : ℕ} {short : Option ℕ} {s0 s : Option (List Table)} {out0 out : Option (List ℕ)} (q : Bool) → Going limit splits all (cond q [] rest) k short (cond q Quit InputEnded) s0 s out0 out → q ≡ true → Going limit splits all [] k short Quit s0 s out0 out
+pub Going-quit : {limit : ℕ} {splits : List Bound} {all : List Reading} (rest : List Reading) {k : ℕ} {short : Option ℕ} {s0 s : Option (List PlainView)} {out0 out : Option (List ℕ)} (q : Bool) → Going limit splits all (cond q [] rest) k short (cond q Quit InputEnded) s0 s out0 out → q ≡ true → Going limit splits all [] k short Quit s0 s out0 out
 Going-quit {limit} {splits} {all} rest {k} {short} {s0} {s} {out0} {out} q g e = subst (λ (b : Bool). Going limit splits all (cond b [] rest) k short (cond b Quit InputEnded) s0 s out0 out) e g
 
 -- the next line is a statement
-pub Going-line : {limit : ℕ} {splits : List Bound} {all : List Reading} {k : ℕ} {short : Option ℕ} {how : How} {s0 s : Option (List Table)} {out0 : Option (List ℕ)} (out out' : Option (List ℕ)) (u line : List ℕ) (r : Reading) → Going limit splits all (statements u) k short how s0 s out0 out → Keeps out out' → 0 < length u → kept_of line ≡ kept_of (first_line u) → reading_of line ≡ Some r → Going limit splits all (r ∷ cond (is_quit r) [] (statements (after_line u))) k short how s0 s out0 out'
+pub Going-line : {limit : ℕ} {splits : List Bound} {all : List Reading} {k : ℕ} {short : Option ℕ} {how : How} {s0 s : Option (List PlainView)} {out0 : Option (List ℕ)} (out out' : Option (List ℕ)) (u line : List ℕ) (r : Reading) → Going limit splits all (statements u) k short how s0 s out0 out → Keeps out out' → 0 < length u → kept_of line ≡ kept_of (first_line u) → reading_of line ≡ Some r → Going limit splits all (r ∷ cond (is_quit r) [] (statements (after_line u))) k short how s0 s out0 out'
 Going-line out out' u line r g h some kept said = Going-left _ (Going-kept out out' g h) (next_some u line r some kept said)
 
 -- the next line is a statement, and is answered
-pub Going-answered : {limit : ℕ} {splits : List Bound} {all : List Reading} {s0 s : Option (List Table)} {out0 out : Option (List ℕ)} (out1 : Option (List ℕ)) (u line : List ℕ) (r : Reading) (old new : Progress) (s' : Option (List Table)) (out' : Option (List ℕ)) → Going limit splits all (statements u) old.statements old.first_short InputEnded s0 s out0 out → Keeps out out1 → 0 < length u → kept_of line ≡ kept_of (first_line u) → reading_of line ≡ Some r → Responds limit splits r old new (Ok tt) s s' out1 out' → new.statements ≡ old.statements + 1 → Going limit splits all (cond (is_quit r) [] (statements (after_line u))) new.statements new.first_short (cond (is_quit r) Quit InputEnded) s0 s' out0 out'
+pub Going-answered : {limit : ℕ} {splits : List Bound} {all : List Reading} {s0 s : Option (List PlainView)} {out0 out : Option (List ℕ)} (out1 : Option (List ℕ)) (u line : List ℕ) (r : Reading) (old new : Progress) (s' : Option (List PlainView)) (out' : Option (List ℕ)) → Going limit splits all (statements u) old.statements old.first_short InputEnded s0 s out0 out → Keeps out out1 → 0 < length u → kept_of line ≡ kept_of (first_line u) → reading_of line ≡ Some r → Responds limit splits r old new (Ok tt) s s' out1 out' → new.statements ≡ old.statements + 1 → Going limit splits all (cond (is_quit r) [] (statements (after_line u))) new.statements new.first_short (cond (is_quit r) Quit InputEnded) s0 s' out0 out'
 Going-answered {limit} {splits} {all} {s0} {s} {out0} {out} out1 u line r old new s' out' g h some kept said responds n = Going-more r old new s' out' (Going-line out out1 u line r g h some kept said) responds n

@@ -8,7 +8,7 @@ use Rattle.crack_row.specs.declared.command.Reply.{Reply}
 use Rattle.crack_row.specs.declared.layout.Layout.{Layout as PartLayout}
 use Rattle.crack_row.specs.declared.refusal.Refusal.{Refusal}
 use Rattle.crack_row.specs.declared.refusal.Refusal.TheVariants.{HistoryFull, OutOfMemory}
-use Rattle.crack_plain.specs.Plain.{Table}
+use Rattle.crack_plain.specs.Plain.{PlainView}
 use Rattle.crack_commands.specs.Grammar.{Reading}
 use Rattle.crack_commands.specs.Texts.{reply_text, count_text, sum_text, layout_text, policy_text, refusal_text}
 use Rattle.crack_commands.specs.declared.statement.Statement.{Statement}
@@ -19,7 +19,7 @@ use Rattle.crack_session.specs.declared.query.PartReply.{PartReply}
 use Rattle.crack_session.specs.declared.query.Query.{Query}
 use Rattle.crack_session.specs.declared.query.Query.TheVariants.{Count as AsksCount, Sum as AsksSum, Select as AsksSelect}
 use Rattle.crack_session.specs.Queries.{asking, joined_or, lists_text}
-use Rattle.crack_core.specs.Routes.{keys_at, route, parts_of}
+use Rattle.crack_core.specs.Routes.{keys_of_part, route, parts_of}
 use Rattle.crack_core.specs.Steps.{expected_at, IsOutcome, IsLayoutOutcome, tables_after}
 
 -- what a partition replied, or why it didn't
@@ -28,39 +28,39 @@ answered part (Ok reply) = Replied part reply
 answered part (Err e) = Refused e
 
 -- One partition is asked: the answer is what comes out of it, and the partitions are new afterwards.
-pub record IsAsked (limit : ℕ) (splits : List Bound) (tables : List Table) (part : ℕ) (command : Command) (answer : Answer) (new : List Table) : Type 0 where
+pub record IsAsked (limit : ℕ) (splits : List Bound) (tables : List PlainView) (part : ℕ) (command : Command) (answer : Answer) (new : List PlainView) : Type 0 where
   pub outcome : Result Reply Refusal
   pub comes_out : IsOutcome (expected_at limit splits tables part command) outcome
   pub answer_is : answer ≡ answered part outcome
   pub new_is : new ≡ tables_after tables part command outcome
 
 -- Several partitions are asked in turn, each for its part of a range: their replies, or the first refusal, and the partitions afterwards.
-pub data AsksInTurn (limit : ℕ) (splits : List Bound) (query : Query) (tables : List Table) : List (ℕ × Range) → Result (List PartReply) Refusal → List Table → Type 0 where
+pub data AsksInTurn (limit : ℕ) (splits : List Bound) (query : Query) (tables : List PlainView) : List (ℕ × Range) → Result (List PartReply) Refusal → List PlainView → Type 0 where
   -- none is asked yet
   begins : AsksInTurn limit splits query tables [] (Ok []) tables
   -- behind those that replied, the next one replies
-  replies : (parts : List (ℕ × Range)) (part : ℕ × Range) (said : List PartReply) (reply : Reply) (between : List Table)
+  replies : (parts : List (ℕ × Range)) (part : ℕ × Range) (said : List PartReply) (reply : Reply) (between : List PlainView)
       → AsksInTurn limit splits query tables parts (Ok said) between
       → IsOutcome (expected_at limit splits between part.0 (asking query part.1)) (Ok reply)
       → AsksInTurn limit splits query tables (parts ++ part ∷ []) (Ok (said ++ record { part = part.0; reply = reply } ∷ [])) (tables_after between part.0 (asking query part.1) (Ok reply))
   -- behind those that replied, the next one refuses, and those behind it aren't asked
-  refuses : (parts : List (ℕ × Range)) (part : ℕ × Range) (behind : List (ℕ × Range)) (said : List PartReply) (e : Refusal) (between : List Table)
+  refuses : (parts : List (ℕ × Range)) (part : ℕ × Range) (behind : List (ℕ × Range)) (said : List PartReply) (e : Refusal) (between : List PlainView)
       → AsksInTurn limit splits query tables parts (Ok said) between
       → IsOutcome (expected_at limit splits between part.0 (asking query part.1)) (Err e)
       → AsksInTurn limit splits query tables (parts ++ part ∷ behind) (Err e) between
 
 -- Several partitions are asked in turn, and what they reply is joined.
-pub record IsJoined (limit : ℕ) (splits : List Bound) (tables : List Table) (query : Query) (parts : List (ℕ × Range)) (answer : Answer) (new : List Table) : Type 0 where
+pub record IsJoined (limit : ℕ) (splits : List Bound) (tables : List PlainView) (query : Query) (parts : List (ℕ × Range)) (answer : Answer) (new : List PlainView) : Type 0 where
   pub outcome : Result (List PartReply) Refusal
   pub asked : AsksInTurn limit splits query tables parts outcome new
   pub answer_is : answer ≡ joined_or query outcome
 
 -- Several partitions are asked: in turn, or none of them, where no memory is found for their replies.
-abbrev pub AsksSeveral : ℕ → List Bound → List Table → Query → List (ℕ × Range) → Answer → List Table → Type 0
+abbrev pub AsksSeveral : ℕ → List Bound → List PlainView → Query → List (ℕ × Range) → Answer → List PlainView → Type 0
 AsksSeveral limit splits tables query parts answer new = IsJoined limit splits tables query parts answer new ⊎ ((answer ≡ Refused OutOfMemory) × (new ≡ tables))
 
 -- These parts of a range are asked: one alone as by any command.
-abbrev pub AsksParts : ℕ → List Bound → List Table → Query → List (ℕ × Range) → Answer → List Table → Type 0
+abbrev pub AsksParts : ℕ → List Bound → List PlainView → Query → List (ℕ × Range) → Answer → List PlainView → Type 0
 AsksParts limit splits tables query (part ∷ []) answer new = IsAsked limit splits tables part.0 (asking query part.1) answer new
 AsksParts limit splits tables query parts answer new = AsksSeveral limit splits tables query parts answer new
 
@@ -70,14 +70,14 @@ laid part (Ok layout) = Laid part layout
 laid part (Err e) = Refused e
 
 -- One partition is laid out: the answer is any layout that it may have.
-pub record IsLaidOut (splits : List Bound) (tables : List Table) (part : ℕ) (answer : Answer) : Type 0 where
+pub record IsLaidOut (splits : List Bound) (tables : List PlainView) (part : ℕ) (answer : Answer) : Type 0 where
   pub outcome : Result PartLayout Refusal
-  pub comes_out : IsLayoutOutcome (keys_at splits part) (slice_get tables part) outcome
+  pub comes_out : IsLayoutOutcome (keys_of_part splits part) (slice_get tables part) outcome
   pub answer_is : answer ≡ laid part outcome
 
 -- an answer to a statement, and the partitions afterwards: the partition that holds a row's key or that its number names is asked, and for
 -- a range those that hold a part of it
-abbrev pub IsAnswerTo : ℕ → List Bound → List Table → Statement → Answer → List Table → Type 0
+abbrev pub IsAnswerTo : ℕ → List Bound → List PlainView → Statement → Answer → List PlainView → Type 0
 IsAnswerTo limit splits tables (Insert key payload) answer new = IsAsked limit splits tables (route splits key.0) (AskInsert key payload) answer new
 IsAnswerTo limit splits tables (Delete row) answer new = IsAsked limit splits tables row.part (AskDelete row.serial) answer new
 IsAnswerTo limit splits tables (Update row key payload) answer new = IsAsked limit splits tables row.part (AskUpdate row.serial key payload) answer new
@@ -89,7 +89,7 @@ IsAnswerTo limit splits tables (Policy policy) answer new = (answer ≡ Set poli
 IsAnswerTo limit splits tables Quit answer new = (answer ≡ Bye) × (new ≡ tables)
 
 -- an answer to what a line is read as, and the partitions afterwards
-abbrev pub IsAnswer : ℕ → List Bound → List Table → Reading → Answer → List Table → Type 0
+abbrev pub IsAnswer : ℕ → List Bound → List PlainView → Reading → Answer → List PlainView → Type 0
 IsAnswer limit splits tables (Err e) answer new = (answer ≡ Refused e) × (new ≡ tables)
 IsAnswer limit splits tables (Ok statement) answer new = IsAnswerTo limit splits tables statement answer new
 

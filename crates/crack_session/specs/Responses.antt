@@ -3,7 +3,7 @@ use Rattle.std.specs.Prelude.{◌≡◌, ℕ, ◌+◌, Bool, true, false, List, 
 use Rattle.std.specs.Io.KnownBytes.{Appends}
 use Rattle.crack_row.specs.declared.Bound.{Bound}
 use Rattle.crack_row.specs.declared.refusal.Refusal.{Refusal}
-use Rattle.crack_plain.specs.Plain.{Table}
+use Rattle.crack_plain.specs.Plain.{PlainView}
 use Rattle.crack_session.specs.declared.answer.Answer.{Answer}
 use Rattle.crack_session.specs.declared.session.Progress.{Progress}
 use Rattle.crack_commands.specs.Grammar.{Reading}
@@ -28,9 +28,9 @@ abbrev pub Sends : List ℕ → Result (Unit {0}) Refusal → Option (List ℕ) 
 Sends text result out out' = MatchResult result (λ _. Appends out out' text) (λ _. AppendsFront out out' text)
 
 -- the statement is answered, a first want of room and another policy are noted, and the answer's text is sent
-pub record IsResponse (limit : ℕ) (splits : List Bound) (tables : List Table) (reading : Reading) (old new : Progress) (result : Result (Unit {0}) Refusal) (left : Option (List Table)) (out out' : Option (List ℕ)) : Type 0 where
+pub record IsResponse (limit : ℕ) (splits : List Bound) (tables : List PlainView) (reading : Reading) (old new : Progress) (result : Result (Unit {0}) Refusal) (left : Option (List PlainView)) (out out' : Option (List ℕ)) : Type 0 where
   pub answer : Answer
-  pub next_tables : List Table
+  pub next_tables : List PlainView
   pub is : IsAnswer limit splits tables reading answer next_tables
   pub left_is : left ≡ Some next_tables
   pub short_is : new.first_short ≡ marked old.first_short (old.statements + 1) (is_short_answer answer)

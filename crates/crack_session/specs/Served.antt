@@ -3,7 +3,7 @@ use Rattle.std.specs.Prelude.{◌≡◌, ℕ, ◌+◌, ◌<◌, ◌≤◌, List,
 use Rattle.std.specs.List.{concat}
 use Rattle.crack_row.specs.declared.Bound.{Bound}
 use Rattle.crack_row.specs.declared.refusal.Refusal.TheVariants.{ReadFault, WriteFault}
-use Rattle.crack_plain.specs.Plain.{Table}
+use Rattle.crack_plain.specs.Plain.{PlainView}
 use Rattle.crack_session.specs.declared.answer.Answer.{Answer}
 use Rattle.crack_session.specs.declared.session.End.{End}
 use Rattle.crack_session.specs.declared.session.Fault.{Fault}
@@ -13,22 +13,22 @@ use Rattle.crack_session.specs.Answers.{answer_text}
 use Rattle.crack_session.specs.Sessions.{AreAnswers, first_short, ending, whole_lines}
 
 -- These statements are answered in order: the texts of the answers, the first want of room, and the partitions afterwards.
-pub record AreAnswered (limit : ℕ) (splits : List Bound) (tables : List Table) (readings : List Reading) (texts : List (List ℕ)) (short : Option ℕ) (left : Option (List Table)) : Type 0 where
+pub record AreAnswered (limit : ℕ) (splits : List Bound) (tables : List PlainView) (readings : List Reading) (texts : List (List ℕ)) (short : Option ℕ) (left : Option (List PlainView)) : Type 0 where
   pub answers : List Answer
-  pub new : List Table
+  pub new : List PlainView
   pub are : AreAnswers limit splits tables readings answers new
   pub texts_are : texts ≡ map answer_text answers
   pub short_is : short ≡ first_short answers
   pub left_is : left ≡ Some new
 
 -- These statements are answered in order, and the texts of the answers are written, each of them whole.
-pub record AreTold (limit : ℕ) (splits : List Bound) (tables : List Table) (readings : List Reading) (out : List ℕ) (short : Option ℕ) (left : Option (List Table)) (written : Option (List ℕ)) : Type 0 where
+pub record AreTold (limit : ℕ) (splits : List Bound) (tables : List PlainView) (readings : List Reading) (out : List ℕ) (short : Option ℕ) (left : Option (List PlainView)) (written : Option (List ℕ)) : Type 0 where
   pub texts : List (List ℕ)
   pub answered : AreAnswered limit splits tables readings texts short left
   pub written_is : written ≡ Some (out ++ concat texts)
 
 -- on Ok all statements are counted
-pub record IsCounted (bytes : List ℕ) (end : End) : Type 0 where
+pub record CountsStatements (bytes : List ℕ) (end : End) : Type 0 where
   pub statements_are : end.statements ≡ length (statements bytes)
   pub how_is : end.how ≡ ending (statements bytes)
 
@@ -39,11 +39,11 @@ pub record IsDone (bytes : List ℕ) (fault : Fault) (remaining : Option (List �
       fault.done ≡ length (statements (whole_lines taken))
 
 -- on Ok all statements are answered
-abbrev pub IsServed : ℕ → List Bound → List Table → List ℕ → List ℕ → End → Option (List Table) → Option (List ℕ) → Type 0
+abbrev pub IsServed : ℕ → List Bound → List PlainView → List ℕ → List ℕ → End → Option (List PlainView) → Option (List ℕ) → Type 0
 IsServed limit splits tables bytes out end left written = AreTold limit splits tables (statements bytes) out end.first_short left written
 
 -- where the writer failed in a text: one statement more is answered than is done, and a front of its text follows the others
-pub record IsCutWithin (limit : ℕ) (splits : List Bound) (tables : List Table) (bytes out : List ℕ) (fault : Fault) (left : Option (List Table)) (written : Option (List ℕ)) : Type 0 where
+pub record IsCutWithin (limit : ℕ) (splits : List Bound) (tables : List PlainView) (bytes out : List ℕ) (fault : Fault) (left : Option (List PlainView)) (written : Option (List ℕ)) : Type 0 where
   pub refusal_is : fault.refusal ≡ WriteFault
   pub one_more : fault.done < length (statements bytes)
   pub texts : List (List ℕ)
@@ -54,6 +54,6 @@ pub record IsCutWithin (limit : ℕ) (splits : List Bound) (tables : List Table)
   pub written_is : written ≡ Some (out ++ (concat texts ++ take count text))
 
 -- on a fault the statements that are done are answered, and nothing follows their texts, or a front of one more
-abbrev pub IsCutOff : ℕ → List Bound → List Table → List ℕ → List ℕ → Fault → Option (List Table) → Option (List ℕ) → Type 0
+abbrev pub IsCutOff : ℕ → List Bound → List PlainView → List ℕ → List ℕ → Fault → Option (List PlainView) → Option (List ℕ) → Type 0
 IsCutOff limit splits tables bytes out fault left written = AreTold limit splits tables (take fault.done (statements bytes)) out fault.first_short left written
     ⊎ IsCutWithin limit splits tables bytes out fault left written

@@ -1,7 +1,7 @@
 -- A session as a relation between statements, rows and answers.
 use Rattle.std.specs.Prelude.{◌≡◌, ℕ, ◌+◌, List, [], ◌∷◌, Option, None, Some, option_map, if◌then◌else◌}
 use Rattle.crack_row.specs.declared.Bound.{Bound}
-use Rattle.crack_plain.specs.Plain.{Table}
+use Rattle.crack_plain.specs.Plain.{PlainView}
 use Rattle.crack_session.specs.declared.answer.Answer.{Answer}
 use Rattle.crack_session.specs.declared.session.How.{How}
 use Rattle.crack_session.specs.declared.session.How.TheVariants.{Quit, InputEnded}
@@ -11,11 +11,11 @@ use Rattle.crack_session.specs.Readings.{is_quit}
 use Rattle.crack_session.specs.Answers.{IsAnswer, is_short_answer}
 
 -- answers to these statements, one after the other, and the partitions afterwards
-abbrev pub AreAnswers : ℕ → List Bound → List Table → List Reading → List Answer → List Table → Type 0
+abbrev pub AreAnswers : ℕ → List Bound → List PlainView → List Reading → List Answer → List PlainView → Type 0
 AreAnswers limit splits tables [] [] new = new ≡ tables
 AreAnswers limit splits tables [] (answer ∷ answers) new = ⊥
 AreAnswers limit splits tables (reading ∷ readings) [] new = ⊥
-AreAnswers limit splits tables (reading ∷ readings) (answer ∷ answers) new = (between : List Table)
+AreAnswers limit splits tables (reading ∷ readings) (answer ∷ answers) new = (between : List PlainView)
     × IsAnswer limit splits tables reading answer between
     × AreAnswers limit splits between readings answers new
 

@@ -4,7 +4,7 @@ ghost use Rattle.std.specs.List.{flat_map};
 ghost use Rattle.std.specs.Io.KnownBytes.{Appends};
 ghost use Rattle.crack_row.specs.Devices.{device, has_failed};
 ghost use Rattle.crack_row.specs.Ranges.{Range};
-ghost use Rattle.crack_plain.specs.Plain.{Table, IsSmall};
+ghost use Rattle.crack_plain.specs.Plain.{PlainView, IsSmall};
 ghost use Rattle.crack_core.specs.Routes.{route, parts_of};
 ghost use Rattle.crack_session.specs.Queries.{list_text, lists_text};
 ghost use Rattle.crack_session.specs.Answers.{IsAnswer, IsAnswerTo, IsAsked, AsksInTurn, AsksSeveral, AsksParts, IsLaidOut, is_short_answer, answer_text};
@@ -120,7 +120,7 @@ pub fn answer_reading<D: Desk>(
     policy: Policy,
     reading: Result<Statement, Refusal>,
 ) -> Answer
-    ensures is { (tables : List Table) → D.tables desk.old ≡ Some tables → (new : List Table)
+    ensures is { (tables : List PlainView) → D.tables desk.old ≡ Some tables → (new : List PlainView)
         × IsAnswer (D.limit desk.old) (D.splits desk.old) tables reading result new × (D.tables desk.new ≡ Some new) }
     ensures splits { D.splits desk.new ≡ D.splits desk.old }
     ensures limit { D.limit desk.new ≡ D.limit desk.old }
@@ -139,7 +139,7 @@ fn answer_statement<D: Desk>(
     policy: Policy,
     statement: Statement,
 ) -> Answer
-    ensures is { (tables : List Table) → D.tables desk.old ≡ Some tables → (new : List Table)
+    ensures is { (tables : List PlainView) → D.tables desk.old ≡ Some tables → (new : List PlainView)
         × IsAnswerTo (D.limit desk.old) (D.splits desk.old) tables statement result new × (D.tables desk.new ≡ Some new) }
     ensures splits { D.splits desk.new ≡ D.splits desk.old }
     ensures limit { D.limit desk.new ≡ D.limit desk.old }
@@ -182,7 +182,7 @@ pub fn part_of<D: Desk>(desk: &D, key: Key) -> u32
 /// Asks one partition.
 #[inline(never)]
 fn ask_part<D: Desk>(desk: &mut D, policy: Policy, part: u32, command: Command) -> Answer
-    ensures is { (tables : List Table) → D.tables desk.old ≡ Some tables → (new : List Table)
+    ensures is { (tables : List PlainView) → D.tables desk.old ≡ Some tables → (new : List PlainView)
         × IsAsked (D.limit desk.old) (D.splits desk.old) tables part command result new × (D.tables desk.new ≡ Some new) }
     ensures splits { D.splits desk.new ≡ D.splits desk.old }
     ensures limit { D.limit desk.new ≡ D.limit desk.old }
@@ -201,7 +201,7 @@ fn ask_range<D: Desk>(
     query: Query,
     range: KeyRange,
 ) -> Answer
-    ensures is { (tables : List Table) → D.tables desk.old ≡ Some tables → (new : List Table)
+    ensures is { (tables : List PlainView) → D.tables desk.old ≡ Some tables → (new : List PlainView)
         × AsksParts (D.limit desk.old) (D.splits desk.old) tables query (parts_of (D.splits desk.old) range) result new × (D.tables desk.new ≡ Some new) }
     ensures splits { D.splits desk.new ≡ D.splits desk.old }
     ensures limit { D.limit desk.new ≡ D.limit desk.old }
@@ -224,7 +224,7 @@ fn ask_several<D: Desk>(
     parts: &[(u32, KeyRange)],
 ) -> Answer
     requires { length parts.now ≤ 64 }
-    ensures is { (tables : List Table) → D.tables desk.old ≡ Some tables → (new : List Table)
+    ensures is { (tables : List PlainView) → D.tables desk.old ≡ Some tables → (new : List PlainView)
         × AsksSeveral (D.limit desk.old) (D.splits desk.old) tables query parts.now result new × (D.tables desk.new ≡ Some new) }
     ensures splits { D.splits desk.new ≡ D.splits desk.old }
     ensures limit { D.limit desk.new ≡ D.limit desk.old }
@@ -249,9 +249,9 @@ fn ask_each<D: Desk>(
 ) -> Result<(), Refusal>
     requires none { replies.old.items ≡ [] }
     requires room { length parts.now ≤ vec_capacity replies.old }
-    ensures replied { OnOk result ((tables : List Table) → D.tables desk.old ≡ Some tables → (new : List Table)
+    ensures replied { OnOk result ((tables : List PlainView) → D.tables desk.old ≡ Some tables → (new : List PlainView)
         × AsksInTurn (D.limit desk.old) (D.splits desk.old) query tables parts.now (Ok replies.new.items) new × (D.tables desk.new ≡ Some new)) }
-    ensures refused { IfErr result (λ e. (tables : List Table) → D.tables desk.old ≡ Some tables → (new : List Table)
+    ensures refused { IfErr result (λ e. (tables : List PlainView) → D.tables desk.old ≡ Some tables → (new : List PlainView)
         × AsksInTurn (D.limit desk.old) (D.splits desk.old) query tables parts.now (Err e) new × (D.tables desk.new ≡ Some new)) }
     ensures small { All (λ (r : PartReply). IsSmall r.reply) replies.new.items }
     ensures few { length replies.new.items ≤ length parts.now }
@@ -272,7 +272,7 @@ fn ask_each<D: Desk>(
 
 /// Says what stands where in one partition.
 fn lay_out<D: Desk>(desk: &D, part: u32) -> Answer
-    ensures { (tables : List Table) → D.tables desk.now ≡ Some tables → IsLaidOut (D.splits desk.now) tables part result }
+    ensures { (tables : List PlainView) → D.tables desk.now ≡ Some tables → IsLaidOut (D.splits desk.now) tables part result }
 {
     match desk.layout(part) {
         Ok(layout) => Answer::Laid { part, layout },

@@ -1,7 +1,7 @@
 //! Who answers commands.
 ghost use Rattle.std.specs.Prelude.{◌≡◌, ℕ, ◌+◌, List, length, All, is_ok, Some, IfOk, slice_get, if◌then◌else◌};
-ghost use Rattle.crack_plain.specs.Plain.{Table, IsNumbered, IsSmall};
-ghost use Rattle.crack_core.specs.Routes.{AreSplits, keys_at};
+ghost use Rattle.crack_plain.specs.Plain.{PlainView, IsNumbered, IsSmall};
+ghost use Rattle.crack_core.specs.Routes.{AreSplits, keys_of_part};
 ghost use Rattle.crack_core.specs.Steps.{expected_at, IsOutcome, IsLayoutOutcome, tables_after};
 
 use crack_row::{Bound, Command, Layout, Policy, Refusal, Reply};
@@ -10,10 +10,10 @@ use crack_row::{Bound, Command, Layout, Policy, Refusal, Reply};
 pub trait Desk {
     ghost use Rattle.std.specs.Prelude.{ℕ, Option, List};
     ghost use Rattle.crack_row.specs.declared.Bound.{Bound};
-    ghost use Rattle.crack_plain.specs.Plain.{Table};
+    ghost use Rattle.crack_plain.specs.Plain.{PlainView};
 
     /// The plain rows of each partition and how many entries its history has, where they are known.
-    ghost tables: { Self → Option (List Table) };
+    ghost tables: { Self → Option (List PlainView) };
 
     /// How many entries the history of a partition may have.
     ghost limit: { Self → ℕ };
@@ -29,10 +29,10 @@ pub trait Desk {
     /// and with 8 where no memory is found.
     fn ask(&mut self, part: u32, command: Command, policy: Policy) -> Result<Reply, Refusal>
         // It is the reply of the plain rows, or the refusal that they call for; in place of a reply it may be 8.
-        ensures outcome { (known : List Table) → tables self.old ≡ Some known →
+        ensures outcome { (known : List PlainView) → tables self.old ≡ Some known →
             IsOutcome (expected_at (limit self.old) (splits self.old) known part command) result }
         // The plain rows change as the reply says, and a refusal leaves them.
-        ensures after { (known : List Table) → tables self.old ≡ Some known →
+        ensures after { (known : List PlainView) → tables self.old ≡ Some known →
             tables self.new ≡ Some (tables_after known part command result) }
 
         ensures small { IfOk result IsSmall }
@@ -44,17 +44,17 @@ pub trait Desk {
     /// such partition, and with 8 where no memory is found.
     fn layout(&self, part: u32) -> Result<Layout, Refusal>
         // Its pieces lead from the partition's one end to the other, its numbers fit, and its rows are as many as the plain rows.
-        ensures { (known : List Table) → tables self.now ≡ Some known →
-            IsLayoutOutcome (keys_at (splits self.now) part) (slice_get known part) result };
+        ensures { (known : List PlainView) → tables self.now ≡ Some known →
+            IsLayoutOutcome (keys_of_part (splits self.now) part) (slice_get known part) result };
 
     /// Where one partition ends and the next begins. Takes no memory.
     fn splits(&self) -> &[Bound]
         ensures value { result.now ≡ splits self.now }
         ensures are { AreSplits (splits self.now) }
-        ensures partitions { (known : List Table) → tables self.now ≡ Some known →
+        ensures partitions { (known : List PlainView) → tables self.now ≡ Some known →
             length known ≡ length (splits self.now) + 1 }
-        ensures numbered { (known : List Table) → tables self.now ≡ Some known →
-            All (λ (table : Table). IsNumbered table.state) known };
+        ensures numbered { (known : List PlainView) → tables self.now ≡ Some known →
+            All (λ (table : PlainView). IsNumbered table.state) known };
 
     /// How many commands were accepted through this desk.
     fn receipts(&self) -> u64

@@ -2,8 +2,8 @@
 ghost use Rattle.std.specs.Prelude.{◌≡◌, ℕ, ◌+◌, ◌<◌, ◌≤◌, ◌⊎◌, ◌^◌, ◌-◌, true, List, length, min, is_ok, Ok, IfOk, IfErr, IfSome, OnErr, OnOk, None, Some, if◌then◌else◌};
 ghost use Rattle.std.specs.Io.KnownBytes.{Keeps};
 ghost use Rattle.crack_row.specs.Devices.{device, has_failed, reads_of};
-ghost use Rattle.crack_plain.specs.Plain.{Table};
-ghost use Rattle.crack_session.specs.Served.{IsCounted, IsServed, IsDone, IsCutOff};
+ghost use Rattle.crack_plain.specs.Plain.{PlainView};
+ghost use Rattle.crack_session.specs.Served.{CountsStatements, IsServed, IsDone, IsCutOff};
 ghost use Rattle.crack_session.specs.Responses.{IsResponse, Sends, marked, policy_after};
 ghost use Rattle.crack_session.specs.Answers.{is_short_answer, answer_text};
 
@@ -103,7 +103,7 @@ fn respond<D: Desk, W: Write>(
 ) -> Result<(), Refusal>
     requires { progress.old.statements + 1 < 2 ^ 64 }
     ensures count { progress.new.statements ≡ (if is_ok result then progress.old.statements + 1 else progress.old.statements) }
-    ensures responds { (tables : List Table) → D.tables desk.old ≡ Some tables →
+    ensures responds { (tables : List PlainView) → D.tables desk.old ≡ Some tables →
         IsResponse (D.limit desk.old) (D.splits desk.old) tables reading progress.old progress.new result
         (D.tables desk.new) (W.contents (device writer.old)) (W.contents (device writer.new)) }
     ensures splits { D.splits desk.new ≡ D.splits desk.old }
@@ -128,7 +128,7 @@ fn respond_to_any<D: Desk, W: Write>(
 ) -> Result<(), Refusal>
     requires { progress.old.statements + 1 < 2 ^ 64 }
     ensures count { progress.new.statements ≡ (if is_ok result then progress.old.statements + 1 else progress.old.statements) }
-    ensures responds { (tables : List Table) → D.tables desk.old ≡ Some tables →
+    ensures responds { (tables : List PlainView) → D.tables desk.old ≡ Some tables →
         IsResponse (D.limit desk.old) (D.splits desk.old) tables reading progress.old progress.new result
         (D.tables desk.new) (W.contents (device writer.old)) (W.contents (device writer.new)) }
     ensures splits { D.splits desk.new ≡ D.splits desk.old }
@@ -166,7 +166,7 @@ fn respond_to_insert<D: Desk, W: Write>(
 ) -> Result<(), Refusal>
     requires { progress.old.statements + 1 < 2 ^ 64 }
     ensures count { progress.new.statements ≡ (if is_ok result then progress.old.statements + 1 else progress.old.statements) }
-    ensures responds { (tables : List Table) → D.tables desk.old ≡ Some tables →
+    ensures responds { (tables : List PlainView) → D.tables desk.old ≡ Some tables →
         IsResponse (D.limit desk.old) (D.splits desk.old) tables (Ok (Statement.Insert key payload)) progress.old progress.new result
         (D.tables desk.new) (W.contents (device writer.old)) (W.contents (device writer.new)) }
     ensures splits { D.splits desk.new ≡ D.splits desk.old }
@@ -281,9 +281,9 @@ pub fn serve<D: Desk, R: Read, W: Write>(
 ) -> Result<End, Fault>
     // However the session went, its statements are counted and its end is told.
     ensures counted { IfOk result (λ end. (bytes : List ℕ) → R.remaining (device reader.old) ≡ Some bytes →
-        IsCounted bytes end) }
+        CountsStatements bytes end) }
     // What is answered and written, and the desk afterwards.
-    ensures served { IfOk result (λ end. (bytes out : List ℕ) (tables : List Table) →
+    ensures served { IfOk result (λ end. (bytes out : List ℕ) (tables : List PlainView) →
         R.remaining (device reader.old) ≡ Some bytes → W.contents (device writer.old) ≡ Some out →
         D.tables desk.old ≡ Some tables →
         IsServed (D.limit desk.old) (D.splits desk.old) tables bytes out end (D.tables desk.new) (W.contents (device writer.new))) }
@@ -291,7 +291,7 @@ pub fn serve<D: Desk, R: Read, W: Write>(
     ensures done { IfErr result (λ fault. (bytes : List ℕ) → R.remaining (device reader.old) ≡ Some bytes →
         IsDone bytes fault (R.remaining (device reader.new))) }
     // And what is answered and written then.
-    ensures cut_off { IfErr result (λ fault. (bytes out : List ℕ) (tables : List Table) →
+    ensures cut_off { IfErr result (λ fault. (bytes out : List ℕ) (tables : List PlainView) →
         R.remaining (device reader.old) ≡ Some bytes → W.contents (device writer.old) ≡ Some out →
         D.tables desk.old ≡ Some tables →
         IsCutOff (D.limit desk.old) (D.splits desk.old) tables bytes out fault (D.tables desk.new) (W.contents (device writer.new))) }

@@ -1,7 +1,7 @@
 //! Two sessions over one core, and a session and an export: the second starts from what the first left, by what `serve` promises.
 ghost use Rattle.std.specs.Prelude.{◌≡◌, ℕ, List, Some, IfOk};
 ghost use Rattle.crack_row.specs.Devices.{device};
-ghost use Rattle.crack_plain.specs.Plain.{Table};
+ghost use Rattle.crack_plain.specs.Plain.{PlainView};
 ghost use Rattle.crack_core.specs.Steps.{tables_of};
 ghost use Rattle.crack_session.specs.Served.{IsServed};
 ghost use Rattle.crack_csv.specs.Exports.{IsExported};
@@ -26,7 +26,7 @@ fn serve_both<R: Read, W: Write>(
 ) -> Result<(End, End), Refusal>
     ensures { IfOk result (λ ends. (bytes more out : List ℕ) →
         R.remaining (device first.old) ≡ Some bytes → R.remaining (device second.old) ≡ Some more →
-        W.contents (device writer.old) ≡ Some out → (between : List Table) × (written : List ℕ)
+        W.contents (device writer.old) ≡ Some out → (between : List PlainView) × (written : List ℕ)
         × IsServed core.old.limit core.old.splits (tables_of core.old.parts) bytes out ends.0 (Some between) (Some written)
         × IsServed core.old.limit core.old.splits between more written ends.1 (Some (tables_of core.new.parts)) (W.contents (device writer.new))) }
 {
@@ -48,7 +48,7 @@ fn serve_and_export<R: Read, W: Write>(
 ) -> Result<(End, u64), Refusal>
     ensures { IfOk result (λ told. (bytes out : List ℕ) →
         R.remaining (device reader.old) ≡ Some bytes → W.contents (device writer.old) ≡ Some out →
-        (between : List Table) × (written : List ℕ)
+        (between : List PlainView) × (written : List ℕ)
         × IsServed core.old.limit core.old.splits (tables_of core.old.parts) bytes out told.0 (Some between) (Some written)
         × IsExported core.old.splits between told.1 (Some (tables_of core.new.parts)) (Some written) (W.contents (device writer.new))) }
 {

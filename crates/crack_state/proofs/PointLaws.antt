@@ -17,7 +17,7 @@ use Rattle.crack_arena.proofs.Places.{place_in-within, place_in-found}
 use Rattle.crack_arena.proofs.Times.{times-nil, times-cons, times_one, times_other, times_head, times-append, times-map-append}
 use Rattle.crack_state.specs.State.{State, places, Reads, IsOwned, IsIntact, IsKeyed, IsLiveAt, AreEmpty, handle_of, freed_of, live_at, live_rows}
 use Rattle.crack_state.specs.Steps.{next_handle, admitted, SameButRoom}
-use Rattle.crack_state.specs.Points.{pending_by, handle_by, Maps, MayFree, struck, doomed_too, rewritten, renewed, Cancels, Dooms, Renews, Rewrites, IsRenewable, IsRewritable}
+use Rattle.crack_state.specs.Points.{pending_by, handle_by, Maps, MayFree, struck, doomed_too, overwritten, renewed, Cancels, Dooms, Renews, Rewrites, IsRenewable, IsRewritable}
 use Rattle.crack_state.proofs.OwnedLaws.{times-taken, times-places, All-removed}
 use Rattle.crack_state.proofs.CellLaws.{AgreeOff-set, read-off, Reads-off, keys-off, generation_of_read, read-value, cell_within}
 use Rattle.crack_state.proofs.LiveLaws.{filter_map-less, times-range, none_either, All-filter_map}
@@ -307,7 +307,7 @@ Reads_over cells h row hs within h_reads reads =
       | inr ne ↦ rw (read-off h.slot cells (set cells h.slot c) (get_or hs k d) (AgreeOff-set cells h.slot c) ne) (reads k d j)
     ]
 
-IsKeyed-rewritten : (s : State) (h : Handle) (row : Row) → handle_of s.serials row.serial.0 ≡ Some h → IsIntact s [] → IsKeyed (rewritten row h s).cells (slots s.pending_out) s.serials
+IsKeyed-rewritten : (s : State) (h : Handle) (row : Row) → handle_of s.serials row.serial.0 ≡ Some h → IsIntact s [] → IsKeyed (overwritten row h s).cells (slots s.pending_out) s.serials
 IsKeyed-rewritten s h row found intact =
     let keyed = intact.keyed in
     let known = stands1 s row.serial.0 h found intact in
@@ -332,7 +332,7 @@ IsKeyed-rewritten s h row found intact =
     }
 
 -- the store that a write in place leaves
-pub IsIntact-rewritten : (s : State) (h : Handle) (row : Row) → handle_of s.serials row.serial.0 ≡ Some h → 0 < times h.slot (slots s.pending_in) → IsIn s.keys row.key.0 → IsIntact s [] → IsIntact (rewritten row h s) []
+pub IsIntact-rewritten : (s : State) (h : Handle) (row : Row) → handle_of s.serials row.serial.0 ≡ Some h → 0 < times h.slot (slots s.pending_in) → IsIn s.keys row.key.0 → IsIntact s [] → IsIntact (overwritten row h s) []
 IsIntact-rewritten s h row found listed inside intact =
     let owned = intact.owned in
     let known = stands1 s row.serial.0 h found intact in
@@ -454,7 +454,7 @@ replaced_in row old before rest after same apart gone come =
     IsPermutation-trans (map (replaced row) before) (row ∷ rest) after (IsPermutation-sym (row ∷ rest) (map (replaced row) before) put) come
 
 -- a write in place replaces the row
-pub live_rows-rewritten : (s : State) (h : Handle) (row : Row) → handle_of s.serials row.serial.0 ≡ Some h → IsIntact s [] → IsPermutation (map (replaced row) (live_rows s)) (live_rows (rewritten row h s))
+pub live_rows-rewritten : (s : State) (h : Handle) (row : Row) → handle_of s.serials row.serial.0 ≡ Some h → IsIntact s [] → IsPermutation (map (replaced row) (live_rows s)) (live_rows (overwritten row h s))
 live_rows-rewritten s h row found intact =
     let serial = row.serial.0 in
     let known = stands1 s serial h found intact in
@@ -473,8 +473,8 @@ live_rows-rewritten s h row found intact =
     let lacks : live_at less doomed h.slot ≡ None = rw (get_or-set_same s.cells h.slot none empty_cell known.within) (none_either (times h.slot doomed == 0)) in
     let once : times h.slot numbers ≡ 1 = times-range h.slot (length s.cells) ∙ rw (lt-ltb h.slot (length s.cells) known.within) refl in
     let come = filter_map-less (live_at cells doomed) (live_at less doomed) h.slot row numbers had lacks (λ k ne. rw (get_or-set_other s.cells h.slot k full empty_cell ne, get_or-set_other s.cells h.slot k none empty_cell ne) refl) once in
-    let put : IsPermutation (row ∷ live_rows (struck h s)) (live_rows (rewritten row h s)) = rw (length-set s.cells h.slot none, length-set s.cells h.slot full) (IsPermutation-sym (filter_map (live_at cells doomed) numbers) _ come) in
-    replaced_in row live.row (live_rows s) (live_rows (struck h s)) (live_rows (rewritten row h s)) live.same apart gone put
+    let put : IsPermutation (row ∷ live_rows (struck h s)) (live_rows (overwritten row h s)) = rw (length-set s.cells h.slot none, length-set s.cells h.slot full) (IsPermutation-sym (filter_map (live_at cells doomed) numbers) _ come) in
+    replaced_in row live.row (live_rows s) (live_rows (struck h s)) (live_rows (overwritten row h s)) live.same apart gone put
 
 -- so does a renewal
 pub live_rows-renewed : (s : State) (h : Handle) (row : Row) → handle_of s.serials row.serial.0 ≡ Some h → times h.slot (slots s.pending_in) ≡ 0 → MayFree s → IsIntact s [] → IsPermutation (map (replaced row) (live_rows s)) (live_rows (renewed row h s))

@@ -13,7 +13,7 @@ use Rattle.crack_row.specs.Ranges.{Range, in_range}
 use Rattle.crack_row.specs.declared.Row.{Row}
 use Rattle.crack_arena.specs.Arena.{Cell, Handle, times, read, cell_at, slots}
 use Rattle.crack_arena.proofs.Times.{times-nil, times-cons, times_one, times_other}
-use Rattle.crack_index.specs.Marks.{place_of}
+use Rattle.crack_index.specs.Marks.{position_of}
 use Rattle.crack_index.proofs.MarkLaws.{HasBound-contains, place_of-mark}
 use Rattle.crack_arena.specs.Rows.{key_of_row, key_at}
 use Rattle.crack_column.specs.Column.{IsDividedAt}
@@ -33,7 +33,7 @@ edge-divides s hand bound intact above below stands =
       | inl l ↦ elim (cases_lt bound s.keys.high) [
         | inl h ↦
             let at = HasBound-contains s.marks bound (stands l h) in
-            let place : place_of bound s.marks ≡ at.0.position = rw at.2 at (place_of-mark s.marks at.0 intact.rising at.1) in
+            let place : position_of bound s.marks ≡ at.0.position = rw at.2 at (place_of-mark s.marks at.0 intact.rising at.1) in
             rw (lt-leb bound s.keys.low l, lt-leb s.keys.high bound h, place) (rw at.2 at (Divides-listed (column_keys s) s.marks at.0 intact.obeyed at.1))
         | inr h ↦
             let same : bound ≡ s.keys.high = omega arith in

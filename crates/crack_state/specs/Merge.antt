@@ -8,7 +8,7 @@ use Rattle.crack_row.specs.declared.command.Policy.{Policy}
 use Rattle.crack_row.specs.declared.command.Policy.TheVariants.{Complete, Gradual, Ripple}
 use Rattle.crack_arena.specs.Arena.{Cell, Handle, read}
 use Rattle.crack_index.specs.declared.mark.Mark.{Mark}
-use Rattle.crack_index.specs.Marks.{HasBound, bounds_of, place_of}
+use Rattle.crack_index.specs.Marks.{HasBound, bounds_of, position_of}
 use Rattle.crack_arena.specs.Rows.{key_at}
 use Rattle.crack_state.specs.declared.MergeReport.{MergeReport}
 use Rattle.crack_state.specs.State.{State, Reads, IsIntact, live_rows, freed_of, greatest}
@@ -53,7 +53,7 @@ AreEnds r first second = ((first ≡ r.low) × (second ≡ r.high)) ⊎ ((first 
 -- the place at which the rows at or above a bound begin: the column's front or end for the partition's ends, else where the
 -- index has the bound
 abbrev pub edge : State → ℕ → ℕ
-edge s bound = if nat_le bound s.keys.low then 0 else if nat_le s.keys.high bound then length s.column else place_of bound s.marks
+edge s bound = if nat_le bound s.keys.low then 0 else if nat_le s.keys.high bound then length s.column else position_of bound s.marks
 
 -- the column's handles between the places of a range's ends
 abbrev pub stretch : State → Range → List Handle

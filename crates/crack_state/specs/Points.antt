@@ -42,8 +42,8 @@ abbrev pub doomed_too : Handle → State → State
 doomed_too h s = record s { pending_out = s.pending_out ++ h ∷ [] }
 
 -- a cell gets another row
-abbrev pub rewritten : Row → Handle → State → State
-rewritten row h s = record s { cells = slice_set s.cells h.slot (record { generation = h.generation; value = Some row }) }
+abbrev pub overwritten : Row → Handle → State → State
+overwritten row h s = record s { cells = slice_set s.cells h.slot (record { generation = h.generation; value = Some row }) }
 
 -- a handle of the column goes behind the last pending deletion, and a row in a new cell behind the last pending insertion
 abbrev pub renewed : Row → Handle → State → State
@@ -73,7 +73,7 @@ pub record Renews (row : Row) (s t : State) : Type 0 where
 -- rewrite, by whether the row is a pending insertion: it is written in place, or renewed
 abbrev pub Rewrites : Option Bool → Row → State → State → Type 0
 Rewrites None row s t = ⊥
-Rewrites (Some true) row s t = t ≡ rewritten row (handle_by s row.serial.0) s
+Rewrites (Some true) row s t = t ≡ overwritten row (handle_by s row.serial.0) s
 Rewrites (Some false) row s t = Renews row s t
 
 -- when a row may be renewed: a cell is free or one more may be made, and one may be freed later
@@ -81,7 +81,7 @@ pub record IsRenewable (s : State) : Type 0 where
   pub cell : length s.cells < 2 ^ 32 - 1 + length s.free
   pub few : MayFree s
 
--- when a row may be rewritten: there is one of its serial, its key is the partition's, and one of the column may be renewed
+-- when a row may be overwritten: there is one of its serial, its key is the partition's, and one of the column may be renewed
 pub record IsRewritable (row : Row) (s : State) : Type 0 where
   pub there : IsSome (handle_of s.serials row.serial.0)
   pub within : IsIn s.keys row.key.0

@@ -5,7 +5,7 @@ use Rattle.std.proofs.lemmas.Bool.{cases_lt, lt-leb, le-leb}
 use Rattle.std.proofs.lemmas.List.{length-map}
 use Rattle.crack_arena.specs.Arena.{Handle}
 use Rattle.crack_index.specs.declared.mark.Mark.{Mark}
-use Rattle.crack_index.specs.Marks.{place_of}
+use Rattle.crack_index.specs.Marks.{position_of}
 use Rattle.crack_index.proofs.MarkLaws.{HasBound-contains, place_of-mark, Rising-positions}
 use Rattle.crack_arena.specs.Rows.{key_at}
 use Rattle.crack_state.specs.State.{State, IsIntact, column_keys}
@@ -28,7 +28,7 @@ edge_within s hand bound intact stands =
         | inr h ↦ rw (lt-leb bound s.keys.low l, le-leb s.keys.high bound h) (omega arith)
         | inl h ↦
             let at = HasBound-contains s.marks bound (stands l h) in
-            let place : place_of bound s.marks ≡ at.0.position = rw at.2 at (place_of-mark s.marks at.0 intact.rising at.1) in
+            let place : position_of bound s.marks ≡ at.0.position = rw at.2 at (place_of-mark s.marks at.0 intact.rising at.1) in
             rw (lt-leb bound s.keys.low l, lt-leb s.keys.high bound h, place) (omega (arith, (Divides-listed (column_keys s) s.marks at.0 intact.obeyed at.1).within, length-map s.column (key_at s.cells)))
       ]
     ]
@@ -43,8 +43,8 @@ edge_order s hand low high intact order low_stands high_stands =
         | inl h ↦
             let from = HasBound-contains s.marks low (low_stands l (omega arith)) in
             let to = HasBound-contains s.marks high (high_stands (omega arith) h) in
-            let from_place : place_of low s.marks ≡ from.0.position = rw from.2 at (place_of-mark s.marks from.0 intact.rising from.1) in
-            let to_place : place_of high s.marks ≡ to.0.position = rw to.2 at (place_of-mark s.marks to.0 intact.rising to.1) in
+            let from_place : position_of low s.marks ≡ from.0.position = rw from.2 at (place_of-mark s.marks from.0 intact.rising from.1) in
+            let to_place : position_of high s.marks ≡ to.0.position = rw to.2 at (place_of-mark s.marks to.0 intact.rising to.1) in
             rw (lt-leb low s.keys.low l, lt-leb s.keys.high low (omega arith), lt-leb high s.keys.low (omega arith), lt-leb s.keys.high high h, from_place, to_place) (Rising-positions s.marks from.0 to.0 intact.rising from.1 to.1 (omega (arith, from.2, to.2)))
       ]
     ]

@@ -20,7 +20,7 @@ impl Notes {
     }
 
     /// Makes room for a note of each of the first `cells` cells. Amortised O(1) for each that has none. Refused with 8 alone.
-    pub(crate) fn cover(&mut self, cells: usize) -> Result<(), Refusal>
+    pub(crate) fn make_places(&mut self, cells: usize) -> Result<(), Refusal>
         ensures err { IfErr result (λ e. e ≡ Refusal.OutOfMemory) }
     {
         let missing = cells.saturating_sub(self.places.len());

@@ -6,7 +6,7 @@ ghost use Rattle.crack_row.specs.Rows.{row_with, replaced};
 ghost use Rattle.crack_arena.specs.Arena.{read, freed, freed_at};
 ghost use Rattle.crack_state.specs.State.{live_rows, handle_of, freed_of};
 ghost use Rattle.crack_state.specs.Steps.{SameButRoom};
-ghost use Rattle.crack_state.specs.Points.{row_by, pending_by, handle_by, Maps, MayFree, IsRenewable, IsRewritable, Cancels, Dooms, Renews, Rewrites, rewritten};
+ghost use Rattle.crack_state.specs.Points.{row_by, pending_by, handle_by, Maps, MayFree, IsRenewable, IsRewritable, Cancels, Dooms, Renews, Rewrites, overwritten};
 
 use crate::Store;
 use crate::inside::Serials;
@@ -58,8 +58,8 @@ impl Store {
         ensures err { IfErr result (λ e. e ≡ Refusal.OutOfMemory) }
     {
         self.inside.pending_out.reserve(1)?;
-        self.inside.pending_out.cover(self.inside.arena.cells())?;
-        self.inside.notes.cover(self.inside.arena.cells())?;
+        self.inside.pending_out.make_places(self.inside.arena.cells())?;
+        self.inside.notes.make_places(self.inside.arena.cells())?;
         let handle = forget(&mut self.inside.serials, serial);
         let row = row_at(&self.inside.arena, handle);
         self.inside.pending_out.push_keyed(handle, row.key);
@@ -94,7 +94,7 @@ impl Store {
     fn write_over(&mut self, row: Row)
         requires pending { pending_by self.old row.serial.0 ≡ Some true }
         requires within { IsIn self.old.keys row.key.0 }
-        ensures after { self.new ≡ rewritten row (handle_by self.old row.serial.0) self.old }
+        ensures after { self.new ≡ overwritten row (handle_by self.old row.serial.0) self.old }
         ensures live { IsPermutation (map (replaced row) (live_rows self.old)) (live_rows self.new) }
     {
         let handle = handle_in(&self.inside.serials, row.serial);
@@ -115,12 +115,12 @@ impl Store {
         self.inside.pending_out.reserve(1)?;
         self.inside.pending_in.reserve(1)?;
         self.inside.arena.reserve(1)?;
-        self.inside.pending_out.cover(self.inside.arena.cells())?;
-        self.inside.notes.cover(self.inside.arena.cells())?;
+        self.inside.pending_out.make_places(self.inside.arena.cells())?;
+        self.inside.notes.make_places(self.inside.arena.cells())?;
         let new_cells = (self.inside.arena.free_cells() == 0) as usize;
         self.inside
             .pending_in
-            .cover(self.inside.arena.cells() + new_cells)?;
+            .make_places(self.inside.arena.cells() + new_cells)?;
         let handle = self.inside.arena.put_reserved(row);
         let doomed = lead_to(&mut self.inside.serials, row.serial, handle);
         let doomed_key = key_of(&self.inside.arena, doomed);

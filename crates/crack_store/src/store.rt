@@ -99,7 +99,7 @@ impl Store {
         let new_cells = (self.inside.arena.free_cells() == 0) as usize;
         self.inside
             .pending_in
-            .cover(self.inside.arena.cells() + new_cells)?;
+            .make_places(self.inside.arena.cells() + new_cells)?;
         let handle = self.inside.arena.put_reserved(row);
         let _ = self.inside.serials.insert(row.serial.0, handle);
         self.inside.pending_in.push_keyed(handle, row.key);

@@ -11,19 +11,19 @@ use Rattle.std.proofs.lemmas.List.Quantifiers.{all_pairs_push}
 use Rattle.crack_row.specs.declared.command.Entry.{Entry}
 use Rattle.crack_core.specs.declared.receipt.Receipt.{Receipt}
 use Rattle.crack_core.specs.Receipts.{entry_of}
-use Rattle.crack_table.specs.declared.marks.Mark.{Mark}
-use Rattle.crack_table.specs.declared.marks.Mark.TheVariants.{Unnamed, Met, Failed}
-use Rattle.crack_table.specs.Cover.{at, names, has_place, AllMet, IsLeastUnmet, first_stranger, first_late, is_late, Rises, IsFault, place_of, Covers}
+use Rattle.crack_table.specs.declared.marks.Naming.{Naming}
+use Rattle.crack_table.specs.declared.marks.Naming.TheVariants.{Unnamed, Met, Failed}
+use Rattle.crack_table.specs.Cover.{at, names, has_place, AllMet, IsLeastUnmet, first_stranger, first_late, is_late, Rises, IsFault, named_place, Covers}
 use Rattle.crack_table.specs.Marks.{MarkIs, MarkIsAt, Marked, IsFirstOpen}
 
-met_at : (e : Entry) (o : Option Mark) (named : List Receipt) → MarkIsAt (Some e) o named → ((k : Mark) → o ≡ Some k → k ≡ Met) → map entry_of named ≡ e ∷ []
+met_at : (e : Entry) (o : Option Naming) (named : List Receipt) → MarkIsAt (Some e) o named → ((k : Naming) → o ≡ Some k → k ≡ Met) → map entry_of named ≡ e ∷ []
 met_at e None named is all = absurd is
-met_at e (Some m) named is all = let P : Mark → Type 0 = λ k. MarkIs k e named in subst P (all m refl) is
+met_at e (Some m) named is all = let P : Naming → Type 0 = λ k. MarkIs k e named in subst P (all m refl) is
 
-pub met_all : (hs : List (List Entry)) (ms : List (List Mark)) (rs : List Receipt) → Marked hs ms rs → ((q n : ℕ) (k : Mark) → at ms q n ≡ Some k → k ≡ Met) → AllMet hs rs
+pub met_all : (hs : List (List Entry)) (ms : List (List Naming)) (rs : List Receipt) → Marked hs ms rs → ((q n : ℕ) (k : Naming) → at ms q n ≡ Some k → k ≡ Met) → AllMet hs rs
 met_all hs ms rs marked all p n e is = met_at e (at ms p n) (filter (names p n) rs) (rw is at (marked p n)) (all p n)
 
-entry_there : (o : Option Entry) (m : Mark) (named : List Receipt) → MarkIsAt o (Some m) named → m ≢ Met → (e : Entry) × (o ≡ Some e) × (map entry_of named ≢ e ∷ [])
+entry_there : (o : Option Entry) (m : Naming) (named : List Receipt) → MarkIsAt o (Some m) named → m ≢ Met → (e : Entry) × (o ≡ Some e) × (map entry_of named ≢ e ∷ [])
 entry_there None m named is ne = absurd is
 entry_there (Some e) Unnamed named is ne = (e, refl, λ h. no_empty named e is h)
   where
@@ -33,7 +33,7 @@ entry_there (Some e) Unnamed named is ne = (e, refl, λ h. no_empty named e is h
 entry_there (Some e) Met named is ne = absurd (ne refl)
 entry_there (Some e) Failed named is ne = (e, refl, is.1)
 
-pub unmet_least : (hs : List (List Entry)) (ms : List (List Mark)) (rs : List Receipt) (place : ℕ × ℕ) → Marked hs ms rs → IsFirstOpen ms place → IsLeastUnmet hs rs place.0 place.1
+pub unmet_least : (hs : List (List Entry)) (ms : List (List Naming)) (rs : List Receipt) (place : ℕ × ℕ) → Marked hs ms rs → IsFirstOpen ms place → IsLeastUnmet hs rs place.0 place.1
 unmet_least hs ms rs place marked first =
     let there = entry_there (at hs place.0 place.1) first.0 (filter (names place.0 place.1) rs) (rw first.1 at (marked place.0 place.1)) first.2 in (
       there.0,
@@ -78,14 +78,14 @@ all_rise done (r ∷ rs) none rises =
 pub none_rise : (rs : List Receipt) → first_late [] rs ≡ None → AllPairs Rises rs
 none_rise rs none = all_rise [] rs none (λ i j d lt lt2. absurd (omega arith))
 
-from_map : (o : Option Receipt) (place : ℕ × ℕ) → Some place ≡ option_map place_of o → (r : Receipt) × (o ≡ Some r) × (r.part ≡ place.0) × (r.position ≡ place.1)
+from_map : (o : Option Receipt) (place : ℕ × ℕ) → Some place ≡ option_map named_place o → (r : Receipt) × (o ≡ Some r) × (r.part ≡ place.0) × (r.position ≡ place.1)
 from_map None place is = cc
-from_map (Some r) place is = let e : place ≡ place_of r = cc in (r, refl, sym (ap (λ p. p.0) e), sym (ap (λ p. p.1) e))
+from_map (Some r) place is = let e : place ≡ named_place r = cc in (r, refl, sym (ap (λ p. p.0) e), sym (ap (λ p. p.1) e))
 
-pub stranger_fault : (hs : List (List Entry)) (rs : List Receipt) (place : ℕ × ℕ) → AllMet hs rs → Some place ≡ option_map place_of (first_stranger hs rs) → IsFault hs rs place.0 place.1
+pub stranger_fault : (hs : List (List Entry)) (rs : List Receipt) (place : ℕ × ℕ) → AllMet hs rs → Some place ≡ option_map named_place (first_stranger hs rs) → IsFault hs rs place.0 place.1
 stranger_fault hs rs place met is = inr (inl (met, from_map (first_stranger hs rs) place is))
 
-pub late_fault : (hs : List (List Entry)) (rs : List Receipt) (place : ℕ × ℕ) → AllMet hs rs → first_stranger hs rs ≡ None → Some place ≡ option_map place_of (first_late [] rs) → IsFault hs rs place.0 place.1
+pub late_fault : (hs : List (List Entry)) (rs : List Receipt) (place : ℕ × ℕ) → AllMet hs rs → first_stranger hs rs ≡ None → Some place ≡ option_map named_place (first_late [] rs) → IsFault hs rs place.0 place.1
 late_fault hs rs place met none is = inr (inr (met, none, from_map (first_late [] rs) place is))
 
 found_absurd : (b : Bool) (r s : Receipt) (o : Option Receipt) → b ≡ true → cond (not b) (Some s) o ≡ Some r → o ≡ Some r

@@ -12,7 +12,7 @@ use Rattle.std.specs.Prelude.{if◌then◌else◌, is_some}
 use Rattle.crack_table.proofs.Marking.{flat_read}
 use Rattle.std.proofs.lemmas.List.Folds.{list_any-append}
 use Rattle.crack_core.specs.declared.receipt.Receipt.{Receipt}
-use Rattle.crack_table.specs.Cover.{is_late, first_late, place_of}
+use Rattle.crack_table.specs.Cover.{is_late, first_late, named_place}
 use Rattle.crack_table.specs.Marks.{is_late_at, pair_cmp, Tracks}
 
 same_nat : (x y : ℕ) → is_eq (nat_cmp x y) ≡ (x == y)
@@ -62,15 +62,15 @@ late_step done list i r lt read fresh = rw (drop_more list i r lt, ← read, fre
 pub late_now : (done list : List Receipt) (i : ℕ) (r : Receipt) → i < length list → r ≡ get_or list i r → list_any (λ a. is_late a r) done ≡ true → first_late done (drop i list) ≡ Some r
 late_now done list i r lt read late = rw (drop_more list i r lt, ← read, late) refl
 
-pub map_none : (o : Option Receipt) → None ≡ option_map place_of o → o ≡ None
+pub map_none : (o : Option Receipt) → None ≡ option_map named_place o → o ≡ None
 map_none None is = refl
 map_none (Some r) is = cc
 
-late_in : (a b : Option Receipt) (o : Option (ℕ × ℕ)) → o ≡ option_map place_of a → is_some o ≡ true → o ≡ option_map place_of (option_or a b)
+late_in : (a b : Option Receipt) (o : Option (ℕ × ℕ)) → o ≡ option_map named_place a → is_some o ≡ true → o ≡ option_map named_place (option_or a b)
 late_in None b o is some = cc
 late_in (Some r) b o is some = is
 
-pub late_found : (before xs after : List Receipt) (o : Option (ℕ × ℕ)) → first_late [] before ≡ None → o ≡ option_map place_of (first_late before xs) → is_some o ≡ true → o ≡ option_map place_of (first_late [] ((before ++ xs) ++ after))
+pub late_found : (before xs after : List Receipt) (o : Option (ℕ × ℕ)) → first_late [] before ≡ None → o ≡ option_map named_place (first_late before xs) → is_some o ≡ true → o ≡ option_map named_place (first_late [] ((before ++ xs) ++ after))
 late_found before xs after o none is some =
     rw (first_late_append [] (before ++ xs) after, first_late_append [] before xs, none) (late_in (first_late before xs) (first_late (before ++ xs) after) o is some)
 
@@ -82,5 +82,5 @@ pub none_from_test : {X : Type 0} (o : Option X) → false ≡ is_some o → o �
 none_from_test None is = refl
 none_from_test (Some x) is = cc
 
-pub none_more : (before xs : List Receipt) (o : Option (ℕ × ℕ)) → first_late [] before ≡ None → o ≡ None → o ≡ option_map place_of (first_late before xs) → first_late [] (before ++ xs) ≡ None
+pub none_more : (before xs : List Receipt) (o : Option (ℕ × ℕ)) → first_late [] before ≡ None → o ≡ None → o ≡ option_map named_place (first_late before xs) → first_late [] (before ++ xs) ≡ None
 none_more before xs o none o_none is = first_late_append [] before xs ∙ rw none (map_none (first_late before xs) (sym o_none ∙ is))

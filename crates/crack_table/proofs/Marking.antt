@@ -13,9 +13,9 @@ use Rattle.std.proofs.lemmas.List.Elements.{filter-append}
 use Rattle.crack_row.specs.declared.command.Entry.{Entry}
 use Rattle.crack_core.specs.declared.receipt.Receipt.{Receipt}
 use Rattle.crack_core.specs.Receipts.{entry_of}
-use Rattle.crack_table.specs.declared.marks.Mark.{Mark}
-use Rattle.crack_table.specs.declared.marks.Mark.TheVariants.{Unnamed, Met, Failed}
-use Rattle.crack_table.specs.Cover.{at, names, place_of, first_stranger}
+use Rattle.crack_table.specs.declared.marks.Naming.{Naming}
+use Rattle.crack_table.specs.declared.marks.Naming.TheVariants.{Unnamed, Met, Failed}
+use Rattle.crack_table.specs.Cover.{at, names, named_place, first_stranger}
 use Rattle.crack_table.specs.Marks.{mark_after, MarkIs, MarkIsAt, Marked}
 use Rattle.crack_table.proofs.Places.{at_set_same, at_set_other, row_of}
 
@@ -27,7 +27,7 @@ no_nil : (r : Receipt) (xs : List Receipt) → xs ++ r ∷ [] ≡ [] → ⊥
 no_nil r [] is = cc
 no_nil r (y ∷ ys) is = cc
 
-pub mark_more : (m : Mark) (e : Entry) (named : List Receipt) (r : Receipt) (b : Bool) → Decides b (entry_of r ≡ e) → MarkIs m e named → MarkIs (mark_after m b) e (named ++ r ∷ [])
+pub mark_more : (m : Naming) (e : Entry) (named : List Receipt) (r : Receipt) (b : Bool) → Decides b (entry_of r ≡ e) → MarkIs m e named → MarkIs (mark_after m b) e (named ++ r ∷ [])
 mark_more Unnamed e named r true same is = rw is (ap (λ x. x ∷ []) (same.0 refl))
 mark_more Unnamed e named r false same is = (no_nil r named, rw is (λ h. let q : entry_of r ≡ e = cc in let w : false ≡ true = same.1 q in absurd (cc)))
 mark_more Met e [] r b same is = absurd (cc)
@@ -45,7 +45,7 @@ filter_same p n done r same = filter-append (names p n) done (r ∷ []) ∙ rw s
 itself : (r : Receipt) → names r.part r.position r ≡ true
 itself r = grind (arith, nat_tests)
 
-noted_here : (hs : List (List Entry)) (ms : List (List Mark)) (done : List Receipt) (r : Receipt) (e : Entry) (row : List Mark) (m : Mark) (b : Bool)
+noted_here : (hs : List (List Entry)) (ms : List (List Naming)) (done : List Receipt) (r : Receipt) (e : Entry) (row : List Naming) (m : Naming) (b : Bool)
     → at hs r.part r.position ≡ Some e → slice_get ms r.part ≡ Some row → slice_get row r.position ≡ Some m → Decides b (entry_of r ≡ e)
     → Marked hs ms done
     → MarkIsAt (at hs r.part r.position) (at (set ms r.part (set row r.position (mark_after m b))) r.part r.position) (filter (names r.part r.position) (done ++ r ∷ []))
@@ -53,7 +53,7 @@ noted_here hs ms done r e row m b e_is row_is m_is same marked =
     let was : MarkIs m e (filter (names r.part r.position) done) = rw (e_is, row_is, m_is) at (marked r.part r.position) in
     rw (e_is, at_set_same ms r.part r.position row m (mark_after m b) row_is m_is, filter_same r.part r.position done r (itself r)) (mark_more m e (filter (names r.part r.position) done) r b same was)
 
-noted_at : (hs : List (List Entry)) (ms : List (List Mark)) (done : List Receipt) (r : Receipt) (e : Entry) (row : List Mark) (m : Mark) (b : Bool)
+noted_at : (hs : List (List Entry)) (ms : List (List Naming)) (done : List Receipt) (r : Receipt) (e : Entry) (row : List Naming) (m : Naming) (b : Bool)
     → at hs r.part r.position ≡ Some e → slice_get ms r.part ≡ Some row → slice_get row r.position ≡ Some m → Decides b (entry_of r ≡ e)
     → Marked hs ms done → (p n : ℕ) (t : Bool) → names p n r ≡ t
     → MarkIsAt (at hs p n) (at (set ms r.part (set row r.position (mark_after m b))) p n) (filter (names p n) (done ++ r ∷ []))
@@ -67,27 +67,27 @@ noted_at hs ms done r e row m b e_is row_is m_is same marked p n false other =
     rw (at_set_other ms r.part r.position p n row (mark_after m b) row_is other, filter_other p n done r other) (marked p n)
 
 -- where there is an entry there is a mark
-mark_there : (e : Entry) (o : Option Mark) (rs : List Receipt) → MarkIsAt (Some e) o rs → (m : Mark) × (o ≡ Some m)
+mark_there : (e : Entry) (o : Option Naming) (rs : List Receipt) → MarkIsAt (Some e) o rs → (m : Naming) × (o ≡ Some m)
 mark_there e None rs h = absurd h
 mark_there e (Some m) rs h = (m, refl)
 
-pub marked_some : (hs : List (List Entry)) (ms : List (List Mark)) (done : List Receipt) (p n : ℕ) (e : Entry) → Marked hs ms done → at hs p n ≡ Some e → (m : Mark) × (at ms p n ≡ Some m)
+pub marked_some : (hs : List (List Entry)) (ms : List (List Naming)) (done : List Receipt) (p n : ℕ) (e : Entry) → Marked hs ms done → at hs p n ≡ Some e → (m : Naming) × (at ms p n ≡ Some m)
 marked_some hs ms done p n e marked is = mark_there e (at ms p n) _ (rw is at (marked p n))
 
 -- one receipt more, whose entry is or isn't that of its place
-pub noted : (hs : List (List Entry)) (ms : List (List Mark)) (done : List Receipt) (r : Receipt) (e : Entry) (row after : List Mark) (b : Bool)
-    → at hs r.part r.position ≡ Some e → slice_get ms r.part ≡ Some row → ((m : Mark) → slice_get row r.position ≡ Some m → after ≡ set row r.position (mark_after m b)) → Decides b (entry_of r ≡ e)
+pub noted : (hs : List (List Entry)) (ms : List (List Naming)) (done : List Receipt) (r : Receipt) (e : Entry) (row after : List Naming) (b : Bool)
+    → at hs r.part r.position ≡ Some e → slice_get ms r.part ≡ Some row → ((m : Naming) → slice_get row r.position ≡ Some m → after ≡ set row r.position (mark_after m b)) → Decides b (entry_of r ≡ e)
     → Marked hs ms done → Marked hs (set ms r.part after) (done ++ r ∷ [])
 noted hs ms done r e row after b e_is row_is after_is same marked p n =
     let there = marked_some hs ms done r.part r.position e marked e_is in
     let m_is : slice_get row r.position ≡ Some there.0 = rw row_is at there.1 in
     rw (after_is there.0 m_is) (noted_at hs ms done r e row there.0 b e_is row_is m_is same marked p n (names p n r) refl)
 
-none_still : (o : Option Mark) (rs ss : List Receipt) → MarkIsAt None o rs → MarkIsAt None o ss
+none_still : (o : Option Naming) (rs ss : List Receipt) → MarkIsAt None o rs → MarkIsAt None o ss
 none_still None rs ss h = tt
 none_still (Some m) rs ss h = absurd h
 
-unnoted_at : (hs : List (List Entry)) (ms : List (List Mark)) (done : List Receipt) (r : Receipt)
+unnoted_at : (hs : List (List Entry)) (ms : List (List Naming)) (done : List Receipt) (r : Receipt)
     → at hs r.part r.position ≡ None → Marked hs ms done → (p n : ℕ) (t : Bool) → names p n r ≡ t
     → MarkIsAt (at hs p n) (at ms p n) (filter (names p n) (done ++ r ∷ []))
 unnoted_at hs ms done r none marked p n true named =
@@ -97,27 +97,27 @@ unnoted_at hs ms done r none marked p n true named =
     rw none_there (none_still (at ms p n) _ (filter (names p n) (done ++ r ∷ [])) (rw none_there at (marked p n)))
 unnoted_at hs ms done r none marked p n false other = rw (filter_other p n done r other) (marked p n)
 
-pub unnoted : (hs : List (List Entry)) (ms : List (List Mark)) (done : List Receipt) (r : Receipt)
+pub unnoted : (hs : List (List Entry)) (ms : List (List Naming)) (done : List Receipt) (r : Receipt)
     → at hs r.part r.position ≡ None → Marked hs ms done → Marked hs ms (done ++ r ∷ [])
 unnoted hs ms done r none marked p n = unnoted_at hs ms done r none marked p n (names p n r) refl
 
-pub within_rows : (hs : List (List Entry)) (ms : List (List Mark)) (done : List Receipt) (p n : ℕ) (e : Entry) → Marked hs ms done → at hs p n ≡ Some e → p < length ms
+pub within_rows : (hs : List (List Entry)) (ms : List (List Naming)) (done : List Receipt) (p n : ℕ) (e : Entry) → Marked hs ms done → at hs p n ≡ Some e → p < length ms
 within_rows hs ms done p n e marked is =
     let h = marked_some hs ms done p n e marked is in
     let row = row_of (slice_get ms p) n h.0 h.1 in
     slice_get_within ms p row.0 row.1
 
-pub within_row : (hs : List (List Entry)) (ms : List (List Mark)) (done : List Receipt) (p n : ℕ) (e : Entry) → Marked hs ms done → at hs p n ≡ Some e → (row : List Mark) → slice_get ms p ≡ Some row → n < length row
+pub within_row : (hs : List (List Entry)) (ms : List (List Naming)) (done : List Receipt) (p n : ℕ) (e : Entry) → Marked hs ms done → at hs p n ≡ Some e → (row : List Naming) → slice_get ms p ≡ Some row → n < length row
 within_row hs ms done p n e marked is row row_is =
     let h = marked_some hs ms done p n e marked is in
     let found = row_of (slice_get ms p) n h.0 h.1 in
     let same : row ≡ found.0 = cc in
     rw same (slice_get_within found.0 n h.0 found.2)
 
-pub row_read : (hs : List (List Entry)) (ms : List (List Mark)) (done : List Receipt) (p n : ℕ) (e : Entry) (row : List Mark) → Marked hs ms done → at hs p n ≡ Some e → row ≡ get_or ms p row → slice_get ms p ≡ Some row
+pub row_read : (hs : List (List Entry)) (ms : List (List Naming)) (done : List Receipt) (p n : ℕ) (e : Entry) (row : List Naming) → Marked hs ms done → at hs p n ≡ Some e → row ≡ get_or ms p row → slice_get ms p ≡ Some row
 row_read hs ms done p n e row marked is read = slice_get_read ms (length ms) p row refl (within_rows hs ms done p n e marked is) read
 
-pub within_read : (hs : List (List Entry)) (ms : List (List Mark)) (done : List Receipt) (p n : ℕ) (e : Entry) (row : List Mark) → Marked hs ms done → at hs p n ≡ Some e → row ≡ get_or ms p row → n < length row
+pub within_read : (hs : List (List Entry)) (ms : List (List Naming)) (done : List Receipt) (p n : ℕ) (e : Entry) (row : List Naming) → Marked hs ms done → at hs p n ≡ Some e → row ≡ get_or ms p row → n < length row
 within_read hs ms done p n e row marked is read = within_row hs ms done p n e marked is row (row_read hs ms done p n e row marked is read)
 
 pub take_read : {X : Type 0} (done xs : List X) (i : ℕ) (x : X) → i < length xs → x ≡ get_or xs i x → done ++ take (i + 1) xs ≡ (done ++ take i xs) ++ x ∷ []
@@ -130,5 +130,5 @@ option_map_or : {X Y : Type 0} (f : X → Y) (a b : Option X) → option_map f (
 option_map_or f None b = refl
 option_map_or f (Some x) b = refl
 
-pub stranger_more : (hs : List (List Entry)) (xs ys : List Receipt) → option_map place_of (first_stranger hs (xs ++ ys)) ≡ option_or (option_map place_of (first_stranger hs xs)) (option_map place_of (first_stranger hs ys))
-stranger_more hs xs ys = rw (find-append) (option_map_or place_of (first_stranger hs xs) (first_stranger hs ys))
+pub stranger_more : (hs : List (List Entry)) (xs ys : List Receipt) → option_map named_place (first_stranger hs (xs ++ ys)) ≡ option_or (option_map named_place (first_stranger hs xs)) (option_map named_place (first_stranger hs ys))
+stranger_more hs xs ys = rw (find-append) (option_map_or named_place (first_stranger hs xs) (first_stranger hs ys))

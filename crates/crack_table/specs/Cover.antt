@@ -63,8 +63,8 @@ first_late done [] = None
 first_late done (r ∷ rs) = if list_any (λ earlier. is_late earlier r) done then Some r else first_late (done ++ r ∷ []) rs
 
 -- the place that a receipt names
-abbrev pub place_of : Receipt → ℕ × ℕ
-place_of r = (r.part, r.position)
+abbrev pub named_place : Receipt → ℕ × ℕ
+named_place r = (r.part, r.position)
 
 -- it is this receipt, and it names this place
 abbrev pub IsPlaceOf : Option Receipt → ℕ → ℕ → Type 0

@@ -10,7 +10,7 @@ use Rattle.crack_part.specs.Parts.{Part, IsSound}
 use Rattle.crack_core.specs.declared.receipt.Receipt.{Receipt}
 use Rattle.crack_core.specs.Receipts.{BookState, entries_of}
 use Rattle.crack_core.specs.Opening.{AreParts}
-use Rattle.crack_core.specs.Routes.{keys_at}
+use Rattle.crack_core.specs.Routes.{keys_of_part}
 use Rattle.crack_core.specs.Steps.{histories_of}
 use Rattle.crack_table.specs.Tables.{TableState}
 use Rattle.crack_table.specs.Cover.{IsFault}
@@ -26,7 +26,7 @@ receipts_of workers = flat_map (λ (w : BookState). w.receipts) workers
 
 -- the partition of this number has the table's keys and limit
 abbrev pub IsTables : List Bound → ℕ → ℕ → Part → Type 0
-IsTables splits limit part p = (p.keys ≡ keys_at splits part) × (p.limit ≡ limit)
+IsTables splits limit part p = (p.keys ≡ keys_of_part splits part) × (p.limit ≡ limit)
 
 -- the first partition whose keys or limit aren't the table's
 abbrev pub IsFirstOther : List Bound → ℕ → List Part → ℕ → Type 0
@@ -35,7 +35,7 @@ IsFirstOther splits limit parts part =
     × ((q : ℕ) (earlier : Part) → q < part → slice_get parts q ≡ Some earlier → IsTables splits limit q earlier)
 
 -- the sums of the workers' shares
-pub record AreShares (workers : List BookState) (answers placed gone : ℕ) : Type 0 where
+pub record AreSharesOfAll (workers : List BookState) (answers placed gone : ℕ) : Type 0 where
   pub accepted_is : answers ≡ sum_by (λ (w : BookState). accepted (entries_of w.receipts)) workers
   pub inserted_is : placed ≡ sum_by (λ (w : BookState). inserted (entries_of w.receipts)) workers
   pub deleted_is : gone ≡ sum_by (λ (w : BookState). deleted (entries_of w.receipts)) workers

@@ -6,43 +6,43 @@ use Rattle.std.specs.declared.cmp.Ordering.{Ordering}
 use Rattle.crack_row.specs.declared.command.Entry.{Entry}
 use Rattle.crack_core.specs.declared.receipt.Receipt.{Receipt}
 use Rattle.crack_core.specs.Receipts.{entry_of}
-use Rattle.crack_table.specs.declared.marks.Mark.{Mark}
-use Rattle.crack_table.specs.declared.marks.Mark.TheVariants.{Unnamed, Met, Failed}
+use Rattle.crack_table.specs.declared.marks.Naming.{Naming}
+use Rattle.crack_table.specs.declared.marks.Naming.TheVariants.{Unnamed, Met, Failed}
 use Rattle.crack_table.specs.Cover.{at, names, is_late, IsBefore}
 
 -- the mark of a place after one more receipt that names it, by whether its entry is the place's
-abbrev pub mark_after : Mark → Bool → Mark
+abbrev pub mark_after : Naming → Bool → Naming
 mark_after Unnamed true = Met
 mark_after Unnamed false = Failed
 mark_after Met same = Failed
 mark_after Failed same = Failed
 
 -- what a mark says of the receipts that name its place
-abbrev pub MarkIs : Mark → Entry → List Receipt → Type 0
+abbrev pub MarkIs : Naming → Entry → List Receipt → Type 0
 MarkIs Unnamed entry named = named ≡ []
 MarkIs Met entry named = map entry_of named ≡ entry ∷ []
 MarkIs Failed entry named = (named ≢ []) × (map entry_of named ≢ entry ∷ [])
 
 -- the place has a mark where it has an entry, and what it says is so
-abbrev pub MarkIsAt : Option Entry → Option Mark → List Receipt → Type 0
+abbrev pub MarkIsAt : Option Entry → Option Naming → List Receipt → Type 0
 MarkIsAt (Some entry) (Some mark) named = MarkIs mark entry named
 MarkIsAt None None named = Unit {0}
 MarkIsAt None (Some mark) named = ⊥
 MarkIsAt (Some entry) None named = ⊥
 
 -- the marks are those of these receipts
-abbrev pub Marked : List (List Entry) → List (List Mark) → List Receipt → Type 0
+abbrev pub Marked : List (List Entry) → List (List Naming) → List Receipt → Type 0
 Marked histories marks receipts = (part position : ℕ) → MarkIsAt (at histories part position) (at marks part position) (filter (names part position) receipts)
 
 -- the first place of a row whose mark isn't Met
-abbrev pub IsOpenIn : List Mark → ℕ → Type 0
-IsOpenIn row place = (m : Mark) × (slice_get row place ≡ Some m) × (m ≢ Met) × ((n : ℕ) (k : Mark) → n < place → slice_get row n ≡ Some k → k ≡ Met)
+abbrev pub IsOpenIn : List Naming → ℕ → Type 0
+IsOpenIn row place = (m : Naming) × (slice_get row place ≡ Some m) × (m ≢ Met) × ((n : ℕ) (k : Naming) → n < place → slice_get row n ≡ Some k → k ≡ Met)
 
 -- the first place whose mark isn't Met
-abbrev pub IsFirstOpen : List (List Mark) → ℕ × ℕ → Type 0
+abbrev pub IsFirstOpen : List (List Naming) → ℕ × ℕ → Type 0
 IsFirstOpen marks place =
-    (m : Mark) × (at marks place.0 place.1 ≡ Some m) × (m ≢ Met)
-    × ((q n : ℕ) (k : Mark) → IsBefore q n place.0 place.1 → at marks q n ≡ Some k → k ≡ Met)
+    (m : Naming) × (at marks place.0 place.1 ≡ Some m) × (m ≢ Met)
+    × ((q n : ℕ) (k : Naming) → IsBefore q n place.0 place.1 → at marks q n ≡ Some k → k ≡ Met)
 
 -- whether a position isn't above the last one, if there is one
 abbrev pub is_late_at : Option ℕ → ℕ → Bool

@@ -8,11 +8,11 @@ ghost use Rattle.crack_core.specs.Opening.{AreParts};
 ghost use Rattle.crack_core.specs.Routes.{AreSplits};
 ghost use Rattle.crack_core.specs.Steps.{histories_of};
 ghost use Rattle.crack_table.specs.Cover.{Covers};
-ghost use Rattle.crack_table.specs.Gather.{receipts_of, IsTables, IsFirstOther, AreShares, AreTotals, MayNotAgree};
+ghost use Rattle.crack_table.specs.Gather.{receipts_of, IsTables, IsFirstOther, AreSharesOfAll, AreTotals, MayNotAgree};
 
 use crate::covering::cover;
 use crate::worker::Worker;
-use crack_core::{Receipt, keys_at};
+use crack_core::{Receipt, keys_of_part};
 use crack_part::Partition;
 use crack_row::{Bound, Entry, Refusal};
 use std::alloc::{AllocError, Global};
@@ -39,7 +39,7 @@ pub(crate) fn account(
     requires rising { AreSplits splits.now }
     ensures parts { OnOk result (AreParts splits.now limit parts.now.items) }
     ensures covered { OnOk result (Covers (histories_of parts.now.items) (receipts_of workers.now.items)) }
-    ensures shares { IfOk result (λ s. AreShares workers.now.items s.accepted s.inserted s.deleted) }
+    ensures shares { IfOk result (λ s. AreSharesOfAll workers.now.items s.accepted s.inserted s.deleted) }
     ensures totals { IfOk result (λ s. AreTotals parts.now.items s.accepted s.inserted s.deleted s.held) }
     ensures causes { IfErr result (MayNotAgree splits.now limit workers.now.items) }
 {
@@ -86,7 +86,7 @@ fn is_tables(splits: &[Bound], limit: u64, part: usize, partition: &Partition) -
     requires there { part ≤ length splits.now }
     ensures { IsTrue result ↔ IsTables splits.now limit part partition.now }
 {
-    partition.keys() == keys_at(splits, part) && partition.limit() == limit
+    partition.keys() == keys_of_part(splits, part) && partition.limit() == limit
 }
 
 /// The histories of partitions.
@@ -122,7 +122,7 @@ fn sums_of(parts: &Vec<Partition>, workers: &Vec<Worker>) -> Sums
     requires covered { Covers (histories_of parts.now.items) (receipts_of workers.now.items) }
     requires sound { All IsSound parts.now.items }
     requires few { length parts.now.items ≤ 64 }
-    ensures shares { AreShares workers.now.items result.accepted result.inserted result.deleted }
+    ensures shares { AreSharesOfAll workers.now.items result.accepted result.inserted result.deleted }
     ensures totals { AreTotals parts.now.items result.accepted result.inserted result.deleted result.held }
 {
     let inserted = inserted_by(workers);

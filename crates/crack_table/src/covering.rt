@@ -5,9 +5,9 @@ ghost use Rattle.std.specs.Option.{option_map, option_copied};
 ghost use Rattle.crack_row.specs.declared.command.Entry.{Entry};
 ghost use Rattle.crack_core.specs.declared.receipt.Receipt.{Receipt};
 ghost use Rattle.crack_core.specs.Receipts.{entry_of};
-ghost use Rattle.crack_table.specs.declared.marks.Mark.{Mark};
-ghost use Rattle.crack_table.specs.declared.marks.Mark.TheVariants.{Met};
-ghost use Rattle.crack_table.specs.Cover.{at, place_of, first_stranger, Covers, IsFault, MayNotCover};
+ghost use Rattle.crack_table.specs.declared.marks.Naming.{Naming};
+ghost use Rattle.crack_table.specs.declared.marks.Naming.TheVariants.{Met};
+ghost use Rattle.crack_table.specs.Cover.{at, named_place, first_stranger, Covers, IsFault, MayNotCover};
 ghost use Rattle.crack_table.specs.Marks.{Marked, IsFirstOpen};
 
 use crate::marks::MarkRow;
@@ -69,7 +69,7 @@ fn note_lists(
     requires { Marked (map (λ h. h.now) histories.now) marks.old.items [] }
     ensures long { vec_len marks.new ≡ vec_len marks.old }
     ensures marked { Marked (map (λ h. h.now) histories.now) marks.new.items (flat_map (λ r. r.now) receipts.now) }
-    ensures stranger { result ≡ option_map place_of (first_stranger (map (λ h. h.now) histories.now) (flat_map (λ r. r.now) receipts.now)) }
+    ensures stranger { result ≡ option_map named_place (first_stranger (map (λ h. h.now) histories.now) (flat_map (λ r. r.now) receipts.now)) }
 {
     let mut stranger = None;
     'lists: for list in receipts {
@@ -88,7 +88,7 @@ fn note_all(
     requires { (done : List Receipt) × Marked (map (λ h. h.now) histories.now) marks.old.items done }
     ensures long { vec_len marks.new ≡ vec_len marks.old }
     ensures marked { (done : List Receipt) → Marked (map (λ h. h.now) histories.now) marks.old.items done → Marked (map (λ h. h.now) histories.now) marks.new.items (done ++ list.now) }
-    ensures stranger { result ≡ option_map place_of (first_stranger (map (λ h. h.now) histories.now) list.now) }
+    ensures stranger { result ≡ option_map named_place (first_stranger (map (λ h. h.now) histories.now) list.now) }
 {
     let mut stranger = None;
     'list: for receipt in list {
@@ -103,7 +103,7 @@ fn note(histories: &[&[Entry]], marks: &mut Vec<MarkRow>, receipt: &Receipt) -> 
     requires { (done : List Receipt) × Marked (map (λ h. h.now) histories.now) marks.old.items done }
     ensures long { vec_len marks.new ≡ vec_len marks.old }
     ensures marked { (done : List Receipt) → Marked (map (λ h. h.now) histories.now) marks.old.items done → Marked (map (λ h. h.now) histories.now) marks.new.items (done ++ receipt.now ∷ []) }
-    ensures stranger { result ≡ option_map place_of (first_stranger (map (λ h. h.now) histories.now) (receipt.now ∷ [])) }
+    ensures stranger { result ≡ option_map named_place (first_stranger (map (λ h. h.now) histories.now) (receipt.now ∷ [])) }
 {
     let Some(entry) = entry_at(histories, receipt) else {
         return Some((receipt.part, receipt.position));
@@ -134,7 +134,7 @@ fn is_entry(entry: &Entry, receipt: &Receipt) -> bool
 /// The first place whose entry isn't met.
 fn first_open(marks: &Vec<MarkRow>) -> Option<(u32, u64)>
     requires { length marks.now.items ≤ 2 ^ 32 }
-    ensures none { IfNone result ((part position : ℕ) (m : Mark) → at marks.now.items part position ≡ Some m → m ≡ Met) }
+    ensures none { IfNone result ((part position : ℕ) (m : Naming) → at marks.now.items part position ≡ Some m → m ≡ Met) }
     ensures some { IfSome result (IsFirstOpen marks.now.items) }
 {
     'rows: for (part, row) in marks.iter().enumerate() {

@@ -1,7 +1,7 @@
 //! A mark for each place of a history.
 ghost use Rattle.std.specs.Prelude.{◌≡◌, ◌<◌, ℕ, length, replicate, IfOk, slice_get, slice_set, Some, MatchOption};
-ghost use Rattle.crack_table.specs.declared.marks.Mark.{Mark};
-ghost use Rattle.crack_table.specs.declared.marks.Mark.TheVariants.{Unnamed, Met};
+ghost use Rattle.crack_table.specs.declared.marks.Naming.{Naming};
+ghost use Rattle.crack_table.specs.declared.marks.Naming.TheVariants.{Unnamed, Met};
 ghost use Rattle.crack_table.specs.Marks.{IsOpenIn, mark_after};
 
 use std::alloc::{AllocError, Global};
@@ -9,7 +9,7 @@ use std::marker::Model;
 
 /// What the receipts so far say of a place.
 #[derive(Clone, Copy, PartialEq, Eq, Debug, Drop)]
-pub(crate) enum Mark {
+pub(crate) enum Naming {
     /// None names it.
     Unnamed,
     /// One names it, with its entry.
@@ -21,14 +21,14 @@ pub(crate) enum Mark {
 /// The marks of a history. Contracts see the list.
 #[derive(Drop)]
 pub(crate) struct MarkRow {
-    marks: Vec<Mark>,
+    marks: Vec<Naming>,
 }
 
 impl Model for MarkRow {
     ghost use Rattle.std.specs.Prelude.{List};
-    ghost use Rattle.crack_table.specs.declared.marks.Mark.{Mark};
+    ghost use Rattle.crack_table.specs.declared.marks.Naming.{Naming};
 
-    ghost Value = { List Mark };
+    ghost Value = { List Naming };
 
     ghost view = { λ r. r.marks.items };
 }
@@ -38,27 +38,27 @@ impl MarkRow {
     pub(crate) fn new(alloc: Global, count: usize) -> Result<MarkRow, AllocError>
         ensures { IfOk result (λ r. r ≡ replicate count Unnamed) }
     {
-        let marks = vec![in alloc; Mark::Unnamed; count]?;
+        let marks = vec![in alloc; Naming::Unnamed; count]?;
         Ok(MarkRow { marks })
     }
 
     /// Notes one more receipt of a place, by whether its entry is the place's.
     pub(crate) fn note(&mut self, place: usize, same: bool)
         requires { place < length self.old }
-        ensures { (m : Mark) → slice_get self.old place ≡ Some m → self.new ≡ slice_set self.old place (mark_after m same) }
+        ensures { (m : Naming) → slice_get self.old place ≡ Some m → self.new ≡ slice_set self.old place (mark_after m same) }
     {
         self.marks[place] = match self.marks[place] {
-            Mark::Unnamed if same => Mark::Met,
-            _ => Mark::Failed,
+            Naming::Unnamed if same => Naming::Met,
+            _ => Naming::Failed,
         };
     }
 
     /// The first place whose mark isn't `Met`: O(places).
     pub(crate) fn first_open(&self) -> Option<usize>
-        ensures { MatchOption result ((n : ℕ) (m : Mark) → slice_get self.now n ≡ Some m → m ≡ Met) (IsOpenIn self.now) }
+        ensures { MatchOption result ((n : ℕ) (m : Naming) → slice_get self.now n ≡ Some m → m ≡ Met) (IsOpenIn self.now) }
     {
         'places: for (place, mark) in self.marks.iter().enumerate() {
-            if *mark != Mark::Met {
+            if *mark != Naming::Met {
                 return Some(place);
             }
         }

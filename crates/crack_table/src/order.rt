@@ -4,7 +4,7 @@ ghost use Rattle.std.specs.BTreeMap.{get};
 ghost use Rattle.std.specs.List.{flat_map};
 ghost use Rattle.std.specs.Option.{option_map};
 ghost use Rattle.crack_core.specs.declared.receipt.Receipt.{Receipt};
-ghost use Rattle.crack_table.specs.Cover.{place_of, first_late};
+ghost use Rattle.crack_table.specs.Cover.{named_place, first_late};
 ghost use Rattle.crack_table.specs.Marks.{Tracks, pair_cmp, is_late_at};
 
 use crack_core::Receipt;
@@ -16,7 +16,7 @@ pub(crate) fn first_late(
     alloc: Global,
     receipts: &[&[Receipt]],
 ) -> Result<Option<(u32, u64)>, AllocError>
-    ensures { IfOk result (λ o. o ≡ option_map place_of (first_late [] (flat_map (λ r. r.now) receipts.now))) }
+    ensures { IfOk result (λ o. o ≡ option_map named_place (first_late [] (flat_map (λ r. r.now) receipts.now))) }
 {
     let mut last = BTreeMap::new(alloc);
     'lists: for list in receipts {
@@ -33,7 +33,7 @@ fn first_late_in(
     last: &mut BTreeMap<(u32, u32), u64>,
     list: &[Receipt],
 ) -> Result<Option<(u32, u64)>, AllocError>
-    ensures late { IfOk result (λ o. (done : List Receipt) → Tracks (get pair_cmp last.old) done → o ≡ option_map place_of (first_late done list.now)) }
+    ensures late { IfOk result (λ o. (done : List Receipt) → Tracks (get pair_cmp last.old) done → o ≡ option_map named_place (first_late done list.now)) }
     ensures tracks { IfOk result (λ o. (done : List Receipt) → Tracks (get pair_cmp last.old) done → o ≡ None → Tracks (get pair_cmp last.new) (done ++ list.now)) }
 {
     'list: for receipt in list {

@@ -53,7 +53,7 @@ fn push<Kind>(
     assert!(rt; length < 2000);
     assert!(rt; !there);
     pending.reserve(1)?;
-    pending.cover(handle.slot() as usize + 1)?;
+    pending.make_places(handle.slot() as usize + 1)?;
     if keyed {
         pending.push_keyed(handle, key_of(arena, handle));
     } else {

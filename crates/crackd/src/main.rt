@@ -155,7 +155,7 @@ fn announce<W: Write>(port: u16, writer: &mut W) -> Result<(), Refusal> {
 }
 
 /// Does what was asked for. Threads, waiting and sockets are the handle's.
-fn perform<H: Threads + Wait + Net<Listener = TcpListener, Stream = TcpStream> + Sync>(
+fn run_request<H: Threads + Wait + Net<Listener = TcpListener, Stream = TcpStream> + Sync>(
     handle: &H,
     rt: &HostRuntime,
     request: &Request,
@@ -172,7 +172,7 @@ fn perform<H: Threads + Wait + Net<Listener = TcpListener, Stream = TcpStream> +
 fn main(rt: HostRuntime) -> ExitCode {
     match request(&rt) {
         Ok(request) => {
-            let done = perform(&rt, &rt, &request);
+            let done = run_request(&rt, &rt, &request);
             drop(request);
             match done {
                 Ok(()) => ExitCode::SUCCESS,

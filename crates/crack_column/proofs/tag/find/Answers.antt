@@ -2,7 +2,7 @@ use Rattle.std.proofs.Common.{◌≡◌, ◌∙◌, get_or, map, false, sym, ap,
 use Rattle.std.proofs.lemmas.List.{get_or-map}
 use Rattle.std.proofs.lemmas.Bool.{cases_eq, false≢true}
 use Rattle.crack_arena.specs.Arena.{Handle, same_handle}
-use Rattle.crack_column.specs.Tickets.{no_tag, handle_of}
+use Rattle.crack_column.specs.Tickets.{no_tag, tag_handle}
 use Rattle.crack_column.proofs.Passes.{same_handle-refl}
 use Rattle.crack_column.proofs.tag.find.Goals as goal
 use Rattle.crack_column.proofs.tag.find.Goals.{else-tags-i-via-then-tags-i+else-eq, else-tags-i-via-else-tags-i}
@@ -12,7 +12,7 @@ tags-preserved c = λ k l stands. elim (cases_eq k c.tags.i) [
   | inl e ↦
       let gs = c.args.generations.now in
       let ts = c.args.tags.now in
-      let here : c.args.handle ≡ handle_of gs (get_or ts c.tags.i no_tag) = stands.is ∙ ap (λ n. get_or (map (handle_of gs) ts) n c.args.handle) e ∙ get_or-map (handle_of gs) ts c.tags.i no_tag c.args.handle (omega arith) in
+      let here : c.args.handle ≡ tag_handle gs (get_or ts c.tags.i no_tag) = stands.is ∙ ap (λ n. get_or (map (tag_handle gs) ts) n c.args.handle) e ∙ get_or-map (tag_handle gs) ts c.tags.i no_tag c.args.handle (omega arith) in
       elim c.else-tags-i.branch [
         | else-tags-i-via-then-tags-i+else-eq w ↦
             let h = c.args.handle in

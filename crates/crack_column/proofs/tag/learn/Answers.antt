@@ -2,7 +2,7 @@ use Rattle.std.proofs.Common.{◌≡◌, arith, ap, sym, ◌∙◌, refl, inl, i
 use Rattle.std.proofs.lemmas.Bool.{cases_eq, eq-eqb, ne_eqb}
 use Rattle.crack_arena.specs.Rows.{unknown}
 use Rattle.crack_column.specs.Column.{memory_at}
-use Rattle.crack_column.specs.Tickets.{no_tag, handle_of}
+use Rattle.crack_column.specs.Tickets.{no_tag, tag_handle}
 use Rattle.crack_column.proofs.Passes.{IsLearned-read, IsLearned-known, drawn-IsLearned, learned_all}
 use Rattle.crack_column.proofs.tag.learn.Goals as goal
 use Rattle.crack_column.proofs.tag.learn.Goals.{then-tags-i, else-tags-i}
@@ -21,7 +21,7 @@ tags-preserved c =
       | then-tags-i w ↦
           let m = w.read-read.result in
           let x = w.key.result in
-          let read : m ≡ memory_at cells (handle_of gs (get_or now c.tags.i no_tag)) = w.read-read.ensures ∙ ap (memory_at cells) w.handle.ensures in
+          let read : m ≡ memory_at cells (tag_handle gs (get_or now c.tags.i no_tag)) = w.read-read.ensures ∙ ap (memory_at cells) w.handle.ensures in
           elim (cases_eq x unknown) [
             | inl e ↦ rw (w.tags-is, w.knowing.ensures, w.learned-is, eq-eqb x unknown e, add-zero) (IsLearned-read cells gs ts now _ c.tags.learned c.tags.learned c.tags.i m (omega arith) read refl w.if-tags-i.true (inl (sym w.key.ensures ∙ e, refl)) c.tags.invariant)
             | inr ne ↦ rw (w.tags-is, w.knowing.ensures, w.learned-is, ne_eqb x unknown ne) (IsLearned-read cells gs ts now _ c.tags.learned (c.tags.learned + 1) c.tags.i m (omega arith) read refl w.if-tags-i.true (inr (λ e. ne (w.key.ensures ∙ e), refl)) c.tags.invariant)

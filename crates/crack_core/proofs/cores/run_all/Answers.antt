@@ -1,8 +1,8 @@
 use Rattle.std.proofs.Common.{◌≡◌, ◌+◌, ◌<◌, ◌++◌, [], ◌∷◌, length, take, Option, arith, ap, sym, subst, ◌∙◌, length-append, length-take-le, take_all}
 use Rattle.std.proofs.lemmas.List.{take_more}
-use Rattle.crack_plain.specs.Plain.{Table}
+use Rattle.crack_plain.specs.Plain.{PlainView}
 use Rattle.crack_core.specs.declared.step.Step.{Step}
-use Rattle.crack_core.specs.Routes.{keys_at}
+use Rattle.crack_core.specs.Routes.{keys_of_part}
 use Rattle.crack_core.specs.Steps.{expected, IsOutcome, tables_of, histories_of}
 use Rattle.crack_core.proofs.StepLaws.{Keeps-push, AreExpectedReplies-push, MakesAll-push, table_at-kept}
 use Rattle.crack_core.proofs.cores.run_all.Goals as goal
@@ -13,7 +13,7 @@ steps-preserved c =
     let i = c.steps.step-index in
     let results = c.steps.results.items in
     let s = c.step-item.result in
-    let r = c.ask_part-result.result in
+    let r = c.ask_at-result.result in
     let old = c.args.partitions.now in
     let now = c.steps.partitions in
     let before = c.steps.invariant in
@@ -25,17 +25,17 @@ steps-preserved c =
       room = omega (arith, before.room, c.push_reserved.ensures.capacity);
       count = omega (arith, before.count, ap length c.push_reserved.ensures.items, length-append results (r ∷ []));
       replies = λ splits limit are. rw (grown, c.push_reserved.ensures.items) (AreExpectedReplies-push limit splits (tables_of old) front results s r (before.replies splits limit are)
-          (subst (λ (t : Option Table). IsOutcome (expected limit (keys_at splits s.part) t s.command) r) (table_at-kept old now s.part front results before.kept) (c.ask_part-result.ensures.outcome splits limit (before.parts splits limit are))));
-      kept = rw (grown, c.push_reserved.ensures.items) (Keeps-push (histories_of old) (histories_of now) (histories_of c.ask_part-result.new.partitions) front results s r long before.kept c.ask_part-result.ensures.kept);
-      stores = λ splits limit are. rw (grown, c.push_reserved.ensures.items) (MakesAll-push splits limit front results s r old now c.ask_part-result.new.partitions (before.stores splits limit are) (record {
-        parts = c.ask_part-result.ensures.parts splits limit (before.parts splits limit are);
-        kept = c.ask_part-result.ensures.kept;
-        others = c.ask_part-result.ensures.others;
-        store = c.ask_part-result.ensures.store;
-        spared = c.ask_part-result.ensures.spared;
-        same = c.ask_part-result.ensures.same;
+          (subst (λ (t : Option PlainView). IsOutcome (expected limit (keys_of_part splits s.part) t s.command) r) (table_at-kept old now s.part front results before.kept) (c.ask_at-result.ensures.outcome splits limit (before.parts splits limit are))));
+      kept = rw (grown, c.push_reserved.ensures.items) (Keeps-push (histories_of old) (histories_of now) (histories_of c.ask_at-result.new.partitions) front results s r long before.kept c.ask_at-result.ensures.kept);
+      stores = λ splits limit are. rw (grown, c.push_reserved.ensures.items) (MakesAll-push splits limit front results s r old now c.ask_at-result.new.partitions (before.stores splits limit are) (record {
+        parts = c.ask_at-result.ensures.parts splits limit (before.parts splits limit are);
+        kept = c.ask_at-result.ensures.kept;
+        others = c.ask_at-result.ensures.others;
+        store = c.ask_at-result.ensures.store;
+        spared = c.ask_at-result.ensures.spared;
+        same = c.ask_at-result.ensures.same;
       }));
-      parts = λ splits limit are. c.ask_part-result.ensures.parts splits limit (before.parts splits limit are);
+      parts = λ splits limit are. c.ask_at-result.ensures.parts splits limit (before.parts splits limit are);
     }
 
 pub returns-clause-replies : goal.returns-clause-replies

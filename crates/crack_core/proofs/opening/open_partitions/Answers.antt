@@ -6,11 +6,11 @@ use Rattle.std.proofs.Math.Seq.{get_or-append_seam}
 use Rattle.crack_row.specs.declared.Bound.{Bound}
 use Rattle.crack_store.specs.Inside.{no_cells}
 use Rattle.crack_part.specs.Parts.{Part, IsSound}
-use Rattle.crack_core.specs.Routes.{keys_at}
+use Rattle.crack_core.specs.Routes.{keys_of_part}
 use Rattle.crack_core.proofs.opening.open_partitions.Goals as goal
 
 -- one partition more
-keys-push : (splits : List Bound) (parts : List Part) (p : Part) → ((k : ℕ) (d : Part) → k < length parts → (get_or parts k d).keys ≡ keys_at splits k) → p.keys ≡ keys_at splits (length parts) → (k : ℕ) (d : Part) → k < length (parts ++ p ∷ []) → (get_or (parts ++ p ∷ []) k d).keys ≡ keys_at splits k
+keys-push : (splits : List Bound) (parts : List Part) (p : Part) → ((k : ℕ) (d : Part) → k < length parts → (get_or parts k d).keys ≡ keys_of_part splits k) → p.keys ≡ keys_of_part splits (length parts) → (k : ℕ) (d : Part) → k < length (parts ++ p ∷ []) → (get_or (parts ++ p ∷ []) k d).keys ≡ keys_of_part splits k
 keys-push splits parts p before now k d k_lt = ⊎_elim
     (λ (front : k < length parts). rw (get_or_append_left parts (p ∷ []) d k front) (before k d front))
     (λ (back : length parts ≤ k).
@@ -24,7 +24,7 @@ loop-part-preserved c =
     let parts = c.loop-part.parts.items in
     let before = c.loop-part.invariant in
     let opened = c.in_ok-partition.ensures.ok in
-    let keys : p.keys ≡ keys_at c.args.splits.now (length parts) = opened.0 ∙ c.keys_at.ensures ∙ ap (keys_at c.args.splits.now) (sym before.count) in
+    let keys : p.keys ≡ keys_of_part c.args.splits.now (length parts) = opened.0 ∙ c.keys_of_part.ensures ∙ ap (keys_of_part c.args.splits.now) (sym before.count) in
     rw c.in_ok-push.ensures.items (record {
       count = omega (arith, length-append parts (p ∷ []), before.count);
       keys = keys-push c.args.splits.now parts p before.keys keys;

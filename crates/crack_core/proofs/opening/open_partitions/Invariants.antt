@@ -1,13 +1,13 @@
 use Rattle.std.proofs.Common.{◌≡◌, ◌<◌, ℕ, [], length, get_or, All}
 use Rattle.crack_store.specs.Inside.{no_cells}
 use Rattle.crack_part.specs.Parts.{Part, IsSound}
-use Rattle.crack_core.specs.Routes.{keys_at}
+use Rattle.crack_core.specs.Routes.{keys_of_part}
 use Rattle.crack_core.proofs.opening.open_partitions.Given as goal
 
 abbrev pub invariant-loop-part : goal.invariant-loop-part
 invariant-loop-part l = record {
   count : length l.parts.items ≡ l.part;
-  keys : (k : ℕ) (d : Part) → k < length l.parts.items → (get_or l.parts.items k d).keys ≡ keys_at l.splits k;
+  keys : (k : ℕ) (d : Part) → k < length l.parts.items → (get_or l.parts.items k d).keys ≡ keys_of_part l.splits k;
   limits : All (λ (part : Part). part.limit ≡ l.limit) l.parts.items;
   sound : All IsSound l.parts.items;
   fresh : All (λ (part : Part). part.history ≡ []) l.parts.items;

@@ -13,7 +13,7 @@ loop-part-preserved c =
     let part = c.loop-part.part in
     let within = route-le splits (c.args.range.high - 1) in
     let has = part-some splits c.args.range part c.requires.splits c.requires.filled c.requires.bounded (omega arith) (omega arith) (omega arith) in
-    let clip : (part, c.clip.result) ≡ part_at splits c.args.range part = rw (c.clip.ensures.value, c.keys_at.ensures) refl in
+    let clip : (part, c.clip.result) ≡ part_at splits c.args.range part = rw (c.clip.ensures.value, c.keys_of_part.ensures) refl in
     let grown = ap length c.push_reserved.ensures.items in
     let more = length-append c.loop-part.parts.items ((part, c.clip.result) ∷ []) in (
       c.push_reserved.ensures.items ∙ ap (λ (ps : List (ℕ × Range)). ps ++ (part, c.clip.result) ∷ []) c.loop-part.invariant.0 ∙ ap (λ (p : ℕ × Range). parts_below splits c.args.range part ++ p ∷ []) clip ∙ sym (parts_below-some splits c.args.range part has),

@@ -1,7 +1,7 @@
 use Rattle.std.proofs.Common.{◌≡◌}
 use Rattle.crack_state.specs.State.{State}
 use Rattle.crack_state.specs.Steps.{hand_key, bounds_above}
-use Rattle.crack_merge.specs.Merges.{Carries, limit_of}
+use Rattle.crack_merge.specs.Merges.{Carries, ceiling_of}
 use Rattle.crack_merge.proofs.carries.carry.Given as goal
 
 abbrev pub invariant-pieces : goal.invariant-pieces
@@ -10,7 +10,7 @@ invariant-pieces l = record {
   in_room : l.carrying.store.in_room ≡ l.fn.carrying.store.in_room;
   pending_in : l.carrying.store.pending_in ≡ l.fn.carrying.store.pending_in;
   cells : l.carrying.store.cells ≡ l.fn.carrying.store.cells;
-  carries : (t : State) → Carries (limit_of l.fn.limit) l.carrying t → Carries (limit_of l.fn.limit) l.fn.carrying t;
+  carries : (t : State) → Carries (ceiling_of l.fn.ceiling) l.carrying t → Carries (ceiling_of l.fn.ceiling) l.fn.carrying t;
 }
 
 abbrev pub decreases-pieces : goal.decreases-pieces

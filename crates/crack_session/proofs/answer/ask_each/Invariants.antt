@@ -1,13 +1,13 @@
 use Rattle.std.proofs.Common.{◌≡◌, ◌+◌, ◌≤◌, List, Some, Ok, length, take}
 use Rattle.std.specs.Prelude.{All, vec_len, vec_capacity}
-use Rattle.crack_plain.specs.Plain.{Table, IsSmall}
+use Rattle.crack_plain.specs.Plain.{PlainView, IsSmall}
 use Rattle.crack_session.specs.Answers.{AsksInTurn}
 use Rattle.crack_session.specs.declared.query.PartReply.{PartReply}
 use Rattle.crack_session.proofs.answer.ask_each.Given as goal
 
 abbrev pub invariant-parts : goal.invariant-parts
 invariant-parts g l = record {
-  asked : (tables : List Table) → g.D.Desk.tables l.fn.desk ≡ Some tables → (new : List Table) × AsksInTurn (g.D.Desk.limit l.fn.desk) (g.D.Desk.splits l.fn.desk) l.query tables (take l.part-index l.parts) (Ok l.replies.items) new × (g.D.Desk.tables l.desk ≡ Some new);
+  asked : (tables : List PlainView) → g.D.Desk.tables l.fn.desk ≡ Some tables → (new : List PlainView) × AsksInTurn (g.D.Desk.limit l.fn.desk) (g.D.Desk.splits l.fn.desk) l.query tables (take l.part-index l.parts) (Ok l.replies.items) new × (g.D.Desk.tables l.desk ≡ Some new);
   small : All (λ (r : PartReply). IsSmall r.reply) l.replies.items;
   count : vec_len l.replies ≡ l.part-index;
   room : length l.parts ≤ vec_capacity l.replies;

@@ -1,7 +1,7 @@
 use Rattle.std.proofs.Common.{◌≡◌, List, ◌++◌, map, take, vec_len}
 use Rattle.std.specs.Option.{option_map}
 use Rattle.crack_core.specs.declared.receipt.Receipt.{Receipt}
-use Rattle.crack_table.specs.Cover.{first_stranger, place_of}
+use Rattle.crack_table.specs.Cover.{first_stranger, named_place}
 use Rattle.crack_table.specs.Marks.{Marked}
 use Rattle.crack_table.proofs.covering.note_all.Given as goal
 
@@ -9,5 +9,5 @@ abbrev pub invariant-list : goal.invariant-list
 invariant-list l = record {
   long : vec_len l.marks ≡ vec_len l.initial.marks;
   marked : (done : List Receipt) → Marked (map (λ h. h.now) l.histories) l.initial.marks.items done → Marked (map (λ h. h.now) l.histories) l.marks.items (done ++ take l.receipt-index l.list);
-  stranger : l.stranger ≡ option_map place_of (first_stranger (map (λ h. h.now) l.histories) (take l.receipt-index l.list));
+  stranger : l.stranger ≡ option_map named_place (first_stranger (map (λ h. h.now) l.histories) (take l.receipt-index l.list));
 }

@@ -4,7 +4,7 @@ use Rattle.crack_arena.specs.Arena.{times}
 use Rattle.crack_arena.proofs.Times.{times-le-length}
 use Rattle.crack_arena.specs.Rows.{unknown}
 use Rattle.crack_column.specs.Column.{Agrees}
-use Rattle.crack_column.specs.Tickets.{no_tag, remembered_key, handle_of, memory_of, handles_in, remembered_in, unread_in}
+use Rattle.crack_column.specs.Tickets.{no_tag, remembered_key, tag_handle, memory_of, handles_in, remembered_in, unread_in}
 use Rattle.crack_column.proofs.Remembering.{Remembers-append}
 use Rattle.crack_column.proofs.TicketLaws.{length-aside, first-aside, unread-le, unread-last, handles-last, remembered-last}
 use Rattle.crack_column.proofs.column.CrackerColumn.append_aside.Goals as goal
@@ -47,5 +47,5 @@ returns-clause-remembered c = λ cells remembers agrees.
     let n = c.self.inside.len in
     let t = get_or ts n no_tag in
     let known = rw (← c.self.view_is) at remembers in
-    let right : Agrees cells (handle_of gs t) (memory_of t) = rw (← c.self.view_is, first-aside gs ts n (inside c.before.before)) at agrees in
-    rw (handles-last gs ts n (inside c.before.before), remembered-last ts n (inside c.before.before)) (Remembers-append cells (handles_in gs ts n) (remembered_in ts n) (handle_of gs t) (memory_of t) right known)
+    let right : Agrees cells (tag_handle gs t) (memory_of t) = rw (← c.self.view_is, first-aside gs ts n (inside c.before.before)) at agrees in
+    rw (handles-last gs ts n (inside c.before.before), remembered-last ts n (inside c.before.before)) (Remembers-append cells (handles_in gs ts n) (remembered_in ts n) (tag_handle gs t) (memory_of t) right known)

@@ -5,7 +5,7 @@ use Rattle.crack_arena.proofs.Times.{times-le-length}
 use Rattle.crack_arena.specs.Rows.{unknown}
 use Rattle.crack_column.specs.declared.tag.Tag.{Tag}
 use Rattle.crack_column.specs.Column.{Agrees, nothing}
-use Rattle.crack_column.specs.Tickets.{no_tag, remembered_key, handle_of, memory_of, handles_in, remembered_in, unread_in}
+use Rattle.crack_column.specs.Tickets.{no_tag, remembered_key, tag_handle, memory_of, handles_in, remembered_in, unread_in}
 use Rattle.crack_column.proofs.Remembering.{Remembers-set}
 use Rattle.crack_column.proofs.TicketLaws.{length-in, length-aside, first-aside, handle_in, memory_in, unread-le, AreDrawn-exchange, length-exchange, handles-exchange, remembered-exchange, unread-exchange, aside-exchange}
 use Rattle.crack_column.proofs.column.CrackerColumn.exchange.Goals as goal
@@ -85,8 +85,8 @@ returns-clause-remembered c = λ cells remembers agrees.
     let are = c.self.invariant.are in
     let t = get_or ts n no_tag in
     let known = rw (← c.self.view_is) at remembers in
-    let right : Agrees cells (handle_of gs t) (memory_of t) = rw (← c.self.view_is, first-aside gs ts n (some c.before)) at agrees in
+    let right : Agrees cells (tag_handle gs t) (memory_of t) = rw (← c.self.view_is, first-aside gs ts n (some c.before)) at agrees in
     rw (
       handles-exchange gs ts (now c.before) n place are (first c.before) (some c.before) (swapped c.before),
       remembered-exchange gs ts (now c.before) n place are (first c.before) (some c.before) (swapped c.before),
-    ) (Remembers-set cells (handles_in gs ts n) (remembered_in ts n) place (handle_of gs t) (memory_of t) right known)
+    ) (Remembers-set cells (handles_in gs ts n) (remembered_in ts n) place (tag_handle gs t) (memory_of t) right known)

@@ -2,7 +2,7 @@ use Rattle.std.proofs.Common.{◌≤◌, arith, sym, ◌∙◌}
 use Rattle.std.specs.List.{between}
 use Rattle.crack_arena.specs.Arena.{no_handle}
 use Rattle.crack_arena.specs.Rows.{payload_at}
-use Rattle.crack_column.specs.Tickets.{handle_of}
+use Rattle.crack_column.specs.Tickets.{tag_handle}
 use Rattle.crack_column.proofs.TicketLaws.{length-in, Knows-Remembers, unread-between, stretch_of, sum_by-map}
 use Rattle.crack_column.proofs.column.CrackerColumn.sum_between.Goals as goal
 use Rattle.crack_column.proofs.column.CrackerColumn.sum_between.Goals.{After-deref-2}
@@ -28,4 +28,4 @@ returns c =
     let gs = c.self.inside.generations.items in
     let ts = c.self.inside.tags.items in
     let read = rw (c.deref.ensures.value, c.deref-2.ensures.value) at c.sum.ensures in
-    rw (← c.self.view_is, stretch_of (handle_of gs) no_handle ts c.self.inside.len c.args.from c.args.to c.self.invariant.are.within (end_len c.before)) (read ∙ sym (sum_by-map f (handle_of gs) (between c.args.from c.args.to ts)))
+    rw (← c.self.view_is, stretch_of (tag_handle gs) no_handle ts c.self.inside.len c.args.from c.args.to c.self.invariant.are.within (end_len c.before)) (read ∙ sym (sum_by-map f (tag_handle gs) (between c.args.from c.args.to ts)))

@@ -13,33 +13,33 @@ on_err : {T E P : Type 0} (r : Result T E) → P → OnErr r P
 on_err (Ok x) p = tt
 on_err (Err e) p = p
 
-pub serve-requires-clause-admissible : goal.serve-requires-clause-admissible
-serve-requires-clause-admissible c =
+pub answer-requires-clause-admissible : goal.answer-requires-clause-admissible
+answer-requires-clause-admissible c =
     let kept = rw (← c.self.view_is) at c.in_ok-may_keep.ensures.ok in
     λ ready prepared. MayPerform-prepared c.args.policy _ c.args.command ready c.self.invariant kept.0 prepared
 
-pub serve-requires-clause-small : goal.serve-requires-clause-small
-serve-requires-clause-small c = let next = next-le-limit _ c.self.invariant in omega (arith, next)
+pub answer-requires-clause-small : goal.answer-requires-clause-small
+answer-requires-clause-small c = let next = next-le-limit _ c.self.invariant in omega (arith, next)
 
 pub invariant_of-self-in_err-reply : goal.invariant_of-self-in_err-reply
 invariant_of-self-in_err-reply c =
     let spared = c.in_err-reply.ensures.spared in
-    let keeps = Keeps-spared c.args.policy c.self.inside.keys (range_of c.args.command) _ c.serve.new.store spared.0 in
-    let intact = IsIntact-spared c.args.policy c.self.inside.keys (range_of c.args.command) _ c.serve.new.store spared.0 c.self.invariant.intact in
-    rw (c.make_room.ensures.same, spared.1) (IsSound-kept _ c.serve.new.store c.self.invariant keeps intact)
+    let keeps = Keeps-spared c.args.policy c.self.inside.keys (range_of c.args.command) _ c.answer.new.store spared.0 in
+    let intact = IsIntact-spared c.args.policy c.self.inside.keys (range_of c.args.command) _ c.answer.new.store spared.0 c.self.invariant.intact in
+    rw (c.make_room.ensures.same, spared.1) (IsSound-kept _ c.answer.new.store c.self.invariant keeps intact)
 
 pub invariant_of-self-in_err-copies : goal.invariant_of-self-in_err-copies
 invariant_of-self-in_err-copies c = elim c.in_ok-reply.ensures.lists [
   | inl read ↦
-      let keeps = Keeps-prepared c.args.policy c.self.inside.keys (range_of c.args.command) _ c.serve.new.store read.0 in
-      rw (c.make_room.ensures.same, read.1) (IsSound-kept _ c.serve.new.store c.self.invariant keeps c.in_ok-reply.ensures.intact)
+      let keeps = Keeps-prepared c.args.policy c.self.inside.keys (range_of c.args.command) _ c.answer.new.store read.0 in
+      rw (c.make_room.ensures.same, read.1) (IsSound-kept _ c.answer.new.store c.self.invariant keeps c.in_ok-reply.ensures.intact)
   | inr flat ↦ absurd (false≢true (c.in_err-copies.ensures.flat flat))
 ]
 
 pub returns-in_err-copies-clause-spared : goal.returns-in_err-copies-clause-spared
 returns-in_err-copies-clause-spared c = elim c.in_ok-reply.ensures.lists [
   | inl read ↦
-      let spared = Spares-prepared c.args.policy c.self.inside.keys (range_of c.args.command) _ c.serve.new.store c.serve.new.store read.0 (record { same = refl }) in
+      let spared = Spares-prepared c.args.policy c.self.inside.keys (range_of c.args.command) _ c.answer.new.store c.answer.new.store read.0 (record { same = refl }) in
       rw (← c.self.view_is) (on_err c.from_residual-in_err-copies.result spared)
   | inr flat ↦ absurd (false≢true (c.in_err-copies.ensures.flat flat))
 ]
@@ -51,9 +51,9 @@ invariant_of-self-2 c =
     let plain = replay c.self.inside.history.items in
     let said = c.in_ok-reply.ensures.replies plain (IsNumbered-replay c.self.inside.history.items) c.self.invariant.faithful in
     let faithful = c.in_ok-reply.ensures.faithful plain c.self.invariant.faithful in
-    let spends = Spends-served c.args.policy _ c.args.command c.serve.new.store c.self.invariant kept.0 c.in_ok-reply.ensures.served in
+    let spends = Spends-served c.args.policy _ c.args.command c.answer.new.store c.self.invariant kept.0 c.in_ok-reply.ensures.served in
     let grown = c.push_reserved.ensures ∙ ap (λ (h : List Entry). h ++ e ∷ []) c.make_room.ensures.same in
-    rw grown (IsSound-served _ e c.serve.new.next c.serve.new.store c.self.invariant kept.1 kept.0 (c.in_ok-copies.ensures.ok.2 ∙ said) c.in_ok-reply.ensures.intact faithful spends)
+    rw grown (IsSound-served _ e c.answer.new.next c.answer.new.store c.self.invariant kept.1 kept.0 (c.in_ok-copies.ensures.ok.2 ∙ said) c.in_ok-reply.ensures.intact faithful spends)
 
 pub returns-clause-state : goal.returns-clause-state
 returns-clause-state c =

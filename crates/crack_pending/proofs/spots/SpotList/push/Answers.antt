@@ -1,6 +1,6 @@
 use Rattle.std.proofs.Common.{◌≡◌, ◌+◌, ◌-◌, ◌∷◌, [], ◌++◌, length, nat_eq, vec_capacity, ap, inl, inr, ◌∙◌, arith, length-append, length-set}
 use Rattle.crack_arena.proofs.Remembering.{RemembersKeys-append}
-use Rattle.crack_pending.specs.Spots.{kept, room_in}
+use Rattle.crack_pending.specs.Spots.{kept, spot_room}
 use Rattle.crack_pending.proofs.Kept.{kept-push, place_at-few}
 use Rattle.crack_pending.proofs.Views.{kept_more, view_after, room-less, room-some}
 use Rattle.crack_pending.proofs.Unknown.{counted_one, counted_push, counted_few, byte_few}
@@ -40,7 +40,7 @@ returns-clause-after c =
     let keys : kept c.push_reserved-3.new.self.items c.push_reserved-2.new.self.items ≡ kept i.stands.items i.keys.items ++ c.args.key ∷ [] =
     rw (c.push_reserved-2.ensures.items, c.push_reserved-3.ensures.items) (kept-push i.stands.items i.keys.items c.args.key (omega (arith, a.stands_beside, a.keys_beside))) in
     let long : length c.push_reserved.new.self.items ≡ length i.handles.items + 1 = ap length c.push_reserved.ensures.items ∙ omega (arith, length-append i.handles.items (h ∷ [])) in
-    let room : room_in (length c.push_reserved.new.self.items) (vec_capacity c.push_reserved.new.self) (vec_capacity c.push_reserved-2.new.self) (vec_capacity c.push_reserved-3.new.self) ≡ room_in (length i.handles.items) (vec_capacity i.handles) (vec_capacity i.keys) (vec_capacity i.stands) - 1 =
+    let room : spot_room (length c.push_reserved.new.self.items) (vec_capacity c.push_reserved.new.self) (vec_capacity c.push_reserved-2.new.self) (vec_capacity c.push_reserved-3.new.self) ≡ spot_room (length i.handles.items) (vec_capacity i.handles) (vec_capacity i.keys) (vec_capacity i.stands) - 1 =
     rw (long, c.push_reserved.ensures.capacity, c.push_reserved-2.ensures.capacity, c.push_reserved-3.ensures.capacity) (room-less (length i.handles.items) (vec_capacity i.handles) (vec_capacity i.keys) (vec_capacity i.stands)) in
     rw (← c.self.view_is) (view_after _ _ _ _ _ _ _ _ handles keys room (length-set i.spots.items c.slot.result c.len.result))
 

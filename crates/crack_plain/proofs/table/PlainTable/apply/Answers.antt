@@ -8,7 +8,7 @@ pub invariant_of-self-2 : goal.invariant_of-self-2
 invariant_of-self-2 c =
     let s : PlainState = record { rows = c.self.inside.rows.items; next = c.self.inside.next } in
     let change = change_of c.args.command.now in
-    let is = rw c.change.ensures at c.in_ok-perform.ensures.changed in
+    let is = rw c.change.ensures at c.in_ok-change_rows.ensures.changed in
     let rows = ap (λ (t : PlainState). t.rows) is in
     let next = ap (λ (t : PlainState). t.next) is in
     let longer = ap (λ (t : PlainState). length t.rows) is in (

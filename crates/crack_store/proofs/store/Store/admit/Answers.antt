@@ -24,7 +24,7 @@ reserve-requires c =
     omega (arith, cells-intact (lists_of c.self.inside.inside) [] intact, intact.few_cells)
 
 pub push_keyed-requires-clause-room : goal.push_keyed-requires-clause-room
-push_keyed-requires-clause-room c = omega (arith, c.in_ok-reserve.ensures.room, ap (λ (p : Pending). p.room) c.in_ok-cover.ensures.same)
+push_keyed-requires-clause-room c = omega (arith, c.in_ok-reserve.ensures.room, ap (λ (p : Pending). p.room) c.in_ok-make_places.ensures.same)
 
 pub push_keyed-requires-clause-covered : goal.push_keyed-requires-clause-covered
 push_keyed-requires-clause-covered c =
@@ -32,7 +32,7 @@ push_keyed-requires-clause-covered c =
     let cells_is : c.reserve-2.new.self.cells ≡ s.cells = ap (λ a. a.cells) c.in_ok-reserve-2.ensures.same in
     let free_is : c.reserve-2.new.self.free ≡ s.free = ap (λ a. a.free) c.in_ok-reserve-2.ensures.same in
     let next : c.put_reserved-handle.result ≡ next_handle s = rw (cells_is, free_is) at c.put_reserved-handle.ensures.handle in
-    is_covered c.args.row s c.put_reserved-handle.result c.cells.result c.free_cells.result c.cover.new.self.covered next (rw cells_is at c.cells.ensures) (rw free_is at c.free_cells.ensures) c.in_ok-cover.ensures.covered c.self.invariant.intact
+    is_covered c.args.row s c.put_reserved-handle.result c.cells.result c.free_cells.result c.make_places.new.self.covered next (rw cells_is at c.cells.ensures) (rw free_is at c.free_cells.ensures) c.in_ok-make_places.ensures.covered c.self.invariant.intact
 
 pub push_keyed-requires-clause-absent : goal.push_keyed-requires-clause-absent
 push_keyed-requires-clause-absent c =
@@ -40,7 +40,7 @@ push_keyed-requires-clause-absent c =
     let cells_is : c.reserve-2.new.self.cells ≡ s.cells = ap (λ a. a.cells) c.in_ok-reserve-2.ensures.same in
     let free_is : c.reserve-2.new.self.free ≡ s.free = ap (λ a. a.free) c.in_ok-reserve-2.ensures.same in
     let next : c.put_reserved-handle.result ≡ next_handle s = rw (cells_is, free_is) at c.put_reserved-handle.ensures.handle in
-    rw (c.in_ok-cover.ensures.same, c.in_ok-reserve.ensures.same) (added c.args.row s c.self.invariant.intact c.put_reserved-handle.result next).off_in
+    rw (c.in_ok-make_places.ensures.same, c.in_ok-reserve.ensures.same) (added c.args.row s c.self.invariant.intact c.put_reserved-handle.result next).off_in
 
 -- the row gets the next handle
 handle : (c : goal.After-self-1) → c.put_reserved-handle.result ≡ next_handle (lists_of c.self.inside.inside)
@@ -62,7 +62,7 @@ after c =
     let entries = at_ok c.insert.result _ (c.insert.ensures.succeeds (omega (arith, c.growth.ensures, c.in_ok-reserve-3.ensures.ok))) c.insert.ensures.entries in
     let listed : c.insert.new.self.entries ≡ s.serials ++ (serial, next_handle s) ∷ [] = (rw (c.in_ok-reserve-3.ensures.entries, handle c) at entries) ∙ insert_entry-new nat_eq c.self.inside.inside.serials serial (next_handle s) fresh in
     record {
-      same = rw (c.put_reserved-handle.ensures.after, cells_is, free_is, c.push_keyed.ensures.after, c.in_ok-cover.ensures.same, c.in_ok-reserve.ensures.same, listed, handle c) refl;
+      same = rw (c.put_reserved-handle.ensures.after, cells_is, free_is, c.push_keyed.ensures.after, c.in_ok-make_places.ensures.same, c.in_ok-reserve.ensures.same, listed, handle c) refl;
     }
 
 -- its cells are those with the row
@@ -83,10 +83,10 @@ invariant_of-self-2 c =
     record {
       intact = IsIntact-room (admitted row s) (lists_of new) [] (after c) (IsIntact-admitted row s may c.self.invariant.intact);
       remembers = rw (cells_after c) (Remembers-admitted row s c.self.inside.inside.column.remembered c.self.invariant.intact c.self.invariant.remembers);
-      keys_in = rw (cells_after c) (c.push_keyed.ensures.remembered cells plus.key (c.in_ok-cover.ensures.remembered cells (c.in_ok-reserve.ensures.remembered cells (RemembersKeys-off h.slot s.cells cells kept_in.handles kept_in.keys plus.agree plus.off_in c.self.invariant.keys_in))));
+      keys_in = rw (cells_after c) (c.push_keyed.ensures.remembered cells plus.key (c.in_ok-make_places.ensures.remembered cells (c.in_ok-reserve.ensures.remembered cells (RemembersKeys-off h.slot s.cells cells kept_in.handles kept_in.keys plus.agree plus.off_in c.self.invariant.keys_in))));
       keys_out = rw (cells_after c) (RemembersKeys-off h.slot s.cells cells kept_out.handles kept_out.keys plus.agree plus.off_out c.self.invariant.keys_out);
       room = omega arith;
-      covered = rw (cells_after c, c.push_keyed.ensures.after) (all_covered row s c.cells.result c.free_cells.result c.cover.new.self.covered (rw (ap (λ a. a.cells) c.in_ok-reserve-2.ensures.same) at c.cells.ensures) (rw (ap (λ a. a.free) c.in_ok-reserve-2.ensures.same) at c.free_cells.ensures) c.in_ok-cover.ensures.covered);
+      covered = rw (cells_after c, c.push_keyed.ensures.after) (all_covered row s c.cells.result c.free_cells.result c.make_places.new.self.covered (rw (ap (λ a. a.cells) c.in_ok-reserve-2.ensures.same) at c.cells.ensures) (rw (ap (λ a. a.free) c.in_ok-reserve-2.ensures.same) at c.free_cells.ensures) c.in_ok-make_places.ensures.covered);
     }
 
 pub returns-clause-ok : goal.returns-clause-ok

@@ -26,7 +26,7 @@ reserve-requires-2 c =
     omega (arith, cells-intact (lists_of c.self.inside.inside) [] intact, intact.few_cells)
 
 pub push_keyed-requires-clause-room : goal.push_keyed-requires-clause-room
-push_keyed-requires-clause-room c = omega (arith, c.in_ok-reserve.ensures.room, ap (λ (p : Pending). p.room) c.in_ok-cover.ensures.same)
+push_keyed-requires-clause-room c = omega (arith, c.in_ok-reserve.ensures.room, ap (λ (p : Pending). p.room) c.in_ok-make_places.ensures.same)
 
 pub push_keyed-requires-clause-covered : goal.push_keyed-requires-clause-covered
 push_keyed-requires-clause-covered c =
@@ -34,15 +34,15 @@ push_keyed-requires-clause-covered c =
     let cells_is : c.reserve-3.new.self.cells ≡ s.cells = ap (λ a. a.cells) c.in_ok-reserve-3.ensures.same in
     let free_is : c.reserve-3.new.self.free ≡ s.free = ap (λ a. a.free) c.in_ok-reserve-3.ensures.same in
     let next : c.put_reserved-handle.result ≡ next_handle s = rw (cells_is, free_is) at c.put_reserved-handle.ensures.handle in
-    let covered : length s.cells ≤ c.cover.new.self.covered = omega (arith, c.in_ok-cover.ensures.covered, rw cells_is at c.cells.ensures) in
+    let covered : length s.cells ≤ c.make_places.new.self.covered = omega (arith, c.in_ok-make_places.ensures.covered, rw cells_is at c.cells.ensures) in
     omega (arith, (stands1 s c.args.row.serial.0 c.lead_to-doomed.result c.lead_to-doomed.ensures.before c.self.invariant.intact).within, covered)
 
 pub push_keyed-requires-clause-absent : goal.push_keyed-requires-clause-absent
 push_keyed-requires-clause-absent c =
-    rw (c.in_ok-cover.ensures.same, c.in_ok-reserve.ensures.same) (c.self.invariant.intact.keyed.leads c.args.row.serial.0 c.lead_to-doomed.result c.lead_to-doomed.ensures.before).kept
+    rw (c.in_ok-make_places.ensures.same, c.in_ok-reserve.ensures.same) (c.self.invariant.intact.keyed.leads c.args.row.serial.0 c.lead_to-doomed.result c.lead_to-doomed.ensures.before).kept
 
 pub push_keyed-requires-2-clause-room : goal.push_keyed-requires-2-clause-room
-push_keyed-requires-2-clause-room c = omega (arith, c.in_ok-reserve-2.ensures.room, ap (λ (p : Pending). p.room) c.in_ok-cover-3.ensures.same)
+push_keyed-requires-2-clause-room c = omega (arith, c.in_ok-reserve-2.ensures.room, ap (λ (p : Pending). p.room) c.in_ok-make_places-3.ensures.same)
 
 pub push_keyed-requires-2-clause-covered : goal.push_keyed-requires-2-clause-covered
 push_keyed-requires-2-clause-covered c =
@@ -50,7 +50,7 @@ push_keyed-requires-2-clause-covered c =
     let cells_is : c.reserve-3.new.self.cells ≡ s.cells = ap (λ a. a.cells) c.in_ok-reserve-3.ensures.same in
     let free_is : c.reserve-3.new.self.free ≡ s.free = ap (λ a. a.free) c.in_ok-reserve-3.ensures.same in
     let next : c.put_reserved-handle.result ≡ next_handle s = rw (cells_is, free_is) at c.put_reserved-handle.ensures.handle in
-    is_covered c.args.row s c.put_reserved-handle.result c.cells-3.result c.free_cells.result c.cover-3.new.self.covered next (rw cells_is at c.cells-3.ensures) (rw free_is at c.free_cells.ensures) c.in_ok-cover-3.ensures.covered c.self.invariant.intact
+    is_covered c.args.row s c.put_reserved-handle.result c.cells-3.result c.free_cells.result c.make_places-3.new.self.covered next (rw cells_is at c.cells-3.ensures) (rw free_is at c.free_cells.ensures) c.in_ok-make_places-3.ensures.covered c.self.invariant.intact
 
 pub push_keyed-requires-2-clause-absent : goal.push_keyed-requires-2-clause-absent
 push_keyed-requires-2-clause-absent c =
@@ -58,7 +58,7 @@ push_keyed-requires-2-clause-absent c =
     let cells_is : c.reserve-3.new.self.cells ≡ s.cells = ap (λ a. a.cells) c.in_ok-reserve-3.ensures.same in
     let free_is : c.reserve-3.new.self.free ≡ s.free = ap (λ a. a.free) c.in_ok-reserve-3.ensures.same in
     let next : c.put_reserved-handle.result ≡ next_handle s = rw (cells_is, free_is) at c.put_reserved-handle.ensures.handle in
-    rw (c.in_ok-cover-3.ensures.same, c.in_ok-reserve-2.ensures.same) (added c.args.row s c.self.invariant.intact c.put_reserved-handle.result next).off_in
+    rw (c.in_ok-make_places-3.ensures.same, c.in_ok-reserve-2.ensures.same) (added c.args.row s c.self.invariant.intact c.put_reserved-handle.result next).off_in
 
 -- the row gets the next handle
 handle : (c : goal.After-self-1) → c.put_reserved-handle.result ≡ next_handle (lists_of c.self.inside.inside)
@@ -77,7 +77,7 @@ after c =
     let free_is : c.reserve-3.new.self.free ≡ s.free = ap (λ a. a.free) c.in_ok-reserve-3.ensures.same in
     let next : c.put_reserved-handle.result ≡ next_handle s = rw (cells_is, free_is) at c.put_reserved-handle.ensures.handle in
     record {
-      same = rw (c.put_reserved-handle.ensures.after, cells_is, free_is, c.push_keyed.ensures.after, c.in_ok-cover.ensures.same, c.in_ok-reserve.ensures.same, c.push_keyed-2.ensures.after, c.in_ok-cover-3.ensures.same, c.in_ok-reserve-2.ensures.same, next) refl;
+      same = rw (c.put_reserved-handle.ensures.after, cells_is, free_is, c.push_keyed.ensures.after, c.in_ok-make_places.ensures.same, c.in_ok-reserve.ensures.same, c.push_keyed-2.ensures.after, c.in_ok-make_places-3.ensures.same, c.in_ok-reserve-2.ensures.same, next) refl;
     }
 
 -- its cells are those with the row
@@ -105,10 +105,10 @@ invariant_of-self-2 c =
     record {
       intact = IsIntact-room (record (renewed row h s) { serials = entries }) (lists_of new) [] (after c) (IsIntact-renewed s h row entries found (column_handle s row.serial.0 h column found) maps inside may c.self.invariant.intact);
       remembers = rw (cells_after c) (Remembers-admitted row s c.self.inside.inside.column.remembered c.self.invariant.intact c.self.invariant.remembers);
-      keys_in = rw (cells_after c) (c.push_keyed-2.ensures.remembered cells plus.key (c.in_ok-cover-3.ensures.remembered cells (c.in_ok-reserve-2.ensures.remembered cells (RemembersKeys-off n.slot s.cells cells kept_in.handles kept_in.keys plus.agree plus.off_in c.self.invariant.keys_in))));
-      keys_out = rw (cells_after c) (c.push_keyed.ensures.remembered cells key (c.in_ok-cover.ensures.remembered cells (c.in_ok-reserve.ensures.remembered cells (RemembersKeys-off n.slot s.cells cells kept_out.handles kept_out.keys plus.agree plus.off_out c.self.invariant.keys_out))));
+      keys_in = rw (cells_after c) (c.push_keyed-2.ensures.remembered cells plus.key (c.in_ok-make_places-3.ensures.remembered cells (c.in_ok-reserve-2.ensures.remembered cells (RemembersKeys-off n.slot s.cells cells kept_in.handles kept_in.keys plus.agree plus.off_in c.self.invariant.keys_in))));
+      keys_out = rw (cells_after c) (c.push_keyed.ensures.remembered cells key (c.in_ok-make_places.ensures.remembered cells (c.in_ok-reserve.ensures.remembered cells (RemembersKeys-off n.slot s.cells cells kept_out.handles kept_out.keys plus.agree plus.off_out c.self.invariant.keys_out))));
       room = omega arith;
-      covered = rw (cells_after c, c.push_keyed-2.ensures.after) (all_covered row s c.cells-3.result c.free_cells.result c.cover-3.new.self.covered (rw (ap (λ a. a.cells) c.in_ok-reserve-3.ensures.same) at c.cells-3.ensures) (rw (ap (λ a. a.free) c.in_ok-reserve-3.ensures.same) at c.free_cells.ensures) c.in_ok-cover-3.ensures.covered);
+      covered = rw (cells_after c, c.push_keyed-2.ensures.after) (all_covered row s c.cells-3.result c.free_cells.result c.make_places-3.new.self.covered (rw (ap (λ a. a.cells) c.in_ok-reserve-3.ensures.same) at c.cells-3.ensures) (rw (ap (λ a. a.free) c.in_ok-reserve-3.ensures.same) at c.free_cells.ensures) c.in_ok-make_places-3.ensures.covered);
     }
 
 pub returns-clause-live : goal.returns-clause-live
@@ -119,4 +119,4 @@ returns-clause-live c =
     let found = c.lead_to-doomed.ensures.before in
     let column : pending_by s row.serial.0 ≡ Some false = rw (← c.self.view_is) at c.requires.column in
     let may : IsRenewable s = rw (← c.self.view_is) at c.requires.few in
-    rw (← c.self.view_is, cells_after c, c.push_keyed.ensures.after, c.in_ok-cover.ensures.same, c.in_ok-reserve.ensures.same) (live_rows-renewed s h row found (column_handle s row.serial.0 h column found) may.few c.self.invariant.intact)
+    rw (← c.self.view_is, cells_after c, c.push_keyed.ensures.after, c.in_ok-make_places.ensures.same, c.in_ok-reserve.ensures.same) (live_rows-renewed s h row found (column_handle s row.serial.0 h column found) may.few c.self.invariant.intact)

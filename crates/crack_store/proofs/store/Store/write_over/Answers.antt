@@ -3,7 +3,7 @@ use Rattle.std.proofs.lemmas.List.{get_or_default}
 use Rattle.crack_row.specs.Ranges.{IsIn}
 use Rattle.crack_arena.specs.Arena.{read, set_at, place_in, no_handle}
 use Rattle.crack_arena.specs.Rows.{key_at}
-use Rattle.crack_state.specs.Points.{pending_by, rewritten}
+use Rattle.crack_state.specs.Points.{pending_by, overwritten}
 use Rattle.crack_state.proofs.PointLaws.{handle_by-is, reads_by, IsIntact-rewritten, live_rows-rewritten}
 use Rattle.crack_store.specs.Inside.{lists_of}
 use Rattle.crack_state.proofs.CellLaws.{AgreeOff-set, key_at-off}
@@ -33,7 +33,7 @@ invariant_of-self c =
     let waits : pending_by s row.serial.0 ≡ Some true = rw (← c.self.view_is) at c.requires.pending in
     let inside : IsIn s.keys row.key.0 = rw (← c.self.view_is) at c.requires.within in
     let pending = pending_handle s row.serial.0 h waits found c.self.invariant.intact in
-    let cells = (rewritten row h s).cells in
+    let cells = (overwritten row h s).cells in
     let agree = AgreeOff-set s.cells h.slot (record { generation = h.generation; value = Some row }) in
     let stood : get_or s.pending_in (place_in s.pending_in h.slot) no_handle ≡ h = sym (pending.at.is ∙ get_or_default s.pending_in (place_in s.pending_in h.slot) h no_handle pending.at.within) in
     let key : row.key.0 ≡ key_at cells (get_or s.pending_in (place_in s.pending_in h.slot) no_handle) = rw (stood, read-written s.cells h row pending.within) refl in

@@ -1,5 +1,5 @@
 use Rattle.crack_pending.proofs.Members.{Has-same}
-use Rattle.crack_pending.proofs.bits.BitSet.cover.Goals as goal
+use Rattle.crack_pending.proofs.bits.BitSet.make_places.Goals as goal
 
 pub returns-clause-same : goal.returns-clause-same
 returns-clause-same c =

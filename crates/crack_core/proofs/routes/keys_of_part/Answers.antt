@@ -1,6 +1,6 @@
 use Rattle.std.proofs.Common.{arith}
 use Rattle.crack_core.proofs.RouteLaws.{ends-ordered, ends-bounded}
-use Rattle.crack_core.proofs.routes.keys_at.Goals as goal
+use Rattle.crack_core.proofs.routes.keys_of_part.Goals as goal
 
 pub unreachable-requires : goal.unreachable-requires
 unreachable-requires c =

@@ -1,5 +1,5 @@
 use Rattle.std.proofs.Common.{rules}
-use Rattle.crack_plain.proofs.table.perform.Goals as goal
+use Rattle.crack_plain.proofs.table.change_rows.Goals as goal
 
 pub returns-in-Some-Remove-clause-changed : goal.returns-in-Some-Remove-clause-changed
 returns-in-Some-Remove-clause-changed c = search rules

@@ -1,5 +1,5 @@
 use Rattle.std.proofs.Common.{rules}
-use Rattle.crack_pending.proofs.list.PendingList.cover.Goals as goal
+use Rattle.crack_pending.proofs.list.PendingList.make_places.Goals as goal
 
 pub returns-clause-same : goal.returns-clause-same
 returns-clause-same g c = search rules

@@ -1,7 +1,7 @@
 use Rattle.std.proofs.Common.{Result, Ok, Err, OnErr, inl, inr, refl, ◌∙◌}
 use Rattle.crack_part.proofs.KeepLemmas.{Keeps-prepared, Spares-prepared}
 use Rattle.crack_part.proofs.SoundLemmas.{IsFaithful-kept}
-use Rattle.crack_part.proofs.partition.serve.Goals as goal
+use Rattle.crack_part.proofs.partition.answer.Goals as goal
 
 on_err : {T E P : Type 0} (r : Result T E) → P → OnErr r P
 on_err (Ok x) p = tt

@@ -4,7 +4,7 @@ use Rattle.crack_row.specs.declared.command.Reply.{Reply}
 use Rattle.crack_row.specs.declared.refusal.Refusal.{Refusal}
 use Rattle.crack_part.specs.Parts.{Part, Serves, Spares}
 use Rattle.crack_core.proofs.StepLaws.{outcome-at, Keeps-set, tables-set, AreParts-set, get-set_other, replaced-at}
-use Rattle.crack_core.proofs.cores.ask_part.Goals as goal
+use Rattle.crack_core.proofs.cores.ask_at.Goals as goal
 
 on_ok : {A B : Type 0} (r : Result Reply Refusal) → (A → B) → OnOk r A → OnOk r B
 on_ok (Ok reply) f h = f h
