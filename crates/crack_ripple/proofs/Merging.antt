@@ -51,12 +51,12 @@ StopsIn-carried s t r of intact part =
     record { stops = Stops-PutsNear s r of intact part.from t now; few = now.few }
 
 -- the result of the carries of a range
-module _ (s : State) (r : Range) (of : IsRangeOf s r) (intact : IsIntact s []) (limit : ℕ) (is : limit ≡ r.high) where
-  pub if_put_in : (P : State → Type 0) → ((t : State) → PutIn s t r → P t) → (result : Result State (State × Refusal)) → IfOk result (λ t. CarriesAll (Some limit) r s t) → IfOk result P
+module _ (s : State) (r : Range) (of : IsRangeOf s r) (intact : IsIntact s []) (ceiling : ℕ) (is : ceiling ≡ r.high) where
+  pub if_put_in : (P : State → Type 0) → ((t : State) → PutIn s t r → P t) → (result : Result State (State × Refusal)) → IfOk result (λ t. CarriesAll (Some ceiling) r s t) → IfOk result P
   if_put_in P says (Ok t) all = says t (PutIn-carried s t r of intact (rw is at all))
   if_put_in P says (Err e) all = tt
 
-  pub if_stopped : (P : State × Refusal → Type 0) → ((e : State × Refusal) → StopsIn s e.0 r → P e) → (result : Result State (State × Refusal)) → IfErr result (λ e. CarriesSome (Some limit) r s e.0) → IfErr result P
+  pub if_stopped : (P : State × Refusal → Type 0) → ((e : State × Refusal) → StopsIn s e.0 r → P e) → (result : Result State (State × Refusal)) → IfErr result (λ e. CarriesSome (Some ceiling) r s e.0) → IfErr result P
   if_stopped P says (Ok t) part = tt
   if_stopped P says (Err e) part = says e (StopsIn-carried s e.0 r of intact (rw is at part))
 

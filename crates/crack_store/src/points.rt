@@ -58,7 +58,9 @@ impl Store {
         ensures err { IfErr result (λ e. e ≡ Refusal.OutOfMemory) }
     {
         self.inside.pending_out.reserve(1)?;
-        self.inside.pending_out.make_places(self.inside.arena.cells())?;
+        self.inside
+            .pending_out
+            .make_places(self.inside.arena.cells())?;
         self.inside.notes.make_places(self.inside.arena.cells())?;
         let handle = forget(&mut self.inside.serials, serial);
         let row = row_at(&self.inside.arena, handle);
@@ -115,7 +117,9 @@ impl Store {
         self.inside.pending_out.reserve(1)?;
         self.inside.pending_in.reserve(1)?;
         self.inside.arena.reserve(1)?;
-        self.inside.pending_out.make_places(self.inside.arena.cells())?;
+        self.inside
+            .pending_out
+            .make_places(self.inside.arena.cells())?;
         self.inside.notes.make_places(self.inside.arena.cells())?;
         let new_cells = (self.inside.arena.free_cells() == 0) as usize;
         self.inside
