@@ -173,7 +173,8 @@ class Check:
     def refuses(self, edit):
         """Whether the function that an edit changes isn't proved itself."""
         named = [said for name, said in self.functions.items() if edit.function.is_named(name.split("::"))]
-        return self.is_refused and "not proved" in named
+        # (one that no file answers has no proof, and is told what to answer; what lacks another's proof is told whose)
+        return self.is_refused and any(it == "not proved" or it.startswith("no proof: expected answers") for it in named)
 
     def reason(self, edit):
         """The first error that tells of the function, as far as that can be told."""
