@@ -19,7 +19,7 @@ use std::marker::Model;
 /// What stands beside a handle.
 pub(crate) type StoredKey = u32;
 
-/// HasRow for a key that isn't remembered. A row with this very key is always looked up.
+/// Stands for a key that isn't remembered. A row with this very key is always looked up.
 pub(crate) const UNKNOWN: StoredKey = StoredKey::MAX;
 
 /// A spot is numbered by 32 bits.

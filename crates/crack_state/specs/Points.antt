@@ -81,7 +81,7 @@ pub record IsRenewable (s : State) : Type 0 where
   pub cell : length s.cells < 2 ^ 32 - 1 + length s.free
   pub few : MayFree s
 
--- when a row may be overwritten: there is one of its serial, its key is the partition's, and one of the column may be renewed
+-- when a row may be rewritten: there is one of its serial, its key is the partition's, and one of the column may be renewed
 pub record IsRewritable (row : Row) (s : State) : Type 0 where
   pub there : IsSome (handle_of s.serials row.serial.0)
   pub within : IsIn s.keys row.key.0
