@@ -4,8 +4,8 @@ it built, the examples, and the cases of the tools.
 
 The gate, `rt ci`, proves every crate from nothing, runs the tests, and runs each program as both compilers build it. It has no switch for the edits, so
 it runs on a copy of this checkout that has none, and what it built is brought back: `make run` and `make edits` prove nothing again that it has proved.
-What it writes is passed on as it comes. Before the last line stands the processor time of each crate, for its proof and its tests, as far as that was seen. The last line is the sum of all, 'N passed, M
-failed'; the status is 0 only where nothing failed.
+What it writes is passed on as it comes. Before the last line stands the processor time of each crate, for its proof and its tests, as far as that was
+seen. The last line is the sum of all, 'N passed, M failed'; the status is 0 only where nothing failed.
 """
 
 import contextlib

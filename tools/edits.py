@@ -7,10 +7,11 @@ many as there are processors and memory for, each over what a check of its crate
 Edits that change different functions are tried together, in one check: a function's proof may cite what the others promise and nothing of their bodies,
 and a check says of each function whether its own proof stands, or lacks only that of another. An edit is refused where the function that it changes isn't
 proved itself. So functions of which one may call the other are tried apart. Where a check of several leaves an edit open all the same (its function lacks
-another's proof, or is proved), that one is tried again among fewer, and at last by itself: then it is refused where the crate isn't proved. An edit that cannot be applied or read is a failure, as one that isn't refused is.
+another's proof, or is proved), that one is tried again among fewer, and at last by itself: then it is refused where the crate isn't proved. An edit
+that cannot be applied or read is a failure, as one that isn't refused is.
 
-At the end stands a table of the processor seconds that an edit takes, with its share of the check without edits that its crate pays first. Where all edits of all crates were refused, and the crates are those of the last
-commit, tools/edits-tried names that commit. The last line is 'N passed, M failed'.
+At the end stands a table of the processor seconds that an edit takes, with its share of the check without edits that its crate pays first. Where all
+edits of all crates were refused, and the crates are those of the last commit, tools/edits-tried names that commit. The last line is 'N passed, M failed'.
 """
 
 import collections
