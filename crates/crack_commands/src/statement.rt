@@ -38,6 +38,7 @@ pub enum Statement {
 
 /// What a line says: a statement, or why it is none. Refused with 2 where the ends of a range
 /// are out of order or too great, else with 1; so is a line without a word. O(its bytes), no memory.
+#[inline(always)]
 pub fn parse_statement(line: &[u8]) -> Result<Statement, Refusal>
     ensures { result ≡ statement_of line.now }
 {
@@ -50,6 +51,7 @@ pub fn parse_statement(line: &[u8]) -> Result<Statement, Refusal>
 
 /// What stands behind the name of an insert and a space. Most lines are inserts,
 /// and begin so: the end of their first word isn't looked for.
+#[inline(always)]
 fn behind_insert(line: &[u8]) -> Option<&[u8]>
     ensures { IfSome result (λ rest. words line.now ≡ codes "insert" ∷ words rest.now) }
 {
@@ -57,6 +59,7 @@ fn behind_insert(line: &[u8]) -> Option<&[u8]>
 }
 
 /// The statement of a name and of what stands behind it.
+#[inline(never)]
 fn parse_named(name: &[u8], rest: &[u8]) -> Result<Statement, Refusal>
     ensures { result ≡ named name.now (words rest.now) }
 {
@@ -84,6 +87,7 @@ fn parse_named(name: &[u8], rest: &[u8]) -> Result<Statement, Refusal>
 }
 
 /// An insert of the words behind its name.
+#[inline(always)]
 fn parse_insert(rest: &[u8]) -> Result<Statement, Refusal>
     ensures { result ≡ insert_of (words rest.now) }
 {

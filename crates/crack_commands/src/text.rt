@@ -16,6 +16,10 @@ const TEXT_BYTES: usize = 96;
 /// A line of text in the making.
 type Text = ArrayVec<u8, TEXT_BYTES>;
 
+/// Room for the line of a placed row, which is told most: a word, a partition's number of 10 digits, a serial of 20, and three bytes more.
+/// It is cleared for each line.
+const PLACED_BYTES: usize = 48;
+
 /// Writes a partition's reply: a line, and for rows a line for each of them, a row at a time.
 #[inline(always)]
 pub fn write_reply<W: Write>(
@@ -47,13 +51,28 @@ fn write_placed<W: Write>(part: u32, serial: Serial, writer: &mut Watched<W>) ->
     ensures err { IfErr result (λ e. (e ≡ Refusal.WriteFault) × (has_failed writer.new ≡ true)) }
     ensures front { IfErr result (λ _. AppendsFront (W.contents (device writer.old)) (W.contents (device writer.new)) (placed_text part serial)) }
 {
-    let mut text = Text::new();
-    push(&mut text, b"row ");
-    push_number(&mut text, part as u64);
-    push(&mut text, b".");
+    let mut text = ArrayVec::new();
+    push_part(&mut text, part);
     push_number(&mut text, serial.0);
     push(&mut text, b"\n");
     send(writer, text.as_slice())
+}
+
+/// Adds the begin of a placed row's line, through the full stop behind the partition's number: at once where that has one digit.
+#[inline(always)]
+#[tactic(auto, using(std::proofs::lemmas::Fmt::decimal_digit))]
+fn push_part(text: &mut ArrayVec<u8, PLACED_BYTES>, part: u32)
+    requires { length text.old.items + 25 ≤ PLACED_BYTES }
+    ensures begin { text.new.items ≡ text.old.items ++ codes "row " ++ decimal part ++ codes "." }
+    ensures few { length text.new.items ≤ length text.old.items + 25 }
+{
+    if part < 10 {
+        push(text, &[b'r', b'o', b'w', b' ', b'0' + part as u8, b'.']);
+    } else {
+        push(text, b"row ");
+        push_number(text, part as u64);
+        push(text, b".");
+    }
 }
 
 /// Writes the line of a row that was taken out.
@@ -401,8 +420,8 @@ fn push_field(text: &mut Text, number: u64)
 
 /// Adds a number in decimal: 20 digits at most.
 #[tactic(auto, using(std::proofs::lemmas::Fmt::decimal_digit))]
-fn push_number(text: &mut Text, number: u64)
-    requires { length text.old.items + 20 ≤ TEXT_BYTES }
+fn push_number<const ROOM: usize>(text: &mut ArrayVec<u8, ROOM>, number: u64)
+    requires { length text.old.items + 20 ≤ ROOM }
     ensures digits { text.new.items ≡ text.old.items ++ decimal number }
     ensures few { length text.new.items ≤ length text.old.items + 20 }
 {
@@ -425,8 +444,8 @@ fn push_wide_number(text: &mut Text, number: u128)
 }
 
 /// Adds bytes, for which there is room.
-fn push(text: &mut Text, bytes: &[u8])
-    requires { length text.old.items + length bytes.now ≤ TEXT_BYTES }
+fn push<const ROOM: usize>(text: &mut ArrayVec<u8, ROOM>, bytes: &[u8])
+    requires { length text.old.items + length bytes.now ≤ ROOM }
     ensures { text.new.items ≡ text.old.items ++ bytes.now }
 {
     let _room = text.try_extend_from_slice(bytes);

@@ -143,6 +143,7 @@ fn ends_at(bytes: &[u8], end: usize) -> bool
 
 /// The digits at the front: their value, and how many there are.
 #[tactic(auto, using(crate::proofs::Numbers::digits_more, crate::proofs::Numbers::value_more, crate::proofs::Numbers::digit_bounds))]
+#[inline(always)]
 fn leading_digits(bytes: &[u8]) -> (u64, usize)
     requires { length bytes.now ≤ SHORT_DIGITS }
     ensures within { result.1 ≤ length bytes.now }

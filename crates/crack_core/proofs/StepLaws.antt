@@ -1,5 +1,5 @@
 -- What follows of steps, of the entries that they leave, and of partitions of which one is replaced.
-use Rattle.std.specs.Prelude.{◌≡◌, ◌≢◌, ℕ, ◌+◌, ◌<◌, ◌≤◌, ◌==◌, Bool, true, false, cond, List, [], ◌∷◌, ◌++◌, length, map, take, drop, Option, None, Some, Result, Ok, Err, is_ok, slice_get, IfSome, nat_le, nat_lt, if◌then◌else◌}
+use Rattle.std.specs.Prelude.{◌≡◌, ◌≢◌, ℕ, ◌+◌, ◌<◌, ◌≤◌, ◌==◌, Bool, true, false, cond, List, [], ◌∷◌, ◌++◌, length, map, take, drop, Option, None, Some, Result, Ok, Err, is_ok, slice_get, IfSome, IfOk, IfErr, OnOk, OnErr, ◌⊎◌, nat_le, nat_lt, if◌then◌else◌}
 use Rattle.std.specs.Option.{option_map}
 use Rattle.std.proofs.Common.{zero, suc, get_or, set, arith, ap, refl, sym, subst, ◌∙◌, ⊎_elim, inl, inr, append-nil, append_assoc, length-append, length-set}
 use Rattle.std.proofs.lemmas.Bool.{true≢false, both_ways, and_parts, and_from, leb-true, leb-false, le-leb, ltb-true, lt-ltb, eq-eqb, ne_eqb, cases_eq, cases_lt}
@@ -17,7 +17,7 @@ use Rattle.crack_row.specs.declared.command.Entry.{Entry}
 use Rattle.crack_row.specs.declared.command.Reply.{Reply}
 use Rattle.crack_row.specs.declared.refusal.Refusal.{Refusal}
 use Rattle.crack_row.specs.declared.refusal.Refusal.TheVariants.{KeyOutside, NoSuchPartition, HistoryFull, OutOfMemory}
-use Rattle.crack_plain.specs.Plain.{PlainView, IsWithin, reply_to, replay}
+use Rattle.crack_plain.specs.Plain.{PlainView, IsWithin, IsSmall, reply_to, replay}
 use Rattle.crack_plain.proofs.Laws.{replay-push}
 use Rattle.crack_part.specs.Parts.{Part, IsSound}
 use Rattle.crack_core.specs.declared.step.Step.{Step}
@@ -39,7 +39,7 @@ within-false keys (Some key) is within =
     both_ways (is_in keys key.0) is (and_from (nat_le keys.low key.0) (nat_lt key.0 keys.high) (le-leb keys.low key.0 within.0) (lt-ltb key.0 keys.high within.1))
 
 -- a refusal of a partition is the one that is expected, or a want of memory in place of a reply
-pub outcome-refused : {T : Type 0} (limit : ℕ) (keys : Range) (history : List Entry) (command : Command) (e : Refusal) → ((IsWithin keys command → ⊥) → ◌≡◌ {A = Result T Refusal} (Err e) (Err KeyOutside)) → (IsWithin keys command → limit ≤ length history → ◌≡◌ {A = Result T Refusal} (Err e) (Err (HistoryFull limit))) → (IsWithin keys command → length history < limit → e ≡ OutOfMemory) → IsOutcome (expected limit keys (Some (table_of history)) command) (Err e)
+outcome-refused : {T : Type 0} (limit : ℕ) (keys : Range) (history : List Entry) (command : Command) (e : Refusal) → ((IsWithin keys command → ⊥) → ◌≡◌ {A = Result T Refusal} (Err e) (Err KeyOutside)) → (IsWithin keys command → limit ≤ length history → ◌≡◌ {A = Result T Refusal} (Err e) (Err (HistoryFull limit))) → (IsWithin keys command → length history < limit → e ≡ OutOfMemory) → IsOutcome (expected limit keys (Some (table_of history)) command) (Err e)
 outcome-refused {T} limit keys history command e outside full room = by_key (is_key_in keys (key_of command)) refl
   where
     same : (f : Refusal) → ◌≡◌ {A = Result T Refusal} (Err e) (Err f) → ◌≡◌ {A = Result Reply Refusal} (Err e) (Err f)
@@ -52,6 +52,51 @@ outcome-refused {T} limit keys history command e outside full room = by_key (is_
     by_key : (b : Bool) → is_key_in keys (key_of command) ≡ b → IsOutcome (if b then (if nat_le limit (length history) then Err (HistoryFull limit) else Ok (reply_to (replay history) command)) else Err KeyOutside) (Err e)
     by_key true is = by_length (nat_le limit (length history)) refl (within-true keys (key_of command) is)
     by_key false is = inl (same KeyOutside (outside (within-false keys (key_of command) is)))
+
+-- what comes of an answer once the reply's copy is let go
+pub record Gives (answered : Result (Reply × Reply) Refusal) (given : Result Reply Refusal) : Type 0 where
+  pub ok : IfOk answered (λ (replies : Reply × Reply). given ≡ Ok replies.0)
+  pub err : IfErr answered (λ (e : Refusal). given ≡ Err e)
+
+pub ok_given : (a : Result (Reply × Reply) Refusal) (r : Result Reply Refusal) {P Q : Type 0} → Gives a r → OnOk a P → (P → Q) → OnOk r Q
+ok_given (Ok replies) r gives p f = rw gives.ok (f p)
+ok_given (Err e) r gives p f = rw gives.err tt
+
+pub err_given : (a : Result (Reply × Reply) Refusal) (r : Result Reply Refusal) {P Q : Type 0} → Gives a r → OnErr a P → (P → Q) → OnErr r Q
+err_given (Ok replies) r gives p f = rw gives.ok tt
+err_given (Err e) r gives p f = rw gives.err (f p)
+
+pub small-given : (a : Result (Reply × Reply) Refusal) (r : Result Reply Refusal) → Gives a r → IfOk a (λ (replies : Reply × Reply). IsSmall replies.0) → IfOk r IsSmall
+small-given (Ok replies) r gives small = rw gives.ok small
+small-given (Err e) r gives small = rw gives.err tt
+
+-- what a partition answers is the reply of its plain rows, or the refusal that they call for, or a want of memory in place of a reply
+pub outcome-given : (p : Part) (command : Command) (a : Result (Reply × Reply) Refusal) (r : Result Reply Refusal) → Gives a r → IfOk a (λ (replies : Reply × Reply). (replies.0 ≡ reply_to (replay p.history) command) × (replies.1 ≡ replies.0)) → ((IsWithin p.keys command → ⊥) → a ≡ Err KeyOutside) → (IsWithin p.keys command → p.limit ≤ length p.history → a ≡ Err (HistoryFull p.limit)) → (IsWithin p.keys command → length p.history < p.limit → IfErr a (λ e. e ≡ OutOfMemory)) → IsOutcome (expected p.limit p.keys (Some (table_of p.history)) command) r
+outcome-given p command (Err e) r gives said outside full room = rw gives.err (outcome-refused p.limit p.keys p.history command e outside full room)
+outcome-given p command (Ok replies) r gives said outside full room = rw gives.ok (by_key (is_key_in p.keys (key_of command)) refl)
+  where
+    refused : (e : Refusal) → ◌≡◌ {A = Result (Reply × Reply) Refusal} (Ok replies) (Err e) → ⊥
+    refused e is = absurd (cc)
+
+    by_length : (b : Bool) → nat_le p.limit (length p.history) ≡ b → IsWithin p.keys command → IsOutcome (if b then Err (HistoryFull p.limit) else Ok (reply_to (replay p.history) command)) (Ok replies.0)
+    by_length true is within = absurd (refused (HistoryFull p.limit) (full within (leb-true p.limit (length p.history) is)))
+    by_length false is within = inl (ap Ok said.0)
+
+    by_key : (b : Bool) → is_key_in p.keys (key_of command) ≡ b → IsOutcome (if b then (if nat_le p.limit (length p.history) then Err (HistoryFull p.limit) else Ok (reply_to (replay p.history) command)) else Err KeyOutside) (Ok replies.0)
+    by_key true is = by_length (nat_le p.limit (length p.history)) refl (within-true p.keys (key_of command) is)
+    by_key false is = absurd (refused KeyOutside (outside (within-false p.keys (key_of command) is)))
+
+-- a refusal for another cause than want of memory leaves a partition as it was
+pub same-given : (p q : Part) (command : Command) (a : Result (Reply × Reply) Refusal) (r : Result Reply Refusal) → Gives a r → ((IsWithin p.keys command → ⊥) ⊎ (p.limit ≤ length p.history) → q ≡ p) → (IsWithin p.keys command → length p.history < p.limit → IfErr a (λ e. e ≡ OutOfMemory)) → IfErr r (λ e. e ≢ OutOfMemory → q ≡ p)
+same-given p q command (Ok replies) r gives same room = rw gives.ok tt
+same-given p q command (Err e) r gives same room = rw gives.err (λ other. by_key (is_key_in p.keys (key_of command)) refl other)
+  where
+    by_key : (b : Bool) → is_key_in p.keys (key_of command) ≡ b → e ≢ OutOfMemory → q ≡ p
+    by_key true is other = elim (cases_lt (length p.history) p.limit) [
+      | inl short ↦ absurd (other (room (within-true p.keys (key_of command) is) short))
+      | inr full ↦ same (inr full)
+    ]
+    by_key false is other = same (inl (within-false p.keys (key_of command) is))
 
 -- one entry more
 pub table_of-push : (history : List Entry) (e : Entry) → table_of (history ++ e ∷ []) ≡ table_after (table_of history) e.command
@@ -81,6 +126,11 @@ entries-own s reply = ap (λ (b : Bool). cond b (record { worker = s.worker; com
 entries-other : (part : ℕ) (s : Step) (r : Result Reply Refusal) → s.part ≢ part → entries_at part (s ∷ []) (r ∷ []) ≡ []
 entries-other part s (Ok reply) differs = ap (λ (b : Bool). cond b (record { worker = s.worker; command = s.command; reply = reply } ∷ []) []) (ne_eqb s.part part differs)
 entries-other part s (Err e) differs = refl
+
+-- the history has the entry of a step that was answered
+pub kept-given : (history new : List Entry) (s : Step) (a : Result (Reply × Reply) Refusal) (r : Result Reply Refusal) → Gives a r → IfOk a (λ (replies : Reply × Reply). new ≡ history ++ record { worker = s.worker; command = s.command; reply = replies.0 } ∷ []) → OnErr a (new ≡ history) → new ≡ history ++ entries_at s.part (s ∷ []) (r ∷ [])
+kept-given history new s (Ok replies) r gives kept same = rw gives.ok (kept ∙ ap (λ (es : List Entry). history ++ es) (sym (entries-own s replies.0)))
+kept-given history new s (Err e) r gives kept same = rw gives.err (same ∙ sym (append-nil history))
 
 -- one step more
 pub entries_at-push : (part : ℕ) (steps : List Step) (results : List (Result Reply Refusal)) (s : Step) (r : Result Reply Refusal) → length results ≡ length steps → entries_at part (steps ++ s ∷ []) (results ++ r ∷ []) ≡ entries_at part steps results ++ entries_at part (s ∷ []) (r ∷ [])

@@ -1,5 +1,5 @@
 //! Partitions that one thread asks.
-ghost use Rattle.std.specs.Prelude.{◌≡◌, ◌≢◌, ℕ, ◌+◌, ◌≤◌, vec_capacity, List, [], ◌∷◌, length, All, is_ok, IsOk, None, Some, IfOk, IfErr, OnErr, OnOk, slice_get, if◌then◌else◌};
+ghost use Rattle.std.specs.Prelude.{◌≡◌, ◌≢◌, ℕ, ◌+◌, ◌≤◌, vec_capacity, List, [], ◌∷◌, length, All, is_ok, IsOk, None, Some, IfOk, IfErr, OnErr, OnOk, Ok, Err, slice_get, if◌then◌else◌};
 ghost use Rattle.crack_row.specs.declared.Bound.{Bound};
 ghost use Rattle.crack_plain.specs.Plain.{PlainView, IsNumbered, IsSmall};
 ghost use Rattle.crack_part.specs.Parts.{Part};
@@ -11,7 +11,7 @@ ghost use Rattle.crack_core.specs.Cores.{IsCore, ServesAt, SparesAt, MakesAll};
 
 use crate::opening::{limit_fault, open_partitions, splits_fault};
 use crate::routes;
-use crate::step::{Step, ask};
+use crate::step::Step;
 use crack_part::Partition;
 use crack_row::{Bound, Key, KeyRange, Layout, Refusal, Reply};
 use smallvec::SmallVec;
@@ -159,7 +159,7 @@ impl Core {
     }
 }
 
-/// Asks the partition of a step, if there is one.
+/// Asks the partition of a step, if there is one, and lets the receipt go.
 #[inline(always)]
 fn ask_at(partitions: &mut [Partition], step: Step) -> Result<Reply, Refusal>
     ensures outcome { (splits : List Bound) (limit : ℕ) → AreParts splits limit partitions.old → IsOutcome (expected_at limit splits (tables_of partitions.old) step.part step.command) result }
@@ -177,7 +177,22 @@ fn ask_at(partitions: &mut [Partition], step: Step) -> Result<Reply, Refusal>
     if part >= partitions.len() {
         return Err(Refusal::NoSuchPartition);
     }
-    ask(&mut partitions[part], step)
+    let partition = &mut partitions[part];
+    let answered = partition.apply(step.worker, step.command, step.policy);
+    partition.facts();
+    without_receipt(answered)
+}
+
+/// What came of asking a partition, without the reply's copy.
+#[inline(always)]
+fn without_receipt(answered: Result<(Reply, Reply), Refusal>) -> Result<Reply, Refusal>
+    ensures ok { IfOk answered (λ replies. result ≡ Ok replies.0) }
+    ensures err { IfErr answered (λ e. result ≡ Err e) }
+{
+    match answered {
+        Ok((reply, _receipt)) => Ok(reply),
+        Err(refusal) => Err(refusal),
+    }
 }
 
 /// Makes steps one after the other, and adds what comes out of each where there is room.

@@ -1,6 +1,7 @@
 -- What the pulls of a merge keep.
 use Rattle.std.proofs.Common.{◌≡◌, ℕ, ◌<◌, [], length, Some, None, refl, ap, ◌∙◌, arith}
 use Rattle.std.specs.List.{remove}
+use Rattle.std.proofs.lemmas.List.Edits.{length-remove}
 use Rattle.crack_row.specs.Ranges.{Range}
 use Rattle.crack_row.specs.declared.command.Policy.{Policy}
 use Rattle.crack_row.specs.declared.command.Policy.TheVariants.{Gradual}
@@ -12,7 +13,6 @@ use Rattle.crack_state.specs.Steps.{hand_key, piece_end, lifted_last}
 use Rattle.crack_state.specs.Merge.{outside_of}
 use Rattle.crack_state.proofs.AdvanceLaws.{Advances-refl, Advances-trans}
 use Rattle.crack_state.proofs.OutsideLaws.{LacksFirst, LacksFirst-none}
-use Rattle.crack_state.proofs.FollowLaws.{length-remove}
 use Rattle.crack_state.proofs.DrawLaws.{column_some, piece_end-lifted_last}
 use Rattle.crack_state.proofs.PullLaws.{IsIntact-lifted_last}
 use Rattle.crack_merge.specs.Merges.{Pulls, PullsOut, PullsAll, begins, pulls}

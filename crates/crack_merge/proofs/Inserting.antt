@@ -2,6 +2,7 @@
 use Rattle.std.proofs.Common.{◌≡◌, ℕ, ◌+◌, ◌<◌, ◌≤◌, [], length, drop, Some, None, refl, ap, ◌∙◌, arith}
 use Rattle.std.specs.List.{remove}
 use Rattle.std.proofs.lemmas.List.{drop-drop, length-drop}
+use Rattle.std.proofs.lemmas.List.Edits.{length-remove}
 use Rattle.crack_row.specs.Ranges.{Range}
 use Rattle.crack_row.specs.declared.command.Policy.{Policy}
 use Rattle.crack_row.specs.declared.command.Policy.TheVariants.{Complete, Gradual}
@@ -11,7 +12,6 @@ use Rattle.crack_arena.specs.Rows.{keys_at}
 use Rattle.crack_pending.specs.Pending.{Finds}
 use Rattle.crack_state.specs.Merge.{outside_of}
 use Rattle.crack_state.proofs.StepLaws.{IsIntact-room}
-use Rattle.crack_state.proofs.FollowLaws.{length-remove}
 use Rattle.crack_state.proofs.AdvanceLaws.{Advances-refl, Advances-room, Advances-trans}
 use Rattle.crack_state.proofs.OutsideLaws.{LacksFirst, LacksFirst-none}
 use Rattle.crack_merge.specs.Merges.{Carries, CarriesIn, CarriesAll, CarriesSome, BuriesFew, Stops, begins, carries}

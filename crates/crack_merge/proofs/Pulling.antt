@@ -6,6 +6,7 @@ use Rattle.std.proofs.lemmas.Bool.{true≢false, eqb-true, eq-eqb}
 use Rattle.crack_arena.specs.Arena.{Handle, StandsAt, IsAbsent, same_handle}
 use Rattle.crack_state.specs.State.{Carried, IsIntact}
 use Rattle.crack_state.specs.Steps.{hand_key, piece_start, piece_end, IsDoomed}
+use Rattle.crack_state.proofs.CellLaws.{handle_same}
 use Rattle.crack_state.proofs.DrawLaws.{IsAhead, IsDoomed-listed, doomed_is_hand, hand_isnt}
 
 stands : (hs : List Handle) (h : Handle) → (is : Contains hs h) → StandsAt hs is.0 h
@@ -34,14 +35,11 @@ both_true : (a b : Bool) → (a && b) ≡ true → (a ≡ true) × (b ≡ true)
 both_true true b e = (refl, e)
 both_true false b e = absurd (true≢false (sym e))
 
-handles_equal : (a b c d : ℕ) → a ≡ c → b ≡ d → ◌≡◌ {A = Handle} (record { slot = a; generation = b }) (record { slot = c; generation = d })
-handles_equal a b c d slots generations = rw (slots, generations) refl
-
 -- what the comparison of two handles says
 pub same_handle-true : (h g : Handle) → same_handle h g ≡ true → h ≡ g
 same_handle-true h g is =
     let both = both_true (h.slot == g.slot) (h.generation == g.generation) is in
-    handles_equal h.slot h.generation g.slot g.generation (eqb-true h.slot g.slot both.0) (eqb-true h.generation g.generation both.1)
+    handle_same h g (eqb-true h.slot g.slot both.0) (eqb-true h.generation g.generation both.1)
 
 pub same_handle-false : (h g : Handle) → same_handle h g ≡ false → h ≢ g
 same_handle-false h g is = λ e. absurd (true≢false (rw (e, eq-eqb g.slot g.slot refl, eq-eqb g.generation g.generation refl) at is))

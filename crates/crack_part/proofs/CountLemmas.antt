@@ -1,5 +1,5 @@
 -- What a read of a range within a partition's keys says of the plain rows.
-use Rattle.std.proofs.Common.{◌≡◌, ℕ, ◌≤◌, ◌-◌, List, [], ◌∷◌, Bool, false, cond, Result, Ok, Err, IfOk, arith, refl, sym, ap, ◌∙◌}
+use Rattle.std.proofs.Common.{◌≡◌, ℕ, ◌≤◌, ◌-◌, List, [], ◌∷◌, Bool, false, cond, Some, None, Result, Ok, Err, IfOk, arith, refl, sym, ap, ◌∙◌}
 use Rattle.std.specs.List.{All, count_by}
 use Rattle.std.specs.List.Sorted.{IsPermutation, IsNonDecreasingBy}
 use Rattle.std.proofs.lemmas.Bool.Decides.{nat_tests}
@@ -13,6 +13,7 @@ use Rattle.crack_plain.specs.Plain.{PlainState, IsNumbered, rows_in}
 use Rattle.crack_state.specs.State.{State, live_rows, IsIntact}
 use Rattle.crack_state.specs.Merge.{IsSettled, edge}
 use Rattle.crack_state.specs.Stretch.{stretch_rows, serial_of}
+use Rattle.crack_part.specs.Parts.{IsCommon}
 use Rattle.crack_state.proofs.SettledLaws.{count-settled}
 use Rattle.crack_state.proofs.StretchLaws.{sum-settled, rows-settled}
 use Rattle.crack_state.proofs.LiveLaws.{live_rows-within}
@@ -43,16 +44,13 @@ plain-within : (s : State) (plain : List Row) → IsIntact s [] → IsPermutatio
 plain-within s plain intact same = All-permutation (λ (r : Row). IsIn s.keys r.key.0) (live_rows s) plain same (live_rows-within s intact)
 
 -- where no key is in the range, no row is
-pub count-none : (s : State) (keys r : Range) (plain : List Row) → s.keys ≡ keys → IsIntact s [] → (clipped r keys).high ≤ (clipped r keys).low → IsPermutation (live_rows s) plain → 0 ≡ count_by (in_range r) plain
-count-none s keys r plain ends intact empty same =
-    let within = rw ends at (plain-within s plain intact same) in
-    sym (count-empty (clipped r keys) plain empty) ∙ count-clipped r keys plain within
+pub count-none : (s : State) (r : Range) (plain : List Row) → IsCommon r s.keys None → IsIntact s [] → IsPermutation (live_rows s) plain → 0 ≡ count_by (in_range r) plain
+count-none s r plain empty intact same = sym (count-empty (clipped r s.keys) plain empty) ∙ count-clipped r s.keys plain (plain-within s plain intact same)
 
--- in a settled store the places of the range's ends count the plain rows
-pub count-places : (s : State) (keys r : Range) (plain : List Row) → s.keys ≡ keys → IsIntact s [] → IsSettled s (clipped r keys) → IsPermutation (live_rows s) plain → edge s (clipped r keys).high - edge s (clipped r keys).low ≡ count_by (in_range r) plain
-count-places s keys r plain ends intact settled same =
-    let within = rw ends at (plain-within s plain intact same) in
-    count-settled s (clipped r keys) plain settled same ∙ count-clipped r keys plain within
+-- in a settled store the places of the common range's ends count the plain rows
+pub count-places : (s : State) (r common : Range) (plain : List Row) → IsCommon r s.keys (Some common) → IsIntact s [] → IsSettled s common → IsPermutation (live_rows s) plain → edge s common.high - edge s common.low ≡ count_by (in_range r) plain
+count-places s r common plain is intact settled same =
+    count-settled s common plain settled same ∙ ap (λ (c : Range). count_by (in_range c) plain) is.0 ∙ count-clipped r s.keys plain (plain-within s plain intact same)
 
 -- the rows of a range are those of what it has in common with the keys
 step : (row : Row) (b c : Bool) (xs ys : List Row) → b ≡ c → xs ≡ ys → cond b (row ∷ xs) xs ≡ cond c (row ∷ ys) ys
@@ -69,23 +67,21 @@ rows-empty r [] empty = refl
 rows-empty r (row ∷ rows) empty = step row (in_range r row) false (rows_in r rows) [] (is_in-empty r row.key.0 empty) (rows-empty r rows empty)
 
 -- where no key is in the range, no row is listed
-pub rows-none : (s : State) (keys r : Range) (plain : List Row) → s.keys ≡ keys → IsIntact s [] → (clipped r keys).high ≤ (clipped r keys).low → IsPermutation (live_rows s) plain → rows_in r plain ≡ []
-rows-none s keys r plain ends intact empty same =
-    let within = rw ends at (plain-within s plain intact same) in
-    sym (rows-clipped r keys plain within) ∙ rows-empty (clipped r keys) plain empty
+pub rows-none : (s : State) (r : Range) (plain : List Row) → IsCommon r s.keys None → IsIntact s [] → IsPermutation (live_rows s) plain → rows_in r plain ≡ []
+rows-none s r plain empty intact same = sym (rows-clipped r s.keys plain (plain-within s plain intact same)) ∙ rows-empty (clipped r s.keys) plain empty
 
--- in a settled store the rows between the places of the range's ends have the plain rows' sum
-pub sum-places : (s : State) (keys r : Range) (plain : List Row) → s.keys ≡ keys → IsIntact s [] → IsSettled s (clipped r keys) → IsPermutation (live_rows s) plain → sum_of (stretch_rows s (clipped r keys)) ≡ sum_of (rows_in r plain)
-sum-places s keys r plain ends intact settled same =
-    let within = rw ends at (plain-within s plain intact same) in
-    sum-settled s (clipped r keys) plain settled same ∙ ap sum_of (rows-clipped r keys plain within)
+-- in a settled store the rows between the places of the common range's ends have the plain rows' sum
+pub sum-places : (s : State) (r common : Range) (plain : List Row) → IsCommon r s.keys (Some common) → IsIntact s [] → IsSettled s common → IsPermutation (live_rows s) plain → sum_of (stretch_rows s common) ≡ sum_of (rows_in r plain)
+sum-places s r common plain is intact settled same =
+    let clips = rows-clipped r s.keys plain (plain-within s plain intact same) in
+    sum-settled s common plain settled same ∙ ap (λ (c : Range). sum_of (rows_in c plain)) is.0 ∙ ap sum_of clips
 
 -- and, in rising serial, they are the plain rows
-rows-places : (s : State) (keys r : Range) (plain : PlainState) (listed : List Row) → s.keys ≡ keys → IsIntact s [] → IsSettled s (clipped r keys) → IsNumbered plain → IsPermutation (live_rows s) plain.rows → IsPermutation (stretch_rows s (clipped r keys)) listed → IsNonDecreasingBy serial_of listed → listed ≡ rows_in r plain.rows
-rows-places s keys r plain listed ends intact settled numbered same holds rising =
-    let within = rw ends at (plain-within s plain.rows intact same) in
-    rows-settled s (clipped r keys) plain.rows listed settled same numbered.rising holds rising ∙ rows-clipped r keys plain.rows within
+rows-places : (s : State) (r common : Range) (plain : PlainState) (listed : List Row) → IsCommon r s.keys (Some common) → IsIntact s [] → IsSettled s common → IsNumbered plain → IsPermutation (live_rows s) plain.rows → IsPermutation (stretch_rows s common) listed → IsNonDecreasingBy serial_of listed → listed ≡ rows_in r plain.rows
+rows-places s r common plain listed is intact settled numbered same holds rising =
+    let clips = rows-clipped r s.keys plain.rows (plain-within s plain.rows intact same) in
+    rows-settled s common plain.rows listed settled same numbered.rising holds rising ∙ ap (λ (c : Range). rows_in c plain.rows) is.0 ∙ clips
 
-pub rows-answered : {V E : Type 0} (items : V → List Row) (told : Result V E) (s : State) (keys r : Range) → s.keys ≡ keys → IsIntact s [] → IsSettled s (clipped r keys) → IfOk told (λ v. IsPermutation (stretch_rows s (clipped r keys)) (items v)) → IfOk told (λ v. IsNonDecreasingBy serial_of (items v)) → IfOk told (λ v. (plain : PlainState) → IsNumbered plain → IsPermutation (live_rows s) plain.rows → items v ≡ rows_in r plain.rows)
-rows-answered items (Ok v) s keys r ends intact settled holds rising = λ plain numbered same. rows-places s keys r plain (items v) ends intact settled numbered same holds rising
-rows-answered items (Err e) s keys r ends intact settled holds rising = tt
+pub rows-answered : {V E : Type 0} (items : V → List Row) (told : Result V E) (s : State) (common : Range) → IsIntact s [] → IsSettled s common → IfOk told (λ v. IsPermutation (stretch_rows s common) (items v)) → IfOk told (λ v. IsNonDecreasingBy serial_of (items v)) → IfOk told (λ v. (r : Range) → IsCommon r s.keys (Some common) → (plain : PlainState) → IsNumbered plain → IsPermutation (live_rows s) plain.rows → items v ≡ rows_in r plain.rows)
+rows-answered items (Ok v) s common intact settled holds rising = λ r is plain numbered same. rows-places s r common plain (items v) is intact settled numbered same holds rising
+rows-answered items (Err e) s common intact settled holds rising = tt

@@ -1,5 +1,5 @@
 -- What cracks and merges keep of a store, and how it stands where they found no memory.
-use Rattle.std.proofs.Common.{◌≡◌, ℕ, ◌+◌, ◌<◌, ◌≤◌, Bool, true, false, cond, not, List, [], ◌∷◌, filter, length, Option, Some, None, IfSome, refl, ap, subst, ◌∙◌, inl, inr, arith}
+use Rattle.std.proofs.Common.{◌≡◌, ℕ, ◌+◌, ◌<◌, ◌≤◌, Bool, true, false, cond, not, List, [], ◌∷◌, filter, length, Option, Some, None, refl, ap, subst, ◌∙◌, inl, inr, arith}
 use Rattle.std.proofs.lemmas.Bool.{cases_lt}
 use Rattle.std.proofs.lemmas.List.{take_all, drop_all, append-nil}
 use Rattle.crack_row.specs.Ranges.{Range, is_in, clipped}
@@ -9,7 +9,7 @@ use Rattle.crack_arena.specs.Arena.{Handle}
 use Rattle.crack_arena.specs.Rows.{key_at}
 use Rattle.crack_state.specs.State.{State, IsIntact, live_rows, freed_of}
 use Rattle.crack_state.specs.Steps.{SameButRoom}
-use Rattle.crack_state.specs.Merge.{Refines, Follows, Merges, IsSettled, Tallies, Leaves, LeavesOutside, SomeOf, is_touched, outside_of}
+use Rattle.crack_state.specs.Merge.{Refines, Follows, Merges, Tallies, Leaves, LeavesOutside, SomeOf, is_touched, outside_of}
 use Rattle.crack_state.specs.Merge.SomeOf.{nothing, left_out, kept}
 use Rattle.crack_state.proofs.OutsideLaws.{SomeOf-none, SomeOf-refl, SomeOf-trans}
 use Rattle.crack_state.proofs.StepLaws.{IsIntact-room}
@@ -97,11 +97,6 @@ IsIntact-spared policy keys (Some range) s t spared intact = elim spared [
   | inl same ↦ IsIntact-room s t [] same intact
   | inr done ↦ done.stops.intact
 ]
-
--- a range that was read is settled
-pub IsSettled-prepared : (policy : Policy) (keys : Range) (range : Option Range) (s t : State) → Prepares policy keys range s t → IfSome range (λ (r : Range). (clipped r keys).low < (clipped r keys).high → IsSettled t (clipped r keys))
-IsSettled-prepared policy keys None s t prepared = tt
-IsSettled-prepared policy keys (Some range) s t prepared = λ filled. (prepared.settled filled).merges.settled
 
 -- those of the handles that pass a test
 SomeOf-filter : (test : Handle → Bool) (hs : List Handle) → SomeOf (filter test hs) hs

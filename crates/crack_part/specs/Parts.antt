@@ -60,6 +60,16 @@ pub record IsSound (part : Part) : Type 0 where
 abbrev pub placed : ℕ → Key → Payload → Row
 placed serial key payload = row_with (record { 0 = serial }) key payload
 
+-- what a range has in common with the keys, if anything
+abbrev pub IsCommon : Range → Range → Option Range → Type 0
+IsCommon range keys None = (clipped range keys).high ≤ (clipped range keys).low
+IsCommon range keys (Some common) = (common ≡ clipped range keys) × (common.low < common.high)
+
+-- the same of the range that a command reads, if any
+abbrev pub AreCommon : Option Range → Range → Option Range → Type 0
+AreCommon None keys common = common ≡ None
+AreCommon (Some range) keys common = IsCommon range keys common
+
 -- where a merge of this policy leaves rows: ripple near the range
 abbrev pub LeavesNear : Policy → State → State → Range → Type 0
 LeavesNear Complete s t r = Unit {0}

@@ -2,7 +2,7 @@
 ghost use Rattle.std.specs.Prelude.{◌≡◌, ◌⊎◌, None, ◌+◌, ◌<◌, ◌≤◌, ◌↔◌, ◌^◌, List, [], ◌∷◌, ◌++◌, length, map, filter, count_by, IsTrue, IsOk, IfOk, IfErr, IfSome, OnErr, OnOk, Err, vec_len, vec_capacity};
 ghost use Rattle.std.specs.List.Sorted.{IsPermutation};
 ghost use Rattle.crack_row.specs.Commands.{change_of, range_of};
-ghost use Rattle.crack_row.specs.Ranges.{IsIn, clipped, in_range};
+ghost use Rattle.crack_row.specs.Ranges.{Range, IsIn, in_range};
 ghost use Rattle.crack_row.specs.Replies.{IsFlat};
 ghost use Rattle.crack_row.specs.Rows.{is_other, replaced, sum_of};
 ghost use Rattle.crack_row.specs.Layouts.{IsLayout};
@@ -13,7 +13,7 @@ ghost use Rattle.crack_state.specs.Points.{pending_by, MayFree, IsRenewable};
 ghost use Rattle.crack_state.specs.Merge.{IsCracked, IsSettled, Merges, Tallies};
 ghost use Rattle.crack_merge.specs.Merges.{Stops};
 ghost use Rattle.crack_store.specs.Inside.{no_cells, IsLayoutOf};
-ghost use Rattle.crack_part.specs.Parts.{state_of, IsLimit, IsSound, IsFaithful, LeavesNear, CracksAndMerges, StopsRead, Serves, Spares, Prepares, MayPerform, Performs, Removes, Replaces};
+ghost use Rattle.crack_part.specs.Parts.{state_of, IsLimit, IsSound, IsFaithful, IsCommon, AreCommon, LeavesNear, CracksAndMerges, StopsRead, Serves, Spares, Prepares, MayPerform, Performs, Removes, Replaces};
 
 use crack_merge::{merge_complete, merge_gradual};
 use crack_ripple::merge_ripple;
@@ -236,13 +236,14 @@ fn answer(
     ensures spared { OnErr result (Spares policy keys (range_of command.now) store.old store.new × (next.new ≡ next.old)) }
     ensures err { IfErr result (λ e. e ≡ Refusal.OutOfMemory) }
 {
-    prepare(store, alloc, keys, command.range(), policy)?;
-    let reply = reply_of(store, *next, alloc, keys, command)?;
+    let common = prepare(store, alloc, keys, command.range(), policy)?;
+    let reply = reply_of(store, *next, alloc, command, common)?;
     perform(store, next, command.change())?;
     Ok(reply)
 }
 
 /// Reads a range, if there is one, as far as it is within the keys: where none of them is in it, nothing is cracked or merged.
+/// What the range has in common with the keys, if anything.
 #[inline(always)]
 fn prepare(
     store: &mut Store,
@@ -250,9 +251,11 @@ fn prepare(
     keys: KeyRange,
     range: Option<KeyRange>,
     policy: Policy,
-) -> Result<(), Refusal>
+) -> Result<Option<KeyRange>, Refusal>
     requires ends { store.old.keys ≡ keys }
     ensures prepared { OnOk result (Prepares policy keys range store.old store.new) }
+    ensures common { IfOk result (λ common. AreCommon range keys common) }
+    ensures settled { IfOk result (λ common. IfSome common (λ r. IsSettled store.new r)) }
     ensures spared { OnErr result (Spares policy keys range store.old store.new) }
     ensures err { IfErr result (λ e. e ≡ Refusal.OutOfMemory) }
 {
@@ -260,25 +263,27 @@ fn prepare(
         Some(range) => {
             let common = range.clip(keys);
             if common.is_empty() {
-                return Ok(());
+                return Ok(None);
             }
-            settle(store, alloc, keys, common, policy)
+            settle(store, alloc, keys, common, policy)?;
+            Ok(Some(common))
         }
-        None => Ok(()),
+        None => Ok(None),
     }
 }
 
-/// What is replied to a command where the store is settled for its range. Refused with 8 where a list finds no memory.
+/// What is replied to a command where the store is settled for what its range has in common with the keys.
+/// Refused with 8 where a list finds no memory.
 #[inline(always)]
 fn reply_of(
     store: &Store,
     next: u64,
     alloc: Global,
-    keys: KeyRange,
     command: &Command,
+    common: Option<KeyRange>,
 ) -> Result<Reply, Refusal>
-    requires ends { store.now.keys ≡ keys }
-    requires settled { IfSome (range_of command.now) (λ range. (clipped range keys).low < (clipped range keys).high → IsSettled store.now (clipped range keys)) }
+    requires common { AreCommon (range_of command.now) store.now.keys common }
+    requires settled { IfSome common (λ r. IsSettled store.now r) }
     ensures reply { IfOk result (λ reply. (plain : PlainState) → IsNumbered plain → IsFaithful store.now next plain → reply ≡ reply_to plain command.now) }
     ensures flat { IfOk result (λ reply. (change_of command.now ≡ None) ⊎ IsFlat reply) }
     ensures small { IfOk result (λ reply. (plain : PlainState) → IsNumbered plain → IsFaithful store.now next plain → length plain.rows < 2 ^ 32 → IsSmall reply) }
@@ -288,10 +293,10 @@ fn reply_of(
         Command::Insert { .. } => Ok(Reply::Placed(Serial(next))),
         Command::Delete { serial } => Ok(gone(row_of(store, serial))),
         Command::Update { serial, .. } => Ok(rewritten(row_of(store, serial))),
-        Command::Count(range) => Ok(Reply::Counted(count(store, keys, range))),
-        Command::Sum(range) => Ok(Reply::Summed(sum(store, keys, range))),
-        Command::Select(range) => {
-            let rows = select(store, alloc, keys, range)?;
+        Command::Count(_) => Ok(Reply::Counted(count(store, common))),
+        Command::Sum(_) => Ok(Reply::Summed(sum(store, common))),
+        Command::Select(_) => {
+            let rows = select(store, alloc, common)?;
             Ok(Reply::Rows(RowList::from_vec(rows)))
         }
     }
@@ -329,57 +334,47 @@ fn rewritten(row: Option<Row>) -> Reply
     }
 }
 
-/// How many rows have their key in the range: the difference of two places of the column, which is settled for it.
+/// How many rows have their key in a range: the difference of two places of the column, which is settled for what is common to the
+/// range and the keys.
 #[inline(never)]
-fn count(store: &Store, keys: KeyRange, range: KeyRange) -> u64
-    requires ends { store.now.keys ≡ keys }
-    requires settled { (clipped range keys).low < (clipped range keys).high → IsSettled store.now (clipped range keys) }
-    ensures { (plain : List Row) → IsPermutation (live_rows store.now) plain → result ≡ count_by (in_range range) plain }
+fn count(store: &Store, common: Option<KeyRange>) -> u64
+    requires settled { IfSome common (λ r. IsSettled store.now r) }
+    ensures { (range : Range) → IsCommon range store.now.keys common → (plain : List Row) → IsPermutation (live_rows store.now) plain → result ≡ count_by (in_range range) plain }
 {
     store.facts();
-    let within = range.clip(keys);
-    if within.is_empty() {
-        return 0;
+    match common {
+        Some(range) => store.count_between(range),
+        None => 0,
     }
-    store.count_between(within)
 }
 
-/// The sum of the payloads of the rows whose key is in the range: of those between two places of the column, which is settled for it.
+/// The sum of the payloads of the rows whose key is in a range: of those between two places of the column, as for a count.
 #[inline(never)]
-fn sum(store: &Store, keys: KeyRange, range: KeyRange) -> u128
-    requires ends { store.now.keys ≡ keys }
-    requires settled { (clipped range keys).low < (clipped range keys).high → IsSettled store.now (clipped range keys) }
-    ensures is { (plain : List Row) → IsPermutation (live_rows store.now) plain → result ≡ sum_of (rows_in range plain) }
+fn sum(store: &Store, common: Option<KeyRange>) -> u128
+    requires settled { IfSome common (λ r. IsSettled store.now r) }
+    ensures is { (range : Range) → IsCommon range store.now.keys common → (plain : List Row) → IsPermutation (live_rows store.now) plain → result ≡ sum_of (rows_in range plain) }
     ensures small { result < 2 ^ 64 }
 {
     store.facts();
-    let within = range.clip(keys);
-    if within.is_empty() {
-        return 0;
+    match common {
+        Some(range) => store.sum_between(range),
+        None => 0,
     }
-    store.sum_between(within)
 }
 
-/// The rows whose key is in the range, in rising serial: those between two places of the column, which is settled for it.
+/// The rows whose key is in a range, in rising serial: those between two places of the column, as for a count.
 /// Refused with 8 where it finds no memory.
 #[inline(never)]
-fn select(
-    store: &Store,
-    alloc: Global,
-    keys: KeyRange,
-    range: KeyRange,
-) -> Result<Vec<Row>, Refusal>
-    requires ends { store.now.keys ≡ keys }
-    requires settled { (clipped range keys).low < (clipped range keys).high → IsSettled store.now (clipped range keys) }
-    ensures rows { IfOk result (λ rows. (plain : PlainState) → IsNumbered plain → IsPermutation (live_rows store.now) plain.rows → rows.items ≡ rows_in range plain.rows) }
+fn select(store: &Store, alloc: Global, common: Option<KeyRange>) -> Result<Vec<Row>, Refusal>
+    requires settled { IfSome common (λ r. IsSettled store.now r) }
+    ensures rows { IfOk result (λ rows. (range : Range) → IsCommon range store.now.keys common → (plain : PlainState) → IsNumbered plain → IsPermutation (live_rows store.now) plain.rows → rows.items ≡ rows_in range plain.rows) }
     ensures err { IfErr result (λ e. e ≡ Refusal.OutOfMemory) }
 {
     store.facts();
-    let within = range.clip(keys);
-    if within.is_empty() {
-        return Ok(Vec::new(alloc));
+    match common {
+        Some(range) => store.rows_between(range),
+        None => Ok(Vec::new(alloc)),
     }
-    store.rows_between(within)
 }
 
 /// A reply with its copies.

@@ -2,16 +2,19 @@
 use Rattle.std.proofs.Common.{◌≡◌, ◌⊎◌, ℕ, ◌+◌, ◌*◌, ◌<◌, ◌≤◌, [], ◌∷◌, ◌++◌, length, get_or, Some, refl, ap, ◌∙◌, inl, inr, arith, length-append}
 use Rattle.std.specs.List.{remove}
 use Rattle.std.specs.Option.{unwrap_or}
+use Rattle.std.proofs.lemmas.List.Edits.{length-remove}
 use Rattle.crack_row.specs.Ranges.{Range}
 use Rattle.crack_row.specs.declared.command.Policy.TheVariants.{Ripple}
 use Rattle.crack_arena.specs.Arena.{Handle}
 use Rattle.crack_index.specs.Marks.{bounds_of}
+use Rattle.crack_state.specs.declared.MergeReport.{MergeReport}
 use Rattle.crack_state.specs.State.{State, Carried, IsIntact, greatest}
 use Rattle.crack_state.specs.Steps.{hand_key, piece_end, IsDoomed, lifted, pushed_on, appended, buried, returned}
 use Rattle.crack_state.specs.Merge.{Follows, Tallies, Advances, IsExact, edge}
 use Rattle.crack_state.proofs.AdvanceLaws.{CarriedIn-appended, CarriedIn-buried, StillReads-refl}
 use Rattle.crack_state.proofs.BuryLaws.{IsIntact-buried}
-use Rattle.crack_state.proofs.FollowLaws.{Pushes, Follows-trans, Follows-lifted, Follows-Pushes, raised_counter, length-remove, bounds_above-few}
+use Rattle.crack_state.proofs.Counters.{raised_counter}
+use Rattle.crack_state.proofs.FollowLaws.{Pushes, Follows-trans, Follows-lifted, Follows-Pushes, bounds_above-few}
 use Rattle.crack_state.proofs.OutsideLaws.{SomeOf-refl}
 use Rattle.crack_state.proofs.PullLaws.{IsIntact-returned, Follows-returned}
 use Rattle.crack_state.proofs.StepLaws.{IsIntact-lifted, IsIntact-pushed_on, IsIntact-appended}
@@ -43,6 +46,11 @@ pub record CarriesNear (s t : State) (r : Range) (i : ℕ) : Type 0 where
 -- a carry that ends at a row to be evicted: lifted, pushed on, returned
 tallies_evicted : (s : State) (i : ℕ) (c : Carried) → i < length s.pending_in → IsIntact s [] → IsIntact c.store (c.hand ∷ []) → Pushes (lifted i s) c → Tallies Ripple s (returned c)
 tallies_evicted s i c inside intact now pushes =
+    let tally = ap (λ (x : State). x.tally) pushes.same in
+    let put_in = ap (λ (x : MergeReport). x.put_in) tally in
+    let taken_out = ap (λ (x : MergeReport). x.taken_out) tally in
+    let evicted = ap (λ (x : MergeReport). x.evicted) tally in
+    let pulled = ap (λ (x : MergeReport). x.pulled) tally in
     let counter = raised_counter s.tally.put_in in
     let risen = counter.rises intact.counted.put_in in
     let out = raised_counter c.store.tally.evicted in
@@ -50,19 +58,19 @@ tallies_evicted s i c inside intact now pushes =
     let gone = length-remove s.pending_in i inside in
     let more = length-append c.store.pending_in (c.hand ∷ []) in
     let few = bounds_above-few (hand_key (lifted i s)) s.marks in
-    let one : IsExact (returned c).tally → c.store.tally.put_in ≡ s.tally.put_in + 1 = λ exact. let e = pushes.put_in in e ∙ counter.exact (omega (arith, exact.put_in, e)) in
-    let two : IsExact (returned c).tally → (returned c).tally.evicted ≡ s.tally.evicted + 1 = λ exact. out.exact exact.evicted ∙ ap (λ n. n + 1) pushes.evicted in
+    let one : IsExact (returned c).tally → c.store.tally.put_in ≡ s.tally.put_in + 1 = λ exact. put_in ∙ counter.exact (omega (arith, exact.put_in, put_in)) in
+    let two : IsExact (returned c).tally → (returned c).tally.evicted ≡ s.tally.evicted + 1 = λ exact. out.exact exact.evicted ∙ ap (λ n. n + 1) evicted in
     record {
-      put_in_rises = omega (arith, pushes.put_in, risen);
-      taken_out_rises = omega (arith, pushes.taken_out);
-      evicted_rises = omega (arith, pushes.evicted, out_risen);
+      put_in_rises = omega (arith, put_in, risen);
+      taken_out_rises = omega (arith, taken_out);
+      evicted_rises = omega (arith, evicted, out_risen);
       moved_rises = omega (arith, pushes.moved_rises);
-      pulled_rises = omega (arith, pushes.pulled);
+      pulled_rises = omega (arith, pulled);
       counts = λ exact. record {
-        put_in = omega (arith, one exact, two exact, gone, more, ap length pushes.pending_in);
-        taken_out = omega (arith, pushes.taken_out, ap length pushes.pending_out);
+        put_in = omega (arith, one exact, two exact, gone, more, ap (λ (x : State). length x.pending_in) pushes.same);
+        taken_out = omega (arith, taken_out, ap (λ (x : State). length x.pending_out) pushes.same);
         moved = more_moved c.store.tally.moved s.tally.moved s.tally.put_in c.store.tally.put_in (length s.marks) (one exact) (omega (arith, pushes.moved, few));
-        pulled = omega (arith, pushes.pulled, ap (λ n. n * (length s.marks + 1)) pushes.taken_out);
+        pulled = omega (arith, pulled, ap (λ n. n * (length s.marks + 1)) taken_out);
       };
       evicts = λ exact. omega (arith, one exact, two exact);
     }
@@ -74,7 +82,7 @@ tallies_evicted s i c inside intact now pushes =
 moved_few : (s : State) (r : Range) (i : ℕ) (c : Carried) → IsIntact s [] → r.low ≤ hand_key (lifted i s) → Ripples r (lifted i s) c → c.store.tally.put_in < greatest → c.store.tally.moved + s.tally.put_in * pieces_of s r ≤ s.tally.moved + c.store.tally.put_in * pieces_of s r
 moved_few s r i c intact above ripples exact =
     let counter = raised_counter s.tally.put_in in
-    let same = ripples.pushes.put_in in
+    let same = ap (λ (x : State). x.tally.put_in) ripples.pushes.same in
     let one : c.store.tally.put_in ≡ s.tally.put_in + 1 = same ∙ counter.exact (omega (arith, exact, same)) in
     let few = pieces_ahead-few r.low (hand_key (lifted i s)) r.high (bounds_of s.marks) above in
     more_moved c.store.tally.moved s.tally.moved s.tally.put_in c.store.tally.put_in (pieces_of s r) one (omega (arith, ripples.moved, few))
@@ -122,20 +130,22 @@ module _ (s : State) (r : Range) (i : ℕ) (of : IsRangeOf s r) (inside : i < le
   CarriesNear-returned : (c : Carried) → Ripples r (lifted i s) c → ¬ IsDoomed c → r.high ≤ hand_key c → IsIntact c.store (c.hand ∷ []) → CarriesNear s (returned c) r i
   CarriesNear-returned c ripples kept behind now =
       let pushes = ripples.pushes in
+      let pending_in = ap (λ (x : State). x.pending_in) pushes.same in
+      let pending_out = ap (λ (x : State). x.pending_out) pushes.same in
       let stays = stays_pushed c ripples in
       let met = ripples.met behind in
       record {
         advances = record {
           follows = Follows-trans s c.store (returned c) (follows_pushed c ripples) (Follows-returned c);
           tallies = tallies_evicted s i c inside intact now pushes;
-          reads = rw pushes.cells (StillReads-refl s.cells);
-          pending_out = rw pushes.pending_out (SomeOf-refl s.pending_out);
+          reads = rw (ap (λ (x : State). x.cells) pushes.same) (StillReads-refl s.cells);
+          pending_out = rw pending_out (SomeOf-refl s.pending_out);
         };
         intact = IsIntact-returned c (kept_hand c kept) now;
         stays = StaysOutside-trans s c.store (returned c) r stays (StaysOutside-same c.store (returned c) r (record { keys = refl; column = refl; marks = refl }) stays.within);
         moves = λ exact. moved_few s r i c intact above ripples exact.put_in;
-        few = omega (arith, ap length pushes.pending_out, ap length pushes.pending_in, length-append c.store.pending_in (c.hand ∷ []), length-remove s.pending_in i inside);
-        left = inr (record { evicted = c.hand; pending_in = ap (λ hs. hs ++ c.hand ∷ []) pushes.pending_in; within = met.within; up = met.up; is = met.is });
+        few = omega (arith, ap length pending_out, ap length pending_in, length-append c.store.pending_in (c.hand ∷ []), length-remove s.pending_in i inside);
+        left = inr (record { evicted = c.hand; pending_in = ap (λ hs. hs ++ c.hand ∷ []) pending_in; within = met.within; up = met.up; is = met.is });
       }
 
   -- a carry that goes on from where pushes have led

@@ -1,6 +1,7 @@
 -- What the pulls of a range do under ripple.
 use Rattle.std.proofs.Common.{◌≡◌, ℕ, ◌+◌, ◌-◌, [], length, Some, None, refl, ap, ◌∙◌, arith, length-set}
 use Rattle.std.proofs.lemmas.List.{length-take-le}
+use Rattle.std.proofs.lemmas.List.Edits.{length-remove}
 use Rattle.crack_row.specs.Ranges.{Range}
 use Rattle.crack_row.specs.declared.command.Policy.TheVariants.{Ripple}
 use Rattle.crack_arena.specs.Arena.{Handle, StandsAt}
@@ -11,7 +12,6 @@ use Rattle.crack_state.specs.Steps.{hand_key, piece_start, lifted_last, pulled_b
 use Rattle.crack_state.specs.Merge.{Advances}
 use Rattle.crack_state.proofs.AdvanceLaws.{Advances-refl, Advances-trans}
 use Rattle.crack_state.proofs.DrawLaws.{column_some}
-use Rattle.crack_state.proofs.FollowLaws.{length-remove}
 use Rattle.crack_state.proofs.OutsideLaws.{LacksFirst, LacksFirst-none}
 use Rattle.crack_merge.specs.Merges.{Pulls, reaches, exchanges, draws, PullsOut, begins, pulls}
 use Rattle.crack_merge.proofs.Finding.{LacksFirst-found, LacksFirst-missed}

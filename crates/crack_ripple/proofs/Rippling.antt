@@ -10,7 +10,8 @@ use Rattle.crack_index.proofs.MarkLaws.{next_mark-is, HasBound-mark}
 use Rattle.crack_state.specs.State.{Carried, IsIntact}
 use Rattle.crack_state.specs.Steps.{hand_key, piece_end, pushed_on}
 use Rattle.crack_state.specs.Merge.{edge}
-use Rattle.crack_state.proofs.FollowLaws.{Pushes, Pushes-refl, Pushes-pushed_on, raised_counter}
+use Rattle.crack_state.proofs.Counters.{raised_counter}
+use Rattle.crack_state.proofs.FollowLaws.{Pushes, Pushes-refl, Pushes-pushed_on}
 use Rattle.crack_state.proofs.StepLaws.{met_key}
 use Rattle.crack_ripple.proofs.EdgeLaws.{IsRangeOf, PushesBetween-pushed_on}
 use Rattle.crack_ripple.proofs.Pieces.{pieces_ahead, pieces_ahead-less}

@@ -4,9 +4,11 @@ use Rattle.std.specs.Prelude.{option_map}
 use Rattle.std.proofs.lemmas.List.{take_at, map-append}
 use Rattle.std.specs.List.{concat}
 use Rattle.std.specs.Io.KnownBytes.{Appends, Keeps}
+use Rattle.crack_row.specs.Devices.{device}
 use Rattle.crack_row.specs.declared.Bound.{Bound}
 use Rattle.crack_row.specs.declared.refusal.Refusal.{Refusal}
 use Rattle.crack_row.specs.declared.refusal.Refusal.TheVariants.{ReadFault, WriteFault}
+use Rattle.crack_row.specs.declared.watched.Watched.{Watched}
 use Rattle.crack_plain.specs.Plain.{PlainView}
 use Rattle.crack_session.specs.declared.answer.Answer.{Answer}
 use Rattle.crack_session.specs.declared.session.Progress.{Progress}
@@ -17,10 +19,9 @@ use Rattle.crack_session.specs.declared.session.How.TheVariants.{Quit, InputEnde
 use Rattle.crack_commands.specs.Grammar.{Reading}
 use Rattle.crack_session.specs.Readings.{statements, is_quit, reading_of}
 use Rattle.crack_session.specs.Lines.{first_line, after_line, kept_of}
-use Rattle.crack_session.specs.Answers.{IsAnswer, is_short_answer, answer_text}
+use Rattle.crack_session.specs.Answers.{IsAnswer, Tells, is_short_answer, answer_text, marked}
 use Rattle.crack_session.specs.Sessions.{AreAnswers, first_short, ending}
 use Rattle.crack_session.specs.Served.{AreAnswered, AreTold, CountsStatements, IsServed, IsDone, IsCutOff}
-use Rattle.crack_session.specs.Responses.{IsResponse, marked}
 use Rattle.crack_session.proofs.Following.{next_some}
 
 -- one more statement and its answer
@@ -123,30 +124,30 @@ Going-kept out out' g h = record {
 pub Going-left : {limit : ℕ} {splits : List Bound} {all left : List Reading} {k : ℕ} {short : Option ℕ} {how : How} {s0 s : Option (List PlainView)} {out0 out : Option (List ℕ)} (left' : List Reading) → Going limit splits all left k short how s0 s out0 out → left ≡ left' → Going limit splits all left' k short how s0 s out0 out
 Going-left left' g e = record { done = g.done; split = g.split ∙ ap (λ z. g.done ++ z) e; count = g.count; ends = g.ends; told = g.told }
 
--- what a statement is answered where these are done
-abbrev pub Responds : ℕ → List Bound → Reading → Progress → Progress → Result (Unit {0}) Refusal → Option (List PlainView) → Option (List PlainView) → Option (List ℕ) → Option (List ℕ) → Type 0
-Responds limit splits r old new result s s' out out' = (tables : List PlainView) → s ≡ Some tables → IsResponse limit splits tables r old new result s' out out'
+-- what a statement is answered, and the partitions afterwards, where they are known
+abbrev pub Answered : ℕ → List Bound → Reading → Answer → Option (List PlainView) → Option (List PlainView) → Type 0
+Answered limit splits r a s s' = (tables : List PlainView) → s ≡ Some tables → (next : List PlainView) × IsAnswer limit splits tables r a next × (s' ≡ Some next)
 
 -- the desk's limit and splits stay
-pub Responds-desk : {limit limit' : ℕ} {splits splits' : List Bound} {r : Reading} {old new : Progress} {result : Result (Unit {0}) Refusal} {s s' : Option (List PlainView)} {out out' : Option (List ℕ)} → Responds limit splits r old new result s s' out out' → limit ≡ limit' → splits ≡ splits' → Responds limit' splits' r old new result s s' out out'
-Responds-desk a e f = rw (← e, ← f) a
+pub Answered-desk : {limit limit' : ℕ} {splits splits' : List Bound} (r : Reading) (a : Answer) {s s' : Option (List PlainView)} → Answered limit splits r a s s' → limit ≡ limit' → splits ≡ splits' → Answered limit' splits' r a s s'
+Answered-desk r a answered e f = rw (← e, ← f) answered
 
 -- one more statement
-pub Going-more : {limit : ℕ} {splits : List Bound} {all left : List Reading} {s0 s : Option (List PlainView)} {out0 out : Option (List ℕ)} (r : Reading) (old new : Progress) (s' : Option (List PlainView)) (out' : Option (List ℕ)) → Going limit splits all (r ∷ left) old.statements old.first_short InputEnded s0 s out0 out → Responds limit splits r old new (Ok tt) s s' out out' → new.statements ≡ old.statements + 1 → Going limit splits all left new.statements new.first_short (cond (is_quit r) Quit InputEnded) s0 s' out0 out'
-Going-more {limit} {splits} {all} {left} {s0} {s} {out0} {out} r old new s' out' g responds n = record {
+pub Going-more : {W : Type 0} (contents : W → Option (List ℕ)) {limit : ℕ} {splits : List Bound} {all left : List Reading} {s0 s : Option (List PlainView)} {out0 : Option (List ℕ)} (r : Reading) (a : Answer) (old new : Progress) (s' : Option (List PlainView)) (w w' : Watched W) → Going limit splits all (r ∷ left) old.statements old.first_short InputEnded s0 s out0 (contents (device w)) → Answered limit splits r a s s' → Tells contents a old new (Ok tt) w w' → Going limit splits all left new.statements new.first_short (cond (is_quit r) Quit InputEnded) s0 s' out0 (contents (device w'))
+Going-more contents {limit} {splits} {all} {left} {s0} {s} {out0} r a old new s' w w' g answered tells = record {
   done = g.done ++ r ∷ [];
   split = g.split ∙ sym (append_assoc g.done (r ∷ []) left);
-  count = let l = length-append g.done (r ∷ []) in let c = g.count in omega (arith, l, c, n);
+  count = let l = length-append g.done (r ∷ []) in let c = g.count in let n = tells.count in omega (arith, l, c, n);
   ends = ending-push g.done r;
   told = λ x o e f.
       let was = g.told x o e f in
-      let now = responds was.answered.new was.answered.left_is in
-      let text = answer_text now.answer in
+      let now = answered was.answered.new was.answered.left_is in
+      let text = answer_text a in
       record {
         texts = was.texts ++ text ∷ [];
-        answered = AreAnswered-push r now.answer now.next_tables new.first_short s' was.answered now.is now.left_is
-            (now.short_is ∙ ap (λ m. marked old.first_short (m + 1) (is_short_answer now.answer)) (sym g.count));
-        written_is = appended out _ out' text was.written_is now.sends ∙ ap Some (append_assoc o (concat was.texts) text ∙ ap (λ z. o ++ z) (sym (concat-push was.texts text)));
+        answered = AreAnswered-push r a now.0 new.first_short s' was.answered now.1 now.2
+            (tells.short ∙ ap (λ m. marked old.first_short (m + 1) (is_short_answer a)) (sym g.count));
+        written_is = appended (contents (device w)) _ (contents (device w')) text was.written_is tells.writes.ok ∙ ap Some (append_assoc o (concat was.texts) text ∙ ap (λ z. o ++ z) (sym (concat-push was.texts text)));
       };
 }
 
@@ -180,23 +181,24 @@ Going-cut bytes o x fault {limit} {splits} {left} {k} {short} {how} {s0} {s} {ou
     inl (rw (done_first (statements bytes) g.done left fault.done g.split (g.count ∙ sym d), fs) (g.told x o e f))
 
 -- and within one
-pub Going-cut_in : (bytes o : List ℕ) (x : List PlainView) (fault : Fault) {limit : ℕ} {splits : List Bound} {left : List Reading} {s0 s : Option (List PlainView)} {out0 out : Option (List ℕ)} (r : Reading) (old new : Progress) (problem : Refusal) (s' : Option (List PlainView)) (out' : Option (List ℕ)) → Going limit splits (statements bytes) (r ∷ left) old.statements old.first_short InputEnded s0 s out0 out → Responds limit splits r old new (Err problem) s s' out out' → fault.done ≡ old.statements → fault.first_short ≡ new.first_short → fault.refusal ≡ WriteFault → s0 ≡ Some x → out0 ≡ Some o → IsCutOff limit splits x bytes o fault s' out'
-Going-cut_in bytes o x fault {limit} {splits} {left} {s0} {s} {out0} {out} r old new problem s' out' g responds d fs w e f =
+pub Going-cut_in : {W : Type 0} (contents : W → Option (List ℕ)) (bytes o : List ℕ) (x : List PlainView) (fault : Fault) {limit : ℕ} {splits : List Bound} {left : List Reading} {s0 s : Option (List PlainView)} {out0 : Option (List ℕ)} (r : Reading) (a : Answer) (old new : Progress) (problem : Refusal) (s' : Option (List PlainView)) (w w' : Watched W) → Going limit splits (statements bytes) (r ∷ left) old.statements old.first_short InputEnded s0 s out0 (contents (device w)) → Answered limit splits r a s s' → Tells contents a old new (Err problem) w w' → fault.done ≡ new.statements → fault.first_short ≡ new.first_short → fault.refusal ≡ problem → s0 ≡ Some x → out0 ≡ Some o → IsCutOff limit splits x bytes o fault s' (contents (device w'))
+Going-cut_in contents bytes o x fault {limit} {splits} {left} {s0} {s} {out0} r a old new problem s' w w' g answered tells done fs same e f =
     let was = g.told x o e f in
-    let now = responds was.answered.new was.answered.left_is in
-    let text = answer_text now.answer in
+    let now = answered was.answered.new was.answered.left_is in
+    let text = answer_text a in
+    let d : fault.done ≡ old.statements = done ∙ tells.count in
     let count : length (g.done ++ r ∷ []) ≡ fault.done + 1 = (let l = length-append g.done (r ∷ []) in let c = g.count in omega (arith, l, c, d)) in
     let first = done_first (statements bytes) (g.done ++ r ∷ []) left (fault.done + 1) (g.split ∙ sym (append_assoc g.done (r ∷ []) left)) count in
     inr (record {
-      refusal_is = w;
+      refusal_is = same ∙ tells.writes.err.0;
       one_more = let all = Going-within g in omega (arith, all, d);
       texts = was.texts;
       text = text;
-      answered = rw (first, fs) (AreAnswered-push r now.answer now.next_tables new.first_short s' was.answered now.is now.left_is
-          (now.short_is ∙ ap (λ m. marked old.first_short (m + 1) (is_short_answer now.answer)) (sym g.count)));
-      count = now.sends.0;
-      cut = now.sends.1;
-      written_is = appended out _ out' _ was.written_is now.sends.2 ∙ ap Some (append_assoc o (concat was.texts) (take now.sends.0 text));
+      answered = rw (first, fs) (AreAnswered-push r a now.0 new.first_short s' was.answered now.1 now.2
+          (tells.short ∙ ap (λ m. marked old.first_short (m + 1) (is_short_answer a)) (sym g.count)));
+      count = tells.writes.front.0;
+      cut = tells.writes.front.1;
+      written_is = appended (contents (device w)) _ (contents (device w')) _ was.written_is tells.writes.front.2 ∙ ap Some (append_assoc o (concat was.texts) (take tells.writes.front.0 text));
     })
 
 -- a session goes on behind a statement, or ends at a quit
@@ -211,5 +213,5 @@ pub Going-line : {limit : ℕ} {splits : List Bound} {all : List Reading} {k : �
 Going-line out out' u line r g h some kept said = Going-left _ (Going-kept out out' g h) (next_some u line r some kept said)
 
 -- the next line is a statement, and is answered
-pub Going-answered : {limit : ℕ} {splits : List Bound} {all : List Reading} {s0 s : Option (List PlainView)} {out0 out : Option (List ℕ)} (out1 : Option (List ℕ)) (u line : List ℕ) (r : Reading) (old new : Progress) (s' : Option (List PlainView)) (out' : Option (List ℕ)) → Going limit splits all (statements u) old.statements old.first_short InputEnded s0 s out0 out → Keeps out out1 → 0 < length u → kept_of line ≡ kept_of (first_line u) → reading_of line ≡ Some r → Responds limit splits r old new (Ok tt) s s' out1 out' → new.statements ≡ old.statements + 1 → Going limit splits all (cond (is_quit r) [] (statements (after_line u))) new.statements new.first_short (cond (is_quit r) Quit InputEnded) s0 s' out0 out'
-Going-answered {limit} {splits} {all} {s0} {s} {out0} {out} out1 u line r old new s' out' g h some kept said responds n = Going-more r old new s' out' (Going-line out out1 u line r g h some kept said) responds n
+pub Going-answered : {W : Type 0} (contents : W → Option (List ℕ)) {limit : ℕ} {splits : List Bound} {all : List Reading} {s0 s : Option (List PlainView)} {out0 out : Option (List ℕ)} (u line : List ℕ) (r : Reading) (a : Answer) (old new : Progress) (s' : Option (List PlainView)) (w w' : Watched W) → Going limit splits all (statements u) old.statements old.first_short InputEnded s0 s out0 out → Keeps out (contents (device w)) → 0 < length u → kept_of line ≡ kept_of (first_line u) → reading_of line ≡ Some r → Answered limit splits r a s s' → Tells contents a old new (Ok tt) w w' → Going limit splits all (cond (is_quit r) [] (statements (after_line u))) new.statements new.first_short (cond (is_quit r) Quit InputEnded) s0 s' out0 (contents (device w'))
+Going-answered contents {limit} {splits} {all} {s0} {s} {out0} {out} u line r a old new s' w w' g h some kept said answered tells = Going-more contents r a old new s' w w' (Going-line out (contents (device w)) u line r g h some kept said) answered tells

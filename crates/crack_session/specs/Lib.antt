@@ -2,6 +2,5 @@ pub mod Answers
 pub mod Lines
 pub mod Queries
 pub mod Readings
-pub mod Responses
 pub mod Served
 pub mod Sessions

@@ -1,15 +1,11 @@
 //! Answers to statements.
-ghost use Rattle.std.specs.Prelude.{◌≡◌, ◌+◌, ◌<◌, ◌≤◌, ℕ, List, [], Some, Ok, true, length, All, IfErr, OnOk, Err, vec_len, vec_capacity};
+ghost use Rattle.std.specs.Prelude.{◌≡◌, ◌≤◌, List, [], Some, Ok, length, All, vec_capacity};
+ghost use Rattle.std.specs.Result.{result_and};
 ghost use Rattle.std.specs.List.{flat_map};
-ghost use Rattle.std.specs.Io.KnownBytes.{Appends};
-ghost use Rattle.crack_row.specs.Devices.{device, has_failed};
-ghost use Rattle.crack_row.specs.Ranges.{Range};
 ghost use Rattle.crack_plain.specs.Plain.{PlainView, IsSmall};
 ghost use Rattle.crack_core.specs.Routes.{route, parts_of};
 ghost use Rattle.crack_session.specs.Queries.{list_text, lists_text};
-ghost use Rattle.crack_session.specs.Answers.{IsAnswer, IsAnswerTo, IsAsked, AsksInTurn, AsksSeveral, AsksParts, IsLaidOut, is_short_answer, answer_text};
-ghost use Rattle.crack_commands.specs.Texts.{AppendsFront};
-ghost use Rattle.crack_session.specs.Responses.{Sends};
+ghost use Rattle.crack_session.specs.Answers.{AsksDesk, IsAnswer, IsAnswerTo, IsAsked, AsksInTurn, AsksSeveral, AsksParts, IsLaidOut, Writes, is_short_answer, answer_text};
 
 use crate::desk::Desk;
 use crate::query::{PartReply, Query, ReplyList, joined};
@@ -57,9 +53,7 @@ impl Answer {
     /// Writes its text.
     #[tactic(auto, unfolding(crate::specs::Answers::answer_text))]
     pub fn write<W: Write>(&self, writer: &mut Watched<W>) -> Result<(), Refusal>
-        ensures sends { Sends (answer_text self.now) result (W.contents (device writer.old)) (W.contents (device writer.new)) }
-        ensures unfailed { OnOk result (has_failed writer.new ≡ has_failed writer.old) }
-        ensures err { IfErr result (λ e. (e ≡ Refusal.WriteFault) × (has_failed writer.new ≡ true)) }
+        ensures { Writes W.contents (answer_text self.now) result writer.old writer.new }
     {
         match self {
             Answer::Replied { part, reply } => write_reply(*part, reply, writer),
@@ -81,10 +75,7 @@ fn write_lists<W: Write>(
     lists: &[PartReply],
     writer: &mut Watched<W>,
 ) -> Result<(), Refusal>
-    ensures ok { OnOk result (Appends (W.contents (device writer.old)) (W.contents (device writer.new)) (lists_text total lists.now)) }
-    ensures unfailed { OnOk result (has_failed writer.new ≡ has_failed writer.old) }
-    ensures err { IfErr result (λ e. (e ≡ Refusal.WriteFault) × (has_failed writer.new ≡ true)) }
-    ensures front { IfErr result (λ _. AppendsFront (W.contents (device writer.old)) (W.contents (device writer.new)) (lists_text total lists.now)) }
+    ensures { Writes W.contents (lists_text total lists.now) result writer.old writer.new }
 {
     write_head(total, writer)?;
     write_each_list(lists, writer)
@@ -92,10 +83,7 @@ fn write_lists<W: Write>(
 
 /// Writes the rows of several partitions, one partition behind the other.
 fn write_each_list<W: Write>(lists: &[PartReply], writer: &mut Watched<W>) -> Result<(), Refusal>
-    ensures ok { OnOk result (Appends (W.contents (device writer.old)) (W.contents (device writer.new)) (flat_map list_text lists.now)) }
-    ensures unfailed { OnOk result (has_failed writer.new ≡ has_failed writer.old) }
-    ensures err { IfErr result (λ e. (e ≡ Refusal.WriteFault) × (has_failed writer.new ≡ true)) }
-    ensures front { IfErr result (λ _. AppendsFront (W.contents (device writer.old)) (W.contents (device writer.new)) (flat_map list_text lists.now)) }
+    ensures { Writes W.contents (flat_map list_text lists.now) result writer.old writer.new }
 {
     'lists: for list in lists {
         write_list(list, writer)?;
@@ -105,10 +93,7 @@ fn write_each_list<W: Write>(lists: &[PartReply], writer: &mut Watched<W>) -> Re
 
 /// Writes the rows of one partition.
 fn write_list<W: Write>(list: &PartReply, writer: &mut Watched<W>) -> Result<(), Refusal>
-    ensures ok { OnOk result (Appends (W.contents (device writer.old)) (W.contents (device writer.new)) (list_text list.now)) }
-    ensures unfailed { OnOk result (has_failed writer.new ≡ has_failed writer.old) }
-    ensures err { IfErr result (λ e. (e ≡ Refusal.WriteFault) × (has_failed writer.new ≡ true)) }
-    ensures front { IfErr result (λ _. AppendsFront (W.contents (device writer.old)) (W.contents (device writer.new)) (list_text list.now)) }
+    ensures { Writes W.contents (list_text list.now) result writer.old writer.new }
 {
     write_each_row(list.part, list.rows(), writer)
 }
@@ -120,10 +105,7 @@ pub fn answer_reading<D: Desk>(
     policy: Policy,
     reading: Result<Statement, Refusal>,
 ) -> Answer
-    ensures is { (tables : List PlainView) → D.tables desk.old ≡ Some tables → (new : List PlainView)
-        × IsAnswer (D.limit desk.old) (D.splits desk.old) tables reading result new × (D.tables desk.new ≡ Some new) }
-    ensures splits { D.splits desk.new ≡ D.splits desk.old }
-    ensures limit { D.limit desk.new ≡ D.limit desk.old }
+    ensures { AsksDesk D.limit D.splits D.tables (λ limit splits tables. IsAnswer limit splits tables reading result) desk.old desk.new }
 {
     match reading {
         Ok(statement) => answer_statement(alloc, desk, policy, statement),
@@ -139,10 +121,7 @@ fn answer_statement<D: Desk>(
     policy: Policy,
     statement: Statement,
 ) -> Answer
-    ensures is { (tables : List PlainView) → D.tables desk.old ≡ Some tables → (new : List PlainView)
-        × IsAnswerTo (D.limit desk.old) (D.splits desk.old) tables statement result new × (D.tables desk.new ≡ Some new) }
-    ensures splits { D.splits desk.new ≡ D.splits desk.old }
-    ensures limit { D.limit desk.new ≡ D.limit desk.old }
+    ensures { AsksDesk D.limit D.splits D.tables (λ limit splits tables. IsAnswerTo limit splits tables statement result) desk.old desk.new }
 {
     let (part, command) = match statement {
         Statement::Insert { key, payload } => {
@@ -182,10 +161,7 @@ pub fn part_of<D: Desk>(desk: &D, key: Key) -> u32
 /// Asks one partition.
 #[inline(never)]
 fn ask_part<D: Desk>(desk: &mut D, policy: Policy, part: u32, command: Command) -> Answer
-    ensures is { (tables : List PlainView) → D.tables desk.old ≡ Some tables → (new : List PlainView)
-        × IsAsked (D.limit desk.old) (D.splits desk.old) tables part command result new × (D.tables desk.new ≡ Some new) }
-    ensures splits { D.splits desk.new ≡ D.splits desk.old }
-    ensures limit { D.limit desk.new ≡ D.limit desk.old }
+    ensures { AsksDesk D.limit D.splits D.tables (λ limit splits tables. IsAsked limit splits tables part command result) desk.old desk.new }
 {
     match desk.ask(part, command, policy) {
         Ok(reply) => Answer::Replied { part, reply },
@@ -201,10 +177,7 @@ fn ask_range<D: Desk>(
     query: Query,
     range: KeyRange,
 ) -> Answer
-    ensures is { (tables : List PlainView) → D.tables desk.old ≡ Some tables → (new : List PlainView)
-        × AsksParts (D.limit desk.old) (D.splits desk.old) tables query (parts_of (D.splits desk.old) range) result new × (D.tables desk.new ≡ Some new) }
-    ensures splits { D.splits desk.new ≡ D.splits desk.old }
-    ensures limit { D.limit desk.new ≡ D.limit desk.old }
+    ensures { AsksDesk D.limit D.splits D.tables (λ limit splits tables. AsksParts limit splits tables query (parts_of splits range) result) desk.old desk.new }
 {
     if let Some(part) = only_part(desk.splits(), range) {
         return ask_part(desk, policy, part, query.over(range));
@@ -224,10 +197,7 @@ fn ask_several<D: Desk>(
     parts: &[(u32, KeyRange)],
 ) -> Answer
     requires { length parts.now ≤ 64 }
-    ensures is { (tables : List PlainView) → D.tables desk.old ≡ Some tables → (new : List PlainView)
-        × AsksSeveral (D.limit desk.old) (D.splits desk.old) tables query parts.now result new × (D.tables desk.new ≡ Some new) }
-    ensures splits { D.splits desk.new ≡ D.splits desk.old }
-    ensures limit { D.limit desk.new ≡ D.limit desk.old }
+    ensures { AsksDesk D.limit D.splits D.tables (λ limit splits tables. AsksSeveral limit splits tables query parts.now result) desk.old desk.new }
 {
     match Vec::with_capacity(alloc, parts.len()) {
         Ok(mut replies) => match ask_each(desk, policy, query, parts, &mut replies) {
@@ -249,14 +219,9 @@ fn ask_each<D: Desk>(
 ) -> Result<(), Refusal>
     requires none { replies.old.items ≡ [] }
     requires room { length parts.now ≤ vec_capacity replies.old }
-    ensures replied { OnOk result ((tables : List PlainView) → D.tables desk.old ≡ Some tables → (new : List PlainView)
-        × AsksInTurn (D.limit desk.old) (D.splits desk.old) query tables parts.now (Ok replies.new.items) new × (D.tables desk.new ≡ Some new)) }
-    ensures refused { IfErr result (λ e. (tables : List PlainView) → D.tables desk.old ≡ Some tables → (new : List PlainView)
-        × AsksInTurn (D.limit desk.old) (D.splits desk.old) query tables parts.now (Err e) new × (D.tables desk.new ≡ Some new)) }
+    ensures asks { AsksDesk D.limit D.splits D.tables (λ limit splits tables. AsksInTurn limit splits query tables parts.now (result_and result (Ok replies.new.items))) desk.old desk.new }
     ensures small { All (λ (r : PartReply). IsSmall r.reply) replies.new.items }
     ensures few { length replies.new.items ≤ length parts.now }
-    ensures splits { D.splits desk.new ≡ D.splits desk.old }
-    ensures limit { D.limit desk.new ≡ D.limit desk.old }
 {
     'parts: for part in parts {
         match desk.ask(part.0, query.over(part.1), policy) {

@@ -11,6 +11,7 @@ use crack_row::Refusal;
 /// What a line says, unless it is blank: a statement, or why it is none. Refused with 2 where the ends of a range
 /// are out of order or too great, else with 1. Takes no memory.
 #[tactic(auto, unfolding(crate::specs::Readings::reading_of))]
+#[inline(always)]
 pub fn read_line(line: &[u8]) -> Option<Result<Statement, Refusal>>
     ensures { result ≡ reading_of line.now }
 {

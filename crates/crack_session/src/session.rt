@@ -1,11 +1,10 @@
 //! A session: the statements of a reader, answered to a writer.
-ghost use Rattle.std.specs.Prelude.{◌≡◌, ℕ, ◌+◌, ◌<◌, ◌≤◌, ◌⊎◌, ◌^◌, ◌-◌, true, List, length, min, is_ok, Ok, IfOk, IfErr, IfSome, OnErr, OnOk, None, Some, if◌then◌else◌};
+ghost use Rattle.std.specs.Prelude.{◌≡◌, ℕ, ◌+◌, ◌<◌, ◌≤◌, ◌⊎◌, ◌^◌, ◌-◌, true, List, length, min, Ok, IfOk, IfErr, IfSome, OnErr, OnOk, Some};
 ghost use Rattle.std.specs.Io.KnownBytes.{Keeps};
 ghost use Rattle.crack_row.specs.Devices.{device, has_failed, reads_of};
 ghost use Rattle.crack_plain.specs.Plain.{PlainView};
 ghost use Rattle.crack_session.specs.Served.{CountsStatements, IsServed, IsDone, IsCutOff};
-ghost use Rattle.crack_session.specs.Responses.{IsResponse, Sends, marked, policy_after};
-ghost use Rattle.crack_session.specs.Answers.{is_short_answer, answer_text};
+ghost use Rattle.crack_session.specs.Answers.{Responds, Tells, is_short_answer, marked, policy_after};
 
 use crate::answer::{Answer, answer_reading, part_of};
 use crate::desk::Desk;
@@ -102,14 +101,7 @@ fn respond<D: Desk, W: Write>(
     writer: &mut Watched<W>,
 ) -> Result<(), Refusal>
     requires { progress.old.statements + 1 < 2 ^ 64 }
-    ensures count { progress.new.statements ≡ (if is_ok result then progress.old.statements + 1 else progress.old.statements) }
-    ensures responds { (tables : List PlainView) → D.tables desk.old ≡ Some tables →
-        IsResponse (D.limit desk.old) (D.splits desk.old) tables reading progress.old progress.new result
-        (D.tables desk.new) (W.contents (device writer.old)) (W.contents (device writer.new)) }
-    ensures splits { D.splits desk.new ≡ D.splits desk.old }
-    ensures limit { D.limit desk.new ≡ D.limit desk.old }
-    ensures unfailed { OnOk result (has_failed writer.new ≡ has_failed writer.old) }
-    ensures err { IfErr result (λ e. (e ≡ Refusal.WriteFault) × (has_failed writer.new ≡ true)) }
+    ensures { Responds D.limit D.splits D.tables W.contents reading progress.old progress.new result desk.old desk.new writer.old writer.new }
 {
     if let Some((key, payload)) = inserted(&reading) {
         return respond_to_insert(desk, key, payload, progress, writer);
@@ -127,14 +119,7 @@ fn respond_to_any<D: Desk, W: Write>(
     writer: &mut Watched<W>,
 ) -> Result<(), Refusal>
     requires { progress.old.statements + 1 < 2 ^ 64 }
-    ensures count { progress.new.statements ≡ (if is_ok result then progress.old.statements + 1 else progress.old.statements) }
-    ensures responds { (tables : List PlainView) → D.tables desk.old ≡ Some tables →
-        IsResponse (D.limit desk.old) (D.splits desk.old) tables reading progress.old progress.new result
-        (D.tables desk.new) (W.contents (device writer.old)) (W.contents (device writer.new)) }
-    ensures splits { D.splits desk.new ≡ D.splits desk.old }
-    ensures limit { D.limit desk.new ≡ D.limit desk.old }
-    ensures unfailed { OnOk result (has_failed writer.new ≡ has_failed writer.old) }
-    ensures err { IfErr result (λ e. (e ≡ Refusal.WriteFault) × (has_failed writer.new ≡ true)) }
+    ensures { Responds D.limit D.splits D.tables W.contents reading progress.old progress.new result desk.old desk.new writer.old writer.new }
 {
     let answer = answer_reading(alloc, desk, progress.policy, reading);
     tell(&answer, progress, writer)
@@ -165,14 +150,7 @@ fn respond_to_insert<D: Desk, W: Write>(
     writer: &mut Watched<W>,
 ) -> Result<(), Refusal>
     requires { progress.old.statements + 1 < 2 ^ 64 }
-    ensures count { progress.new.statements ≡ (if is_ok result then progress.old.statements + 1 else progress.old.statements) }
-    ensures responds { (tables : List PlainView) → D.tables desk.old ≡ Some tables →
-        IsResponse (D.limit desk.old) (D.splits desk.old) tables (Ok (Statement.Insert key payload)) progress.old progress.new result
-        (D.tables desk.new) (W.contents (device writer.old)) (W.contents (device writer.new)) }
-    ensures splits { D.splits desk.new ≡ D.splits desk.old }
-    ensures limit { D.limit desk.new ≡ D.limit desk.old }
-    ensures unfailed { OnOk result (has_failed writer.new ≡ has_failed writer.old) }
-    ensures err { IfErr result (λ e. (e ≡ Refusal.WriteFault) × (has_failed writer.new ≡ true)) }
+    ensures { Responds D.limit D.splits D.tables W.contents (Ok (Statement.Insert key payload)) progress.old progress.new result desk.old desk.new writer.old writer.new }
 {
     let part = part_of(desk, key);
     match desk.ask(part, Command::Insert { key, payload }, progress.policy) {
@@ -191,12 +169,7 @@ fn tell_reply<W: Write>(
     writer: &mut Watched<W>,
 ) -> Result<(), Refusal>
     requires { progress.old.statements + 1 < 2 ^ 64 }
-    ensures count { progress.new.statements ≡ (if is_ok result then progress.old.statements + 1 else progress.old.statements) }
-    ensures short { progress.new.first_short ≡ progress.old.first_short }
-    ensures policy { progress.new.policy ≡ progress.old.policy }
-    ensures sends { Sends (answer_text (Answer.Replied part reply.now)) result (W.contents (device writer.old)) (W.contents (device writer.new)) }
-    ensures unfailed { OnOk result (has_failed writer.new ≡ has_failed writer.old) }
-    ensures err { IfErr result (λ e. (e ≡ Refusal.WriteFault) × (has_failed writer.new ≡ true)) }
+    ensures { Tells W.contents (Answer.Replied part reply.now) progress.old progress.new result writer.old writer.new }
 {
     match write_reply(part, reply, writer) {
         Ok(()) => {
@@ -215,12 +188,7 @@ fn tell_refusal<W: Write>(
     writer: &mut Watched<W>,
 ) -> Result<(), Refusal>
     requires { progress.old.statements + 1 < 2 ^ 64 }
-    ensures count { progress.new.statements ≡ (if is_ok result then progress.old.statements + 1 else progress.old.statements) }
-    ensures short { progress.new.first_short ≡ marked progress.old.first_short (progress.old.statements + 1) (is_short_answer (Answer.Refused refusal)) }
-    ensures policy { progress.new.policy ≡ policy_after progress.old.policy (Answer.Refused refusal) }
-    ensures sends { Sends (answer_text (Answer.Refused refusal)) result (W.contents (device writer.old)) (W.contents (device writer.new)) }
-    ensures unfailed { OnOk result (has_failed writer.new ≡ has_failed writer.old) }
-    ensures err { IfErr result (λ e. (e ≡ Refusal.WriteFault) × (has_failed writer.new ≡ true)) }
+    ensures { Tells W.contents (Answer.Refused refusal) progress.old progress.new result writer.old writer.new }
 {
     tell(&Answer::Refused(refusal), progress, writer)
 }
@@ -233,12 +201,7 @@ fn tell<W: Write>(
     writer: &mut Watched<W>,
 ) -> Result<(), Refusal>
     requires { progress.old.statements + 1 < 2 ^ 64 }
-    ensures count { progress.new.statements ≡ (if is_ok result then progress.old.statements + 1 else progress.old.statements) }
-    ensures short { progress.new.first_short ≡ marked progress.old.first_short (progress.old.statements + 1) (is_short_answer answer.now) }
-    ensures policy { progress.new.policy ≡ policy_after progress.old.policy answer.now }
-    ensures sends { Sends (answer_text answer.now) result (W.contents (device writer.old)) (W.contents (device writer.new)) }
-    ensures unfailed { OnOk result (has_failed writer.new ≡ has_failed writer.old) }
-    ensures err { IfErr result (λ e. (e ≡ Refusal.WriteFault) × (has_failed writer.new ≡ true)) }
+    ensures { Tells W.contents answer.now progress.old progress.new result writer.old writer.new }
 {
     progress.note(answer);
     match answer.write(writer) {

@@ -6,17 +6,18 @@ use Rattle.std.specs.List.Sorted.{IsPermutation}
 use Rattle.std.proofs.lemmas.List.Sorted.{IsPermutation-sym}
 use Rattle.std.proofs.lemmas.List.Sums.{sum_by-set, sum_by_push}
 use Rattle.std.proofs.lemmas.List.{append-nil, get_or-set_other, get_or-set_same, get_or_past, get_or_push, get_or_append_left, length_push}
-use Rattle.std.proofs.lemmas.List.Elements.{filter_map-append, All-nil, All-cons, All-push, All-set, All-head, All-tail}
+use Rattle.std.proofs.lemmas.List.Elements.{filter_map-append, All-nil, All-push, All-set, All-head, All-tail}
 use Rattle.std.proofs.lemmas.Bool.{cases_eq, cases_lt, ne_eqb, eq-eqb, eqb-true, lt-ltb, le-ltb}
+use Rattle.crack_row.proofs.Lists.{map_fixed, range_with_len-more}
 use Rattle.crack_row.specs.Ranges.{IsIn}
 use Rattle.crack_row.specs.declared.Row.{Row}
 use Rattle.crack_arena.specs.Arena.{Cell, Handle, times, read, cell_at, empty_cell, handle_for, cells_with, slots}
-use Rattle.crack_arena.proofs.Times.{times-nil, times-cons, times_one, times_other, times_head, times_apart, times-append, times-map-append}
+use Rattle.crack_arena.proofs.Times.{times-nil, times-cons, times_one, times_other, times_head, times-append, times-map-append, times_map_at}
 use Rattle.crack_state.specs.State.{State, places, Reads, IsOwned, IsIntact, IsKeyed, IsLiveAt, AreEmpty, HaveKeysIn, handle_of, freed_of, live_at, live_rows}
 use Rattle.crack_state.specs.Steps.{next_handle, admitted, IsAdmissible}
-use Rattle.crack_state.proofs.OwnedLaws.{times-places}
-use Rattle.crack_state.proofs.CellLaws.{AgreeOff, read-off, Reads-off, keys-off, read-value}
-use Rattle.crack_state.proofs.LiveLaws.{filter_map-less, range_with_len-more, times-range}
+use Rattle.crack_state.proofs.OwnedLaws.{times-places, once-most, once-within}
+use Rattle.crack_state.proofs.CellLaws.{AgreeOff, handle_same, read-off, Reads-off, keys-off, read-value}
+use Rattle.crack_state.proofs.LiveLaws.{filter_map-less, times-range}
 
 -- one cell got a value, and no other changed
 pub record Filled (cells after : List (Cell Row)) (h : Handle) (r : Row) : Type 0 where
@@ -31,10 +32,7 @@ pub record IsUnused (s : State) (slot : ℕ) : Type 0 where
 
 -- a free number is that of a cell
 free_within : (s : State) (n : ℕ) → 0 < times n s.free → IsOwned s.cells s.free s.column s.pending_in s.pending_out [] → n < length s.cells
-free_within s n listed owned = elim (cases_lt n (length s.cells)) [
-  | inl l ↦ l
-  | inr l ↦ let none : times n (places s []) ≡ 0 = owned.once n ∙ rw (le-ltb n (length s.cells) l) refl in absurd (omega (arith, times-places n s.column s.pending_in s.free []))
-]
+free_within s n listed owned = once-within s.cells s.free s.column s.pending_in s.pending_out [] n (omega (arith, listed, times-places n s.column s.pending_in s.free [])) owned
 
 pub filled : (s : State) (r : Row) (free : List ℕ) → s.free ≡ free → IsOwned s.cells s.free s.column s.pending_in s.pending_out [] → Filled s.cells (cells_with r s.cells free) (handle_for s.cells free) r
 filled s r [] is owned =
@@ -62,19 +60,12 @@ unused s [] is owned =
     record { column = omega arith; pending = omega arith; doomed = omega (arith, owned.doomed_once n, times-append n (slots s.column) [], times-nil n) }
 unused s (n ∷ ns) is owned =
     let listed : 0 < times n s.free = rw is (omega (arith, times_head n ns)) in
-    let most : times n (places s []) ≤ 1 = rw (owned.once n) (at_most (ltb n (length s.cells))) in
+    let most = once-most s.cells s.free s.column s.pending_in s.pending_out [] n owned in
     let all = times-places n s.column s.pending_in s.free [] in
     record { column = omega arith; pending = omega arith; doomed = omega (arith, owned.doomed_once n, times-append n (slots s.column) [], times-nil n) }
-  where
-    at_most : (b : Bool) → cond {A = ℕ} b 1 0 ≤ 1
-    at_most true = omega arith
-    at_most false = omega arith
 
 pub read-new : (cells after : List (Cell Row)) (h : Handle) (r : Row) → Filled cells after h r → read after h ≡ Some r
 read-new cells after h r fill = rw (fill.cell, eq-eqb h.generation h.generation refl) refl
-
-pub handle_same : (g h : Handle) → g.slot ≡ h.slot → g.generation ≡ h.generation → g ≡ h
-handle_same g h slots_same generations = λ i. record { slot = slots_same i; generation = generations i }
 
 pub record SameHandle (g h : Handle) (q r : Row) : Type 0 where
   pub handle : g ≡ h
@@ -169,24 +160,19 @@ IsKeyed-admitted row s h after fill off empty fresh keyed =
 
 -- numbers that aren't in a list are none of its elements
 apart_numbers : (ns : List ℕ) (n : ℕ) → times n ns ≡ 0 → All (λ m. m ≢ n) ns
-apart_numbers [] n none = All-nil (λ m. m ≢ n)
-apart_numbers (m ∷ ns) n none =
-    let apart = times_apart n m ns none in
-    All-cons (λ k. k ≢ n) m ns apart.0 (apart_numbers ns n apart.1)
+apart_numbers ns n none = λ k d within same.
+    let listed = rw (map_fixed (λ (m : ℕ). m) ns (λ j c i. refl)) at (times_map_at n (λ (m : ℕ). m) ns k d within same) in
+    absurd (omega (arith, none, listed))
 
 AreEmpty-admitted : (row : Row) (s : State) (free : List ℕ) → s.free ≡ free → IsOwned s.cells s.free s.column s.pending_in s.pending_out [] → AreEmpty s.cells s.free → AreEmpty (cells_with row s.cells free) (drop 1 free)
 AreEmpty-admitted row s [] is owned empty = All-nil (λ m. (cell_at (cells_with row s.cells []) m).value ≡ None)
 AreEmpty-admitted row s (n ∷ ns) is owned empty =
-    let most : times n (places s []) ≤ 1 = rw (owned.once n) (at_most (ltb n (length s.cells))) in
+    let most = once-most s.cells s.free s.column s.pending_in s.pending_out [] n owned in
     let listed : times n s.free ≡ 1 + times n ns = rw is (times_head n ns) in
     let none : times n ns ≡ 0 = omega (arith, times-places n s.column s.pending_in s.free []) in
     let fill = filled s row (n ∷ ns) is owned in
     let old : AreEmpty s.cells ns = All-tail (λ m. (cell_at s.cells m).value ≡ None) n ns (rw is at empty) in
     λ k d h. rw (fill.others (get_or ns k d) (apart_numbers ns n none k d h)) (old k d h)
-  where
-    at_most : (b : Bool) → cond {A = ℕ} b 1 0 ≤ 1
-    at_most true = omega arith
-    at_most false = omega arith
 
 HaveKeysIn-admitted : (row : Row) (s : State) (free : List ℕ) → IsIn s.keys row.key.0 → HaveKeysIn s.keys s.cells → HaveKeysIn s.keys (cells_with row s.cells free)
 HaveKeysIn-admitted row s [] new within = All-push (λ (c : Cell Row). IfSome c.value (λ r. IsIn s.keys r.key.0)) s.cells (record { generation = 0; value = Some row }) within new

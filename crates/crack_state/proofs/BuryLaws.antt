@@ -1,29 +1,31 @@
 -- Bury: the doomed hand's cell is freed. It keeps a store intact, and commands see the same rows.
-use Rattle.std.proofs.Common.{◌≡◌, ◌≢◌, ℕ, ◌+◌, ◌*◌, ◌<◌, ◌≤◌, eqb, List, [], ◌∷◌, length, get_or, set, Option, None, refl, sym, ap, ◌∙◌, inl, inr, arith, length-set}
+use Rattle.std.proofs.Common.{◌≡◌, ◌≢◌, ℕ, ◌+◌, ◌<◌, eqb, List, [], ◌∷◌, length, get_or, set, Option, None, refl, sym, ap, ◌∙◌, inl, inr, arith, length-set}
 use Rattle.std.specs.Prelude.{◌==◌, IfSome}
 use Rattle.std.specs.List.{remove, filter_map, range_with_len}
-use Rattle.std.proofs.Math.Nat.{min-le_right}
+use Rattle.std.proofs.lemmas.List.Edits.{length-remove}
 use Rattle.std.proofs.lemmas.List.Sums.{sum_by-set}
-use Rattle.std.proofs.lemmas.List.{get_or-set_same, get_or-set_other, get_or_default}
-use Rattle.std.proofs.lemmas.List.Elements.{All-nil, All-cons, All-set, All-get_or}
+use Rattle.std.proofs.lemmas.List.{get_or-set_same, get_or-set_other}
+use Rattle.std.proofs.lemmas.List.Elements.{All-nil, All-cons, All-set}
 use Rattle.std.proofs.lemmas.Bool.{cases_eq}
+use Rattle.crack_row.proofs.Lists.{All-removed}
 use Rattle.crack_row.specs.Ranges.{IsIn}
 use Rattle.crack_row.specs.declared.Row.{Row}
 use Rattle.crack_row.specs.declared.command.Policy.{Policy}
 use Rattle.crack_arena.specs.Arena.{Cell, Handle, StandsAt, times, read, cell_at, empty_cell, slots, place_in}
-use Rattle.crack_arena.proofs.Places.{place_in-within, place_in-found}
 use Rattle.crack_arena.proofs.Times.{times-nil, times-cons, times_one, times_other, times_head, times-append}
 use Rattle.crack_state.specs.declared.MergeReport.{MergeReport}
-use Rattle.crack_state.specs.State.{State, Carried, Reads, IsCounted, IsIntact, IsKeyed, IsLiveAt, AreEmpty, freed_of, live_at, live_rows, greatest}
-use Rattle.crack_state.specs.Steps.{hand_key, IsDoomed, more, lifted, buried}
+use Rattle.crack_state.specs.State.{State, Carried, Reads, IsIntact, IsKeyed, IsLiveAt, AreEmpty, freed_of, live_at, live_rows, greatest}
+use Rattle.crack_state.specs.Steps.{hand_key, IsDoomed, lifted, buried}
 use Rattle.crack_state.specs.Merge.{Follows, Tallies}
-use Rattle.crack_state.proofs.OwnedLaws.{times-taken, times-places, All-removed, HandApart, hand_apart}
-use Rattle.crack_state.proofs.CellLaws.{AgreeOff-set, read-off, Reads-off, keys-off, generation_of_read}
+use Rattle.crack_state.proofs.OwnedLaws.{times-taken, times-places, HandApart, hand_apart}
+use Rattle.crack_state.proofs.CellLaws.{AgreeOff-set, read-off, Reads-off, keys-off, generation_of_read, stands_there}
+use Rattle.crack_state.proofs.Counters.{IsCounted-taken_out, Rises-one}
 use Rattle.crack_state.proofs.LiveLaws.{none_either}
-use Rattle.crack_state.proofs.FollowLaws.{MayEvict-none, Pushes, raised_counter, length-remove, bounds_above-few}
+use Rattle.crack_state.proofs.FollowLaws.{Pushes, Tallies-step, bounds_above-few}
 
-IsCounted-taken_out : (tally : MergeReport) → IsCounted tally → IsCounted (record tally { taken_out = more tally.taken_out })
-IsCounted-taken_out tally counted = record { put_in = counted.put_in; taken_out = min-le_right (tally.taken_out + 1) greatest; evicted = counted.evicted; moved = counted.moved; pulled = counted.pulled }
+-- the hand, which is doomed, is the pending deletion of its cell
+pub doomed_stands : (c : Carried) → IsDoomed c → IsIntact c.store (c.hand ∷ []) → StandsAt c.store.pending_out (place_in c.store.pending_out c.hand.slot) c.hand
+doomed_stands c doomed intact = stands_there c.store.cells c.store.pending_out c.hand (intact.owned.hand_reads 0 c.hand (omega arith)) intact.owned.doomed_reads doomed
 
 -- what is known of a doomed hand
 record DoomedHand (s : State) (hand : Handle) : Type 0 where
@@ -35,39 +37,14 @@ record DoomedHand (s : State) (hand : Handle) : Type 0 where
 doomed_hand : (c : Carried) → IsDoomed c → IsIntact c.store (c.hand ∷ []) → DoomedHand c.store c.hand
 doomed_hand c doomed intact =
     let s = c.store in
-    let hand = c.hand in
-    let owned = intact.owned in
-    let apart = hand_apart s.cells s.free s.column s.pending_in s.pending_out hand owned in
-    let place = place_in-within s.pending_out hand.slot doomed in
-    let met = get_or s.pending_out (place_in s.pending_out hand.slot) hand in
-    let found : met ≡ get_or s.pending_out (place_in s.pending_out hand.slot) met = get_or_default s.pending_out (place_in s.pending_out hand.slot) hand met place in
-    let same : met.slot ≡ hand.slot = place_in-found s.pending_out hand.slot met place found in
+    let apart = hand_apart s.cells s.free s.column s.pending_in s.pending_out c.hand intact.owned in
+    let stands = doomed_stands c doomed intact in
     record {
       apart = apart;
-      once = omega (arith, doomed, owned.doomed_once hand.slot, times-append hand.slot (slots s.column) (slots (hand ∷ [])), times_head hand.slot [], times-nil hand.slot, apart.off_column);
-      place = place;
-      taken = λ n. let split = times-taken n s.pending_out (place_in s.pending_out hand.slot) met place found in rw same at split;
+      once = omega (arith, doomed, intact.owned.doomed_once c.hand.slot, times-append c.hand.slot (slots s.column) (slots (c.hand ∷ [])), times_head c.hand.slot [], times-nil c.hand.slot, apart.off_column);
+      place = stands.within;
+      taken = λ n. times-taken n s.pending_out (place_in s.pending_out c.hand.slot) c.hand stands.within stands.is;
     }
-
--- handles of the same cell and generation are one
-one_handle : (h k : Handle) → h.slot ≡ k.slot → h.generation ≡ k.generation → h ≡ k
-one_handle h k slots_agree generations_agree =
-    let built : ℕ → ℕ → Handle = λ slot generation. record { slot = slot; generation = generation } in
-    ap (λ n. built n h.generation) slots_agree ∙ ap (λ n. built k.slot n) generations_agree
-
--- the hand, which is doomed, is the pending deletion of its cell
-pub doomed_stands : (c : Carried) → IsDoomed c → IsIntact c.store (c.hand ∷ []) → StandsAt c.store.pending_out (place_in c.store.pending_out c.hand.slot) c.hand
-doomed_stands c doomed intact =
-    let s = c.store in
-    let hand = c.hand in
-    let place = place_in-within s.pending_out hand.slot doomed in
-    let met = get_or s.pending_out (place_in s.pending_out hand.slot) hand in
-    let found : met ≡ get_or s.pending_out (place_in s.pending_out hand.slot) met = get_or_default s.pending_out (place_in s.pending_out hand.slot) hand met place in
-    let same : met.slot ≡ hand.slot = place_in-found s.pending_out hand.slot met place found in
-    let met_reads : Reads s.cells met = rw found (All-get_or (Reads s.cells) s.pending_out (place_in s.pending_out hand.slot) met place intact.owned.doomed_reads) in
-    let hand_reads : Reads s.cells hand = intact.owned.hand_reads 0 hand (omega arith) in
-    let of_met : (cell_at s.cells hand.slot).generation ≡ met.generation = rw same at (generation_of_read s.cells met met_reads) in
-    record { within = place; is = one_handle hand met (sym same) (sym (generation_of_read s.cells hand hand_reads) ∙ of_met) }
 
 -- once it is struck, none of them names its cell
 pub off_buried : (c : Carried) → IsDoomed c → IsIntact c.store (c.hand ∷ []) → times c.hand.slot (slots (buried c).pending_out) ≡ 0
@@ -185,33 +162,15 @@ Follows-buried c doomed intact = record {
 -- a whole carry that ends at a doomed row: lifted, pushed on, buried
 pub Tallies-carried_buried : (policy : Policy) (s : State) (i : ℕ) (c : Carried) → i < length s.pending_in → IsDoomed c → IsIntact s [] → IsIntact c.store (c.hand ∷ []) → Pushes (lifted i s) c → Tallies policy s (buried c)
 Tallies-carried_buried policy s i c inside doomed intact now pushes =
-    let counter = raised_counter s.tally.put_in in
-    let risen = counter.rises intact.counted.put_in in
-    let out = raised_counter c.store.tally.taken_out in
-    let out_risen = out.rises now.counted.taken_out in
-    let gone = length-remove s.pending_in i inside in
-    let out_gone = length-remove c.store.pending_out (place_in c.store.pending_out c.hand.slot) (doomed_hand c doomed now).place in
-    let few = bounds_above-few (hand_key (lifted i s)) s.marks in
-    record {
-      put_in_rises = omega (arith, pushes.put_in, risen);
-      taken_out_rises = omega (arith, pushes.taken_out, out_risen);
-      evicted_rises = omega (arith, pushes.evicted);
-      moved_rises = omega (arith, pushes.moved_rises);
-      pulled_rises = omega (arith, pushes.pulled);
-      counts = λ exact.
-          let one : c.store.tally.put_in ≡ s.tally.put_in + 1 = let e = pushes.put_in in e ∙ counter.exact (omega (arith, exact.put_in, e)) in
-          let two : (buried c).tally.taken_out ≡ c.store.tally.taken_out + 1 = out.exact exact.taken_out in
-          record {
-            put_in = omega (arith, one, gone, pushes.evicted, ap length pushes.pending_in);
-            taken_out = omega (arith, two, out_gone, pushes.taken_out, ap length pushes.pending_out);
-            moved = more_moved c.store.tally.moved s.tally.moved s.tally.put_in c.store.tally.put_in (length s.marks) one (omega (arith, pushes.moved, few));
-            pulled = more_pulled c.store.tally.pulled s.tally.pulled s.tally.taken_out (buried c).tally.taken_out (length s.marks) (two ∙ ap (λ n. n + 1) pushes.taken_out) pushes.pulled;
-          };
-      evicts = MayEvict-none policy s (buried c) (omega (arith, pushes.put_in, risen)) pushes.evicted;
-    }
-  where
-    more_moved : (moved before put_in after q : ℕ) → after ≡ put_in + 1 → moved ≤ before + q → moved + put_in * (q + 1) ≤ before + after * (q + 1)
-    more_moved moved before put_in after q one few = rw one (grind arith)
-
-    more_pulled : (pulled before out after q : ℕ) → after ≡ out + 1 → pulled ≡ before → pulled + out * (q + 1) ≤ before + after * (q + 1)
-    more_pulled pulled before out after q one same = rw (one, same) (grind arith)
+    let tally = ap (λ (x : State). x.tally) pushes.same in
+    let pulled = ap (λ (x : MergeReport). x.pulled) tally in
+    Tallies-step policy s (buried c) 1 1
+    (Rises-one s.tally.put_in c.store.tally.put_in s.tally.put_in (ap (λ (x : MergeReport). x.put_in) tally) refl intact.counted.put_in)
+    (Rises-one s.tally.taken_out (buried c).tally.taken_out c.store.tally.taken_out refl (ap (λ (x : MergeReport). x.taken_out) tally) now.counted.taken_out)
+    (ap (λ (x : MergeReport). x.evicted) tally)
+    pushes.moved_rises
+    (omega (arith, pushes.moved, bounds_above-few (hand_key (lifted i s)) s.marks))
+    (omega (arith, pulled))
+    (omega (arith, pulled))
+    (omega (arith, ap (λ (x : State). length x.pending_in) pushes.same, length-remove s.pending_in i inside))
+    (omega (arith, ap (λ (x : State). length x.pending_out) pushes.same, length-remove c.store.pending_out (place_in c.store.pending_out c.hand.slot) (doomed_hand c doomed now).place))

@@ -1,29 +1,20 @@
 -- What handles read, as a cell or a place changes.
-use Rattle.std.proofs.Common.{◌≡◌, ◌≢◌, ℕ, ◌<◌, List, [], ◌∷◌, map, length, get_or, set, cond, Bool, true, false, eqb, Some, None, IsSome, refl, sym, ap, inl, inr}
+use Rattle.std.proofs.Common.{◌≡◌, ◌≢◌, ℕ, ◌<◌, List, map, length, get_or, set, cond, Bool, true, false, eqb, Some, None, IsSome, refl, sym, ap, ◌∙◌, inl, inr}
 use Rattle.std.specs.List.{All}
 use Rattle.std.proofs.lemmas.List.{get_or-set_other, get_or_past}
-use Rattle.std.proofs.lemmas.List.Elements.{All-head, All-tail}
-use Rattle.std.proofs.lemmas.Bool.{cases_lt, true≢false, eqb-true}
+use Rattle.std.proofs.lemmas.List.Elements.{All-get_or}
+use Rattle.std.proofs.lemmas.Bool.{cases_lt, true≢false, eqb-true, eq-eqb}
+use Rattle.crack_row.proofs.Lists.{map_agree}
 use Rattle.crack_row.specs.declared.Row.{Row}
-use Rattle.crack_arena.specs.Arena.{Cell, Handle, times, read, cell_at, empty_cell, slots}
+use Rattle.crack_arena.specs.Arena.{Cell, Handle, StandsAt, times, read, cell_at, empty_cell, slots, place_in}
 use Rattle.crack_arena.specs.Rows.{key_of_row, key_at}
+use Rattle.crack_arena.proofs.Places.{place_in-within, place_in-slot}
 use Rattle.crack_state.specs.State.{Reads}
 use Rattle.crack_state.proofs.OwnedLaws.{apart_from_times}
 
--- what a handle reads is its cell's value
-pub read-value : (cells : List (Cell Row)) (h : Handle) (r : Row) → read cells h ≡ Some r → (cell_at cells h.slot).value ≡ Some r
-read-value cells h r reads = by_test (eqb (cell_at cells h.slot).generation h.generation) reads
-  where
-    by_test : (b : Bool) → cond b (cell_at cells h.slot).value None ≡ Some r → (cell_at cells h.slot).value ≡ Some r
-    by_test true e = e
-    by_test false e = absurd (cc)
-
-pub read_is_value : (cells : List (Cell Row)) (h : Handle) → Reads cells h → read cells h ≡ (cell_at cells h.slot).value
-read_is_value cells h reads = by_test (eqb (cell_at cells h.slot).generation h.generation) reads
-  where
-    by_test : (b : Bool) → IsSome (cond b (cell_at cells h.slot).value None) → cond b (cell_at cells h.slot).value None ≡ (cell_at cells h.slot).value
-    by_test true some = refl
-    by_test false some = absurd (true≢false (sym some))
+-- what is read is a row
+pub reads_some : (cells : List (Cell Row)) (h : Handle) (r : Row) → read cells h ≡ Some r → Reads cells h
+reads_some cells h r is = rw is refl
 
 -- a cell that a handle reads has the handle's generation
 pub generation_of_read : (cells : List (Cell Row)) (h : Handle) → Reads cells h → (cell_at cells h.slot).generation ≡ h.generation
@@ -32,6 +23,28 @@ generation_of_read cells h reads = by_test (eqb (cell_at cells h.slot).generatio
     by_test : (b : Bool) → eqb (cell_at cells h.slot).generation h.generation ≡ b → IsSome (cond b (cell_at cells h.slot).value None) → (cell_at cells h.slot).generation ≡ h.generation
     by_test true is some = eqb-true (cell_at cells h.slot).generation h.generation is
     by_test false is some = absurd (true≢false (sym some))
+
+-- so what a handle reads is its cell's value
+pub read_is_value : (cells : List (Cell Row)) (h : Handle) → Reads cells h → read cells h ≡ (cell_at cells h.slot).value
+read_is_value cells h reads = rw (eq-eqb (cell_at cells h.slot).generation h.generation (generation_of_read cells h reads)) refl
+
+pub read-value : (cells : List (Cell Row)) (h : Handle) (r : Row) → read cells h ≡ Some r → (cell_at cells h.slot).value ≡ Some r
+read-value cells h r reads = sym (read_is_value cells h (reads_some cells h r reads)) ∙ reads
+
+pub handle_same : (g h : Handle) → g.slot ≡ h.slot → g.generation ≡ h.generation → g ≡ h
+handle_same g h slots_same generations = λ i. record { slot = slots_same i; generation = generations i }
+
+-- and handles that read the same cell are one
+pub one_handle : (cells : List (Cell Row)) (g h : Handle) → Reads cells g → Reads cells h → g.slot ≡ h.slot → g ≡ h
+one_handle cells g h g_reads h_reads same =
+    handle_same g h same (sym (generation_of_read cells g g_reads) ∙ ap (λ (n : ℕ). (cell_at cells n).generation) same ∙ generation_of_read cells h h_reads)
+
+-- a handle stands where its cell is first listed
+pub stands_there : (cells : List (Cell Row)) (hs : List Handle) (h : Handle) → Reads cells h → All (Reads cells) hs → 0 < times h.slot (slots hs) → StandsAt hs (place_in hs h.slot) h
+stands_there cells hs h reads all listed =
+    let place = place_in hs h.slot in
+    let within = place_in-within hs h.slot listed in
+    record { within = within; is = sym (one_handle cells (get_or hs place h) h (All-get_or (Reads cells) hs place h within all) reads (place_in-slot hs h.slot h within)) }
 
 -- a handle that reads names a cell
 pub cell_within : (cells : List (Cell Row)) (h : Handle) (r : Row) → read cells h ≡ Some r → h.slot < length cells
@@ -42,10 +55,6 @@ cell_within cells h r reads = elim (cases_lt h.slot (length cells)) [
       let empty : (cell_at cells h.slot).value ≡ None = ap (λ (c : Cell Row). c.value) (get_or_past cells h.slot empty_cell l) in
       absurd (cc)
 ]
-
-pub map_agree : {X Y : Type 0} (f g : X → Y) (xs : List X) → All (λ x. f x ≡ g x) xs → map f xs ≡ map g xs
-map_agree f g [] all = refl
-map_agree f g (x ∷ xs) all = let first = All-head (λ y. f y ≡ g y) x xs all in let rest = map_agree f g xs (All-tail (λ y. f y ≡ g y) x xs all) in cc
 
 -- cells that are the same but for one number
 abbrev pub AgreeOff : ℕ → List (Cell Row) → List (Cell Row) → Type 0

@@ -9,8 +9,8 @@ use Rattle.std.proofs.lemmas.List.Sorted.{IsPermutation-refl, IsPermutation-tran
 use Rattle.crack_row.specs.Ranges.{Range, IsIn}
 use Rattle.crack_row.specs.declared.Bound.{Bound}
 use Rattle.crack_row.specs.declared.Row.{Row}
-use Rattle.crack_arena.specs.Arena.{Cell, Handle, read, cell_at, empty_cell, slots}
-use Rattle.crack_arena.proofs.Times.{times-append, times-map-IsPermutation}
+use Rattle.crack_arena.specs.Arena.{Cell, Handle, times, read, cell_at, empty_cell, slots}
+use Rattle.crack_arena.proofs.Times.{times-map-IsPermutation}
 use Rattle.crack_index.specs.declared.mark.Mark.{Mark}
 use Rattle.crack_index.specs.Marks.{Rising, Fits, added, next_mark, last_mark, start_of, end_of, HasBound}
 use Rattle.crack_index.proofs.MarkLaws.{next_mark-is, last_mark-is, All-added, Contains-kept, HasBound-added, Rising-added, HasBound-mark, HasBound-contains}
@@ -18,10 +18,10 @@ use Rattle.crack_arena.specs.Rows.{key_of_row, key_at}
 use Rattle.crack_column.specs.Column.{Memory, IsDividedAt, Cracks}
 use Rattle.crack_column.proofs.Divisions.{IsDividedAt-zero, IsDividedAt-end}
 use Rattle.crack_column.proofs.Cracking.{length-Cracks, Cracks-apart, Cracks-around, Cracks-whole, Cracks-divides, Cracks-keeps}
-use Rattle.crack_state.specs.State.{State, Reads, Divides, IsObeyed, HaveKeysIn, IsOwned, IsIntact, column_keys, live_rows}
+use Rattle.crack_state.specs.State.{State, Reads, Divides, IsObeyed, HaveKeysIn, IsIntact, column_keys, live_rows}
 use Rattle.crack_state.specs.Steps.{piece_start, piece_end}
 use Rattle.crack_state.specs.Merge.{IsInner, AreEnds, IsCracked, cuts, RefinesBy, RefinesAt, Refines}
-use Rattle.crack_state.proofs.OwnedLaws.{times-places}
+use Rattle.crack_state.proofs.StepLaws.{IsIntact-moved}
 use Rattle.crack_state.proofs.CellLaws.{read_is_value, cell_within}
 use Rattle.crack_state.proofs.PieceLaws.{Divides-listed, piece_end-le, piece_end-before, piece_start-behind}
 
@@ -53,17 +53,6 @@ key_within keys cells h within reads = by_value (read cells h) refl reads
 -- the keys of the column's rows are the partition's
 pub column_keys-within : (s : State) (hand : List Handle) → IsIntact s hand → All (λ k. IsIn s.keys k) (column_keys s)
 column_keys-within s hand intact = All-map (λ k. IsIn s.keys k) (key_at s.cells) s.column (λ k d h. key_within s.keys s.cells (get_or s.column k d) intact.within (intact.owned.column_reads k d h))
-
--- the column in another order
-pub IsOwned-permuted : (cells : List (Cell Row)) (free : List ℕ) (column after pending_in pending_out hand : List Handle) → IsPermutation column after → IsOwned cells free column pending_in pending_out hand → IsOwned cells free after pending_in pending_out hand
-IsOwned-permuted cells free column after pending_in pending_out hand same owned = record {
-  once = λ n. omega (arith, owned.once n, times-places n column pending_in free hand, times-places n after pending_in free hand, times-map-IsPermutation n (λ (h : Handle). h.slot) column after same);
-  column_reads = All-permutation (Reads cells) column after same owned.column_reads;
-  pending_reads = owned.pending_reads;
-  hand_reads = owned.hand_reads;
-  doomed_reads = owned.doomed_reads;
-  doomed_once = λ n. omega (arith, owned.doomed_once n, times-append n (slots column) (slots hand), times-append n (slots after) (slots hand), times-map-IsPermutation n (λ (h : Handle). h.slot) column after same);
-}
 
 -- a bound at or below another divides the keys at the place
 record Before (keys : List ℕ) (bound place : ℕ) : Type 0 where
@@ -136,18 +125,20 @@ IsIntact-cracked s u hand bound c intact =
     let from = piece_start s bound.0 in
     let to = piece_end s bound.0 in
     let m : Mark = record { bound = bound; position = c.place } in
-    rw c.after (record {
-      owned = IsOwned-permuted s.cells s.free s.column u.column s.pending_in s.pending_out hand (Cracks-whole s.cells bound.0 from to s.column c.known u.column c.known' c.place c.cracks) intact.owned;
-      obeyed = Obeyed-cracked s u hand bound intact c;
-      rising = Rising-added m s.marks intact.rising c.missing (Fits-cracked s u hand bound intact c);
-      inside = All-added (λ (x : Mark). (s.keys.low < x.bound.0) × (x.bound.0 < s.keys.high)) m s.marks (c.low, c.high) intact.inside;
-      keyed = intact.keyed;
-      empty = intact.empty;
-      within = intact.within;
-      few_cells = intact.few_cells;
-      few_freed = intact.few_freed;
-      counted = intact.counted;
-    })
+    let owned = intact.owned in
+    let whole = Cracks-whole s.cells bound.0 from to s.column c.known u.column c.known' c.place c.cracks in
+    let counts : (n : ℕ) → times n (slots u.column) ≡ times n (slots s.column) = λ n. times-map-IsPermutation n (λ (h : Handle). h.slot) s.column u.column whole in
+    rw c.after (IsIntact-moved s (cracked_at bound c.place u.column s) hand hand refl
+    (λ n. omega (arith, counts n))
+    (λ n few. omega (arith, few, counts n))
+    (All-permutation (Reads s.cells) s.column u.column whole owned.column_reads)
+    owned.pending_reads
+    owned.hand_reads
+    (Obeyed-cracked s u hand bound intact c)
+    (Rising-added m s.marks intact.rising c.missing (Fits-cracked s u hand bound intact c))
+    (All-added (λ (x : Mark). (s.keys.low < x.bound.0) × (x.bound.0 < s.keys.high)) m s.marks (c.low, c.high) intact.inside)
+    intact.counted
+    intact)
 
 -- where pieces begin and end is outside the bound's own piece, or at an end of it
 cuts_outside : (s : State) (bound : ℕ) → Rising s.marks → IsObeyed s.marks (column_keys s) → All (λ p. ((p ≤ piece_start s bound) ⊎ (piece_end s bound ≤ p)) × (p ≤ length s.column)) (cuts s)

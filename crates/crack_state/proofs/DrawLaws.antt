@@ -1,20 +1,19 @@
 -- Where a doomed row stands, as a pull comes nearer to it.
 use Rattle.std.proofs.Common.{◌≡◌, ◌≢◌, ◌⊎◌, ℕ, zero, suc, ◌+◌, ◌-◌, ◌<◌, ◌≤◌, List, [], ◌∷◌, map, length, get_or, Option, Some, None, refl, sym, ap, ◌∙◌, inl, inr, arith, length-set}
 use Rattle.std.specs.List.{All}
-use Rattle.std.proofs.lemmas.Bool.{cases_eq, cases_lt, eq-eqb, ne_eqb, lt-ltb, le-ltb}
+use Rattle.std.proofs.lemmas.Bool.{cases_eq, cases_lt, eq-eqb, ne_eqb}
 use Rattle.std.proofs.lemmas.List.{length-map, get_or-map, get_or_default, get_or-set_other, length-take-le}
 use Rattle.std.proofs.lemmas.List.Elements.{All-contains, All-map}
-use Rattle.crack_row.specs.declared.Row.{Row}
-use Rattle.crack_arena.specs.Arena.{Cell, Handle, StandsAt, IsAbsent, no_handle, times, slots, place_in}
+use Rattle.crack_arena.specs.Arena.{Handle, StandsAt, IsAbsent, no_handle, times, slots, place_in}
 use Rattle.crack_arena.specs.Rows.{key_at}
-use Rattle.crack_arena.proofs.Times.{times-nil, times-cons, times_one, times_other, times_head, times-append, times-le-length, times_map_at}
+use Rattle.crack_arena.proofs.Times.{times-nil, times-cons, times_other, times_head, times-append, times-le-length, times_map_at}
 use Rattle.crack_index.specs.declared.mark.Mark.{Mark}
 use Rattle.crack_index.specs.Marks.{Rising, next_mark, last_mark, start_of, end_of, lowered, lowered_at}
 use Rattle.crack_index.proofs.MarkLaws.{next_mark-is, last_mark-is, lowered_cases, lowered_at_cases}
-use Rattle.crack_state.specs.State.{State, Carried, places_in, Reads, IsIntact, column_keys}
+use Rattle.crack_state.specs.State.{State, Carried, Reads, IsIntact, column_keys}
 use Rattle.crack_state.specs.Steps.{hand_key, piece_start, piece_end, lower_last, IsDoomed, lifted_last, pulled_back}
-use Rattle.crack_state.proofs.OwnedLaws.{times-places, hand_apart}
-use Rattle.crack_state.proofs.CellLaws.{generation_of_read}
+use Rattle.crack_state.proofs.OwnedLaws.{times-places, once-most, hand_apart}
+use Rattle.crack_state.proofs.CellLaws.{one_handle, stands_there}
 use Rattle.crack_state.proofs.ObeyedLaws.{Divides-order}
 use Rattle.crack_state.proofs.PieceLaws.{Divides-listed}
 use Rattle.crack_state.proofs.PullLaws.{met_below}
@@ -116,24 +115,6 @@ piece_end-lifted_last s some intact after =
       | inr same ↦ omega (arith, ap (λ (x : Mark). x.position) same.1, behind, shorter)
     ]))
 
-handles_equal : (a b c d : ℕ) → a ≡ c → b ≡ d → ◌≡◌ {A = Handle} (record { slot = a; generation = b }) (record { slot = c; generation = d })
-handles_equal a b c d slots generations = rw (slots, generations) refl
-
--- handles of one cell that read are the same
-pub same_cell : (cells : List (Cell Row)) (h g : Handle) → Reads cells h → Reads cells g → h.slot ≡ g.slot → h ≡ g
-same_cell cells h g first second e =
-    handles_equal h.slot h.generation g.slot g.generation e (sym (generation_of_read cells h first) ∙ rw e (generation_of_read cells g second))
-
--- a slot that is in the list stands somewhere
-stands_by_slot : (hs : List Handle) (slot : ℕ) → 0 < times slot (slots hs) → (k : ℕ) × (k < length hs) × ((d : Handle) → (get_or hs k d).slot ≡ slot)
-stands_by_slot [] slot some = absurd (omega (arith, times-nil slot))
-stands_by_slot (h ∷ hs) slot some = elim (cases_eq h.slot slot) [
-  | inl e ↦ (0, omega arith, λ d. e)
-  | inr ne ↦
-      let rest = stands_by_slot hs slot (omega (arith, some, times-cons slot h.slot (slots hs), times_one slot h.slot, times_other slot h.slot ne)) in
-      (suc rest.0, omega (arith, rest.1), rest.2)
-]
-
 -- a handle that stands in a list is counted there
 counted : (hs : List Handle) (place : ℕ) (h : Handle) → StandsAt hs place h → 0 < times h.slot (slots hs)
 counted hs place h stands = times_map_at h.slot (λ (x : Handle). x.slot) hs place h stands.within (ap (λ (x : Handle). x.slot) (sym stands.is))
@@ -150,10 +131,9 @@ doomed_is_hand c place doomed intact stands absent =
     let reads : Reads s.cells doomed = rw (sym stands.is) at (owned.doomed_reads place doomed stands.within) in
     let some = counted s.pending_out place doomed stands in
     elim (cases_eq c.hand.slot doomed.slot) [
-      | inl e ↦ same_cell s.cells c.hand doomed (owned.hand_reads 0 c.hand (omega arith)) reads e
+      | inl e ↦ one_handle s.cells c.hand doomed (owned.hand_reads 0 c.hand (omega arith)) reads e
       | inr ne ↦
-          let there = stands_by_slot s.column doomed.slot (omega (arith, some, owned.doomed_once doomed.slot, times-append doomed.slot (slots s.column) (slots (c.hand ∷ [])), times_other doomed.slot c.hand.slot ne)) in
-          absurd (absent there.0 (record { within = there.1; is = same_cell s.cells doomed (get_or s.column there.0 doomed) reads (owned.column_reads there.0 doomed there.1) (sym (there.2 doomed)) }))
+          absurd (absent (place_in s.column doomed.slot) (stands_there s.cells s.column doomed reads owned.column_reads (omega (arith, some, owned.doomed_once doomed.slot, times-append doomed.slot (slots s.column) (slots (c.hand ∷ [])), times_other doomed.slot c.hand.slot ne))))
     ]
 
 -- a row of the column isn't the hand
@@ -186,17 +166,7 @@ place_in-only (h ∷ hs) (suc place) slot d within found once =
 doomed_at_most_once : (s : State) (hand : List Handle) (slot : ℕ) → IsIntact s hand → times slot (slots s.pending_out) ≤ 1
 doomed_at_most_once s hand slot intact =
     let owned = intact.owned in
-    let total = owned.once slot in
-    let all = times-places slot s.column s.pending_in s.free hand in
-    let both = times-append slot (slots s.column) (slots hand) in
-    elim (cases_lt slot (length s.cells)) [
-      | inl l ↦
-          let one : times slot (places_in s.column s.pending_in s.free hand) ≡ 1 = total ∙ rw (lt-ltb slot (length s.cells) l) refl in
-          omega (arith, owned.doomed_once slot, one, all, both)
-      | inr l ↦
-          let none : times slot (places_in s.column s.pending_in s.free hand) ≡ 0 = total ∙ rw (le-ltb slot (length s.cells) l) refl in
-          omega (arith, owned.doomed_once slot, none, all, both)
-    ]
+    omega (arith, owned.doomed_once slot, once-most s.cells s.free s.column s.pending_in s.pending_out hand slot owned, times-places slot s.column s.pending_in s.free hand, times-append slot (slots s.column) (slots hand))
 
 -- a pending deletion is struck where it stands
 pub place_in-doomed : (s : State) (hand : List Handle) (place : ℕ) (doomed : Handle) → IsIntact s hand → StandsAt s.pending_out place doomed → place_in s.pending_out doomed.slot ≡ place

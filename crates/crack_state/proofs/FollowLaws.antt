@@ -1,18 +1,17 @@
 -- What steps leave as it was, and what they count.
-use Rattle.std.proofs.Common.{◌≡◌, ℕ, zero, suc, ◌+◌, ◌*◌, ◌<◌, ◌≤◌, List, [], ◌∷◌, length, refl, ap, ◌∙◌, inl, inr, arith, length-set}
-use Rattle.std.specs.List.{remove}
+use Rattle.std.proofs.Common.{◌≡◌, ℕ, ◌+◌, ◌*◌, ◌<◌, ◌≤◌, List, [], ◌∷◌, length, refl, ap, ◌∙◌, arith, length-set}
 use Rattle.std.specs.Prelude.{nat_lt}
-use Rattle.std.proofs.Math.Nat.{min-le_left, min-le_right, le-min}
-use Rattle.std.proofs.lemmas.Bool.{cases_lt}
+use Rattle.std.proofs.lemmas.List.Edits.{length-remove}
 use Rattle.std.proofs.lemmas.List.Sums.{count_by-le-length}
 use Rattle.crack_row.specs.declared.command.Policy.{Policy}
 use Rattle.crack_row.specs.declared.command.Policy.TheVariants.{Complete, Gradual, Ripple}
-use Rattle.crack_arena.specs.Arena.{Handle}
 use Rattle.crack_index.specs.declared.mark.Mark.{Mark}
 use Rattle.crack_index.specs.Marks.{next_mark, bounds_of}
-use Rattle.crack_state.specs.State.{State, Carried, IsIntact, greatest}
-use Rattle.crack_state.specs.Steps.{hand_key, piece_end, more, lifted, pushed_on, appended, SameButRoom, bounds_above}
+use Rattle.crack_state.specs.declared.MergeReport.{MergeReport}
+use Rattle.crack_state.specs.State.{State, Carried, IsIntact, live_rows, freed_of}
+use Rattle.crack_state.specs.Steps.{hand_key, piece_end, lifted, pushed_on, appended, SameButRoom, bounds_above}
 use Rattle.crack_state.specs.Merge.{Follows, Counts, IsExact, Tallies, MayEvict}
+use Rattle.crack_state.proofs.Counters.{Rises, Rises-none, Rises-one, raised_counter}
 use Rattle.crack_state.proofs.PieceLaws.{bounds_of-raise_next, length-bounds}
 use Rattle.crack_state.proofs.StepLaws.{bounds_above-pushed_on}
 
@@ -43,32 +42,6 @@ Follows-appended c = record { keys = refl; live = refl; bounds = bounds_of-raise
 -- a store that follows another has as many marks
 pub length_marks-Follows : (s t : State) → Follows s t → length t.marks ≡ length s.marks
 length_marks-Follows s t follows = length-bounds t.marks s.marks follows.bounds
-
--- a counter that is raised: by one, unless it is at its greatest number
-pub record IsRaised (n : ℕ) : Type 0 where
-  pub rises : n ≤ greatest → n ≤ more n
-  pub exact : more n < greatest → more n ≡ n + 1
-  pub most : more n ≤ n + 1
-  pub fits : more n ≤ greatest
-
-pub raised_counter : (n : ℕ) → IsRaised n
-raised_counter n = record {
-  rises = λ small. le-min (omega arith) small;
-  exact = λ less. elim (cases_lt (n + 1) greatest) [
-    | inl l ↦
-        let low : n + 1 ≤ more n = le-min (omega arith) (omega arith) in
-        let high : more n ≤ n + 1 = min-le_left (n + 1) greatest in
-        omega arith
-    | inr l ↦ let low : greatest ≤ more n = le-min l (omega arith) in absurd (omega arith)
-  ];
-  most = min-le_left (n + 1) greatest;
-  fits = min-le_right (n + 1) greatest;
-}
-
-pub length-remove : (hs : List Handle) (i : ℕ) → i < length hs → length (remove hs i) + 1 ≡ length hs
-length-remove [] i h = absurd (omega arith)
-length-remove (x ∷ xs) zero h = omega arith
-length-remove (x ∷ xs) (suc i) h = omega (arith, length-remove xs i (omega arith))
 
 MayEvict-trans : (policy : Policy) (s t u : State) → (IsExact u.tally → IsExact t.tally) → MayEvict policy s t → MayEvict policy t u → MayEvict policy s u
 MayEvict-trans Complete s t u before a b = b ∙ a
@@ -110,31 +83,34 @@ Tallies-trans policy s t u same a b = record {
   evicts = MayEvict-trans policy s t u (IsExact-before policy t u b) a.evicts b.evicts;
 }
 
+-- what a step counts that puts in and takes out so many rows, and evicts none
+pub Tallies-step : (policy : Policy) (s t : State) (put out : ℕ) → Rises put s.tally.put_in t.tally.put_in → Rises out s.tally.taken_out t.tally.taken_out → t.tally.evicted ≡ s.tally.evicted → s.tally.moved ≤ t.tally.moved → t.tally.moved ≤ s.tally.moved + put * (length s.marks + 1) → s.tally.pulled ≤ t.tally.pulled → t.tally.pulled ≤ s.tally.pulled + out * (length s.marks + 1) → length t.pending_in + put ≡ length s.pending_in → length t.pending_out + out ≡ length s.pending_out → Tallies policy s t
+Tallies-step policy s t put out in_rose out_rose evicted moved_rises moved pulled_rises pulled fewer_in fewer_out = record {
+  put_in_rises = in_rose.rises;
+  taken_out_rises = out_rose.rises;
+  evicted_rises = omega (arith, evicted);
+  moved_rises = moved_rises;
+  pulled_rises = pulled_rises;
+  counts = λ exact. record {
+    put_in = omega (arith, in_rose.exact exact.put_in, fewer_in, evicted);
+    taken_out = omega (arith, out_rose.exact exact.taken_out, fewer_out);
+    moved = by_each t.tally.moved s.tally.moved s.tally.put_in t.tally.put_in put (length s.marks + 1) (in_rose.exact exact.put_in) moved;
+    pulled = by_each t.tally.pulled s.tally.pulled s.tally.taken_out t.tally.taken_out out (length s.marks + 1) (out_rose.exact exact.taken_out) pulled;
+  };
+  evicts = MayEvict-none policy s t in_rose.rises evicted;
+}
+  where
+    by_each : (after before old new k q : ℕ) → new ≡ old + k → after ≤ before + k * q → after + old * q ≤ before + new * q
+    by_each after before old new k q is few = rw is (grind arith)
+
 pub Tallies-room : (policy : Policy) (s t : State) → SameButRoom s t → Tallies policy s t
-Tallies-room policy s t room = rw room.same (record {
-  put_in_rises = omega arith;
-  taken_out_rises = omega arith;
-  evicted_rises = omega arith;
-  moved_rises = omega arith;
-  pulled_rises = omega arith;
-  counts = λ _. record { put_in = refl; taken_out = refl; moved = omega arith; pulled = omega arith };
-  evicts = MayEvict-none policy s (record s { column_room = t.column_room; in_room = t.in_room }) (omega arith) refl;
-})
+Tallies-room policy s t room = rw room.same (Tallies-step policy s (record s { column_room = t.column_room; in_room = t.in_room }) 0 0 (Rises-none s.tally.put_in s.tally.put_in refl) (Rises-none s.tally.taken_out s.tally.taken_out refl) refl (omega arith) (omega arith) (omega arith) (omega arith) (omega arith) (omega arith))
 
 -- what the pushes of a carry keep, from a hand that was lifted on: each brings the hand nearer to the column's end
 pub record Pushes (b c : Carried) : Type 0 where
-  pub keys : c.store.keys ≡ b.store.keys
-  pub cells : c.store.cells ≡ b.store.cells
+  pub same : c.store ≡ record b.store { column = c.store.column; marks = c.store.marks; tally = record b.store.tally { moved = c.store.tally.moved } }
   pub bounds : bounds_of c.store.marks ≡ bounds_of b.store.marks
-  pub pending_in : c.store.pending_in ≡ b.store.pending_in
-  pub pending_out : c.store.pending_out ≡ b.store.pending_out
   pub long : length c.store.column ≡ length b.store.column
-  pub room : c.store.column_room ≡ b.store.column_room
-  pub in_room : c.store.in_room ≡ b.store.in_room
-  pub put_in : c.store.tally.put_in ≡ b.store.tally.put_in
-  pub taken_out : c.store.tally.taken_out ≡ b.store.tally.taken_out
-  pub evicted : c.store.tally.evicted ≡ b.store.tally.evicted
-  pub pulled : c.store.tally.pulled ≡ b.store.tally.pulled
   pub moved_rises : b.store.tally.moved ≤ c.store.tally.moved
   pub moved : c.store.tally.moved + bounds_above (hand_key c) c.store.marks ≤ b.store.tally.moved + bounds_above (hand_key b) b.store.marks
 
@@ -143,77 +119,42 @@ pub bounds_above-few : (key : ℕ) (marks : List Mark) → bounds_above key mark
 bounds_above-few key marks = count_by-le-length (λ (m : Mark). nat_lt key m.bound.0) marks
 
 pub Pushes-refl : (c : Carried) → Pushes c c
-Pushes-refl c = record {
-  keys = refl;
-  cells = refl;
-  bounds = refl;
-  pending_in = refl;
-  pending_out = refl;
-  long = refl;
-  room = refl;
-  in_room = refl;
-  put_in = refl;
-  taken_out = refl;
-  evicted = refl;
-  pulled = refl;
-  moved_rises = omega arith;
-  moved = omega arith;
-}
+Pushes-refl c = record { same = refl; bounds = refl; long = refl; moved_rises = omega arith; moved = omega arith }
 
 pub Pushes-pushed_on : (b c : Carried) → piece_end c.store (hand_key c) < length c.store.column → IsIntact c.store (c.hand ∷ []) → Pushes b c → Pushes b (pushed_on c)
 Pushes-pushed_on b c ends intact pushes =
     let nearer = bounds_above-pushed_on c ends intact in
     let counter = raised_counter c.store.tally.moved in
-    let risen = counter.rises intact.counted.moved in
+    let next = (pushed_on c).store in
     record {
-      keys = pushes.keys;
-      cells = pushes.cells;
+      same = ap (λ (x : State). let y : State = record x { column = next.column; marks = next.marks; tally = record x.tally { moved = next.tally.moved } } in y) pushes.same;
       bounds = (Follows-pushed_on c).bounds ∙ pushes.bounds;
-      pending_in = pushes.pending_in;
-      pending_out = pushes.pending_out;
       long = length-set c.store.column (piece_end c.store (hand_key c)) c.hand ∙ pushes.long;
-      room = pushes.room;
-      in_room = pushes.in_room;
-      put_in = pushes.put_in;
-      taken_out = pushes.taken_out;
-      evicted = pushes.evicted;
-      pulled = pushes.pulled;
-      moved_rises = omega (arith, pushes.moved_rises, risen);
+      moved_rises = omega (arith, pushes.moved_rises, counter.rises intact.counted.moved);
       moved = omega (arith, pushes.moved, nearer, counter.most);
     }
 
 pub Follows-Pushes : (b c : Carried) → Pushes b c → Follows b.store c.store
 Follows-Pushes b c pushes = record {
-  keys = pushes.keys;
-  live = rw (pushes.cells, pushes.pending_out) refl;
+  keys = ap (λ (x : State). x.keys) pushes.same;
+  live = ap live_rows pushes.same;
   bounds = pushes.bounds;
-  cells = rw pushes.cells refl;
-  freed = rw (pushes.cells, pushes.pending_out) refl;
+  cells = ap (λ (x : State). length x.cells) pushes.same;
+  freed = ap (λ (x : State). freed_of x.cells + length x.pending_out) pushes.same;
 }
 
 -- a whole carry that ends at the column's end: lifted, pushed on, appended
 pub Tallies-carried : (policy : Policy) (s : State) (i : ℕ) (c : Carried) → i < length s.pending_in → IsIntact s [] → Pushes (lifted i s) c → Tallies policy s (appended c)
 Tallies-carried policy s i c inside intact pushes =
-    let counter = raised_counter s.tally.put_in in
-    let risen = counter.rises intact.counted.put_in in
-    let gone = length-remove s.pending_in i inside in
-    let few = bounds_above-few (hand_key (lifted i s)) s.marks in
-    record {
-      put_in_rises = omega (arith, pushes.put_in, risen);
-      taken_out_rises = omega (arith, pushes.taken_out);
-      evicted_rises = omega (arith, pushes.evicted);
-      moved_rises = omega (arith, pushes.moved_rises);
-      pulled_rises = omega (arith, pushes.pulled);
-      counts = λ exact.
-          let one : c.store.tally.put_in ≡ s.tally.put_in + 1 = let e = pushes.put_in in e ∙ counter.exact (omega (arith, exact.put_in, e)) in
-          record {
-            put_in = omega (arith, one, gone, pushes.evicted, ap length pushes.pending_in);
-            taken_out = omega (arith, pushes.taken_out, ap length pushes.pending_out);
-            moved = more_moved c.store.tally.moved s.tally.moved s.tally.put_in c.store.tally.put_in (length s.marks) one (omega (arith, pushes.moved, few));
-            pulled = omega (arith, pushes.pulled, ap (λ n. n * (length s.marks + 1)) pushes.taken_out);
-          };
-      evicts = MayEvict-none policy s (appended c) (omega (arith, pushes.put_in, risen)) pushes.evicted;
-    }
-  where
-    more_moved : (moved before put_in after q : ℕ) → after ≡ put_in + 1 → moved ≤ before + q → moved + put_in * (q + 1) ≤ before + after * (q + 1)
-    more_moved moved before put_in after q one few = rw one (grind arith)
+    let tally = ap (λ (x : State). x.tally) pushes.same in
+    let pulled = ap (λ (x : MergeReport). x.pulled) tally in
+    Tallies-step policy s (appended c) 1 0
+    (Rises-one s.tally.put_in c.store.tally.put_in s.tally.put_in (ap (λ (x : MergeReport). x.put_in) tally) refl intact.counted.put_in)
+    (Rises-none s.tally.taken_out c.store.tally.taken_out (ap (λ (x : MergeReport). x.taken_out) tally))
+    (ap (λ (x : MergeReport). x.evicted) tally)
+    pushes.moved_rises
+    (omega (arith, pushes.moved, bounds_above-few (hand_key (lifted i s)) s.marks))
+    (omega (arith, pulled))
+    (omega (arith, pulled))
+    (omega (arith, ap (λ (x : State). length x.pending_in) pushes.same, length-remove s.pending_in i inside))
+    (omega (arith, ap (λ (x : State). length x.pending_out) pushes.same))

@@ -1,29 +1,20 @@
 -- The serials of the live rows: a serial above all of them isn't in the map.
-use Rattle.std.proofs.Common.{◌≡◌, ℕ, zero, suc, ◌<◌, List, [], ◌∷◌, length, get_or, Option, Some, None, refl, ◌∙◌, arith, zero-add}
-use Rattle.std.specs.List.{All, Contains, cons_option, filter_map, range_with_len}
+use Rattle.std.proofs.Common.{◌≡◌, ℕ, ◌<◌, List, length, Option, Some, None, refl, ◌∙◌, arith, zero-add}
+use Rattle.std.specs.List.{All, Contains, range_with_len}
 use Rattle.std.proofs.lemmas.List.Elements.{All-contains}
 use Rattle.std.proofs.lemmas.List.FromFn.{length-range_with_len, get_or-range_with_len}
+use Rattle.crack_row.proofs.Lists.{Contains-filter_map}
 use Rattle.crack_row.specs.declared.Row.{Row}
 use Rattle.crack_arena.specs.Arena.{Handle, times, read, slots}
 use Rattle.crack_state.specs.State.{State, IsLiveAt, IsIntact, handle_of, live_at, live_rows}
 use Rattle.crack_state.proofs.CellLaws.{read-value, cell_within}
-
--- what is given of an element is among what is given of the list
-Contains-given : {X Y : Type 0} (f : X → Option Y) (xs : List X) (i : ℕ) (x : X) (y : Y) → i < length xs → get_or xs i x ≡ x → f x ≡ Some y → Contains (filter_map f xs) y
-Contains-given f [] i x y within at given = absurd (omega arith)
-Contains-given f (z ∷ zs) zero x y within at given = rw (at, given) (0, omega arith, refl)
-Contains-given {X} {Y} f (z ∷ zs) (suc i) x y within at given = behind (f z) (Contains-given f zs i x y (omega arith) at given)
-  where
-    behind : (o : Option Y) → Contains (filter_map f zs) y → Contains (cons_option o (filter_map f zs)) y
-    behind None is = is
-    behind (Some v) is = (suc is.0, omega (arith, is.1), is.2)
 
 -- a row that a handle reads is live, unless it is doomed
 pub Contains-live : (s : State) (h : Handle) (r : Row) → read s.cells h ≡ Some r → times h.slot (slots s.pending_out) ≡ 0 → Contains (live_rows s) r
 Contains-live s h r reads kept =
     let within = cell_within s.cells h r reads in
     let numbers = range_with_len 0 (length s.cells) in
-    Contains-given (live_at s.cells (slots s.pending_out)) numbers h.slot h.slot r (omega (arith, within, length-range_with_len 0 (length s.cells))) (get_or-range_with_len 0 (length s.cells) h.slot h.slot within ∙ zero-add h.slot) (rw kept (read-value s.cells h r reads))
+    Contains-filter_map (live_at s.cells (slots s.pending_out)) numbers h.slot h.slot r (omega (arith, within, length-range_with_len 0 (length s.cells))) (get_or-range_with_len 0 (length s.cells) h.slot h.slot within ∙ zero-add h.slot) (rw kept (read-value s.cells h r reads))
 
 -- a serial above those of all live rows isn't in the map
 pub handle_of-fresh : (s : State) (hand : List Handle) (serial : ℕ) → IsIntact s hand → All (λ (r : Row). r.serial.0 < serial) (live_rows s) → handle_of s.serials serial ≡ None

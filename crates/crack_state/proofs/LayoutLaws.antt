@@ -1,9 +1,8 @@
 -- How many cells, rows and places an intact store has, and that its layout is one.
-use Rattle.std.proofs.Common.{◌≡◌, ◌≢◌, ℕ, suc, ◌+◌, ◌-◌, ◌≤◌, Bool, true, false, ltb, List, [], ◌∷◌, ◌++◌, length, cond, Option, Some, None, IsSome, refl, sym, ap, ◌∙◌, inl, inr, arith, length-append}
+use Rattle.std.proofs.Common.{◌≡◌, ◌≢◌, ℕ, suc, ◌+◌, ◌-◌, ◌≤◌, List, [], ◌∷◌, ◌++◌, length, cond, Option, Some, None, IsSome, refl, sym, ap, ◌∙◌, inl, inr, arith, length-append}
 use Rattle.std.specs.Prelude.{◌==◌}
 use Rattle.std.specs.List.{All, cons_option, filter_map, range_with_len, sum_by}
 use Rattle.std.proofs.lemmas.List.FromFn.{length-range_with_len}
-use Rattle.std.specs.List.Sorted.{IsPermutation}
 use Rattle.std.proofs.lemmas.List.{length-map}
 use Rattle.std.proofs.lemmas.List.Elements.{filter_map-append, All-head, All-tail}
 use Rattle.std.proofs.lemmas.List.Sorted.{length_permutation}
@@ -15,18 +14,12 @@ use Rattle.crack_row.specs.Layouts.{IsLayout, AreJoined}
 use Rattle.crack_arena.specs.Arena.{Handle, times, read, slots}
 use Rattle.crack_arena.proofs.Times.{times-nil, times-cons, times_one, times_other, times-append}
 use Rattle.crack_state.specs.State.{State, places, Reads, IsOwned, IsIntact, live_rows, live_among}
-use Rattle.crack_state.proofs.OwnedLaws.{times-places}
-use Rattle.crack_state.proofs.LiveLaws.{live_rows-among, times-range, IsPermutation-filter_map_times}
-
-all_some : (ns : List ℕ) → filter_map (λ n. Some n) ns ≡ ns
-all_some [] = refl
-all_some (n ∷ ns) = ap (λ ms. n ∷ ms) (all_some ns)
+use Rattle.crack_state.proofs.OwnedLaws.{times-places, once-most}
+use Rattle.crack_state.proofs.LiveLaws.{live_rows-among, times-range, IsPermutation-times}
 
 -- lists in which each number stands equally often are equally long
 pub length-times : (xs ys : List ℕ) → ((n : ℕ) → times n xs ≡ times n ys) → length xs ≡ length ys
-length-times xs ys same =
-    let moved : IsPermutation (filter_map (λ (n : ℕ). Some n) xs) (filter_map (λ (n : ℕ). Some n) ys) = IsPermutation-filter_map_times (λ n. Some n) xs ys same in
-    sym (length_permutation xs ys (rw (all_some xs, all_some ys) at moved))
+length-times xs ys same = sym (length_permutation xs ys (IsPermutation-times xs ys same))
 
 -- each cell has one place: column, pending insertions, free list and hand have as many as there are cells
 pub cells-intact : (s : State) (hand : List Handle) → IsIntact s hand → length s.column + length s.pending_in + length s.free + length hand ≡ length s.cells
@@ -75,14 +68,6 @@ length-live_among s (h ∷ hs) reads =
     by_value None some rest = absurd (true≢false (sym some))
     by_value (Some r) some rest = omega (arith, rest)
 
--- a cell stands in one place at most
-pub once-most : (s : State) (hand : List Handle) (n : ℕ) → IsOwned s.cells s.free s.column s.pending_in s.pending_out hand → times n (places s hand) ≤ 1
-once-most s hand n owned = rw (owned.once n) (at_most (ltb n (length s.cells)))
-  where
-    at_most : (b : Bool) → cond {A = ℕ} b 1 0 ≤ 1
-    at_most true = omega arith
-    at_most false = omega arith
-
 -- the doomed are as many as those that column, pending insertions and hand have of them
 length-doomed : (s : State) (hand : List Handle) → IsOwned s.cells s.free s.column s.pending_in s.pending_out hand → length (filter_map (if_doomed (slots s.pending_out)) (slots s.column ++ slots s.pending_in ++ slots hand)) ≡ length s.pending_out
 length-doomed s hand owned =
@@ -91,7 +76,7 @@ length-doomed s hand owned =
     length-times (filter_map (if_doomed doomed) all) doomed (λ n. elim (cases_eq (times n doomed) 0) [
       | inl e ↦ times-none_doomed doomed n all e ∙ sym e
       | inr ne ↦
-          let most = once-most s hand n owned in
+          let most = once-most s.cells s.free s.column s.pending_in s.pending_out hand n owned in
           omega (arith, times-some_doomed doomed n all ne, times-append n (slots s.column ++ slots s.pending_in) (slots hand), times-append n (slots s.column) (slots s.pending_in), times-places n s.column s.pending_in s.free hand, most, owned.doomed_once n, times-append n (slots s.column) (slots hand), ne)
     ]) ∙ length-map s.pending_out (λ (h : Handle). h.slot)
 
@@ -103,7 +88,7 @@ pending_out-few s owned =
     let same : length mine ≡ length doomed = length-times mine doomed (λ n. elim (cases_eq (times n doomed) 0) [
       | inl e ↦ times-none_doomed doomed n (slots s.column) e ∙ sym e
       | inr ne ↦
-          let most = once-most s [] n owned in
+          let most = once-most s.cells s.free s.column s.pending_in s.pending_out [] n owned in
           omega (arith, times-some_doomed doomed n (slots s.column) ne, times-places n s.column s.pending_in s.free [], most, owned.doomed_once n, times-append n (slots s.column) [], times-nil n, ne)
     ]) in
     omega (arith, same, length-live_among s s.column owned.column_reads, length-map s.pending_out (λ (h : Handle). h.slot))

@@ -2,6 +2,7 @@ pub mod AdmitLaws
 pub mod AdvanceLaws
 pub mod BuryLaws
 pub mod CellLaws
+pub mod Counters
 pub mod CrackLaws
 pub mod DrawLaws
 pub mod FollowLaws

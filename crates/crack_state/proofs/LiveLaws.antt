@@ -1,13 +1,14 @@
 -- What commands see, as cells get and lose rows and rows are doomed; and that it is what column, pending insertions and hand hold.
-use Rattle.std.proofs.Common.{◌≡◌, ◌≢◌, ℕ, zero, suc, ◌+◌, ◌<◌, ◌≤◌, Bool, true, false, ltb, List, [], ◌∷◌, ◌++◌, length, cond, Option, Some, None, refl, sym, ap, ◌∙◌, inl, inr, arith, zero-add, add-zero}
+use Rattle.std.proofs.Common.{◌≡◌, ◌≢◌, ℕ, zero, suc, ◌+◌, ◌<◌, ◌≤◌, Bool, true, false, ltb, List, [], ◌∷◌, ◌++◌, length, get_or, cond, Option, Some, None, refl, sym, ap, ◌∙◌, inl, inr, arith, zero-add, add-zero}
 use Rattle.std.specs.Prelude.{◌==◌}
 use Rattle.std.specs.List.{All, cons_option, filter_map, range_with_len}
 use Rattle.std.specs.List.Sorted.{IsPermutation}
 use Rattle.std.specs.Option.{IfSome}
 use Rattle.std.proofs.lemmas.List.Sorted.{IsPermutation-refl, IsPermutation-cons, IsPermutation-trans, IsPermutation-middle, IsPermutation-sym}
 use Rattle.std.proofs.lemmas.List.{append-nil, get_or_past}
-use Rattle.std.proofs.lemmas.List.Elements.{filter_map-append, All-nil, All-cons, All-head, All-tail}
+use Rattle.std.proofs.lemmas.List.Elements.{filter_map-append}
 use Rattle.std.proofs.lemmas.Bool.{cases_eq, cases_lt, lt-ltb, le-ltb}
+use Rattle.crack_row.proofs.Lists.{filter_map_agree, filter_map_none, filter_map-map, All-filter_map, IsPermutation-filter_map}
 use Rattle.crack_row.specs.Ranges.{IsIn}
 use Rattle.crack_row.specs.declared.Row.{Row}
 use Rattle.crack_arena.specs.Arena.{Cell, Handle, times, cell_at, empty_cell, slots}
@@ -59,25 +60,15 @@ split_at_member x (y ∷ ys) some = elim (cases_eq y x) [
       record { front = y ∷ rest.front; back = rest.back; is = ap (λ zs. y ∷ zs) rest.is }
 ]
 
--- lists in which each number stands equally often give the same values, in some order
-pub IsPermutation-filter_map_times : {X : Type 0} (f : ℕ → Option X) (xs ys : List ℕ) → ((n : ℕ) → times n xs ≡ times n ys) → IsPermutation (filter_map f xs) (filter_map f ys)
-IsPermutation-filter_map_times f [] [] same = IsPermutation-refl []
-IsPermutation-filter_map_times f [] (y ∷ ys) same = absurd (omega (arith, same y, times-nil y, times_head y ys))
-IsPermutation-filter_map_times {X} f (x ∷ xs) ys same =
+-- lists in which each number stands equally often are the same, in some order
+pub IsPermutation-times : (xs ys : List ℕ) → ((n : ℕ) → times n xs ≡ times n ys) → IsPermutation xs ys
+IsPermutation-times [] [] same = IsPermutation-refl []
+IsPermutation-times [] (y ∷ ys) same = absurd (omega (arith, same y, times-nil y, times_head y ys))
+IsPermutation-times (x ∷ xs) ys same =
     let split = split_at_member x ys (omega (arith, same x, times_head x xs)) in
-    let rest : IsPermutation (filter_map f xs) (filter_map f (split.front ++ split.back)) = IsPermutation-filter_map_times f xs (split.front ++ split.back) (λ n. omega (arith, rw split.is at (same n), times-cons n x xs, times-append n split.front (x ∷ split.back), times-append n split.front split.back, times-cons n x split.back)) in
-    rw (split.is, filter_map-append f split.front (x ∷ split.back)) (by_value (f x) (filter_map f xs) (filter_map f split.front) (filter_map f split.back) (rw (filter_map-append f split.front split.back) at rest))
-  where
-    by_value : (o : Option X) (us front back : List X) → IsPermutation us (front ++ back) → IsPermutation (cons_option o us) (front ++ cons_option o back)
-    by_value None us front back p = p
-    by_value (Some v) us front back p = IsPermutation-trans (v ∷ us) (v ∷ (front ++ back)) (front ++ v ∷ back) (IsPermutation-cons v us (front ++ back) p) (IsPermutation-sym (front ++ v ∷ back) (v ∷ (front ++ back)) (IsPermutation-middle front v back))
-
--- one number more
-pub range_with_len-more : (a n : ℕ) → range_with_len a (suc n) ≡ range_with_len a n ++ (a + n) ∷ []
-range_with_len-more a zero = rw add-zero refl
-range_with_len-more a (suc n) =
-    let shift : a + 1 + n ≡ a + suc n = omega arith in
-    ap (λ ns. a ∷ ns) (rw shift at (range_with_len-more (a + 1) n))
+    let rest = split.front ++ split.back in
+    let fewer = IsPermutation-times xs rest (λ n. omega (arith, rw split.is at (same n), times-cons n x xs, times-append n split.front (x ∷ split.back), times-append n split.front split.back, times-cons n x split.back)) in
+    rw split.is (IsPermutation-trans (x ∷ xs) (x ∷ rest) (split.front ++ x ∷ split.back) (IsPermutation-cons x xs rest fewer) (IsPermutation-sym (split.front ++ x ∷ split.back) (x ∷ rest) (IsPermutation-middle split.front x split.back)))
 
 times-range_below : (k a n : ℕ) → k < a → times k (range_with_len a n) ≡ 0
 times-range_below k a zero below = times-nil k
@@ -98,22 +89,14 @@ times-range k n = times-range_from k 0 n (omega arith) ∙ rw zero-add refl
 
 -- what is given of the cells' numbers is, in some order, what is given of those in all places
 pub IsPermutation-places : {X : Type 0} (f : ℕ → Option X) (s : State) (hand : List Handle) → IsOwned s.cells s.free s.column s.pending_in s.pending_out hand → IsPermutation (filter_map f (range_with_len 0 (length s.cells))) (filter_map f (places s hand))
-IsPermutation-places f s hand owned = IsPermutation-filter_map_times f (range_with_len 0 (length s.cells)) (places s hand) (λ n. times-range n (length s.cells) ∙ sym (owned.once n))
+IsPermutation-places f s hand owned = IsPermutation-filter_map f (range_with_len 0 (length s.cells)) (places s hand) (IsPermutation-times (range_with_len 0 (length s.cells)) (places s hand) (λ n. times-range n (length s.cells) ∙ sym (owned.once n)))
 
 live_among-slots : (s : State) (hs : List Handle) → All (Reads s.cells) hs → filter_map (live_at s.cells (slots s.pending_out)) (slots hs) ≡ live_among s hs
-live_among-slots s [] reads = refl
-live_among-slots s (h ∷ hs) reads =
-    let first : live_at s.cells (slots s.pending_out) h.slot ≡ live_read s h = rw (read_is_value s.cells h (All-head (Reads s.cells) h hs reads)) refl in
-    let rest = live_among-slots s hs (All-tail (Reads s.cells) h hs reads) in
-    rw (first, rest) refl
+live_among-slots s hs reads =
+    filter_map-map (live_at s.cells (slots s.pending_out)) (λ (h : Handle). h.slot) hs ∙ filter_map_agree (λ (h : Handle). live_at s.cells (slots s.pending_out) h.slot) (live_read s) hs (λ k d h. rw (read_is_value s.cells (get_or hs k d) (reads k d h)) refl)
 
 live_at-free : (cells : List (Cell Row)) (doomed ns : List ℕ) → AreEmpty cells ns → filter_map (live_at cells doomed) ns ≡ []
-live_at-free cells doomed [] empty = refl
-live_at-free cells doomed (n ∷ ns) empty =
-    let value : (cell_at cells n).value ≡ None = All-head (λ m. (cell_at cells m).value ≡ None) n ns empty in
-    let first : live_at cells doomed n ≡ None = rw value (none_either (times n doomed == 0)) in
-    let rest = live_at-free cells doomed ns (All-tail (λ m. (cell_at cells m).value ≡ None) n ns empty) in
-    rw (first, rest) refl
+live_at-free cells doomed ns empty = filter_map_none (live_at cells doomed) ns (λ k d h. rw (empty k d h) (none_either (times (get_or ns k d) doomed == 0)))
 
 -- the rows that commands see are, in some order, those that column, pending insertions and hand hold, the doomed left out
 pub live_rows-among : (s : State) (hand : List Handle) → IsIntact s hand → IsPermutation (live_rows s) (live_among s s.column ++ live_among s s.pending_in ++ live_among s hand)
@@ -123,15 +106,6 @@ live_rows-among s hand intact =
     let split : filter_map live (places s hand) ≡ live_among s s.column ++ live_among s s.pending_in ++ live_among s hand =
     rw (filter_map-append live (slots s.column ++ slots s.pending_in ++ s.free) (slots hand), filter_map-append live (slots s.column ++ slots s.pending_in) s.free, filter_map-append live (slots s.column) (slots s.pending_in), live_among-slots s s.column owned.column_reads, live_among-slots s s.pending_in owned.pending_reads, live_among-slots s hand owned.hand_reads, live_at-free s.cells (slots s.pending_out) s.free intact.empty, append-nil) refl in
     rw split at (IsPermutation-places live s hand owned)
-
--- what holds of all that is given of the numbers holds of all in the list
-pub All-filter_map : {X Y : Type 0} (P : Y → Type 0) (f : X → Option Y) (xs : List X) → ((x : X) → IfSome (f x) P) → All P (filter_map f xs)
-All-filter_map P f [] given = All-nil P
-All-filter_map {X} {Y} P f (x ∷ xs) given = by_value (f x) (given x) (All-filter_map P f xs given)
-  where
-    by_value : (o : Option Y) → IfSome o P → All P (filter_map f xs) → All P (cons_option o (filter_map f xs))
-    by_value None first rest = rest
-    by_value (Some y) first rest = All-cons P y (filter_map f xs) first rest
 
 -- the keys of the live rows are the partition's
 pub live_rows-within : (s : State) → IsIntact s [] → All (λ (r : Row). IsIn s.keys r.key.0) (live_rows s)

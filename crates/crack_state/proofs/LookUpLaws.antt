@@ -1,21 +1,19 @@
 -- What a look-up of a serial tells of the live rows, and of any list of them; and how such a list changes.
-use Rattle.std.proofs.Common.{◌≡◌, ◌≢◌, ℕ, Bool, true, false, List, [], ◌∷◌, map, filter, length, get_or, cond, Option, Some, None, IsSome, refl, sym, ap, ◌∙◌, inl, inr, arith}
+use Rattle.std.proofs.Common.{◌≡◌, ◌≢◌, ℕ, Bool, true, false, List, [], ◌∷◌, map, filter, length, get_or, cond, Option, Some, None, IsSome, refl, sym, ap, ◌∙◌}
 use Rattle.std.specs.Prelude.{◌==◌, IfSome, unwrap_or, is_some}
 use Rattle.std.specs.List.{All, Contains, find, range_with_len}
 use Rattle.std.specs.List.Sorted.{IsPermutation}
 use Rattle.std.specs.Option.{option_and_then}
-use Rattle.std.proofs.lemmas.List.Elements.{All-head, All-tail}
 use Rattle.std.proofs.lemmas.List.Sorted.{All-permutation, Contains-permutation, IsPermutation-sym, IsPermutation-trans, IsPermutation-map}
 use Rattle.std.proofs.lemmas.Bool.{ne_eqb, eq-eqb, eqb-true, true≢false}
+use Rattle.crack_row.proofs.Lists.{All-filter_map, IsPermutation-filter, filter_all, find_only, find_none}
 use Rattle.crack_row.specs.Rows.{is_other, replaced}
 use Rattle.crack_row.specs.declared.Row.{Row}
 use Rattle.crack_arena.specs.Arena.{Handle, times, read, cell_at, slots}
 use Rattle.crack_state.specs.State.{State, IsIntact, IsLiveAt, handle_of, live_at, live_rows}
 use Rattle.crack_state.specs.Points.{row_by, pending_by, handle_by, Cancels, Dooms}
-use Rattle.crack_state.proofs.LiveLaws.{All-filter_map}
 use Rattle.crack_state.proofs.KeyedLaws.{Contains-live}
 use Rattle.crack_state.proofs.PointLaws.{found_by, reads_by, others_live}
-use Rattle.crack_state.proofs.RowLists.{Contains-either, IsPermutation-filter}
 
 -- the row that a serial leads to is a live one, and of this serial
 pub record IsRowBy (s : State) (serial : ℕ) (row : Row) : Type 0 where
@@ -67,23 +65,6 @@ row_by-only s serial row is intact =
         let found : Some r ≡ Some row = sym reads ∙ sym (row_by-handle s serial h at) ∙ is in
         ap (λ (o : Option Row). unwrap_or o row) found
 
--- a list in which one element alone passes has it found
-find_only : (test : Row → Bool) (row : Row) (rows : List Row) → Contains rows row → test row ≡ true → All (λ (r : Row). test r ≡ true → r ≡ row) rows → find test rows ≡ Some row
-find_only test row [] there passes only = absurd (omega (arith, there.1))
-find_only test row (r ∷ rows) there passes only =
-    by_test (test r) refl (λ later. find_only test row rows later passes (All-tail (λ (r : Row). test r ≡ true → r ≡ row) r rows only))
-  where
-    by_test : (b : Bool) → test r ≡ b → (Contains rows row → find test rows ≡ Some row) → cond b (Some r) (find test rows) ≡ Some row
-    by_test true is rest = ap Some (All-head (λ (r : Row). test r ≡ true → r ≡ row) r rows only is)
-    by_test false is rest = elim (Contains-either r rows row there) [
-      | inl e ↦ absurd (true≢false (sym passes ∙ ap test e ∙ is))
-      | inr later ↦ rest later
-    ]
-
-find_none : (test : Row → Bool) (rows : List Row) → All (λ (r : Row). test r ≡ false) rows → find test rows ≡ None
-find_none test [] all = refl
-find_none test (r ∷ rows) all = rw (All-head (λ (r : Row). test r ≡ false) r rows all) (find_none test rows (All-tail (λ (r : Row). test r ≡ false) r rows all))
-
 -- so a look-up finds what a search of any list of the live rows finds
 pub row_by-find : (s : State) (serial : ℕ) (plain : List Row) → IsIntact s [] → IsPermutation (live_rows s) plain → row_by s serial ≡ find (λ (r : Row). r.serial.0 == serial) plain
 row_by-find s serial plain intact same = by_handle (handle_of s.serials serial) refl
@@ -114,10 +95,7 @@ pub gone-dooms : (serial : ℕ) (s t : State) → Dooms serial s t → handle_of
 gone-dooms serial s t dooms = dooms.map serial ∙ rw (eq-eqb serial serial refl) refl
 
 filter-others : (serial : ℕ) (rows : List Row) → All (λ (r : Row). r.serial.0 ≢ serial) rows → filter (is_other serial) rows ≡ rows
-filter-others serial [] apart = refl
-filter-others serial (r ∷ rows) apart =
-    let rest = filter-others serial rows (All-tail (λ (r : Row). r.serial.0 ≢ serial) r rows apart) in
-    rw (ne_eqb r.serial.0 serial (All-head (λ (r : Row). r.serial.0 ≢ serial) r rows apart)) (ap (λ rs. r ∷ rs) rest)
+filter-others serial rows apart = filter_all (is_other serial) rows (λ k d h. rw (ne_eqb (get_or rows k d).serial.0 serial (apart k d h)) refl)
 
 -- a list of the live rows, without the one that went
 pub live-without : (s t : State) (serial : ℕ) (row : Row) (plain : List Row) → row.serial.0 ≡ serial → handle_of t.serials serial ≡ None → IsIntact t [] → IsPermutation (row ∷ live_rows t) (live_rows s) → IsPermutation (live_rows s) plain → IsPermutation (live_rows t) (filter (is_other serial) plain)

@@ -4,24 +4,24 @@ use Rattle.std.specs.Prelude.{◌==◌, IfSome, unwrap_or, is_some, not}
 use Rattle.std.specs.List.{All, remove, filter_map, range_with_len}
 use Rattle.std.specs.List.Sorted.{IsPermutation}
 use Rattle.std.specs.Option.{option_map}
-use Rattle.std.proofs.lemmas.List.{get_or-set_same, get_or-set_other, get_or_default, length_push}
-use Rattle.std.proofs.lemmas.List.Elements.{All-nil, All-head, All-tail, All-push, All-set, All-get_or}
+use Rattle.std.proofs.lemmas.List.{get_or-set_same, get_or-set_other, length_push}
+use Rattle.std.proofs.lemmas.List.Elements.{All-nil, All-push, All-set, All-contains, Contains-append_right}
 use Rattle.std.proofs.lemmas.List.Sorted.{IsPermutation-sym, IsPermutation-trans, IsPermutation-map}
 use Rattle.std.proofs.lemmas.List.Sums.{sum_by-set}
 use Rattle.std.proofs.lemmas.Bool.{cases_eq, cases_lt, ne_eqb, eq-eqb, eqb-true, lt-ltb, true≢false}
+use Rattle.crack_row.proofs.Lists.{All-removed, All-filter_map, map_fixed}
 use Rattle.crack_row.specs.Ranges.{IsIn}
 use Rattle.crack_row.specs.Rows.{replaced}
 use Rattle.crack_row.specs.declared.Row.{Row}
 use Rattle.crack_arena.specs.Arena.{Cell, Handle, StandsAt, times, read, cell_at, empty_cell, slots, no_handle, place_in}
-use Rattle.crack_arena.proofs.Places.{place_in-within, place_in-found}
 use Rattle.crack_arena.proofs.Times.{times-nil, times-cons, times_one, times_other, times_head, times-append, times-map-append}
 use Rattle.crack_state.specs.State.{State, places, Reads, IsOwned, IsIntact, IsKeyed, IsLiveAt, AreEmpty, handle_of, freed_of, live_at, live_rows}
 use Rattle.crack_state.specs.Steps.{next_handle, admitted, SameButRoom}
 use Rattle.crack_state.specs.Points.{pending_by, handle_by, Maps, MayFree, struck, doomed_too, overwritten, renewed, Cancels, Dooms, Renews, Rewrites, IsRenewable, IsRewritable}
-use Rattle.crack_state.proofs.OwnedLaws.{times-taken, times-places, All-removed}
-use Rattle.crack_state.proofs.CellLaws.{AgreeOff-set, read-off, Reads-off, keys-off, generation_of_read, read-value, cell_within}
-use Rattle.crack_state.proofs.LiveLaws.{filter_map-less, times-range, none_either, All-filter_map}
-use Rattle.crack_state.proofs.AdmitLaws.{Filled, handle_of-push, handle_same, read-new, read_same, IsIntact-admitted, live_rows-admitted, freed-admitted, cells-admitted}
+use Rattle.crack_state.proofs.OwnedLaws.{times-taken, times-places}
+use Rattle.crack_state.proofs.CellLaws.{AgreeOff-set, read-off, Reads-off, keys-off, generation_of_read, reads_some, one_handle, stands_there, read-value, cell_within}
+use Rattle.crack_state.proofs.LiveLaws.{filter_map-less, times-range, none_either, split_at_member}
+use Rattle.crack_state.proofs.AdmitLaws.{Filled, handle_of-push, read-new, read_same, IsIntact-admitted, live_rows-admitted, freed-admitted, cells-admitted}
 use Rattle.crack_state.proofs.BuryLaws.{read-set_none, AreEmpty-freed}
 
 -- the handle that a serial leads to, and whether it is a pending insertion
@@ -53,16 +53,13 @@ pub record Stands1 (s : State) (serial : ℕ) (h : Handle) : Type 0 where
 
 -- the number of a cell with a value is none of the free ones
 full-off_free : (cells : List (Cell Row)) (n : ℕ) (r : Row) (free : List ℕ) → (cell_at cells n).value ≡ Some r → AreEmpty cells free → times n free ≡ 0
-full-off_free cells n r [] full empty = times-nil n
-full-off_free cells n r (m ∷ ms) full empty = elim (cases_eq m n) [
-  | inl e ↦
-      let none : (cell_at cells m).value ≡ None = All-head (λ k. (cell_at cells k).value ≡ None) m ms empty in
-      let same : (cell_at cells m).value ≡ (cell_at cells n).value = ap (λ (k : ℕ). (cell_at cells k).value) e in
-      absurd (cc)
-  | inr ne ↦
-      let rest = full-off_free cells n r ms full (All-tail (λ k. (cell_at cells k).value ≡ None) m ms empty) in
-      omega (arith, times-cons n m ms, times_one n m, times_other n m ne, rest)
+full-off_free cells n r free full empty = elim (cases_lt 0 (times n free)) [
+  | inl l ↦ let there = split_at_member n free l in absurd (let none : (cell_at cells n).value ≡ None = listed_empty there.front there.back (rw there.is at empty) in cc)
+  | inr l ↦ omega arith
 ]
+  where
+    listed_empty : (front back : List ℕ) → AreEmpty cells (front ++ n ∷ back) → (cell_at cells n).value ≡ None
+    listed_empty front back empty = All-contains (λ m. (cell_at cells m).value ≡ None) (front ++ n ∷ back) n empty (Contains-append_right front (n ∷ back) n (0, omega arith, refl))
 
 pub stands1 : (s : State) (serial : ℕ) (h : Handle) → handle_of s.serials serial ≡ Some h → IsIntact s [] → Stands1 s serial h
 stands1 s serial h found intact =
@@ -71,15 +68,6 @@ stands1 s serial h found intact =
     let off = full-off_free s.cells h.slot live.row s.free (read-value s.cells h live.row live.reads) intact.empty in
     let total : times h.slot (places s []) ≡ 1 = intact.owned.once h.slot ∙ rw (lt-ltb h.slot (length s.cells) within) refl in
     record { live = live; within = within; off_free = off; once = omega (arith, total, times-places h.slot s.column s.pending_in s.free [], times-nil h.slot, off) }
-
--- handles that read the same cell are one
-one_handle : (cells : List (Cell Row)) (g h : Handle) → Reads cells g → Reads cells h → g.slot ≡ h.slot → g ≡ h
-one_handle cells g h g_reads h_reads same =
-    let generations : g.generation ≡ h.generation = sym (generation_of_read cells g g_reads) ∙ ap (λ (n : ℕ). (cell_at cells n).generation) same ∙ generation_of_read cells h h_reads in
-    handle_same g h same generations
-
-reads_some : (cells : List (Cell Row)) (h : Handle) (r : Row) → read cells h ≡ Some r → Reads cells h
-reads_some cells h r is = rw is refl
 
 -- the handle of a serial reads its row
 pub reads_by : (s : State) (serial : ℕ) (h : Handle) → handle_of s.serials serial ≡ Some h → IsIntact s [] → Reads s.cells h
@@ -101,13 +89,7 @@ unlisted_by s serial found = by_number (times (handle_by s serial).slot (slots s
 pub listed_at : (s : State) (serial : ℕ) (h : Handle) → handle_of s.serials serial ≡ Some h → 0 < times h.slot (slots s.pending_in) → IsIntact s [] → StandsAt s.pending_in (place_in s.pending_in h.slot) h
 listed_at s serial h found listed intact =
     let live : IsLiveAt s.cells (slots s.pending_out) serial h = intact.keyed.leads serial h found in
-    let place = place_in s.pending_in h.slot in
-    let within = place_in-within s.pending_in h.slot listed in
-    let met = get_or s.pending_in place h in
-    let at : met ≡ get_or s.pending_in place met = get_or_default s.pending_in place h met within in
-    let slot : met.slot ≡ h.slot = place_in-found s.pending_in h.slot met within at in
-    let reads : Reads s.cells met = All-get_or (Reads s.cells) s.pending_in place h within intact.owned.pending_reads in
-    record { within = within; is = sym (one_handle s.cells met h reads (reads_some s.cells h live.row live.reads) slot) }
+    stands_there s.cells s.pending_in h (reads_some s.cells h live.row live.reads) intact.owned.pending_reads listed
 
 -- another serial leads to another cell
 apart_handle : (s : State) (serial n : ℕ) (h g : Handle) → serial ≢ n → handle_of s.serials serial ≡ Some h → handle_of s.serials n ≡ Some g → IsKeyed s.cells (slots s.pending_out) s.serials → g.slot ≢ h.slot
@@ -439,11 +421,7 @@ others_live cells doomed serials serial numbers none keyed = All-filter_map Othe
 
 -- a list without the serial of a row stays where that row is put in its place
 map-replaced : (row : Row) (rows : List Row) → All (λ (r : Row). r.serial.0 ≢ row.serial.0) rows → map (replaced row) rows ≡ rows
-map-replaced row [] apart = refl
-map-replaced row (r ∷ rows) apart =
-    let first : replaced row r ≡ r = rw (ne_eqb r.serial.0 row.serial.0 (All-head (λ (r : Row). r.serial.0 ≢ row.serial.0) r rows apart)) refl in
-    let rest = map-replaced row rows (All-tail (λ (r : Row). r.serial.0 ≢ row.serial.0) r rows apart) in
-    cc
+map-replaced row rows apart = map_fixed (replaced row) rows (λ k d h. rw (ne_eqb (get_or rows k d).serial.0 row.serial.0 (apart k d h)) refl)
 
 -- one row goes and another of its serial comes
 pub replaced_in : (row old : Row) (before rest after : List Row) → old.serial.0 ≡ row.serial.0 → All (λ (r : Row). r.serial.0 ≢ row.serial.0) rest → IsPermutation (old ∷ rest) before → IsPermutation (row ∷ rest) after → IsPermutation (map (replaced row) before) after

@@ -1,69 +1,26 @@
 -- The steps of a pull, and the step back to the pending insertions, keep a store intact.
-use Rattle.std.proofs.Common.{◌≡◌, ◌⊎◌, ℕ, ◌+◌, ◌-◌, ◌<◌, ◌≤◌, List, [], ◌∷◌, ◌++◌, map, length, get_or, set, take, Option, Some, None, refl, sym, ap, ◌∙◌, inl, inr, arith}
-use Rattle.std.specs.List.{All}
-use Rattle.std.proofs.Math.Nat.{min-le_right}
+use Rattle.std.proofs.Common.{◌≡◌, ◌⊎◌, ℕ, zero, suc, ◌+◌, ◌-◌, ◌<◌, ◌≤◌, List, [], ◌∷◌, ◌++◌, map, length, get_or, set, take, Option, Some, None, refl, sym, ap, ◌∙◌, inl, inr, arith}
+use Rattle.std.specs.List.{All, remove}
 use Rattle.std.proofs.lemmas.Bool.{cases_eq, cases_lt}
 use Rattle.std.proofs.lemmas.Bool.Decides.{nat_tests}
-use Rattle.std.proofs.lemmas.List.{length-map, get_or-map, get_or_default, take-map, take_all, take_more, get_or-take, length-take-le}
+use Rattle.std.proofs.lemmas.List.{length-map, get_or-map, get_or_default, take-map, get_or-take, length-take-le}
 use Rattle.std.proofs.lemmas.List.Elements.{All-map, All-push, All-cons, All-nil, All-get_or, All-head, All-take}
 use Rattle.crack_row.specs.Ranges.{Range}
-use Rattle.crack_row.specs.declared.Row.{Row}
-use Rattle.crack_arena.specs.Arena.{Cell, Handle, no_handle, times, slots}
+use Rattle.crack_arena.specs.Arena.{Handle, no_handle, times, slots}
 use Rattle.crack_arena.specs.Rows.{key_at}
-use Rattle.crack_arena.proofs.Times.{times-nil, times_other, times-append, times-map-append}
+use Rattle.crack_arena.proofs.Times.{times-nil, times_other, times-map-append}
 use Rattle.crack_index.specs.declared.mark.Mark.{Mark}
 use Rattle.crack_index.specs.Marks.{Rising, last_mark, start_of, lowered, lowered_at, bounds_of}
 use Rattle.crack_index.proofs.MarkLaws.{last_mark-is, bounds_of-lowered, bounds_of-lowered_at, Rising-lowered, Rising-lowered_at}
 use Rattle.crack_column.proofs.Divisions.{IsDividedAt-set_below, IsDividedAt-set_above, IsDividedAt-lowered, IsDividedAt-take}
-use Rattle.crack_state.specs.declared.MergeReport.{MergeReport}
-use Rattle.crack_state.specs.State.{State, Carried, Reads, IsOwned, Divides, IsObeyed, AreInside, IsCounted, IsIntact, column_keys, greatest}
+use Rattle.crack_state.specs.State.{State, Carried, Reads, Divides, IsObeyed, AreInside, IsIntact, column_keys}
 use Rattle.crack_state.specs.Steps.{hand_key, piece_start, piece_end, lower_last, more, lifted_last, pulled_back, exchanged, bounds_up_to, returned}
 use Rattle.crack_state.specs.Merge.{Follows}
-use Rattle.crack_state.proofs.OwnedLaws.{times-places}
+use Rattle.crack_state.proofs.Counters.{IsCounted-evicted, IsCounted-pulled}
+use Rattle.crack_state.proofs.OwnedLaws.{times-taken}
 use Rattle.crack_state.proofs.ObeyedLaws.{Divides-order}
 use Rattle.crack_state.proofs.PieceLaws.{Divides-listed, piece_end-le, piece_end-before, piece_start-behind, bounds_up_to-less}
-use Rattle.crack_state.proofs.StepLaws.{IsIntact-put_at}
-
--- a counter that is raised still fits
-IsCounted-evicted : (tally : MergeReport) → IsCounted tally → IsCounted (record tally { evicted = more tally.evicted })
-IsCounted-evicted tally counted = record { put_in = counted.put_in; taken_out = counted.taken_out; evicted = min-le_right (tally.evicted + 1) greatest; moved = counted.moved; pulled = counted.pulled }
-
-IsCounted-pulled : (tally : MergeReport) → IsCounted tally → IsCounted (record tally { pulled = more tally.pulled })
-IsCounted-pulled tally counted = record { put_in = counted.put_in; taken_out = counted.taken_out; evicted = counted.evicted; moved = counted.moved; pulled = min-le_right (tally.pulled + 1) greatest }
-
--- the hand goes behind the last pending insertion
-IsOwned-returned : (cells : List (Cell Row)) (free : List ℕ) (column pending_in pending_out : List Handle) (hand : Handle) → times hand.slot (slots pending_out) ≡ 0 → IsOwned cells free column pending_in pending_out (hand ∷ []) → IsOwned cells free column (pending_in ++ hand ∷ []) pending_out []
-IsOwned-returned cells free column pending_in pending_out hand kept owned =
-    let slot : Handle → ℕ = λ h. h.slot in
-    record {
-      once = λ n. omega (arith, owned.once n, times-places n column pending_in free (hand ∷ []), times-places n column (pending_in ++ hand ∷ []) free [], times-map-append n slot pending_in (hand ∷ []), times-nil n);
-      column_reads = owned.column_reads;
-      pending_reads = All-push (Reads cells) pending_in hand owned.pending_reads (All-head (Reads cells) hand [] owned.hand_reads);
-      hand_reads = All-nil (Reads cells);
-      doomed_reads = owned.doomed_reads;
-      doomed_once = λ n. elim (cases_eq hand.slot n) [
-        | inl e ↦ rw (← e) (omega (arith, kept))
-        | inr ne ↦ omega (arith, owned.doomed_once n, times-append n (slots column) (slots (hand ∷ [])), times-append n (slots column) [], times-nil n, times_other n hand.slot ne)
-      ];
-    }
-
--- the column's last handle is taken into the hand
-IsOwned-lifted_last : (cells : List (Cell Row)) (free : List ℕ) (column pending_in pending_out : List Handle) (hand : Handle) → 0 < length column → hand ≡ get_or column (length column - 1) hand → IsOwned cells free column pending_in pending_out [] → IsOwned cells free (take (length column - 1) column) pending_in pending_out (hand ∷ [])
-IsOwned-lifted_last cells free column pending_in pending_out hand some found owned =
-    let slot : Handle → ℕ = λ x. x.slot in
-    let shorter = take (length column - 1) column in
-    let next : length column - 1 + 1 ≡ length column = omega arith in
-    let split : column ≡ shorter ++ hand ∷ [] =
-    sym (take_all (length column) column (omega arith)) ∙ sym (ap (λ n. take n column) next) ∙ take_more column (length column - 1) hand (omega arith) ∙ ap (λ x. shorter ++ x ∷ []) (sym found) in
-    let counts : (n : ℕ) → times n (slots column) ≡ times n (slots shorter) + times n (slots (hand ∷ [])) = λ n. ap (λ hs. times n (slots hs)) split ∙ times-map-append n slot shorter (hand ∷ []) in
-    record {
-      once = λ n. omega (arith, owned.once n, times-places n column pending_in free [], times-places n shorter pending_in free (hand ∷ []), counts n, times-nil n);
-      column_reads = All-take (Reads cells) (length column - 1) column owned.column_reads;
-      pending_reads = owned.pending_reads;
-      hand_reads = All-cons (Reads cells) hand [] (rw found (All-get_or (Reads cells) column (length column - 1) hand (omega arith) owned.column_reads)) (All-nil (Reads cells));
-      doomed_reads = owned.doomed_reads;
-      doomed_once = λ n. omega (arith, owned.doomed_once n, times-append n (slots column) [], times-append n (slots shorter) (slots (hand ∷ [])), counts n, times-nil n);
-    }
+use Rattle.crack_state.proofs.StepLaws.{IsIntact-moved, IsIntact-put_at}
 
 -- whether `lowered` moves a bound
 lowered_place : (high place : ℕ) (m : Mark) → ((m.bound.0 ≤ high) × (m.position ≡ place) × ((lowered high place m).position ≡ place - 1)) ⊎ (((lowered high place m).position ≡ m.position) × ((m.bound.0 ≤ high) → m.position ≡ place → ⊥))
@@ -137,36 +94,51 @@ AreInside-lowered_at keys place ms inside = All-map (λ (x : Mark). (keys.low < 
 pub IsIntact-returned : (c : Carried) → times c.hand.slot (slots c.store.pending_out) ≡ 0 → IsIntact c.store (c.hand ∷ []) → IsIntact (returned c) []
 IsIntact-returned c kept intact =
     let s = c.store in
-    record {
-      owned = IsOwned-returned s.cells s.free s.column s.pending_in s.pending_out c.hand kept intact.owned;
-      obeyed = intact.obeyed;
-      rising = intact.rising;
-      inside = intact.inside;
-      keyed = intact.keyed;
-      empty = intact.empty;
-      within = intact.within;
-      few_cells = intact.few_cells;
-      few_freed = intact.few_freed;
-      counted = IsCounted-evicted s.tally intact.counted;
-    }
+    let owned = intact.owned in
+    let counts : (n : ℕ) → times n (slots (s.pending_in ++ c.hand ∷ [])) ≡ times n (slots s.pending_in) + times n (slots (c.hand ∷ [])) = λ n. times-map-append n (λ (h : Handle). h.slot) s.pending_in (c.hand ∷ []) in
+    IsIntact-moved s (returned c) (c.hand ∷ []) [] refl
+    (λ n. omega (arith, counts n, times-nil n))
+    (λ n few. elim (cases_eq c.hand.slot n) [
+      | inl e ↦ rw (← e) (omega (arith, kept))
+      | inr ne ↦ omega (arith, few, times-nil n, times_other n c.hand.slot ne)
+    ])
+    owned.column_reads
+    (All-push (Reads s.cells) s.pending_in c.hand owned.pending_reads (All-head (Reads s.cells) c.hand [] owned.hand_reads))
+    (All-nil (Reads s.cells))
+    intact.obeyed
+    intact.rising
+    intact.inside
+    (IsCounted-evicted s.tally intact.counted)
+    intact
 
 -- the column's last handle is taken into the hand
 pub IsIntact-lifted_last : (s : State) → 0 < length s.column → IsIntact s [] → IsIntact (lifted_last s).store ((lifted_last s).hand ∷ [])
 IsIntact-lifted_last s some intact =
+    let owned = intact.owned in
     let hand = (lifted_last s).hand in
+    let last = length s.column - 1 in
     let keys_len : length (column_keys s) ≡ length s.column = length-map s.column (key_at s.cells) in
-    record {
-      owned = IsOwned-lifted_last s.cells s.free s.column s.pending_in s.pending_out hand some (get_or_default s.column (length s.column - 1) no_handle hand (omega arith)) intact.owned;
-      obeyed = rw (← take-map (key_at s.cells) (length s.column - 1) s.column, ← keys_len) (Obeyed-lowered_at (column_keys s) s.marks (omega arith) intact.obeyed);
-      rising = Rising-lowered_at (length s.column) s.marks intact.rising;
-      inside = AreInside-lowered_at s.keys (length s.column) s.marks intact.inside;
-      keyed = intact.keyed;
-      empty = intact.empty;
-      within = intact.within;
-      few_cells = intact.few_cells;
-      few_freed = intact.few_freed;
-      counted = intact.counted;
-    }
+    let shorter : take last s.column ≡ remove s.column last = rest_of s.column last (omega arith) in
+    let counts : (n : ℕ) → times n (slots (take last s.column)) + times n (slots (hand ∷ [])) ≡ times n (slots s.column) = λ n. rw shorter (times-taken n s.column last hand (omega arith) (get_or_default s.column last no_handle hand (omega arith))) in
+    IsIntact-moved s (lifted_last s).store [] (hand ∷ []) refl
+    (λ n. omega (arith, counts n, times-nil n))
+    (λ n few. omega (arith, few, counts n, times-nil n))
+    (All-take (Reads s.cells) last s.column owned.column_reads)
+    owned.pending_reads
+    (All-cons (Reads s.cells) hand [] (All-get_or (Reads s.cells) s.column last no_handle (omega arith) owned.column_reads) (All-nil (Reads s.cells)))
+    (rw (← take-map (key_at s.cells) last s.column, ← keys_len) (Obeyed-lowered_at (column_keys s) s.marks (omega arith) intact.obeyed))
+    (Rising-lowered_at (length s.column) s.marks intact.rising)
+    (AreInside-lowered_at s.keys (length s.column) s.marks intact.inside)
+    intact.counted
+    intact
+  where
+    -- without the last handle
+    rest_of : (hs : List Handle) (last : ℕ) → length hs ≤ last + 1 → take last hs ≡ remove hs last
+    rest_of [] zero short = refl
+    rest_of [] (suc last) short = refl
+    rest_of (h ∷ []) zero short = refl
+    rest_of (h ∷ g ∷ hs) zero short = absurd (omega arith)
+    rest_of (h ∷ hs) (suc last) short = ap (λ gs. h ∷ gs) (rest_of hs last (omega arith))
 
 -- the hand is put at the last place before its own piece
 pub IsIntact-pulled_back : (c : Carried) → 0 < piece_start c.store (hand_key c) → IsIntact c.store (c.hand ∷ []) → IsIntact (pulled_back c).store ((pulled_back c).hand ∷ [])
@@ -238,6 +210,3 @@ Follows-returned c = record { keys = refl; live = refl; bounds = refl; cells = r
 
 pub Follows-pulled_back : (c : Carried) → Follows c.store (pulled_back c).store
 Follows-pulled_back c = record { keys = refl; live = refl; bounds = bounds_of-lower_last (last_mark (hand_key c) c.store.marks) c.store.marks; cells = refl; freed = refl }
-
-pub Follows-exchanged : (place : ℕ) (c : Carried) → Follows c.store (exchanged place c).store
-Follows-exchanged place c = record { keys = refl; live = refl; bounds = refl; cells = refl; freed = refl }

@@ -9,6 +9,7 @@ use Rattle.std.proofs.lemmas.List.Edits.{split_between, get_or-between, length-b
 use Rattle.std.proofs.lemmas.List.Sorted.{length_permutation, sum_by-IsPermutation}
 use Rattle.std.proofs.lemmas.List.Sums.{length-filter}
 use Rattle.std.proofs.lemmas.Bool.{cases_eq, cases_lt, lt-ltb, le-ltb, le-leb, lt-leb, true≢false, and_left, and_right}
+use Rattle.crack_row.proofs.Lists.{kept_by, filter-filter_map, filter_map_agree, filter_map_none, filter_map-map}
 use Rattle.crack_row.specs.Ranges.{Range, in_range}
 use Rattle.crack_row.specs.declared.Row.{Row}
 use Rattle.crack_arena.specs.Arena.{Cell, Handle, times, read, cell_at, slots}
@@ -42,39 +43,16 @@ edge-divides s hand bound intact above below stands =
       | inr l ↦ rw (le-leb bound s.keys.low l) (record { within = omega arith; below = λ k h. absurd (omega arith); above = λ k h j. omega (arith, (all k 0 j).0) })
     ]
 
--- a row that a test lets by, if there is one
-abbrev kept_by : (Row → Bool) → Option Row → Option Row
-kept_by test None = None
-kept_by test (Some r) = cond (test r) (Some r) None
-
-filter-filter_map : (test : Row → Bool) (g : ℕ → Option Row) (ns : List ℕ) → filter test (filter_map g ns) ≡ filter_map (λ n. kept_by test (g n)) ns
-filter-filter_map test g [] = refl
-filter-filter_map test g (n ∷ ns) = rw (← filter-filter_map test g ns) (by_value (g n) (filter_map g ns))
-  where
-    by_test : (b : Bool) (r : Row) (rs : List Row) → cond b (r ∷ rs) rs ≡ cons_option (cond b (Some r) None) rs
-    by_test true r rs = refl
-    by_test false r rs = refl
-
-    by_value : (o : Option Row) (rs : List Row) → filter test (cons_option o rs) ≡ cons_option (kept_by test o) (filter test rs)
-    by_value None rs = refl
-    by_value (Some r) rs = by_test (test r) r (filter test rs)
-
 filter-live_rows : (test : Row → Bool) (s : State) (hand : List Handle) → IsOwned s.cells s.free s.column s.pending_in s.pending_out hand → IsPermutation (filter test (live_rows s)) (filter_map (λ n. kept_by test (live_at s.cells (slots s.pending_out) n)) (places s hand))
 filter-live_rows test s hand owned =
     let live = live_at s.cells (slots s.pending_out) in
     rw (filter-filter_map test live (range_with_len 0 (length s.cells))) (IsPermutation-places (λ n. kept_by test (live n)) s hand owned)
 
 none_kept : (g : ℕ → Option Row) (hs : List Handle) → All (λ (h : Handle). g h.slot ≡ None) hs → filter_map g (slots hs) ≡ []
-none_kept g [] none = refl
-none_kept g (h ∷ hs) none = let rest = none_kept g hs (All-tail (λ (x : Handle). g x.slot ≡ None) h hs none) in rw (All-head (λ (x : Handle). g x.slot ≡ None) h hs none, rest) refl
-
-none_kept_free : (g : ℕ → Option Row) (ns : List ℕ) → All (λ n. g n ≡ None) ns → filter_map g ns ≡ []
-none_kept_free g [] none = refl
-none_kept_free g (n ∷ ns) none = let rest = none_kept_free g ns (All-tail (λ x. g x ≡ None) n ns none) in rw (All-head (λ x. g x ≡ None) n ns none, rest) refl
+none_kept g hs none = filter_map-map g (λ (h : Handle). h.slot) hs ∙ filter_map_none (λ (h : Handle). g h.slot) hs none
 
 all_kept : (g : ℕ → Option Row) (cells : List (Cell Row)) (hs : List Handle) → All (λ (h : Handle). g h.slot ≡ read cells h) hs → filter_map g (slots hs) ≡ filter_map (read cells) hs
-all_kept g cells [] same = refl
-all_kept g cells (h ∷ hs) same = let rest = all_kept g cells hs (All-tail (λ (x : Handle). g x.slot ≡ read cells x) h hs same) in rw (All-head (λ (x : Handle). g x.slot ≡ read cells x) h hs same, rest) refl
+all_kept g cells hs same = filter_map-map g (λ (h : Handle). h.slot) hs ∙ filter_map_agree (λ (h : Handle). g h.slot) (read cells) hs same
 
 -- a row outside the range isn't let by
 pub outside_false : (r : Range) (row : Row) → IsOutside r row.key.0 → in_range r row ≡ false
@@ -156,7 +134,7 @@ holds_between s r from to order low high pending doomed intact =
     let at : get_or back k d ≡ get_or s.column (to + k) d = get_or-drop to s.column k d in
     rw at (kept_outside r s (get_or s.column (to + k) d) (owned.column_reads (to + k) d (omega arith)) (inr (high.above (to + k) d (omega arith) (omega arith))))) in
     let pending_none : filter_map g (slots s.pending_in) ≡ [] = none_kept g s.pending_in (λ k d h. kept_outside r s (get_or s.pending_in k d) (owned.pending_reads k d h) (pending k d h)) in
-    let free_none : filter_map g s.free ≡ [] = none_kept_free g s.free (λ k d h. rw (intact.empty k d h, none_either (times (get_or s.free k d) (slots s.pending_out) == 0)) refl) in
+    let free_none : filter_map g s.free ≡ [] = filter_map_none g s.free (λ k d h. rw (intact.empty k d h, none_either (times (get_or s.free k d) (slots s.pending_out) == 0)) refl) in
     let slot : Handle → ℕ = λ h. h.slot in
     let column : filter_map g (slots s.column) ≡ filter_map (read s.cells) mid =
     ap (λ hs. filter_map g (slots hs)) whole ∙ rw (map-append slot front (mid ++ back), map-append slot mid back, filter_map-append g (slots front) (slots mid ++ slots back), filter_map-append g (slots mid) (slots back), front_none, mid_all, back_none, append-nil) refl in

@@ -1,66 +1,37 @@
 -- Each step of a carry keeps a store intact.
-use Rattle.std.proofs.Common.{◌≡◌, ℕ, ◌+◌, ◌<◌, ◌≤◌, List, [], ◌∷◌, ◌++◌, length, get_or, set, Option, Some, None, refl, sym, ap, ◌∙◌, arith}
-use Rattle.std.proofs.Math.Nat.{min-le_right}
+use Rattle.std.proofs.Common.{◌≡◌, ℕ, ◌+◌, ◌<◌, ◌≤◌, List, [], ◌∷◌, ◌++◌, map, length, get_or, set, Option, Some, None, refl, sym, ap, ◌∙◌, arith}
+use Rattle.std.specs.List.{All}
 use Rattle.std.proofs.lemmas.List.{map-set, map-append, length-map, get_or-map, get_or_default}
-use Rattle.crack_arena.specs.Arena.{Handle, no_handle}
+use Rattle.std.proofs.lemmas.List.Elements.{All-set, All-push, All-cons, All-nil, All-get_or, All-head}
+use Rattle.crack_row.proofs.Lists.{All-removed}
+use Rattle.crack_arena.specs.Arena.{Handle, no_handle, times, slots}
+use Rattle.crack_arena.specs.Rows.{key_at}
+use Rattle.crack_arena.proofs.Times.{times-nil, times-append, times-map-append}
 use Rattle.crack_index.specs.declared.mark.Mark.{Mark}
 use Rattle.crack_index.specs.Marks.{Rising, next_mark, end_of}
 use Rattle.crack_index.proofs.MarkLaws.{next_mark-is, next_mark-none}
-use Rattle.crack_arena.specs.Rows.{key_at}
 use Rattle.crack_state.specs.declared.MergeReport.{MergeReport}
-use Rattle.crack_state.specs.State.{State, Carried, column_keys, IsObeyed, AreInside, IsCounted, IsIntact, greatest}
+use Rattle.crack_state.specs.State.{State, Carried, Reads, column_keys, IsObeyed, AreInside, IsCounted, IsIntact}
 use Rattle.crack_state.specs.Steps.{hand_key, piece_end, raise_next, more, put_at, lifted, pushed_on, appended, SameButRoom, bounds_above}
+use Rattle.crack_state.proofs.Counters.{IsCounted-put_in, IsCounted-moved}
 use Rattle.crack_state.proofs.ObeyedLaws.{Obeyed-raised, Obeyed-push, Obeyed-push_raised}
 use Rattle.crack_state.proofs.PieceLaws.{Divides-listed, Rising-raise_next, AreInside-raise_next, bounds_above-less}
-use Rattle.crack_state.proofs.OwnedLaws.{IsOwned-exchange, IsOwned-appended, IsOwned-lifted}
+use Rattle.crack_state.proofs.OwnedLaws.{times-exchange, times-taken, times-places}
 
--- a counter that is raised still fits
-pub IsCounted-put_in : (tally : MergeReport) → IsCounted tally → IsCounted (record tally { put_in = more tally.put_in })
-IsCounted-put_in tally counted = record { put_in = min-le_right (tally.put_in + 1) greatest; taken_out = counted.taken_out; evicted = counted.evicted; moved = counted.moved; pulled = counted.pulled }
-
-pub IsCounted-moved : (tally : MergeReport) → IsCounted tally → IsCounted (record tally { moved = more tally.moved })
-IsCounted-moved tally counted = record { put_in = counted.put_in; taken_out = counted.taken_out; evicted = counted.evicted; moved = min-le_right (tally.moved + 1) greatest; pulled = counted.pulled }
-
--- room alone
-pub IsIntact-room : (s t : State) (hand : List Handle) → SameButRoom s t → IsIntact s hand → IsIntact t hand
-IsIntact-room s t hand room intact = rw room.same (record {
-  owned = intact.owned;
-  obeyed = intact.obeyed;
-  rising = intact.rising;
-  inside = intact.inside;
-  keyed = intact.keyed;
-  empty = intact.empty;
-  within = intact.within;
-  few_cells = intact.few_cells;
-  few_freed = intact.few_freed;
-  counted = intact.counted;
-})
-
--- a pending insertion is taken into the hand
-pub IsIntact-lifted : (i : ℕ) (s : State) → i < length s.pending_in → IsIntact s [] → IsIntact (lifted i s).store ((lifted i s).hand ∷ [])
-IsIntact-lifted i s inside intact =
-    let hand = (lifted i s).hand in
-    record {
-      owned = IsOwned-lifted s.cells s.free s.column s.pending_in s.pending_out i hand inside (get_or_default s.pending_in i no_handle hand inside) intact.owned;
-      obeyed = intact.obeyed;
-      rising = intact.rising;
-      inside = intact.inside;
-      keyed = intact.keyed;
-      empty = intact.empty;
-      within = intact.within;
-      few_cells = intact.few_cells;
-      few_freed = intact.few_freed;
-      counted = IsCounted-put_in s.tally intact.counted;
-    }
-
--- the hand and the handle at a place of the column change places
-pub IsIntact-put_at : (place : ℕ) (marks : List Mark) (tally : MergeReport) (c : Carried) → place < length c.store.column → IsObeyed marks (set (column_keys c.store) place (hand_key c)) → Rising marks → AreInside c.store.keys marks → IsCounted tally → IsIntact c.store (c.hand ∷ []) → IsIntact (put_at place marks tally c).store ((put_at place marks tally c).hand ∷ [])
-IsIntact-put_at place marks tally c within obeyed rising inside counted intact =
-    let s = c.store in
-    let met = get_or s.column place c.hand in
-    record {
-      owned = IsOwned-exchange s.cells s.free s.column s.pending_in s.pending_out c.hand met place within (get_or_default s.column place c.hand met within) intact.owned;
-      obeyed = rw (map-set (key_at s.cells) s.column place c.hand) obeyed;
+-- what a step leaves that moves handles: cells and free numbers, pending deletions and map
+pub IsIntact-moved : (s t : State) (hand hand' : List Handle) → t ≡ record s { column = t.column; pending_in = t.pending_in; marks = t.marks; tally = t.tally; column_room = t.column_room; in_room = t.in_room } → ((n : ℕ) → times n (slots t.column) + times n (slots t.pending_in) + times n (slots hand') ≡ times n (slots s.column) + times n (slots s.pending_in) + times n (slots hand)) → ((n : ℕ) → times n (slots s.pending_out) ≤ times n (slots s.column) + times n (slots hand) → times n (slots s.pending_out) ≤ times n (slots t.column) + times n (slots hand')) → All (Reads s.cells) t.column → All (Reads s.cells) t.pending_in → All (Reads s.cells) hand' → IsObeyed t.marks (map (key_at s.cells) t.column) → Rising t.marks → AreInside s.keys t.marks → IsCounted t.tally → IsIntact s hand → IsIntact t hand'
+IsIntact-moved s t hand hand' same counts few column_reads pending_reads hand_reads obeyed rising inside counted intact =
+    let owned = intact.owned in
+    rw same (record {
+      owned = record {
+        once = λ n. omega (arith, owned.once n, counts n, times-places n s.column s.pending_in s.free hand, times-places n t.column t.pending_in s.free hand');
+        column_reads = column_reads;
+        pending_reads = pending_reads;
+        hand_reads = hand_reads;
+        doomed_reads = owned.doomed_reads;
+        doomed_once = λ n. omega (arith, few n (omega (arith, owned.doomed_once n, times-append n (slots s.column) (slots hand))), times-append n (slots t.column) (slots hand'));
+      };
+      obeyed = obeyed;
       rising = rising;
       inside = inside;
       keyed = intact.keyed;
@@ -69,7 +40,50 @@ IsIntact-put_at place marks tally c within obeyed rising inside counted intact =
       few_cells = intact.few_cells;
       few_freed = intact.few_freed;
       counted = counted;
-    }
+    })
+
+-- room alone
+pub IsIntact-room : (s t : State) (hand : List Handle) → SameButRoom s t → IsIntact s hand → IsIntact t hand
+IsIntact-room s t hand room intact =
+    let owned = intact.owned in
+    rw room.same (IsIntact-moved s (record s { column_room = t.column_room; in_room = t.in_room }) hand hand refl (λ n. refl) (λ n few. few) owned.column_reads owned.pending_reads owned.hand_reads intact.obeyed intact.rising intact.inside intact.counted intact)
+
+-- a pending insertion is taken into the hand
+pub IsIntact-lifted : (i : ℕ) (s : State) → i < length s.pending_in → IsIntact s [] → IsIntact (lifted i s).store ((lifted i s).hand ∷ [])
+IsIntact-lifted i s within intact =
+    let owned = intact.owned in
+    let hand = (lifted i s).hand in
+    let found = get_or_default s.pending_in i no_handle hand within in
+    IsIntact-moved s (lifted i s).store [] (hand ∷ []) refl
+    (λ n. omega (arith, times-taken n s.pending_in i hand within found, times-nil n))
+    (λ n few. omega (arith, few, times-nil n))
+    owned.column_reads
+    (All-removed (Reads s.cells) s.pending_in i owned.pending_reads)
+    (All-cons (Reads s.cells) hand [] (All-get_or (Reads s.cells) s.pending_in i no_handle within owned.pending_reads) owned.hand_reads)
+    intact.obeyed
+    intact.rising
+    intact.inside
+    (IsCounted-put_in s.tally intact.counted)
+    intact
+
+-- the hand and the handle at a place of the column change places
+pub IsIntact-put_at : (place : ℕ) (marks : List Mark) (tally : MergeReport) (c : Carried) → place < length c.store.column → IsObeyed marks (set (column_keys c.store) place (hand_key c)) → Rising marks → AreInside c.store.keys marks → IsCounted tally → IsIntact c.store (c.hand ∷ []) → IsIntact (put_at place marks tally c).store ((put_at place marks tally c).hand ∷ [])
+IsIntact-put_at place marks tally c within obeyed rising inside counted intact =
+    let s = c.store in
+    let owned = intact.owned in
+    let met = get_or s.column place c.hand in
+    let counts : (n : ℕ) → times n (slots (set s.column place c.hand)) + times n (slots (met ∷ [])) ≡ times n (slots s.column) + times n (slots (c.hand ∷ [])) = λ n. times-exchange n s.column place c.hand met within (get_or_default s.column place c.hand met within) in
+    IsIntact-moved s (put_at place marks tally c).store (c.hand ∷ []) (met ∷ []) refl
+    (λ n. omega (arith, counts n))
+    (λ n few. omega (arith, few, counts n))
+    (All-set (Reads s.cells) s.column place c.hand (All-head (Reads s.cells) c.hand [] owned.hand_reads) owned.column_reads)
+    owned.pending_reads
+    (All-cons (Reads s.cells) met [] (All-get_or (Reads s.cells) s.column place c.hand within owned.column_reads) (All-nil (Reads s.cells)))
+    (rw (map-set (key_at s.cells) s.column place c.hand) obeyed)
+    rising
+    inside
+    counted
+    intact
 
 -- the hand is put where its own piece ends
 pub IsIntact-pushed_on : (c : Carried) → piece_end c.store (hand_key c) < length c.store.column → IsIntact c.store (c.hand ∷ []) → IsIntact (pushed_on c).store ((pushed_on c).hand ∷ [])
@@ -93,18 +107,19 @@ IsIntact-pushed_on c ends intact =
 pub IsIntact-appended : (c : Carried) → piece_end c.store (hand_key c) ≡ length c.store.column → IsIntact c.store (c.hand ∷ []) → IsIntact (appended c) []
 IsIntact-appended c ends intact =
     let s = c.store in
-    record {
-      owned = IsOwned-appended s.cells s.free s.column s.pending_in s.pending_out c.hand intact.owned;
-      obeyed = rw (map-append (key_at s.cells) s.column (c.hand ∷ [])) (by_next (next_mark (hand_key c) s.marks) refl ends);
-      rising = Rising-raise_next (next_mark (hand_key c) s.marks) s.marks intact.rising;
-      inside = AreInside-raise_next s.keys (next_mark (hand_key c) s.marks) s.marks intact.inside;
-      keyed = intact.keyed;
-      empty = intact.empty;
-      within = intact.within;
-      few_cells = intact.few_cells;
-      few_freed = intact.few_freed;
-      counted = intact.counted;
-    }
+    let owned = intact.owned in
+    let counts : (n : ℕ) → times n (slots (s.column ++ c.hand ∷ [])) ≡ times n (slots s.column) + times n (slots (c.hand ∷ [])) = λ n. times-map-append n (λ (h : Handle). h.slot) s.column (c.hand ∷ []) in
+    IsIntact-moved s (appended c) (c.hand ∷ []) [] refl
+    (λ n. omega (arith, counts n, times-nil n))
+    (λ n few. omega (arith, few, counts n))
+    (All-push (Reads s.cells) s.column c.hand owned.column_reads (All-head (Reads s.cells) c.hand [] owned.hand_reads))
+    owned.pending_reads
+    (All-nil (Reads s.cells))
+    (rw (map-append (key_at s.cells) s.column (c.hand ∷ [])) (by_next (next_mark (hand_key c) s.marks) refl ends))
+    (Rising-raise_next (next_mark (hand_key c) s.marks) s.marks intact.rising)
+    (AreInside-raise_next s.keys (next_mark (hand_key c) s.marks) s.marks intact.inside)
+    intact.counted
+    intact
   where
     by_next : (next : Option Mark) → next_mark (hand_key c) c.store.marks ≡ next → end_of (length c.store.column) next ≡ length c.store.column → IsObeyed (raise_next next c.store.marks) (column_keys c.store ++ hand_key c ∷ [])
     by_next None found at_end =

@@ -2,11 +2,12 @@
 use Rattle.std.proofs.Common.{◌≡◌, ℕ, ◌+◌, ◌<◌, ◌≤◌, List, [], ◌∷◌, ◌++◌, filter, length, get_or, Option, Some, None, refl, sym, ap, ◌∙◌, arith}
 use Rattle.std.specs.List.{cons_option, filter_map, between, sum_by}
 use Rattle.std.specs.List.Sorted.{IsPermutation, IsNonDecreasingBy}
-use Rattle.std.proofs.lemmas.List.Edits.{between_more, between_none}
+use Rattle.std.proofs.lemmas.List.Edits.{between_more}
 use Rattle.std.proofs.lemmas.List.Elements.{filter_map-append}
 use Rattle.std.proofs.lemmas.List.Kept.{AllPairs-filter}
 use Rattle.std.proofs.lemmas.List.Sorted.{IsPermutation-sym, IsPermutation-trans, sum_by-IsPermutation}
 use Rattle.std.proofs.lemmas.List.Sums.{sum_by-cons}
+use Rattle.crack_row.proofs.Lists.{IsPermutation-filter}
 use Rattle.crack_row.specs.Ranges.{Range, in_range}
 use Rattle.crack_row.specs.Rows.{sum_of}
 use Rattle.crack_row.specs.declared.Row.{Row}
@@ -15,11 +16,7 @@ use Rattle.crack_arena.specs.Rows.{payload_of_row, payload_at}
 use Rattle.crack_state.specs.State.{State, live_rows}
 use Rattle.crack_state.specs.Merge.{IsSettled}
 use Rattle.crack_state.specs.Stretch.{rows_within, stretch_rows, serial_of}
-use Rattle.crack_state.proofs.RowLists.{AreRising, IsPermutation-filter, sorted_is}
-
--- no place, no row
-pub rows_within-none : (s : State) (from : ℕ) → rows_within s from from ≡ []
-rows_within-none s from = ap (filter_map (read s.cells)) (between_none s.column from)
+use Rattle.crack_state.proofs.RowLists.{AreRising, sorted_is}
 
 -- one place more
 pub rows_within-more : (s : State) (from place : ℕ) (row : Row) → from ≤ place → place < length s.column → read s.cells (get_or s.column place no_handle) ≡ Some row → rows_within s from (place + 1) ≡ rows_within s from place ++ row ∷ []

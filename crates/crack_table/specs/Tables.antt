@@ -1,10 +1,19 @@
--- What contracts see of a table and of its workers.
-use Rattle.std.specs.Prelude.{ℕ, ◌≡◌, ◌+◌, ◌≤◌, List, [], length, Some, slice_get}
+-- What contracts see of a table and of its workers, and what these are answered.
+use Rattle.std.specs.Prelude.{ℕ, ◌≡◌, ◌+◌, ◌<◌, ◌≤◌, List, [], ◌∷◌, ◌++◌, length, Some, Result, Err, IsSome, IfOk, IfErr, OnErr, OnOk, slice_get}
+use Rattle.crack_row.specs.Commands.{key_of}
+use Rattle.crack_row.specs.Layouts.{IsLayout}
+use Rattle.crack_row.specs.Ranges.{Range}
 use Rattle.crack_row.specs.declared.Bound.{Bound}
+use Rattle.crack_row.specs.declared.command.Command.{Command}
+use Rattle.crack_row.specs.declared.command.Reply.{Reply}
+use Rattle.crack_row.specs.declared.layout.Layout.{Layout}
+use Rattle.crack_row.specs.declared.refusal.Refusal.{Refusal}
+use Rattle.crack_row.specs.declared.refusal.Refusal.TheVariants.{KeyOutside, NoSuchPartition, HistoryFull, GateGaveUp, OutOfMemory}
+use Rattle.crack_plain.specs.Plain.{IsSmall}
 use Rattle.crack_part.specs.Parts.{IsLimit}
 use Rattle.crack_core.specs.Receipts.{BookState}
 use Rattle.crack_core.specs.Routes.{AreSplits}
-use Rattle.crack_table.specs.declared.TheConstants.{MOST_WORKERS}
+use Rattle.crack_table.specs.declared.TheConstants.{MOST_WORKERS, GATE_TURNS}
 
 -- where one partition ends and the next begins, how many entries a history may have, and how many workers there are
 pub record TableState : Type 0 where
@@ -22,3 +31,34 @@ pub record IsTable (splits : List Bound) (limit workers locks : ℕ) : Type 0 wh
 -- the workers are numbered from 0 on, and have no receipts
 abbrev pub AreNew : List BookState → Type 0
 AreNew books = (number : ℕ) (book : BookState) → slice_get books number ≡ Some book → (book.worker ≡ number) × (book.receipts ≡ [])
+
+-- each refusal for its cause, as far as it shows outside of the lock: may_refuse tells at which turns the gate may say no
+abbrev pub MayRefuse : TableState → (ℕ → Type 0) → ℕ → Command → Refusal → Type 0
+MayRefuse table may_refuse part command KeyOutside = IsSome (key_of command)
+MayRefuse table may_refuse part command NoSuchPartition = length table.splits < part
+MayRefuse table may_refuse part command (HistoryFull entries) = entries ≡ table.limit
+MayRefuse table may_refuse part command GateGaveUp = (turn : ℕ) → turn < GATE_TURNS → may_refuse turn
+MayRefuse table may_refuse part command OutOfMemory = Unit {0}
+MayRefuse table may_refuse part command _ = ⊥
+
+-- A worker asks one partition: it is answered, and its book has a receipt of that, or refused for a cause, and its book has those that it had.
+pub record AsksTable (table : TableState) (may_refuse : ℕ → Type 0) (part : ℕ) (command : Command) (result : Result Reply Refusal) (old new : BookState) : Type 0 where
+  pub receipt : IfOk result (λ reply. (position : ℕ) × (new.receipts ≡ old.receipts ++ record { part = part; position = position; worker = old.worker; command = command; reply = reply } ∷ []))
+  pub worker : new.worker ≡ old.worker
+  pub small : IfOk result IsSmall
+  pub there : OnOk result (part ≤ length table.splits)
+  pub err : OnErr result (new.receipts ≡ old.receipts)
+  pub causes : IfErr result (MayRefuse table may_refuse part command)
+  pub nowhere : length table.splits < part → (result ≡ Err NoSuchPartition) × (new ≡ old)
+
+-- A worker looks at one partition: it is told a layout of ends of its own, or refused where there is no such partition, and for want of memory.
+pub record LooksAt (table : TableState) (part : ℕ) (result : Result Layout Refusal) : Type 0 where
+  pub equations : IfOk result (λ layout. (ends : Range) × IsLayout ends layout)
+  pub there : OnOk result (part ≤ length table.splits)
+  pub nowhere : length table.splits < part → result ≡ Err NoSuchPartition
+  pub err : part ≤ length table.splits → IfErr result (λ e. e ≡ OutOfMemory)
+
+-- a refusal, with this limit where it tells of a full history
+abbrev pub with_limit : ℕ → Refusal → Refusal
+with_limit limit (HistoryFull entries) = HistoryFull limit
+with_limit limit e = e

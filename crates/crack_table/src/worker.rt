@@ -1,9 +1,6 @@
 //! Workers.
-ghost use Rattle.std.specs.Prelude.{◌≡◌, ◌<◌, ◌≤◌, ℕ, [], ◌∷◌, ◌++◌, length, Err, IfOk, IfErr, OnErr, OnOk};
-ghost use Rattle.crack_row.specs.Layouts.{IsLayout};
-ghost use Rattle.crack_row.specs.Ranges.{Range};
-ghost use Rattle.crack_plain.specs.Plain.{IsSmall};
-ghost use Rattle.crack_table.specs.Asking.{MayRefuse, with_limit};
+ghost use Rattle.std.specs.Prelude.{◌≡◌, []};
+ghost use Rattle.crack_table.specs.Tables.{AsksTable, LooksAt, with_limit};
 
 use crate::gate::{Gate, pass};
 use crate::table::Table;
@@ -58,13 +55,7 @@ impl Worker {
         command: Command,
         policy: Policy,
     ) -> Result<Reply, Refusal>
-        ensures receipt { IfOk result (λ reply. (position : ℕ) × (self.new.receipts ≡ self.old.receipts ++ record { part = part; position = position; worker = self.old.worker; command = command; reply = reply } ∷ [])) }
-        ensures worker { self.new.worker ≡ self.old.worker }
-        ensures small { IfOk result IsSmall }
-        ensures there { OnOk result (part ≤ length table.now.splits) }
-        ensures err { OnErr result (self.new.receipts ≡ self.old.receipts) }
-        ensures causes { IfErr result (MayRefuse table.now (G.may_refuse gate.now part) part command) }
-        ensures nowhere { length table.now.splits < part → (result ≡ Err Refusal.NoSuchPartition) × (self.new ≡ self.old) }
+        ensures { AsksTable table.now (G.may_refuse gate.now part) part command result self.old self.new }
     {
         let Some(lock) = table.locks.get(part as usize) else {
             return Err(Refusal::NoSuchPartition);
@@ -80,10 +71,7 @@ impl Worker {
     /// What stands where in partition `part` of a table, read under its lock, which it may wait for. It cracks and merges nothing, and isn't kept.
     /// Refused with 5 where there is no such partition, and with 8 where it finds no memory. O(pieces).
     pub fn layout<R: Wait>(&self, rt: &R, table: &Table, part: u32) -> Result<Layout, Refusal>
-        ensures equations { IfOk result (λ layout. (ends : Range) × IsLayout ends layout) }
-        ensures there { OnOk result (part ≤ length table.now.splits) }
-        ensures nowhere { length table.now.splits < part → result ≡ Err Refusal.NoSuchPartition }
-        ensures err { part ≤ length table.now.splits → IfErr result (λ e. e ≡ Refusal.OutOfMemory) }
+        ensures { LooksAt table.now part result }
     {
         let Some(lock) = table.locks.get(part as usize) else {
             return Err(Refusal::NoSuchPartition);

@@ -1,10 +1,6 @@
 //! A worker of a table as a desk.
-ghost use Rattle.std.specs.Prelude.{◌≡◌, ◌+◌, ◌<◌, ◌≤◌, ℕ, [], ◌∷◌, ◌++◌, length, is_ok, Err, IfOk, IfErr, OnOk, OnErr, if◌then◌else◌};
-ghost use Rattle.crack_row.specs.Layouts.{IsLayout};
-ghost use Rattle.crack_row.specs.Ranges.{Range};
-ghost use Rattle.crack_plain.specs.Plain.{IsSmall};
-ghost use Rattle.crack_core.specs.Receipts.{BookState};
-ghost use Rattle.crack_table.specs.Asking.{MayRefuse};
+ghost use Rattle.std.specs.Prelude.{◌≡◌, ◌+◌, length, is_ok, if◌then◌else◌};
+ghost use Rattle.crack_table.specs.Tables.{AsksTable, LooksAt};
 
 use crack_row::{Bound, Command, Layout, Policy, Refusal, Reply};
 use crack_session::Desk;
@@ -56,15 +52,9 @@ impl<'a, R: Wait, G: Gate> Desk for WorkerDesk<'a, R, G> {
     ghost receipts = { λ d. length d.worker.receipts };
 
     fn ask(&mut self, part: u32, command: Command, policy: Policy) -> Result<Reply, Refusal>
-        // The worker has one receipt more, of this command; nothing is known of its reply but that it's small.
-        ensures receipt { IfOk result (λ reply. (position : ℕ) × (self.new.worker.receipts ≡ self.old.worker.receipts ++ record { part = part; position = position; worker = self.old.worker.worker; command = command; reply = reply } ∷ [])) }
-        ensures worker { self.new.worker.worker ≡ self.old.worker.worker }
-        ensures err { OnErr result (self.new.worker.receipts ≡ self.old.worker.receipts) }
-        ensures causes { IfErr result (MayRefuse self.old.table.now (G.may_refuse self.old.gate.now part) part command) }
-        ensures nowhere { length self.old.table.now.splits < part → (result ≡ Err Refusal.NoSuchPartition) × (self.new.worker ≡ self.old.worker) }
-        ensures there { OnOk result (part ≤ length self.old.table.now.splits) }
+        // The worker asks its table; nothing is known of a reply but that it's small.
+        ensures asks { AsksTable self.old.table.now (G.may_refuse self.old.gate.now part) part command result self.old.worker self.new.worker }
         ensures receipts { length self.new.worker.receipts ≡ (if is_ok result then length self.old.worker.receipts + 1 else length self.old.worker.receipts) }
-        ensures small { IfOk result IsSmall }
         ensures table { self.new.table.now ≡ self.old.table.now }
     {
         self.worker
@@ -72,10 +62,7 @@ impl<'a, R: Wait, G: Gate> Desk for WorkerDesk<'a, R, G> {
     }
 
     fn layout(&self, part: u32) -> Result<Layout, Refusal>
-        ensures equations { IfOk result (λ layout. (ends : Range) × IsLayout ends layout) }
-        ensures there { OnOk result (part ≤ length self.now.table.now.splits) }
-        ensures nowhere { length self.now.table.now.splits < part → result ≡ Err Refusal.NoSuchPartition }
-        ensures err { part ≤ length self.now.table.now.splits → IfErr result (λ e. e ≡ Refusal.OutOfMemory) }
+        ensures looks { LooksAt self.now.table.now part result }
     {
         self.worker.layout(self.rt, self.table, part)
     }

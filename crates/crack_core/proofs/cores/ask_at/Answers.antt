@@ -1,65 +1,85 @@
-use Rattle.std.proofs.Common.{◌<◌, length, get_or, arith, Result, Ok, Err, OnOk, OnErr}
+use Rattle.std.proofs.Common.{◌≡◌, ◌≢◌, ◌<◌, ◌++◌, ◌∷◌, [], length, get_or, set, arith, ap, ◌∙◌, Result, Ok, Err, IfErr}
+use Rattle.std.proofs.lemmas.List.{set-get_or}
 use Rattle.crack_row.specs.Commands.{range_of}
 use Rattle.crack_row.specs.declared.command.Reply.{Reply}
 use Rattle.crack_row.specs.declared.refusal.Refusal.{Refusal}
+use Rattle.crack_row.specs.declared.refusal.Refusal.TheVariants.{OutOfMemory}
 use Rattle.crack_part.specs.Parts.{Part, Serves, Spares}
-use Rattle.crack_core.proofs.StepLaws.{outcome-at, Keeps-set, tables-set, AreParts-set, get-set_other, replaced-at}
+use Rattle.crack_core.specs.Steps.{entries_at}
+use Rattle.crack_core.proofs.StepLaws.{Gives, outcome-given, kept-given, small-given, same-given, ok_given, err_given, outcome-at, Keeps-set, tables-set, accepted-set, AreParts-set, get-set_other, replaced-at}
 use Rattle.crack_core.proofs.cores.ask_at.Goals as goal
 
-on_ok : {A B : Type 0} (r : Result Reply Refusal) → (A → B) → OnOk r A → OnOk r B
-on_ok (Ok reply) f h = f h
-on_ok (Err e) f h = tt
+-- what the partition answered, and what is left of it
+gives : (c : goal.After-without_receipt) → Gives c.apply-answered.result c.without_receipt.result
+gives c = record { ok = c.without_receipt.ensures.ok; err = c.without_receipt.ensures.err }
 
-on_err : {A B : Type 0} (r : Result Reply Refusal) → (A → B) → OnErr r A → OnErr r B
-on_err (Ok reply) f h = tt
-on_err (Err e) f h = f h
+-- the partition as it was
+abbrev asked : (c : goal.After-without_receipt) → Part
+asked c = get_or c.args.partitions.now c.args.step.part c.index-partitions-part.result
+
+-- its history has the step's entry, if it was answered
+kept : (c : goal.After-without_receipt) → c.apply-answered.new.self.history ≡ (asked c).history ++ entries_at c.args.step.part (c.args.step ∷ []) (c.without_receipt.result ∷ [])
+kept c = kept-given (asked c).history c.apply-answered.new.self.history c.args.step c.apply-answered.result c.without_receipt.result (gives c) c.apply-answered.ensures.kept c.apply-answered.ensures.err
+
+if_err : (r : Result Reply Refusal) (P Q : Refusal → Type 0) → ((e : Refusal) → P e → Q e) → IfErr r P → IfErr r Q
+if_err (Ok reply) P Q f h = tt
+if_err (Err e) P Q f h = f e h
 
 pub returns-clause-outcome : goal.returns-clause-outcome
 returns-clause-outcome c = λ splits limit are.
-    let s = c.args.step in
-    let p = c.index-partitions-part.result in
-    let within : s.part < length c.args.partitions.now = omega arith in
-    outcome-at splits limit c.args.partitions.now s c.ask.result p are within c.ask.ensures.outcome
+    let e = c.apply-answered.ensures in
+    let within : c.args.step.part < length c.args.partitions.now = omega arith in
+    outcome-at splits limit c.args.partitions.now c.args.step c.without_receipt.result c.index-partitions-part.result are within (outcome-given (asked c) c.args.step.command c.apply-answered.result c.without_receipt.result (gives c) e.replies e.outside e.full e.room)
 
 pub returns-clause-after : goal.returns-clause-after
 returns-clause-after c =
-    let s = c.args.step in
-    let p = c.index-partitions-part.result in
-    let within : s.part < length c.args.partitions.now = omega arith in
-    tables-set c.args.partitions.now c.ask.new.partition p s c.ask.result within c.ask.ensures.kept
+    let within : c.args.step.part < length c.args.partitions.now = omega arith in
+    tables-set c.args.partitions.now c.apply-answered.new.self c.index-partitions-part.result c.args.step c.without_receipt.result within (kept c)
 
 pub returns-clause-kept : goal.returns-clause-kept
 returns-clause-kept c =
-    let s = c.args.step in
-    let p = c.index-partitions-part.result in
-    let within : s.part < length c.args.partitions.now = omega arith in
-    Keeps-set c.args.partitions.now c.ask.new.partition p s c.ask.result within c.ask.ensures.kept
+    let within : c.args.step.part < length c.args.partitions.now = omega arith in
+    Keeps-set c.args.partitions.now c.apply-answered.new.self c.index-partitions-part.result c.args.step c.without_receipt.result within (kept c)
+
+pub returns-clause-accepted : goal.returns-clause-accepted
+returns-clause-accepted c =
+    let within : c.args.step.part < length c.args.partitions.now = omega arith in
+    accepted-set c.args.partitions.now c.apply-answered.new.self c.index-partitions-part.result c.args.step c.without_receipt.result within (kept c)
 
 pub returns-clause-parts : goal.returns-clause-parts
 returns-clause-parts c = λ splits limit are.
-    let p = c.index-partitions-part.result in
+    let opened = c.apply-answered.ensures.opened in
     let within : c.args.step.part < length c.args.partitions.now = omega arith in
-    AreParts-set splits limit c.args.partitions.now c.args.step.part c.ask.new.partition p within are c.ask.ensures.opened.0 c.ask.ensures.opened.1 c.ask.ensures.sound
+    AreParts-set splits limit c.args.partitions.now c.args.step.part c.apply-answered.new.self c.index-partitions-part.result within are opened.0 opened.1 c.facts.ensures
+
+pub returns-clause-small : goal.returns-clause-small
+returns-clause-small c = small-given c.apply-answered.result c.without_receipt.result (gives c) c.apply-answered.ensures.small
 
 pub returns-clause-others : goal.returns-clause-others
-returns-clause-others c = λ k differs. get-set_other c.args.partitions.now c.args.step.part k c.ask.new.partition differs
+returns-clause-others c = λ k differs. get-set_other c.args.partitions.now c.args.step.part k c.apply-answered.new.self differs
 
 pub returns-clause-store : goal.returns-clause-store
 returns-clause-store c =
     let s = c.args.step in
-    let p = c.index-partitions-part.result in
-    let q = c.ask.new.partition in
+    let old = asked c in
+    let new = c.apply-answered.new.self in
     let within : s.part < length c.args.partitions.now = omega arith in
-    let old = get_or c.args.partitions.now s.part p in
-    on_ok c.ask.result (λ (serves : Serves s.policy old.keys old.next s.command old.store q.store).
-    replaced-at (λ (x y : Part). Serves s.policy x.keys x.next s.command x.store y.store) c.args.partitions.now s.part q p within serves) c.ask.ensures.store
+    ok_given c.apply-answered.result c.without_receipt.result (gives c) c.apply-answered.ensures.store (λ (serves : Serves s.policy old.keys old.next s.command old.store new.store).
+    replaced-at (λ (x y : Part). Serves s.policy x.keys x.next s.command x.store y.store) c.args.partitions.now s.part new c.index-partitions-part.result within serves)
 
 pub returns-clause-spared : goal.returns-clause-spared
 returns-clause-spared c =
     let s = c.args.step in
-    let p = c.index-partitions-part.result in
-    let q = c.ask.new.partition in
+    let old = asked c in
+    let new = c.apply-answered.new.self in
     let within : s.part < length c.args.partitions.now = omega arith in
-    let old = get_or c.args.partitions.now s.part p in
-    on_err c.ask.result (λ (spares : Spares s.policy old.keys (range_of s.command) old.store q.store).
-    replaced-at (λ (x y : Part). Spares s.policy x.keys (range_of s.command) x.store y.store) c.args.partitions.now s.part q p within spares) c.ask.ensures.spared
+    err_given c.apply-answered.result c.without_receipt.result (gives c) c.apply-answered.ensures.spared (λ (spares : Spares s.policy old.keys (range_of s.command) old.store new.store).
+    replaced-at (λ (x y : Part). Spares s.policy x.keys (range_of s.command) x.store y.store) c.args.partitions.now s.part new c.index-partitions-part.result within spares)
+
+pub returns-clause-same : goal.returns-clause-same
+returns-clause-same c =
+    let s = c.args.step in
+    let parts = c.args.partitions.now in
+    let new = c.apply-answered.new.self in
+    let e = c.apply-answered.ensures in
+    if_err c.without_receipt.result (λ e. e ≢ OutOfMemory → new ≡ asked c) (λ e. e ≢ OutOfMemory → set parts s.part new ≡ parts) (λ e same other. ap (set parts s.part) (same other) ∙ set-get_or parts s.part c.index-partitions-part.result) (same-given (asked c) new s.command c.apply-answered.result c.without_receipt.result (gives c) e.same e.room)

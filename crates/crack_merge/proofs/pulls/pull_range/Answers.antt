@@ -1,6 +1,6 @@
 use Rattle.std.proofs.Common.{length, ap, arith}
+use Rattle.std.proofs.lemmas.List.Edits.{length-remove}
 use Rattle.crack_state.proofs.DrawLaws.{column_some}
-use Rattle.crack_state.proofs.FollowLaws.{length-remove}
 use Rattle.crack_merge.specs.Merges.{begins, pulls}
 use Rattle.crack_merge.proofs.Deleting.{ahead_of_last}
 use Rattle.crack_merge.proofs.PullLaws.{TakesAt-Pulls}

@@ -1,21 +1,32 @@
-use Rattle.std.proofs.Common.{rules, ◌<◌, ◌≤◌, Result, Ok, Err, OnOk}
+use Rattle.std.proofs.Common.{rules, ◌<◌, ◌≤◌, Result, Ok, Err, OnErr}
 use Rattle.crack_part.proofs.KeepLemmas.{ReadsRange-none, ReadsRange-settled}
 use Rattle.crack_part.proofs.partition.prepare.Goals as goal
 
-on_ok : {T E P Q : Type 0} (r : Result T E) → OnOk r P → (P → Q) → OnOk r Q
-on_ok (Ok x) p f = f p
-on_ok (Err e) p f = tt
+on_err : {T E P : Type 0} (r : Result T E) → P → OnErr r P
+on_err (Ok x) p = tt
+on_err (Err e) p = p
 
 pub returns-then-is_empty-clause-prepared : goal.returns-then-is_empty-clause-prepared
 returns-then-is_empty-clause-prepared c =
     let empty : c.clip-common.result.high ≤ c.clip-common.result.low = search rules in
     rw c.in-Some.is (ReadsRange-none c.args.policy c.args.store.now _ (rw c.clip-common.ensures.value at empty))
 
-pub returns-else-is_empty-clause-prepared : goal.returns-else-is_empty-clause-prepared
-returns-else-is_empty-clause-prepared c =
-    let filled : c.clip-common.result.low < c.clip-common.result.high = search rules in
-    let settled = rw c.clip-common.ensures.value at c.settle.ensures.settled in
-    rw c.in-Some.is (on_ok c.settle.result settled (ReadsRange-settled c.args.policy c.args.store.now c.settle.new.store _ (rw c.clip-common.ensures.value at filled)))
+pub returns-then-is_empty-clause-common : goal.returns-then-is_empty-clause-common
+returns-then-is_empty-clause-common c =
+    let empty : c.clip-common.result.high ≤ c.clip-common.result.low = search rules in
+    rw c.in-Some.is (rw c.clip-common.ensures.value at empty)
 
-pub returns-else-is_empty-clause-spared : goal.returns-else-is_empty-clause-spared
-returns-else-is_empty-clause-spared c = rw (c.in-Some.is, ← c.clip-common.ensures.value) c.settle.ensures.stopped
+pub returns-in_ok-settle-in-Some-clause-prepared : goal.returns-in_ok-settle-in-Some-clause-prepared
+returns-in_ok-settle-in-Some-clause-prepared c =
+    let filled : c.clip-common.result.low < c.clip-common.result.high = search rules in
+    let settled = rw c.clip-common.ensures.value at c.in_ok-settle-in-Some.ensures.settled in
+    rw c.in-Some.is (ReadsRange-settled c.args.policy c.args.store.now c.settle.new.store _ (rw c.clip-common.ensures.value at filled) settled)
+
+pub returns-in_ok-settle-in-Some-clause-common : goal.returns-in_ok-settle-in-Some-clause-common
+returns-in_ok-settle-in-Some-clause-common c =
+    let filled : c.clip-common.result.low < c.clip-common.result.high = search rules in
+    rw c.in-Some.is (c.clip-common.ensures.value, filled)
+
+pub returns-in_err-settle-in-Some-clause-spared : goal.returns-in_err-settle-in-Some-clause-spared
+returns-in_err-settle-in-Some-clause-spared c =
+    rw (c.in-Some.is, ← c.clip-common.ensures.value) (on_err c.from_residual.result c.in_err-settle-in-Some.ensures.stopped)

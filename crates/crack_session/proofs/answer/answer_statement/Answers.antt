@@ -1,20 +1,18 @@
 use Rattle.std.proofs.Common.{rules}
 use Rattle.crack_session.proofs.answer.answer_statement.Goals as goal
 
-pub returns-clause-is : goal.returns-clause-is
-returns-clause-is g c = search rules
+pub returns : goal.returns
+returns g c = record {
+  is = search rules;
+  limit_is = c.ask_part.ensures.limit_is;
+  splits_are = c.ask_part.ensures.splits_are;
+}
 
-pub returns-clause-splits : goal.returns-clause-splits
-returns-clause-splits g c = search rules
+pub returns-in-Count : goal.returns-in-Count
+returns-in-Count g c = search rules
 
-pub returns-clause-limit : goal.returns-clause-limit
-returns-clause-limit g c = search rules
+pub returns-in-Layout : goal.returns-in-Layout
+returns-in-Layout g c = search rules
 
-pub returns-in-Count-clause-is : goal.returns-in-Count-clause-is
-returns-in-Count-clause-is g c = search rules
-
-pub returns-in-Layout-clause-is : goal.returns-in-Layout-clause-is
-returns-in-Layout-clause-is g c = search rules
-
-pub returns-in-Policy-clause-is : goal.returns-in-Policy-clause-is
-returns-in-Policy-clause-is g c = search rules
+pub returns-in-Policy : goal.returns-in-Policy
+returns-in-Policy g c = search rules

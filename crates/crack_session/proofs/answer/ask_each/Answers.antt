@@ -17,14 +17,18 @@ parts-init g c = record {
   limit = refl;
 }
 
-pub returns-in-Err-clause-refused : goal.returns-in-Err-clause-refused
-returns-in-Err-clause-refused g c = λ tables e.
-    let was = c.parts.invariant.asked tables e in (
-      was.0,
-      AsksInTurn-stops c.args.query tables c.args.parts.now c.parts.part-index c.part-item.result c.over.result c.parts.replies.items c.in-Err.refusal was.0
-          c.parts-test.true c.part-item.is c.over.ensures was.1 (rw (c.parts.invariant.limit, c.parts.invariant.splits) at c.in-Err.ensures.outcome was.0 was.2),
-      c.in-Err.ensures.after was.0 was.2,
-    )
+pub returns-in-Err-clause-asks : goal.returns-in-Err-clause-asks
+returns-in-Err-clause-asks g c = record {
+  is = λ tables e.
+      let was = c.parts.invariant.asked tables e in (
+        was.0,
+        AsksInTurn-stops c.args.query tables c.args.parts.now c.parts.part-index c.part-item.result c.over.result c.parts.replies.items c.in-Err.refusal was.0
+            c.parts-test.true c.part-item.is c.over.ensures was.1 (rw (c.parts.invariant.limit, c.parts.invariant.splits) at c.in-Err.ensures.outcome was.0 was.2),
+        c.in-Err.ensures.after was.0 was.2,
+      );
+  limit_is = c.ask.ensures.limit ∙ c.parts.invariant.limit;
+  splits_are = c.ask.ensures.splits ∙ c.parts.invariant.splits;
+}
 
 pub parts-preserved : goal.parts-preserved
 parts-preserved g c = record {

@@ -4,18 +4,29 @@ use Rattle.crack_core.specs.Routes.{parts_of}
 use Rattle.crack_session.proofs.Asking.{AsksParts-several}
 use Rattle.crack_session.proofs.answer.ask_range.Goals as goal
 
-pub returns-in-Some-clause-is : goal.returns-in-Some-clause-is
-returns-in-Some-clause-is g c = λ tables e.
-    let said = c.ask_part.ensures.is tables e in
+pub returns-in-Some : goal.returns-in-Some
+returns-in-Some g c =
     let one = rw c.splits.ensures.value at c.in-Some.ensures.one in
-    (said.0, rw one (rw c.over.ensures at said.1), said.2)
+    let asked = c.ask_part.ensures in
+    record {
+      is = λ tables e. let said = asked.is tables e in (said.0, rw one (rw c.over.ensures at said.1), said.2);
+      limit_is = asked.limit_is;
+      splits_are = asked.splits_are;
+    }
 
-pub returns-in-Ok-clause-is : goal.returns-in-Ok-clause-is
-returns-in-Ok-clause-is g c = λ tables e.
-    let said = c.ask_several.ensures.is tables e in
+pub returns-in-Ok : goal.returns-in-Ok
+returns-in-Ok g c =
     let all = c.as_slice.ensures ∙ c.in-Ok.ensures.ok ∙ ap (λ (splits : List Bound). parts_of splits c.args.range) c.splits-2.ensures.value in
-    (said.0, AsksParts-several _ (rw c.splits.ensures.value at c.in_default.ensures.several) (rw all at said.1), said.2)
+    let asked = c.ask_several.ensures in
+    record {
+      is = λ tables e. let said = asked.is tables e in (said.0, AsksParts-several _ (rw c.splits.ensures.value at c.in_default.ensures.several) (rw all at said.1), said.2);
+      limit_is = asked.limit_is;
+      splits_are = asked.splits_are;
+    }
 
-pub returns-in-Err-clause-is : goal.returns-in-Err-clause-is
-returns-in-Err-clause-is g c = λ tables e.
-    (tables, AsksParts-several _ (rw c.splits.ensures.value at c.in_default.ensures.several) (inr (rw c.in-Err.ensures.err refl, refl)), e)
+pub returns-in-Err : goal.returns-in-Err
+returns-in-Err g c = record {
+  is = λ tables e. (tables, AsksParts-several _ (rw c.splits.ensures.value at c.in_default.ensures.several) (inr (rw c.in-Err.ensures.err refl, refl)), e);
+  limit_is = refl;
+  splits_are = refl;
+}

@@ -7,7 +7,7 @@ use Rattle.crack_session.specs.Readings.{statements, reading_of, is_quit}
 use Rattle.crack_session.proofs.Reading.{start_input, IsPaid-then, counted-then}
 use Rattle.crack_session.proofs.Following.{next_blank}
 use Rattle.crack_session.proofs.Finishing.{IsOver, finish-counted, finish-served, finish-done, finish-cut_off}
-use Rattle.crack_session.proofs.Going.{Going-start, Going-kept, Going-left, Going-line, Going-answered, Going-within, Going-done, Going-cut, Going-cut_in, Going-on, Going-quit, Responds-desk}
+use Rattle.crack_session.proofs.Going.{Going-start, Going-kept, Going-left, Going-line, Going-answered, Going-within, Going-done, Going-cut, Going-cut_in, Going-on, Going-quit, Answered-desk}
 use Rattle.crack_session.proofs.WholeLines.{AreUsed-start, AreUsed-blank, AreUsed-more, AreUsed-done, line_feeds}
 use Rattle.crack_session.proofs.session.serve.Given.{Over}
 use Rattle.crack_session.proofs.session.serve.Goals.{After-finish, After-finish-then-says_quit}
@@ -53,16 +53,16 @@ pub returns-in-Ok-false-clause-limit : goal.returns-in-Ok-false-clause-limit
 returns-in-Ok-false-clause-limit g c = c.lines.invariant.limit
 
 pub returns-then-says_quit-clause-splits : goal.returns-then-says_quit-clause-splits
-returns-then-says_quit-clause-splits g c = c.respond.ensures.splits ∙ c.lines.invariant.splits
+returns-then-says_quit-clause-splits g c = c.respond.ensures.asks.splits_are ∙ c.lines.invariant.splits
 
 pub returns-then-says_quit-clause-limit : goal.returns-then-says_quit-clause-limit
-returns-then-says_quit-clause-limit g c = c.respond.ensures.limit ∙ c.lines.invariant.limit
+returns-then-says_quit-clause-limit g c = c.respond.ensures.asks.limit_is ∙ c.lines.invariant.limit
 
 pub returns-in-Err-respond-clause-splits : goal.returns-in-Err-respond-clause-splits
-returns-in-Err-respond-clause-splits g c = c.respond.ensures.splits ∙ c.lines.invariant.splits
+returns-in-Err-respond-clause-splits g c = c.respond.ensures.asks.splits_are ∙ c.lines.invariant.splits
 
 pub returns-in-Err-respond-clause-limit : goal.returns-in-Err-respond-clause-limit
-returns-in-Err-respond-clause-limit g c = c.respond.ensures.limit ∙ c.lines.invariant.limit
+returns-in-Err-respond-clause-limit g c = c.respond.ensures.asks.limit_is ∙ c.lines.invariant.limit
 
 -- the input has ended
 at_end : (g : Over) (c : After-finish g) → IsOver (g.D.Desk.limit c.args.desk.now) (g.D.Desk.splits c.args.desk.now) (g.R.Read.remaining (device c.args.reader.now)) c.lines.progress InputEnded (g.D.Desk.tables c.args.desk.now) (g.D.Desk.tables c.lines.desk) (g.W.Write.contents (device c.args.writer.now)) (g.W.Write.contents (device c.finish.new.writer))
@@ -91,8 +91,8 @@ at_quit g c = λ bytes e.
     let some = rw c.in-Ok-true.field-0-test at c.in-Ok-true.ensures.line in
     let next = some inv.0 inv.1 in
     let said = ap reading_of (sym c.line.ensures) ∙ sym c.in-Some.ensures in
-    let more = Going-answered _ inv.0 c.next_line.new.input.line c.in-Some.reading c.lines.progress c.respond.new.progress _ _ inv.2 c.next_line.ensures.bytes next.0 next.1 said
-    (Responds-desk c.in_default-respond.ensures.responds c.lines.invariant.limit c.lines.invariant.splits) c.in_default-respond.ensures.count in
+    let more = Going-answered g.W.Write.contents inv.0 c.next_line.new.input.line c.in-Some.reading c.in_default-respond.ensures.answer c.lines.progress c.respond.new.progress _ c.next_line.new.writer c.respond.new.writer inv.2 c.next_line.ensures.bytes next.0 next.1 said
+    (Answered-desk c.in-Some.reading c.in_default-respond.ensures.answer c.in_default-respond.ensures.asks.is c.lines.invariant.limit c.lines.invariant.splits) c.in_default-respond.ensures.tells in
     let quit : is_quit c.in-Some.reading ≡ true = sym c.says_quit.ensures ∙ c.if-says_quit.true in
     Going-kept _ _ (Going-quit (statements (after_line inv.0)) (is_quit c.in-Some.reading) more quit) c.finish-then-says_quit.ensures.bytes
 
@@ -111,7 +111,7 @@ returns-then-says_quit-clause-cut_off g c = finish-cut_off c.finish-then-says_qu
 pub returns-in-Err-respond-clause-done : goal.returns-in-Err-respond-clause-done
 returns-in-Err-respond-clause-done g c = λ bytes e.
     let inv = c.lines.invariant.going bytes e in
-    Going-done bytes c.fault-in-Err-respond.result _ inv.2 (ap (λ (x : Fault). x.done) c.fault-in-Err-respond.ensures ∙ c.in-Err-respond.ensures.count) (ap (λ (x : Fault). x.refusal) c.fault-in-Err-respond.ensures ∙ c.in-Err-respond.ensures.err.0)
+    Going-done bytes c.fault-in-Err-respond.result _ inv.2 (ap (λ (x : Fault). x.done) c.fault-in-Err-respond.ensures ∙ c.in-Err-respond.ensures.tells.count) (ap (λ (x : Fault). x.refusal) c.fault-in-Err-respond.ensures ∙ c.in-Err-respond.ensures.tells.writes.err.0)
 
 pub returns-in-Err-respond-clause-cut_off : goal.returns-in-Err-respond-clause-cut_off
 returns-in-Err-respond-clause-cut_off g c = λ bytes out s e f h.
@@ -120,9 +120,9 @@ returns-in-Err-respond-clause-cut_off g c = λ bytes out s e f h.
     let next = some inv.0 inv.1 in
     let said = ap reading_of (sym c.line.ensures) ∙ sym c.in-Some.ensures in
     let left = Going-line _ _ inv.0 c.next_line.new.input.line c.in-Some.reading inv.2 c.next_line.ensures.bytes next.0 next.1 said in
-    Going-cut_in bytes out s c.fault-in-Err-respond.result c.in-Some.reading c.lines.progress c.respond.new.progress c.in-Err-respond.refusal _ _ left
-    (Responds-desk c.in-Err-respond.ensures.responds c.lines.invariant.limit c.lines.invariant.splits) (ap (λ (x : Fault). x.done) c.fault-in-Err-respond.ensures ∙ c.in-Err-respond.ensures.count)
-    (ap (λ (x : Fault). x.first_short) c.fault-in-Err-respond.ensures) (ap (λ (x : Fault). x.refusal) c.fault-in-Err-respond.ensures ∙ c.in-Err-respond.ensures.err.0) h f
+    Going-cut_in g.W.Write.contents bytes out s c.fault-in-Err-respond.result c.in-Some.reading c.in-Err-respond.ensures.answer c.lines.progress c.respond.new.progress c.in-Err-respond.refusal _ c.next_line.new.writer c.respond.new.writer left
+    (Answered-desk c.in-Some.reading c.in-Err-respond.ensures.answer c.in-Err-respond.ensures.asks.is c.lines.invariant.limit c.lines.invariant.splits) c.in-Err-respond.ensures.tells
+    (ap (λ (x : Fault). x.done) c.fault-in-Err-respond.ensures) (ap (λ (x : Fault). x.first_short) c.fault-in-Err-respond.ensures) (ap (λ (x : Fault). x.refusal) c.fault-in-Err-respond.ensures) h f
 
 pub lines-preserved-else-says_quit : goal.lines-preserved-else-says_quit
 lines-preserved-else-says_quit g c =
@@ -133,23 +133,23 @@ lines-preserved-else-says_quit g c =
           let last = rw c.in-Ok-true.field-0-test at c.in-Ok-true.ensures.last in
           let next = some inv.0 inv.1 in
           let said = ap reading_of (sym c.line.ensures) ∙ sym c.in-Some.ensures in
-          let more = Going-answered _ inv.0 c.next_line.new.input.line c.in-Some.reading c.lines.progress c.respond.new.progress _ _ inv.2 c.next_line.ensures.bytes next.0 next.1 said
-          (Responds-desk c.in_default-respond.ensures.responds c.lines.invariant.limit c.lines.invariant.splits) c.in_default-respond.ensures.count in
+          let more = Going-answered g.W.Write.contents inv.0 c.next_line.new.input.line c.in-Some.reading c.in_default-respond.ensures.answer c.lines.progress c.respond.new.progress _ c.next_line.new.writer c.respond.new.writer inv.2 c.next_line.ensures.bytes next.0 next.1 said
+          (Answered-desk c.in-Some.reading c.in_default-respond.ensures.answer c.in_default-respond.ensures.asks.is c.lines.invariant.limit c.lines.invariant.splits) c.in_default-respond.ensures.tells in
           let goes : is_quit c.in-Some.reading ≡ false = sym c.says_quit.ensures ∙ c.if-says_quit.false in (
             after_line inv.0,
             next.2,
             Going-on (statements (after_line inv.0)) (is_quit c.in-Some.reading) more goes,
             λ goes_on. AreUsed-more inv.0 c.next_line.new.input.line c.in-Some.reading c.respond.new.progress.statements (inv.3 (c.in-Ok-true.ensures.paid goes_on).0)
-                (line_feeds inv.0 c.next_line.new.input.ended (last refl inv.0 inv.1) goes_on) next.1 said goes c.in_default-respond.ensures.count,
+                (line_feeds inv.0 c.next_line.new.input.ended (last refl inv.0 inv.1) goes_on) next.1 said goes c.in_default-respond.ensures.tells.count,
           );
       reader = let ok = c.in-Ok-true.ensures.unfailed in ok.0 ∙ c.lines.invariant.reader;
-      writer = let ok = c.in-Ok-true.ensures.unfailed in c.in_default-respond.ensures.unfailed ∙ ok.1 ∙ c.lines.invariant.writer;
-      splits = c.respond.ensures.splits ∙ c.lines.invariant.splits;
-      limit = c.respond.ensures.limit ∙ c.lines.invariant.limit;
+      writer = let ok = c.in-Ok-true.ensures.unfailed in c.in_default-respond.ensures.tells.writes.unfailed ∙ ok.1 ∙ c.lines.invariant.writer;
+      splits = c.respond.ensures.asks.splits_are ∙ c.lines.invariant.splits;
+      limit = c.respond.ensures.asks.limit_is ∙ c.lines.invariant.limit;
       end = c.next_line.ensures.end;
       paid = IsPaid-then start_input c.lines.input c.next_line.new.input _ _ _ c.lines.invariant.paid c.in-Ok-true.ensures.paid;
       reads = counted-then (reads_of c.args.reader.now) c.lines.input.reads c.next_line.new.input.reads 1000000000 (reads_of c.lines.reader) _ c.lines.invariant.reads.0 c.lines.invariant.reads.1 c.next_line.ensures.counted.0 c.next_line.ensures.counted.1;
-      room = let falls = c.in-Ok-true.ensures.falls c.in-Ok-true.field-0-test in omega (arith, falls, c.lines.invariant.room, c.in_default-respond.ensures.count);
+      room = let falls = c.in-Ok-true.ensures.falls c.in-Ok-true.field-0-test in omega (arith, falls, c.lines.invariant.room, c.in_default-respond.ensures.tells.count);
     }
 
 pub lines-preserved : goal.lines-preserved

@@ -10,7 +10,7 @@ pub ask-tells : goal.ask-tells
 ask-tells g c = record {
   outcome = λ tables known. unknown tables known;
   after = λ tables known. unknown tables known;
-  small = c.ensures.small;
+  small = c.ensures.asks.small;
   splits = ap (λ t. t.splits) c.ensures.table;
   limit = ap (λ t. t.limit) c.ensures.table;
   receipts = c.ensures.receipts;
