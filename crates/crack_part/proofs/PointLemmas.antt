@@ -1,29 +1,60 @@
 -- What deletes and updates make of the live rows, said of a list of them.
-use Rattle.std.proofs.Common.{◌≡◌, ◌≢◌, ℕ, List, [], ◌∷◌, filter, map, Some, None, Result, Ok, Err, OnOk}
+use Rattle.std.proofs.Common.{◌≡◌, ◌≢◌, ℕ, Bool, true, false, List, [], ◌∷◌, filter, map, Option, Some, None, IsSome, Result, Ok, Err, OnOk, refl, sym, ap}
+use Rattle.std.specs.Prelude.{IfSome, IfNone, is_some, nat_lt}
 use Rattle.std.specs.List.{All}
 use Rattle.std.specs.List.Sorted.{IsPermutation}
+use Rattle.std.specs.Option.{option_map, option_and_then}
+use Rattle.std.proofs.lemmas.Bool.{true≢false}
 use Rattle.std.proofs.lemmas.List.Sorted.{All-permutation}
 use Rattle.crack_row.specs.Rows.{is_other, replaced}
 use Rattle.crack_row.specs.declared.Row.{Row}
 use Rattle.crack_plain.proofs.Laws.{others-same, replaced-same}
+use Rattle.crack_arena.specs.Arena.{Handle, read, times, slots}
 use Rattle.crack_state.specs.State.{State, IsIntact, live_rows, handle_of}
-use Rattle.crack_state.specs.Points.{row_by}
-use Rattle.crack_state.proofs.LookUpLaws.{row_by-is, row_by-none, live-without}
+use Rattle.crack_state.specs.Points.{row_by, pending_by, Removes, Rewrites}
+use Rattle.crack_state.proofs.LookUpLaws.{row_by-is, row_by-none, gone-cancels, gone-dooms, live-without}
+use Rattle.crack_part.specs.Parts.{Replaces}
 
 -- no row of a list of the live rows has a serial that leads nowhere
 plain-apart : (s : State) (serial : ℕ) (plain : List Row) → handle_of s.serials serial ≡ None → IsIntact s [] → IsPermutation (live_rows s) plain → All (λ (r : Row). r.serial.0 ≢ serial) plain
 plain-apart s serial plain none intact same = All-permutation (λ (r : Row). r.serial.0 ≢ serial) (live_rows s) plain same (row_by-none s serial none intact)
 
--- a row that is there and goes
-pub live-removed : (s t : State) (serial : ℕ) (row : Row) → row_by s serial ≡ Some row → handle_of t.serials serial ≡ None → IsIntact s [] → IsIntact t [] → IsPermutation (row ∷ live_rows t) (live_rows s) → (plain : List Row) → IsPermutation (live_rows s) plain → IsPermutation (live_rows t) (filter (is_other serial) plain)
-live-removed s t serial row is gone before after went = λ plain same. live-without s t serial row plain (row_by-is s serial row is before).same gone after went same
+-- the serial of a row that was removed is in the map no more
+pub gone-removes : (s t : State) (serial : ℕ) (o : Option Bool) → pending_by s serial ≡ o → Removes o serial s t → handle_of t.serials serial ≡ None
+gone-removes s t serial None none same = rw same (by_handle (handle_of s.serials serial) refl none)
+  where
+    by_handle : (o : Option Handle) → handle_of s.serials serial ≡ o → option_map (λ (h : Handle). nat_lt 0 (times h.slot (slots s.pending_in))) o ≡ None → handle_of s.serials serial ≡ None
+    by_handle None found e = found
+    by_handle (Some h) found e = absurd (true≢false (ap is_some e))
+gone-removes s t serial (Some true) pending cancels = gone-cancels serial s t cancels
+gone-removes s t serial (Some false) pending dooms = gone-dooms serial s t dooms
 
--- no row that is there
-pub live-nothing_removed : (s : State) (serial : ℕ) → handle_of s.serials serial ≡ None → IsIntact s [] → (plain : List Row) → IsPermutation (live_rows s) plain → IsPermutation (live_rows s) (filter (is_other serial) plain)
-live-nothing_removed s serial none intact = λ plain same. rw (others-same serial plain (plain-apart s serial plain none intact same)) same
+-- a list of the live rows, without the row of a serial that was removed, if there was one
+pub live-taken : (s t : State) (serial : ℕ) (o : Option Row) → o ≡ row_by s serial → IfSome o (λ r. IsPermutation (r ∷ live_rows t) (live_rows s)) → IfNone o (handle_of s.serials serial ≡ None) → Removes (pending_by s serial) serial s t → IsIntact s [] → IsIntact t [] → (plain : List Row) → IsPermutation (live_rows s) plain → IsPermutation (live_rows t) (filter (is_other serial) plain)
+live-taken s t serial (Some row) is went none removes before after = λ plain same.
+    live-without s t serial row plain (row_by-is s serial row (sym is) before).same (gone-removes s t serial (pending_by s serial) refl removes) after went same
+live-taken s t serial None is went none removes before after = λ plain same.
+    let still : t ≡ s = rw none at removes in
+    rw (still, others-same serial plain (plain-apart s serial plain none before same)) same
 
 pub live-nothing_replaced : (s : State) (row : Row) → handle_of s.serials row.serial.0 ≡ None → IsIntact s [] → (plain : List Row) → IsPermutation (live_rows s) plain → IsPermutation (live_rows s) (map (replaced row) plain)
 live-nothing_replaced s row none intact = λ plain same. rw (replaced-same row plain (plain-apart s row.serial.0 plain none intact same)) same
+
+-- an update of a row that is there does what a rewriting does
+pub Replaces-found : (s t : State) (row : Row) → IsSome (handle_of s.serials row.serial.0) → Rewrites (pending_by s row.serial.0) row s t → Replaces (pending_by s row.serial.0) row s t
+Replaces-found s t row some rewrites = by_handle (handle_of s.serials row.serial.0) refl some
+  where
+    by_handle : (o : Option Handle) → handle_of s.serials row.serial.0 ≡ o → IsSome o → Replaces (pending_by s row.serial.0) row s t
+    by_handle None found none = absurd (true≢false (sym none))
+    by_handle (Some h) found some = rw found (rw found at rewrites)
+
+-- the row of a serial is there just where the map leads to it
+pub handle-there : (s : State) (serial : ℕ) → IsSome (row_by s serial) → IsSome (handle_of s.serials serial)
+handle-there s serial there = by_handle (handle_of s.serials serial) there
+  where
+    by_handle : (o : Option Handle) → IsSome (option_and_then (read s.cells) o) → IsSome o
+    by_handle None none = none
+    by_handle (Some h) some = refl
 
 -- what follows of an answer
 pub on_ok : {T E P Q : Type 0} (r : Result T E) → OnOk r P → (P → Q) → OnOk r Q

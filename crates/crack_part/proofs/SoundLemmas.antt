@@ -26,13 +26,13 @@ use Rattle.crack_plain.proofs.Laws.{IsLegal-push, replay-push, next-le-accepted,
 use Rattle.crack_plain.proofs.TotalLaws.{inserted-push, deleted-push, updated-push, inserted-le-accepted, deleted-le-accepted, updated-le-accepted}
 use Rattle.crack_state.specs.State.{State, live_rows, freed_of, IsIntact}
 use Rattle.crack_state.specs.Steps.{IsAdmissible, SameButRoom, admitted}
-use Rattle.crack_state.specs.Points.{pending_by, MayFree, IsRenewable, IsRewritable}
+use Rattle.crack_state.specs.Points.{pending_by, MayFree, IsRenewable, IsRewritable, Removes}
 use Rattle.crack_state.proofs.KeyedLaws.{handle_of-fresh}
 use Rattle.crack_state.proofs.AdmitLaws.{live_rows-admitted, freed-admitted, cells-admitted}
 use Rattle.crack_state.proofs.PointLaws.{Spends, Spends-cancels, Spends-dooms, Spends-rewrites, found_by}
 use Rattle.crack_state.proofs.LookUpLaws.{row_by-find, row_by-pending}
 use Rattle.crack_store.specs.Inside.{no_cells}
-use Rattle.crack_part.specs.Parts.{Part, IsLimit, IsSound, IsFaithful, Serves, Prepares, Performs, Removes, Replaces, MayPerform, state_of, placed}
+use Rattle.crack_part.specs.Parts.{Part, IsLimit, IsSound, IsFaithful, Serves, Prepares, Performs, Replaces, MayPerform, state_of, placed}
 use Rattle.crack_part.proofs.KeepLemmas.{Keeps, Keeps-room, Keeps-prepared, IsIntact-prepared}
 
 -- the next serial stays far below the greatest number

@@ -1,5 +1,5 @@
 -- What contracts see of a partition, and what holds of each.
-use Rattle.std.specs.Prelude.{◌≡◌, ◌⊎◌, ℕ, ◌+◌, ◌<◌, ◌≤◌, Bool, true, false, List, [], length, Option, Some, None}
+use Rattle.std.specs.Prelude.{◌≡◌, ◌⊎◌, ℕ, ◌+◌, ◌<◌, ◌≤◌, Bool, List, [], length, Option, Some, None}
 use Rattle.std.specs.List.Sorted.{IsPermutation}
 use Rattle.crack_row.specs.Commands.{change_of, range_of}
 use Rattle.crack_row.specs.Ranges.{Range, IsIn, clipped}
@@ -18,7 +18,7 @@ use Rattle.crack_plain.specs.Plain.{PlainState, replay, IsLegal}
 use Rattle.crack_plain.specs.Totals.{inserted, deleted, updated}
 use Rattle.crack_state.specs.State.{State, IsIntact, live_rows, freed_of}
 use Rattle.crack_state.specs.Steps.{admitted, IsAdmissible, SameButRoom}
-use Rattle.crack_state.specs.Points.{pending_by, MayFree, IsRenewable, Cancels, Dooms, Rewrites}
+use Rattle.crack_state.specs.Points.{pending_by, MayFree, IsRenewable, Removes, Rewrites}
 use Rattle.crack_state.specs.Merge.{Refines, Merges, Tallies}
 use Rattle.crack_merge.specs.Merges.{Stops}
 use Rattle.crack_ripple.specs.Near.{MergesNear}
@@ -119,12 +119,6 @@ MayPerform next None s = Unit {0}
 MayPerform next (Some (Place key payload)) s = IsAdmissible (placed next key payload) s
 MayPerform next (Some (Remove serial)) s = MayFree s
 MayPerform next (Some (Rewrite serial key payload)) s = IsIn s.keys key.0 × IsRenewable s
-
--- what a delete does to a store, by whether the row of its serial is a pending insertion; nothing where there is no such row
-abbrev pub Removes : Option Bool → ℕ → State → State → Type 0
-Removes None serial s t = t ≡ s
-Removes (Some true) serial s t = Cancels serial s t
-Removes (Some false) serial s t = Dooms serial s t
 
 -- what an update does to a store, by whether the row of its serial is a pending insertion; nothing where there is no such row
 abbrev pub Replaces : Option Bool → Row → State → State → Type 0

@@ -1,25 +1,25 @@
 //! Commands and their history.
-ghost use Rattle.std.specs.Prelude.{◌≡◌, ◌⊎◌, None, ◌+◌, ◌<◌, ◌≤◌, ◌↔◌, ◌^◌, List, [], ◌∷◌, ◌++◌, length, map, filter, count_by, IsTrue, IsOk, IfOk, IfErr, IfSome, OnErr, OnOk, Err, vec_len, vec_capacity};
+ghost use Rattle.std.specs.Prelude.{◌≡◌, ◌⊎◌, None, Some, ◌+◌, ◌<◌, ◌≤◌, ◌↔◌, ◌^◌, List, [], ◌∷◌, ◌++◌, length, map, filter, count_by, IsTrue, IsOk, IfOk, IfErr, IfSome, OnErr, OnOk, Err, vec_len, vec_capacity};
 ghost use Rattle.std.specs.List.Sorted.{IsPermutation};
 ghost use Rattle.crack_row.specs.Commands.{change_of, range_of};
 ghost use Rattle.crack_row.specs.Ranges.{Range, IsIn, in_range};
 ghost use Rattle.crack_row.specs.Replies.{IsFlat};
 ghost use Rattle.crack_row.specs.Rows.{is_other, replaced, sum_of};
 ghost use Rattle.crack_row.specs.Layouts.{IsLayout};
-ghost use Rattle.crack_plain.specs.Plain.{PlainState, IsNumbered, reply_to, row_in, rows_in, gone, rewritten, after, changed, IsSmall, IsWithin, IsLegal};
+ghost use Rattle.crack_plain.specs.Plain.{PlainState, IsNumbered, reply_to, row_in, rows_in, gone, rewritten, after, IsSmall, IsWithin, IsLegal};
 ghost use Rattle.crack_state.specs.State.{State, IsIntact, live_rows};
-ghost use Rattle.crack_state.specs.Steps.{SameButRoom};
-ghost use Rattle.crack_state.specs.Points.{pending_by, MayFree, IsRenewable};
+ghost use Rattle.crack_state.specs.Steps.{SameButRoom, admitted, IsAdmissible};
+ghost use Rattle.crack_state.specs.Points.{pending_by, MayFree, IsRenewable, Removes};
 ghost use Rattle.crack_state.specs.Merge.{IsCracked, IsSettled, Merges, Tallies};
 ghost use Rattle.crack_merge.specs.Merges.{Stops};
 ghost use Rattle.crack_store.specs.Inside.{no_cells, IsLayoutOf};
-ghost use Rattle.crack_part.specs.Parts.{state_of, IsLimit, IsSound, IsFaithful, IsCommon, AreCommon, LeavesNear, CracksAndMerges, StopsRead, Serves, Spares, Prepares, MayPerform, Performs, Removes, Replaces};
+ghost use Rattle.crack_part.specs.Parts.{state_of, IsLimit, IsSound, IsFaithful, IsCommon, AreCommon, LeavesNear, CracksAndMerges, StopsRead, Serves, Spares, Prepares, MayPerform, Performs, Replaces, placed};
 
 use crack_merge::{merge_complete, merge_gradual};
 use crack_ripple::merge_ripple;
 use crack_row::{
-    Change, Command, Entry, GREATEST_LIMIT, KeyRange, Layout, Policy, Refusal, Reply, Row, RowList,
-    Serial,
+    Command, Entry, GREATEST_LIMIT, Key, KeyRange, Layout, Payload, Policy, Refusal, Reply, Row,
+    RowList, Serial,
 };
 use crack_store::{MergeReport, Store};
 use std::alloc::Global;
@@ -237,9 +237,7 @@ fn answer(
     ensures err { IfErr result (λ e. e ≡ Refusal.OutOfMemory) }
 {
     let common = prepare(store, alloc, keys, command.range(), policy)?;
-    let reply = reply_of(store, *next, alloc, command, common)?;
-    perform(store, next, command.change())?;
-    Ok(reply)
+    carry_out(store, next, alloc, command, common)
 }
 
 /// Reads a range, if there is one, as far as it is within the keys: where none of them is in it, nothing is cracked or merged.
@@ -272,27 +270,46 @@ fn prepare(
     }
 }
 
-/// What is replied to a command where the store is settled for what its range has in common with the keys.
-/// Refused with 8 where a list finds no memory.
+/// Replies to a command where the store is settled for what its range has in common with the keys, and makes its change, where the
+/// next row gets this serial. Refused with 8 where no memory is found: for a list, or for a row that is placed, removed or rewritten.
 #[inline(always)]
-fn reply_of(
-    store: &Store,
-    next: u64,
+fn carry_out(
+    store: &mut Store,
+    next: &mut u64,
     alloc: Global,
     command: &Command,
     common: Option<KeyRange>,
 ) -> Result<Reply, Refusal>
-    requires common { AreCommon (range_of command.now) store.now.keys common }
-    requires settled { IfSome common (λ r. IsSettled store.now r) }
-    ensures reply { IfOk result (λ reply. (plain : PlainState) → IsNumbered plain → IsFaithful store.now next plain → reply ≡ reply_to plain command.now) }
+    requires common { AreCommon (range_of command.now) store.old.keys common }
+    requires settled { IfSome common (λ r. IsSettled store.old r) }
+    requires intact { IsIntact store.old [] }
+    requires admissible { MayPerform next.old (change_of command.now) store.old }
+    requires small { next.old + 1 < 2 ^ 64 }
+    ensures reply { IfOk result (λ reply. (plain : PlainState) → IsNumbered plain → IsFaithful store.old next.old plain → reply ≡ reply_to plain command.now) }
     ensures flat { IfOk result (λ reply. (change_of command.now ≡ None) ⊎ IsFlat reply) }
-    ensures small { IfOk result (λ reply. (plain : PlainState) → IsNumbered plain → IsFaithful store.now next plain → length plain.rows < 2 ^ 32 → IsSmall reply) }
+    ensures few { IfOk result (λ reply. (plain : PlainState) → IsNumbered plain → IsFaithful store.old next.old plain → length plain.rows < 2 ^ 32 → IsSmall reply) }
+    ensures performed { OnOk result (Performs next.old (change_of command.now) store.old store.new) }
+    ensures faithful { OnOk result ((plain : PlainState) → IsFaithful store.old next.old plain → IsFaithful store.new next.new (after plain command.now)) }
+    ensures intact { OnOk result (IsIntact store.new []) }
+    ensures none { OnOk result (change_of command.now ≡ None → (store.new ≡ store.old) × (next.new ≡ next.old)) }
+    ensures same { OnErr result (SameButRoom store.old store.new × (next.new ≡ next.old)) }
     ensures err { IfErr result (λ e. e ≡ Refusal.OutOfMemory) }
 {
     match *command {
-        Command::Insert { .. } => Ok(Reply::Placed(Serial(next))),
-        Command::Delete { serial } => Ok(gone(row_of(store, serial))),
-        Command::Update { serial, .. } => Ok(rewritten(row_of(store, serial))),
+        Command::Insert { key, payload } => place(store, next, key, payload),
+        Command::Delete { serial } => remove(store, serial),
+        Command::Update {
+            serial,
+            key,
+            payload,
+        } => rewrite(
+            store,
+            Row {
+                serial,
+                key,
+                payload,
+            },
+        ),
         Command::Count(_) => Ok(Reply::Counted(count(store, common))),
         Command::Sum(_) => Ok(Reply::Summed(sum(store, common))),
         Command::Select(_) => {
@@ -300,14 +317,6 @@ fn reply_of(
             Ok(Reply::Rows(RowList::from_vec(rows)))
         }
     }
-}
-
-/// The row of a serial, if there is one: O(1).
-fn row_of(store: &Store, serial: Serial) -> Option<Row>
-    ensures { (plain : List Row) → IsPermutation (live_rows store.now) plain → result ≡ row_in plain serial }
-{
-    store.facts();
-    store.row_of(serial)
 }
 
 /// What a delete is replied where this is the row of its serial.
@@ -449,88 +458,70 @@ fn merge(
     }
 }
 
-/// Makes a change, if there is one, where the next row gets this serial.
+/// Puts in a row, which gets this serial; the reply. O(1), amortised.
 #[inline(always)]
-fn perform(store: &mut Store, next: &mut u64, change: Option<Change>) -> Result<(), Refusal>
+fn place(store: &mut Store, next: &mut u64, key: Key, payload: Payload) -> Result<Reply, Refusal>
     requires intact { IsIntact store.old [] }
-    requires admissible { MayPerform next.old change store.old }
+    requires admissible { IsAdmissible (placed next.old key payload) store.old }
     requires small { next.old + 1 < 2 ^ 64 }
-    ensures performed { OnOk result (Performs next.old change store.old store.new) }
-    ensures faithful { OnOk result ((plain : PlainState) → IsFaithful store.old next.old plain → IsFaithful store.new next.new (changed plain change)) }
+    ensures reply { IfOk result (λ reply. reply ≡ Reply.Placed (record { 0 = next.old })) }
+    ensures placed { OnOk result (SameButRoom (admitted (placed next.old key payload) store.old) store.new) }
+    ensures faithful { OnOk result ((plain : PlainState) → IsFaithful store.old next.old plain → IsFaithful store.new next.new (after plain (Command.Insert key payload))) }
     ensures intact { OnOk result (IsIntact store.new []) }
-    ensures none { change ≡ None → (store.new ≡ store.old) × (next.new ≡ next.old) }
     ensures same { OnErr result (SameButRoom store.old store.new × (next.new ≡ next.old)) }
     ensures err { IfErr result (λ e. e ≡ Refusal.OutOfMemory) }
 {
-    let Some(change) = change else {
-        return Ok(());
+    let row = Row {
+        serial: Serial(*next),
+        key,
+        payload,
     };
-    match change {
-        Change::Place { key, payload } => {
-            let row = Row {
-                serial: Serial(*next),
-                key,
-                payload,
-            };
-            store.admit(row)?;
-            *next += 1;
-        }
-        Change::Remove { serial } => remove(store, serial)?,
-        Change::Rewrite {
-            serial,
-            key,
-            payload,
-        } => rewrite(
-            store,
-            Row {
-                serial,
-                key,
-                payload,
-            },
-        )?,
-    }
+    store.admit(row)?;
+    *next += 1;
     store.facts();
-    Ok(())
+    Ok(Reply::Placed(row.serial))
 }
 
-/// Takes out the row of a serial, if there is one: O(1), amortised.
+/// Takes out the row of a serial, if there is one; the reply. O(1), amortised.
 #[inline(never)]
-fn remove(store: &mut Store, serial: Serial) -> Result<(), Refusal>
+fn remove(store: &mut Store, serial: Serial) -> Result<Reply, Refusal>
     requires few { MayFree store.old }
+    ensures reply { IfOk result (λ reply. (plain : List Row) → IsPermutation (live_rows store.old) plain → reply ≡ gone (row_in plain serial)) }
+    ensures flat { IfOk result (λ reply. IsFlat reply) }
+    ensures small { IfOk result (λ reply. IsSmall reply) }
     ensures removed { OnOk result (Removes (pending_by store.old serial.0) serial.0 store.old store.new) }
     ensures live { OnOk result ((plain : List Row) → IsPermutation (live_rows store.old) plain → IsPermutation (live_rows store.new) (filter (is_other serial.0) plain)) }
+    ensures intact { OnOk result (IsIntact store.new []) }
     ensures same { OnErr result (SameButRoom store.old store.new) }
     ensures err { IfErr result (λ e. e ≡ Refusal.OutOfMemory) }
 {
     store.facts();
-    match store.is_pending(serial) {
-        Some(true) => {
-            store.cancel(serial);
-        }
-        Some(false) => {
-            store.doom(serial)?;
-        }
-        None => {}
-    }
+    let row = store.remove(serial)?;
     store.facts();
-    Ok(())
+    Ok(gone(row))
 }
 
-/// Puts a row in the place of the one of its serial, if there is one: O(1), amortised.
+/// Puts a row in the place of the one of its serial, if there is one; the reply. O(1), amortised.
 #[inline(never)]
-fn rewrite(store: &mut Store, row: Row) -> Result<(), Refusal>
+fn rewrite(store: &mut Store, row: Row) -> Result<Reply, Refusal>
     requires within { IsIn store.old.keys row.key.0 }
     requires renewable { IsRenewable store.old }
+    ensures reply { IfOk result (λ reply. (plain : List Row) → IsPermutation (live_rows store.old) plain → reply ≡ rewritten (row_in plain row.serial)) }
+    ensures flat { IfOk result (λ reply. IsFlat reply) }
+    ensures small { IfOk result (λ reply. IsSmall reply) }
     ensures replaced { OnOk result (Replaces (pending_by store.old row.serial.0) row store.old store.new) }
     ensures live { OnOk result ((plain : List Row) → IsPermutation (live_rows store.old) plain → IsPermutation (live_rows store.new) (map (replaced row) plain)) }
+    ensures intact { OnOk result (IsIntact store.new []) }
     ensures same { OnErr result (SameButRoom store.old store.new) }
     ensures err { IfErr result (λ e. e ≡ Refusal.OutOfMemory) }
 {
     store.facts();
-    match store.is_pending(row.serial) {
-        Some(_) => store.rewrite(row.serial, row.key, row.payload),
-        None => Ok(()),
+    let before = store.row_of(row.serial);
+    if before.is_some() {
+        store.rewrite(row.serial, row.key, row.payload)?;
     }
+    store.facts();
+    Ok(rewritten(before))
 }
 
 /// Makes room for one entry: O(1), amortised. Takes no memory where there is room.

@@ -65,6 +65,12 @@ pub record Dooms (serial : ℕ) (s t : State) : Type 0 where
   pub after : SameButRoom (record (doomed_too (handle_by s serial) s) { serials = t.serials }) t
   pub map : Maps serial None s.serials t.serials
 
+-- remove, by whether the row of a serial is a pending insertion: it is cancelled, or doomed; where there is none nothing changes
+abbrev pub Removes : Option Bool → ℕ → State → State → Type 0
+Removes None serial s t = t ≡ s
+Removes (Some true) serial s t = Cancels serial s t
+Removes (Some false) serial s t = Dooms serial s t
+
 -- renew: the column's row of a serial becomes a pending deletion, and the map leads to the new row of that serial
 pub record Renews (row : Row) (s t : State) : Type 0 where
   pub after : SameButRoom (record (renewed row (handle_by s row.serial.0) s) { serials = t.serials }) t

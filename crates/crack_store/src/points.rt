@@ -1,12 +1,13 @@
 //! What a serial leads to, and rows that are taken out of a store or replaced.
-ghost use Rattle.std.specs.Prelude.{◌≡◌, ◌+◌, ◌-◌, ◌<◌, ◌∷◌, map, Some, None, IsSome, IfOk, IfErr, OnOk, OnErr, IsOk, IfNone, true, false};
+ghost use Rattle.std.specs.Prelude.{◌≡◌, ◌+◌, ◌-◌, ◌<◌, ◌∷◌, map, slice_get, Some, None, IsSome, IfSome, IfOk, IfErr, OnOk, OnErr, IsOk, IfNone, true, false};
+ghost use Rattle.std.specs.Option.{option_map};
 ghost use Rattle.std.specs.List.Sorted.{IsPermutation};
 ghost use Rattle.crack_row.specs.Ranges.{IsIn};
 ghost use Rattle.crack_row.specs.Rows.{row_with, replaced};
 ghost use Rattle.crack_arena.specs.Arena.{read, freed, freed_at};
 ghost use Rattle.crack_state.specs.State.{live_rows, handle_of, freed_of};
 ghost use Rattle.crack_state.specs.Steps.{SameButRoom};
-ghost use Rattle.crack_state.specs.Points.{row_by, pending_by, handle_by, Maps, MayFree, IsRenewable, IsRewritable, Cancels, Dooms, Renews, Rewrites, overwritten};
+ghost use Rattle.crack_state.specs.Points.{row_by, pending_by, handle_by, Maps, MayFree, IsRenewable, IsRewritable, Cancels, Dooms, Removes, Renews, Rewrites, overwritten};
 
 use crate::Store;
 use crate::inside::Serials;
@@ -32,6 +33,29 @@ impl Store {
         self.inside.arena.freed()
     }
 
+    /// Takes out the row of this serial, wherever it stands: a pending insertion is cancelled, a row of the column doomed. It comes
+    /// back; none where there is no such row. The serial is looked up once. Amortised O(1).
+    /// Refused with 8 where a row of the column finds no memory; all is then as it was.
+    pub fn remove(&mut self, serial: Serial) -> Result<Option<Row>, Refusal>
+        requires { MayFree self.old }
+        ensures row { IfOk result (λ row. row ≡ row_by self.old serial.0) }
+        ensures after { OnOk result (Removes (pending_by self.old serial.0) serial.0 self.old self.new) }
+        ensures live { IfOk result (λ row. IfSome row (λ r. IsPermutation (r ∷ live_rows self.new) (live_rows self.old))) }
+        ensures none { IfOk result (λ row. IfNone row (handle_of self.old.serials serial.0 ≡ None)) }
+        ensures spare { (pending_by self.old serial.0 ≡ Some false → ⊥) → IsOk result }
+        ensures same { OnErr result (SameButRoom self.old self.new) }
+        ensures err { IfErr result (λ e. e ≡ Refusal.OutOfMemory) }
+    {
+        let Some(lead) = find(&self.inside.serials, serial) else {
+            return Ok(None);
+        };
+        if self.inside.pending_in.contains(lead.handle.slot()) {
+            return Ok(Some(self.cancel_at(lead)));
+        }
+        let row = self.doom_at(lead)?;
+        Ok(Some(row))
+    }
+
     /// Takes out the row of this serial, a pending insertion: its cell is free at once, and the row comes back.
     /// Takes no memory. Amortised O(1).
     pub fn cancel(&mut self, serial: Serial) -> Row
@@ -41,9 +65,8 @@ impl Store {
         ensures after { Cancels serial.0 self.old self.new }
         ensures live { IsPermutation (result ∷ live_rows self.new) (live_rows self.old) }
     {
-        let handle = forget(&mut self.inside.serials, serial);
-        self.inside.pending_in.strike(handle);
-        free(&mut self.inside.arena, handle)
+        let lead = lead_of(&self.inside.serials, serial);
+        self.cancel_at(lead)
     }
 
     /// Takes out the row of this serial, which stands in the column: it stays there as a pending deletion, and comes back.
@@ -57,12 +80,45 @@ impl Store {
         ensures same { OnErr result (SameButRoom self.old self.new) }
         ensures err { IfErr result (λ e. e ≡ Refusal.OutOfMemory) }
     {
+        let lead = lead_of(&self.inside.serials, serial);
+        self.doom_at(lead)
+    }
+
+    /// Takes out a pending insertion whose serial was looked up. Takes no memory. Amortised O(1).
+    fn cancel_at(&mut self, lead: Lead) -> Row
+        requires entry { slice_get self.old.serials lead.at ≡ Some (lead.serial.0, lead.handle) }
+        requires found { handle_of self.old.serials lead.serial.0 ≡ Some lead.handle }
+        requires pending { pending_by self.old lead.serial.0 ≡ Some true }
+        requires few { MayFree self.old }
+        ensures row { row_by self.old lead.serial.0 ≡ Some result }
+        ensures after { Cancels lead.serial.0 self.old self.new }
+        ensures live { IsPermutation (result ∷ live_rows self.new) (live_rows self.old) }
+    {
+        let handle = lead.handle;
+        forget_at(&mut self.inside.serials, lead);
+        self.inside.pending_in.strike(handle);
+        free(&mut self.inside.arena, handle)
+    }
+
+    /// Dooms a row of the column whose serial was looked up. O(1), but for a growth.
+    fn doom_at(&mut self, lead: Lead) -> Result<Row, Refusal>
+        requires entry { slice_get self.old.serials lead.at ≡ Some (lead.serial.0, lead.handle) }
+        requires found { handle_of self.old.serials lead.serial.0 ≡ Some lead.handle }
+        requires column { pending_by self.old lead.serial.0 ≡ Some false }
+        requires few { MayFree self.old }
+        ensures row { IfOk result (λ row. row_by self.old lead.serial.0 ≡ Some row) }
+        ensures after { OnOk result (Dooms lead.serial.0 self.old self.new) }
+        ensures live { IfOk result (λ row. IsPermutation (row ∷ live_rows self.new) (live_rows self.old)) }
+        ensures same { OnErr result (SameButRoom self.old self.new) }
+        ensures err { IfErr result (λ e. e ≡ Refusal.OutOfMemory) }
+    {
         self.inside.pending_out.reserve(1)?;
         self.inside
             .pending_out
             .make_places(self.inside.arena.cells())?;
         self.inside.notes.make_places(self.inside.arena.cells())?;
-        let handle = forget(&mut self.inside.serials, serial);
+        let handle = lead.handle;
+        forget_at(&mut self.inside.serials, lead);
         let row = row_at(&self.inside.arena, handle);
         self.inside.pending_out.push_keyed(handle, row.key);
         Ok(row)
@@ -159,6 +215,41 @@ fn free(arena: &mut Arena<Row>, handle: Handle<Row>) -> Row
     }
 }
 
+/// What a serial led to when it was looked up: its entry of the map stands at `at`.
+#[derive(Clone, Copy)]
+struct Lead {
+    serial: Serial,
+    at: usize,
+    handle: Handle<Row>,
+}
+
+/// Looks a serial up: O(1).
+fn find(serials: &Serials, serial: Serial) -> Option<Lead>
+    ensures serial { IfSome result (λ lead. lead.serial ≡ serial) }
+    ensures entry { IfSome result (λ lead. slice_get serials.now.entries lead.at ≡ Some (serial.0, lead.handle)) }
+    ensures handle { option_map (λ lead. lead.handle) result ≡ handle_of serials.now.entries serial.0 }
+{
+    let (at, _, handle) = serials.get_full(&serial.0)?;
+    Some(Lead {
+        serial,
+        at,
+        handle: *handle,
+    })
+}
+
+/// What a serial that is in the map leads to. O(1).
+fn lead_of(serials: &Serials, serial: Serial) -> Lead
+    requires { IsSome (handle_of serials.now.entries serial.0) }
+    ensures serial { result.serial ≡ serial }
+    ensures entry { slice_get serials.now.entries result.at ≡ Some (serial.0, result.handle) }
+    ensures handle { handle_of serials.now.entries serial.0 ≡ Some result.handle }
+{
+    match find(serials, serial) {
+        Some(lead) => lead,
+        None => unreachable!(),
+    }
+}
+
 /// The handle of a serial that is in the map. O(1).
 fn handle_in(serials: &Serials, serial: Serial) -> Handle<Row>
     requires { IsSome (handle_of serials.now.entries serial.0) }
@@ -170,16 +261,12 @@ fn handle_in(serials: &Serials, serial: Serial) -> Handle<Row>
     }
 }
 
-/// Takes a serial that is in the map out of it; its handle. O(1).
-fn forget(serials: &mut Serials, serial: Serial) -> Handle<Row>
-    requires { IsSome (handle_of serials.old.entries serial.0) }
-    ensures handle { handle_of serials.old.entries serial.0 ≡ Some result }
-    ensures map { Maps serial.0 None serials.old.entries serials.new.entries }
+/// Takes a serial out of the map, which isn't searched for it: the last entry takes its place. O(1).
+fn forget_at(serials: &mut Serials, lead: Lead)
+    requires { slice_get serials.old.entries lead.at ≡ Some (lead.serial.0, lead.handle) }
+    ensures { Maps lead.serial.0 None serials.old.entries serials.new.entries }
 {
-    match serials.swap_remove(&serial.0) {
-        Some(handle) => handle,
-        None => unreachable!(),
-    }
+    serials.swap_remove_index(lead.at);
 }
 
 /// Lets a serial that is in the map lead to another handle; the one before. Takes no memory. O(1).

@@ -1,9 +1,9 @@
-use Rattle.crack_state.proofs.LookUpLaws.{live-replaced}
-use Rattle.crack_part.proofs.PointLemmas.{live-nothing_replaced, on_ok}
+use Rattle.std.proofs.Common.{ap, ◌∙◌}
+use Rattle.crack_plain.specs.Plain.{rewritten}
+use Rattle.crack_state.proofs.LookUpLaws.{row_by-find, live-replaced}
+use Rattle.crack_part.proofs.PointLemmas.{Replaces-found, handle-there, live-nothing_replaced}
 use Rattle.crack_part.proofs.partition.rewrite.Goals as goal
 
-pub returns-in-None-clause-live : goal.returns-in-None-clause-live
-returns-in-None-clause-live c = live-nothing_replaced c.args.store.now c.args.row c.in-None.ensures.none c.facts.ensures
-
-pub returns-in-Some-clause-live : goal.returns-in-Some-clause-live
-returns-in-Some-clause-live c = on_ok c.rewrite.result c.rewrite.ensures.live (λ changed plain same. live-replaced c.args.store.now c.rewrite.new.self c.args.row plain changed same)
+pub returns-clause-reply : goal.returns-clause-reply
+returns-clause-reply c = λ plain same.
+    c.rewritten.ensures.is ∙ ap rewritten (c.row_of-before.ensures.value ∙ row_by-find c.args.store.now c.args.row.serial.0 plain c.facts.ensures same)
