@@ -1,19 +1,18 @@
 -- What deletes and updates make of the live rows, said of a list of them.
-use Rattle.std.proofs.Common.{◌≡◌, ◌≢◌, ℕ, Bool, true, false, List, [], ◌∷◌, filter, map, Option, Some, None, IsSome, Result, Ok, Err, OnOk, refl, sym, ap}
-use Rattle.std.specs.Prelude.{IfSome, IfNone, is_some, nat_lt}
+use Rattle.std.proofs.Common.{◌≡◌, ◌≢◌, ℕ, Bool, true, false, List, [], ◌∷◌, filter, map, Option, Some, None, Result, Ok, Err, refl, sym, ap}
+use Rattle.std.specs.Prelude.{IfSome, IfNone, OnOk, IfOk, OnErr, is_some, nat_lt}
 use Rattle.std.specs.List.{All}
 use Rattle.std.specs.List.Sorted.{IsPermutation}
-use Rattle.std.specs.Option.{option_map, option_and_then}
+use Rattle.std.specs.Option.{option_map}
 use Rattle.std.proofs.lemmas.Bool.{true≢false}
 use Rattle.std.proofs.lemmas.List.Sorted.{All-permutation}
 use Rattle.crack_row.specs.Rows.{is_other, replaced}
 use Rattle.crack_row.specs.declared.Row.{Row}
 use Rattle.crack_plain.proofs.Laws.{others-same, replaced-same}
-use Rattle.crack_arena.specs.Arena.{Handle, read, times, slots}
+use Rattle.crack_arena.specs.Arena.{Handle, times, slots}
 use Rattle.crack_state.specs.State.{State, IsIntact, live_rows, handle_of}
-use Rattle.crack_state.specs.Points.{row_by, pending_by, Removes, Rewrites}
+use Rattle.crack_state.specs.Points.{row_by, pending_by, Removes}
 use Rattle.crack_state.proofs.LookUpLaws.{row_by-is, row_by-none, gone-cancels, gone-dooms, live-without}
-use Rattle.crack_part.specs.Parts.{Replaces}
 
 -- no row of a list of the live rows has a serial that leads nowhere
 plain-apart : (s : State) (serial : ℕ) (plain : List Row) → handle_of s.serials serial ≡ None → IsIntact s [] → IsPermutation (live_rows s) plain → All (λ (r : Row). r.serial.0 ≢ serial) plain
@@ -40,23 +39,19 @@ live-taken s t serial None is went none removes before after = λ plain same.
 pub live-nothing_replaced : (s : State) (row : Row) → handle_of s.serials row.serial.0 ≡ None → IsIntact s [] → (plain : List Row) → IsPermutation (live_rows s) plain → IsPermutation (live_rows s) (map (replaced row) plain)
 live-nothing_replaced s row none intact = λ plain same. rw (replaced-same row plain (plain-apart s row.serial.0 plain none intact same)) same
 
--- an update of a row that is there does what a rewriting does
-pub Replaces-found : (s t : State) (row : Row) → IsSome (handle_of s.serials row.serial.0) → Rewrites (pending_by s row.serial.0) row s t → Replaces (pending_by s row.serial.0) row s t
-Replaces-found s t row some rewrites = by_handle (handle_of s.serials row.serial.0) refl some
-  where
-    by_handle : (o : Option Handle) → handle_of s.serials row.serial.0 ≡ o → IsSome o → Replaces (pending_by s row.serial.0) row s t
-    by_handle None found none = absurd (true≢false (sym none))
-    by_handle (Some h) found some = rw found (rw found at rewrites)
-
--- the row of a serial is there just where the map leads to it
-pub handle-there : (s : State) (serial : ℕ) → IsSome (row_by s serial) → IsSome (handle_of s.serials serial)
-handle-there s serial there = by_handle (handle_of s.serials serial) there
-  where
-    by_handle : (o : Option Handle) → IsSome (option_and_then (read s.cells) o) → IsSome o
-    by_handle None none = none
-    by_handle (Some h) some = refl
-
--- what follows of an answer
+-- what follows of an answer, and of a look-up that finds nothing
 pub on_ok : {T E P Q : Type 0} (r : Result T E) → OnOk r P → (P → Q) → OnOk r Q
 on_ok (Ok x) p f = f p
 on_ok (Err e) p f = tt
+
+pub if_ok : {T E : Type 0} {P Q : T → Type 0} (r : Result T E) → IfOk r P → ((x : T) → P x → Q x) → IfOk r Q
+if_ok (Ok x) p f = f x p
+if_ok (Err e) p f = tt
+
+pub on_err : {T E P Q : Type 0} (r : Result T E) → OnErr r P → (P → Q) → OnErr r Q
+on_err (Ok x) p f = tt
+on_err (Err e) p f = f p
+
+pub if_none : {T P : Type 0} (o : Option T) → false ≡ is_some o → IfNone o P → P
+if_none None none p = p
+if_none (Some x) some p = absurd (true≢false (sym some))

@@ -287,11 +287,11 @@ fn carry_out(
     requires small { next.old + 1 < 2 ^ 64 }
     ensures reply { IfOk result (λ reply. (plain : PlainState) → IsNumbered plain → IsFaithful store.old next.old plain → reply ≡ reply_to plain command.now) }
     ensures flat { IfOk result (λ reply. (change_of command.now ≡ None) ⊎ IsFlat reply) }
-    ensures few { IfOk result (λ reply. (plain : PlainState) → IsNumbered plain → IsFaithful store.old next.old plain → length plain.rows < 2 ^ 32 → IsSmall reply) }
+    ensures small { IfOk result (λ reply. (plain : PlainState) → IsNumbered plain → IsFaithful store.old next.old plain → length plain.rows < 2 ^ 32 → IsSmall reply) }
     ensures performed { OnOk result (Performs next.old (change_of command.now) store.old store.new) }
     ensures faithful { OnOk result ((plain : PlainState) → IsFaithful store.old next.old plain → IsFaithful store.new next.new (after plain command.now)) }
     ensures intact { OnOk result (IsIntact store.new []) }
-    ensures none { OnOk result (change_of command.now ≡ None → (store.new ≡ store.old) × (next.new ≡ next.old)) }
+    ensures none { change_of command.now ≡ None → (store.new ≡ store.old) × (next.new ≡ next.old) }
     ensures same { OnErr result (SameButRoom store.old store.new × (next.new ≡ next.old)) }
     ensures err { IfErr result (λ e. e ≡ Refusal.OutOfMemory) }
 {

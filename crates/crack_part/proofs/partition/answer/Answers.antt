@@ -1,58 +1,55 @@
-use Rattle.std.proofs.Common.{Result, Ok, Err, OnErr, inl, inr, refl, ◌∙◌}
+use Rattle.std.proofs.Common.{inl, inr, ◌∙◌}
 use Rattle.crack_part.proofs.KeepLemmas.{Keeps-prepared, IsIntact-prepared, Spares-prepared}
 use Rattle.crack_part.proofs.SoundLemmas.{IsFaithful-kept}
+use Rattle.crack_part.proofs.PointLemmas.{on_ok, if_ok, on_err}
 use Rattle.crack_part.proofs.partition.answer.Goals as goal
 
-on_err : {T E P : Type 0} (r : Result T E) → P → OnErr r P
-on_err (Ok x) p = tt
-on_err (Err e) p = p
-
-pub reply_of-requires-clause-common : goal.reply_of-requires-clause-common
-reply_of-requires-clause-common c =
+pub carry_out-requires-clause-common : goal.carry_out-requires-clause-common
+carry_out-requires-clause-common c =
     let prepared = rw c.range.ensures at c.in_ok-common.ensures.prepared in
     let keeps = Keeps-prepared c.args.policy c.args.keys _ c.args.store.now c.prepare.new.store prepared in
     rw (keeps.ends ∙ c.requires.ends) (rw c.range.ensures at c.in_ok-common.ensures.common)
 
-pub perform-requires-clause-intact : goal.perform-requires-clause-intact
-perform-requires-clause-intact c =
+pub carry_out-requires-clause-intact : goal.carry_out-requires-clause-intact
+carry_out-requires-clause-intact c =
     let prepared = rw c.range.ensures at c.in_ok-common.ensures.prepared in
     IsIntact-prepared c.args.policy c.args.keys _ c.args.store.now c.prepare.new.store prepared c.requires.intact
 
-pub returns-in_err-reply-clause-spared : goal.returns-in_err-reply-clause-spared
-returns-in_err-reply-clause-spared c =
+pub returns-clause-spared : goal.returns-clause-spared
+returns-clause-spared c =
     let prepared = rw c.range.ensures at c.in_ok-common.ensures.prepared in
-    on_err c.from_residual-in_err-reply.result (Spares-prepared c.args.policy c.args.keys _ c.args.store.now c.prepare.new.store c.prepare.new.store prepared (record { same = refl }), refl)
-
-pub returns-in_err-perform-clause-spared : goal.returns-in_err-perform-clause-spared
-returns-in_err-perform-clause-spared c =
-    let prepared = rw c.range.ensures at c.in_ok-common.ensures.prepared in
-    let same = c.in_err-perform.ensures.same in
-    on_err c.from_residual-in_err-perform.result (Spares-prepared c.args.policy c.args.keys _ c.args.store.now c.prepare.new.store c.perform.new.store prepared same.0, same.1)
+    on_err c.carry_out.result c.carry_out.ensures.same (λ same. (Spares-prepared c.args.policy c.args.keys _ c.args.store.now c.prepare.new.store c.carry_out.new.store prepared same.0, same.1))
 
 pub returns-clause-served : goal.returns-clause-served
-returns-clause-served c = record {
+returns-clause-served c = on_ok c.carry_out.result c.carry_out.ensures.performed (λ performed. record {
   ready = c.prepare.new.store;
   prepared = rw c.range.ensures at c.in_ok-common.ensures.prepared;
-  performed = rw c.change.ensures at c.in_ok-perform.ensures.performed;
-}
+  performed = performed;
+})
 
 pub returns-clause-faithful : goal.returns-clause-faithful
-returns-clause-faithful c = λ plain faithful.
+returns-clause-faithful c = on_ok c.carry_out.result c.carry_out.ensures.faithful (λ faithfully plain faithful.
     let prepared = rw c.range.ensures at c.in_ok-common.ensures.prepared in
     let keeps = Keeps-prepared c.args.policy c.args.keys _ c.args.store.now c.prepare.new.store prepared in
-    rw c.change.ensures at (c.in_ok-perform.ensures.faithful plain (IsFaithful-kept c.args.store.now c.prepare.new.store c.args.next.now plain keeps faithful))
+    faithfully plain (IsFaithful-kept c.args.store.now c.prepare.new.store c.args.next.now plain keeps faithful))
 
-pub returns-clause-lists : goal.returns-clause-lists
-returns-clause-lists c = elim c.in_ok-reply.ensures.flat [
-  | inl none ↦
-      let prepared = rw c.range.ensures at c.in_ok-common.ensures.prepared in
-      let still = c.in_ok-perform.ensures.none (c.change.ensures ∙ none) in
-      inl (rw still.0 prepared, still.1)
-  | inr flat ↦ inr flat
-]
+pub returns-clause-replies : goal.returns-clause-replies
+returns-clause-replies c = if_ok c.carry_out.result c.carry_out.ensures.reply (λ reply replied plain numbered faithful.
+    let prepared = rw c.range.ensures at c.in_ok-common.ensures.prepared in
+    let keeps = Keeps-prepared c.args.policy c.args.keys _ c.args.store.now c.prepare.new.store prepared in
+    replied plain numbered (IsFaithful-kept c.args.store.now c.prepare.new.store c.args.next.now plain keeps faithful))
 
 pub returns-clause-small : goal.returns-clause-small
-returns-clause-small c = λ plain numbered faithful few.
+returns-clause-small c = if_ok c.carry_out.result c.carry_out.ensures.small (λ reply small plain numbered faithful few.
     let prepared = rw c.range.ensures at c.in_ok-common.ensures.prepared in
     let keeps = Keeps-prepared c.args.policy c.args.keys _ c.args.store.now c.prepare.new.store prepared in
-    c.in_ok-reply.ensures.small plain numbered (IsFaithful-kept c.args.store.now c.prepare.new.store c.args.next.now plain keeps faithful) few
+    small plain numbered (IsFaithful-kept c.args.store.now c.prepare.new.store c.args.next.now plain keeps faithful) few)
+
+pub returns-clause-lists : goal.returns-clause-lists
+returns-clause-lists c = if_ok c.carry_out.result c.carry_out.ensures.flat (λ reply flat. elim flat [
+  | inl none ↦
+      let prepared = rw c.range.ensures at c.in_ok-common.ensures.prepared in
+      let still = c.carry_out.ensures.none none in
+      inl (rw still.0 prepared, still.1)
+  | inr flat ↦ inr flat
+])

@@ -2,7 +2,7 @@ use Rattle.std.proofs.Common.{ap, arith, length, ◌∙◌}
 use Rattle.std.proofs.lemmas.List.Sums.{count_by-le-length, length-filter}
 use Rattle.crack_row.specs.Ranges.{in_range}
 use Rattle.crack_row.specs.declared.command.Reply.TheVariants.{Counted, Summed}
-use Rattle.crack_part.proofs.partition.reply_of.Goals as goal
+use Rattle.crack_part.proofs.partition.carry_out.Goals as goal
 
 pub returns-in-Count-clause-reply : goal.returns-in-Count-clause-reply
 returns-in-Count-clause-reply c = λ plain numbered faithful. rw c.in-Count.is (ap Counted (c.count.ensures c.in-Count.field-0 (rw c.in-Count.is at c.requires.common) plain.rows faithful.rows))

@@ -10,4 +10,4 @@ returns-clause-reply c = λ plain same.
 
 pub returns-clause-live : goal.returns-clause-live
 returns-clause-live c =
-    live-taken c.args.store.now c.remove-row.new.self c.args.serial.0 c.in_ok-row.row c.in_ok-row.ensures.row c.in_ok-row.ensures.live c.in_ok-row.ensures.none c.in_ok-row.ensures.after c.facts.ensures c.facts-2.ensures
+    live-taken c.args.store.now c.remove.new.self c.args.serial.0 c.in_ok-row.row c.in_ok-row.ensures.row c.in_ok-row.ensures.live c.in_ok-row.ensures.none c.in_ok-row.ensures.after c.facts.ensures c.facts-2.ensures
