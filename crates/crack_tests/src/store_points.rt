@@ -41,6 +41,15 @@ fn doom(rt: &impl Abort, store: &mut Store, gone: Row) {
     assert_eq!(rt; store.pending_out(), doomed + 1);
 }
 
+/// Removes a row by its serial, and tells what came back.
+fn remove(rt: &impl Abort, store: &mut Store, serial: u64) -> Option<Row> {
+    let freed = store.freed();
+    let doomed = store.pending_out();
+    assert!(rt; freed < 1000);
+    assert!(rt; doomed < 1000);
+    store.remove(Serial(serial)).expect(rt, "memory")
+}
+
 /// Rewrites a row of a store of all keys, and asserts that it reads so.
 fn rewrite(rt: &impl Abort, store: &mut Store, new: Row)
     requires low { store.old.keys.low ≡ 0 }
@@ -117,6 +126,22 @@ fn rows_of_the_column_are_doomed(rt: HostRuntime) {
     assert_numbers(&rt, &store, [2, 1, 4, 0]);
     doom(&rt, &mut store, row(0, 10, 5));
     assert_rows(&rt, &store, 2);
+    drop(store);
+}
+
+/// A pending row frees its cell, a row of the column stays there as a pending deletion, and a row that is gone isn't found again.
+#[test]
+fn a_row_is_removed_wherever_it_stands(rt: HostRuntime) {
+    let mut store = append_two(&rt, rt.alloc(), [10, 16, 24]);
+    assert_eq!(rt; remove(&rt, &mut store, 2), Some(row(2, 24, 12)));
+    assert_numbers(&rt, &store, [0, 0, 3, 1]);
+    assert_eq!(rt; remove(&rt, &mut store, 2), None);
+    assert_eq!(rt; remove(&rt, &mut store, 0), Some(row(0, 10, 5)));
+    assert_numbers(&rt, &store, [0, 1, 3, 1]);
+    assert_eq!(rt; remove(&rt, &mut store, 0), None);
+    assert_eq!(rt; remove(&rt, &mut store, 7), None);
+    assert_eq!(rt; store.row_of(Serial(1)), Some(row(1, 16, 8)));
+    assert_rows(&rt, &store, 1);
     drop(store);
 }
 
