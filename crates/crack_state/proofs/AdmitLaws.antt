@@ -15,9 +15,11 @@ use Rattle.crack_arena.specs.Arena.{Cell, Handle, times, read, cell_at, empty_ce
 use Rattle.crack_arena.proofs.Times.{times-nil, times-cons, times_one, times_other, times_head, times-append, times-map-append, times_map_at}
 use Rattle.crack_state.specs.State.{State, places, Reads, IsOwned, IsIntact, IsKeyed, IsLiveAt, AreEmpty, HaveKeysIn, handle_of, freed_of, live_at, live_rows}
 use Rattle.crack_state.specs.Steps.{next_handle, admitted, IsAdmissible}
+use Rattle.crack_state.specs.Points.{Maps}
 use Rattle.crack_state.proofs.OwnedLaws.{times-places, once-most, once-within}
 use Rattle.crack_state.proofs.CellLaws.{AgreeOff, handle_same, read-off, Reads-off, keys-off, read-value}
 use Rattle.crack_state.proofs.LiveLaws.{filter_map-less, times-range}
+use Rattle.crack_state.proofs.KeyedLaws.{maps_other, maps_this}
 
 -- one cell got a value, and no other changed
 pub record Filled (cells after : List (Cell Row)) (h : Handle) (r : Row) : Type 0 where
@@ -128,35 +130,32 @@ handle_of-push (e ∷ es) serial h fresh p = elim (cases_eq serial e.0) [
       ]
 ]
 
-IsKeyed-admitted : (row : Row) (s : State) (h : Handle) (after : List (Cell Row)) → Filled s.cells after h row → IsUnused s h.slot → (cell_at s.cells h.slot).value ≡ None → handle_of s.serials row.serial.0 ≡ None → IsKeyed s.cells (slots s.pending_out) s.serials → IsKeyed after (slots s.pending_out) (s.serials ++ (row.serial.0, h) ∷ [])
-IsKeyed-admitted row s h after fill off empty fresh keyed =
-    let serials = s.serials ++ (row.serial.0, h) ∷ [] in
-    let updates = handle_of-push s.serials row.serial.0 h fresh in
-    record {
-      leads = λ p g found. elim (cases_eq row.serial.0 p) [
-        | inl e ↦
-            let new : handle_of serials p ≡ Some h = updates p ∙ rw (eq-eqb row.serial.0 p e) refl in
-            let same : h ≡ g = cc in
-            record { row = row; reads = rw (← same) (read-new s.cells after h row fill); same = e; kept = rw (← same) off.doomed }
-        | inr ne ↦
-            let old : handle_of serials p ≡ handle_of s.serials p = updates p ∙ rw (ne_eqb row.serial.0 p ne) refl in
-            let live : IsLiveAt s.cells (slots s.pending_out) p g = keyed.leads p g (sym old ∙ found) in
-            let apart : g.slot ≢ h.slot = λ e.
-            let value = read-value s.cells g live.row live.reads in
-            let at : (cell_at s.cells g.slot).value ≡ (cell_at s.cells h.slot).value = ap (λ (n : ℕ). (cell_at s.cells n).value) e in
-            absurd (cc) in
-            record { row = live.row; reads = read-off h.slot s.cells after g fill.others apart ∙ live.reads; same = live.same; kept = live.kept }
-      ];
-      lists = λ g q found kept. elim (cases_eq g.slot h.slot) [
-        | inl e ↦
-            let same = read_same s.cells after h g row q fill e found in
-            rw (same.handle, same.row) (updates row.serial.0 ∙ rw (eq-eqb row.serial.0 row.serial.0 refl) refl)
-        | inr ne ↦
-            let old = keyed.lists g q (sym (read-off h.slot s.cells after g fill.others ne) ∙ found) kept in
-            let differs : row.serial.0 ≢ q.serial.0 = λ e. let a = ap (handle_of s.serials) e in absurd (cc) in
-            updates q.serial.0 ∙ rw (ne_eqb row.serial.0 q.serial.0 differs) old
-      ];
-    }
+-- a row comes: an empty cell gets it, and its serial leads there
+pub IsKeyed-more : (cells after : List (Cell Row)) (doomed : List ℕ) (serials later : List (ℕ × Handle)) (h : Handle) (row : Row) → Filled cells after h row → times h.slot doomed ≡ 0 → (cell_at cells h.slot).value ≡ None → handle_of serials row.serial.0 ≡ None → Maps row.serial.0 (Some h) serials later → IsKeyed cells doomed serials → IsKeyed after doomed later
+IsKeyed-more cells after doomed serials later h row fill off empty fresh maps keyed = record {
+  leads = λ p g found. elim (cases_eq row.serial.0 p) [
+    | inl e ↦
+        let new = maps_this row.serial.0 p (Some h) serials later maps e in
+        let same : h ≡ g = cc in
+        record { row = row; reads = rw (← same) (read-new cells after h row fill); same = e; kept = rw (← same) off }
+    | inr ne ↦
+        let live : IsLiveAt cells doomed p g = keyed.leads p g (sym (maps_other row.serial.0 p (Some h) serials later maps ne) ∙ found) in
+        let apart : g.slot ≢ h.slot = λ e.
+        let value = read-value cells g live.row live.reads in
+        let at : (cell_at cells g.slot).value ≡ (cell_at cells h.slot).value = ap (λ (n : ℕ). (cell_at cells n).value) e in
+        absurd (cc) in
+        record { row = live.row; reads = read-off h.slot cells after g fill.others apart ∙ live.reads; same = live.same; kept = live.kept }
+  ];
+  lists = λ g q found kept. elim (cases_eq g.slot h.slot) [
+    | inl e ↦
+        let same = read_same cells after h g row q fill e found in
+        rw (same.handle, same.row) (maps_this row.serial.0 row.serial.0 (Some h) serials later maps refl)
+    | inr ne ↦
+        let old = keyed.lists g q (sym (read-off h.slot cells after g fill.others ne) ∙ found) kept in
+        let differs : row.serial.0 ≢ q.serial.0 = λ e. let a = ap (handle_of serials) e in absurd (cc) in
+        maps_other row.serial.0 q.serial.0 (Some h) serials later maps differs ∙ old
+  ];
+}
 
 -- numbers that aren't in a list are none of its elements
 apart_numbers : (ns : List ℕ) (n : ℕ) → times n ns ≡ 0 → All (λ m. m ≢ n) ns
@@ -209,7 +208,7 @@ IsIntact-admitted row s may intact =
       obeyed = rw (keys-off h.slot s.cells cells s.column fill.others off.column) intact.obeyed;
       rising = intact.rising;
       inside = intact.inside;
-      keyed = IsKeyed-admitted row s h cells fill off (vacant s s.free refl intact.empty) may.fresh intact.keyed;
+      keyed = IsKeyed-more s.cells cells (slots s.pending_out) s.serials (admitted row s).serials h row fill off.doomed (vacant s s.free refl intact.empty) may.fresh (handle_of-push s.serials row.serial.0 h may.fresh) intact.keyed;
       empty = AreEmpty-admitted row s s.free refl owned intact.empty;
       within = HaveKeysIn-admitted row s s.free may.within intact.within;
       few_cells = length_cells-admitted row s s.free refl may.cell intact.few_cells;

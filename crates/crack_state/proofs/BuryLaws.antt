@@ -1,7 +1,7 @@
 -- Bury: the doomed hand's cell is freed. It keeps a store intact, and commands see the same rows.
-use Rattle.std.proofs.Common.{◌≡◌, ◌≢◌, ℕ, ◌+◌, ◌<◌, eqb, List, [], ◌∷◌, length, get_or, set, Option, None, refl, sym, ap, ◌∙◌, inl, inr, arith, length-set}
-use Rattle.std.specs.Prelude.{◌==◌, IfSome}
-use Rattle.std.specs.List.{remove, filter_map, range_with_len}
+use Rattle.std.proofs.Common.{◌≡◌, ℕ, ◌+◌, ◌<◌, ◌≤◌, eqb, List, [], ◌∷◌, length, get_or, set, Option, None, refl, sym, ap, ◌∙◌, inl, inr, arith, length-set}
+use Rattle.std.specs.Prelude.{IfSome}
+use Rattle.std.specs.List.{All, remove, filter_map, range_with_len}
 use Rattle.std.proofs.lemmas.List.Edits.{length-remove}
 use Rattle.std.proofs.lemmas.List.Sums.{sum_by-set}
 use Rattle.std.proofs.lemmas.List.{get_or-set_same, get_or-set_other}
@@ -14,13 +14,14 @@ use Rattle.crack_row.specs.declared.command.Policy.{Policy}
 use Rattle.crack_arena.specs.Arena.{Cell, Handle, StandsAt, times, read, cell_at, empty_cell, slots, place_in}
 use Rattle.crack_arena.proofs.Times.{times-nil, times-cons, times_one, times_other, times_head, times-append}
 use Rattle.crack_state.specs.declared.MergeReport.{MergeReport}
-use Rattle.crack_state.specs.State.{State, Carried, Reads, IsIntact, IsKeyed, IsLiveAt, AreEmpty, freed_of, live_at, live_rows, greatest}
+use Rattle.crack_state.specs.State.{State, Carried, Reads, IsIntact, IsKeyed, IsCounted, AreEmpty, freed_of, live_at, live_rows, greatest}
 use Rattle.crack_state.specs.Steps.{hand_key, IsDoomed, lifted, buried}
 use Rattle.crack_state.specs.Merge.{Follows, Tallies}
-use Rattle.crack_state.proofs.OwnedLaws.{times-taken, times-places, HandApart, hand_apart}
-use Rattle.crack_state.proofs.CellLaws.{AgreeOff-set, read-off, Reads-off, keys-off, generation_of_read, stands_there}
+use Rattle.crack_state.proofs.OwnedLaws.{times-taken, times-places, once-most, once-within, HandApart, hand_apart}
+use Rattle.crack_state.proofs.CellLaws.{AgreeOff-set, Reads-off, keys-off, generation_of_read, stands_there}
 use Rattle.crack_state.proofs.Counters.{IsCounted-taken_out, Rises-one}
-use Rattle.crack_state.proofs.LiveLaws.{none_either}
+use Rattle.crack_state.proofs.LiveLaws.{none_either, Hides, Hides-emptied, live_at-off}
+use Rattle.crack_state.proofs.KeyedLaws.{IsKeyed-less}
 use Rattle.crack_state.proofs.FollowLaws.{Pushes, Tallies-step, bounds_above-few}
 
 -- the hand, which is doomed, is the pending deletion of its cell
@@ -56,23 +57,6 @@ off_buried c doomed intact =
 pub read-set_none : (cells : List (Cell Row)) (n g : ℕ) (h : Handle) → n < length cells → h.slot ≡ n → read (set cells n (record { generation = g; value = None })) h ≡ None
 read-set_none cells n g h within same = rw (same, get_or-set_same cells n (record { generation = g; value = None }) empty_cell within) (none_either (eqb g h.generation))
 
-IsKeyed-buried : (cells : List (Cell Row)) (doomed left : List ℕ) (serials : List (ℕ × Handle)) (slot g : ℕ) → slot < length cells → ((n : ℕ) → times n left + times n (slot ∷ []) ≡ times n doomed) → IsKeyed cells doomed serials → IsKeyed (set cells slot (record { generation = g; value = None })) left serials
-IsKeyed-buried cells doomed left serials slot g within taken keyed =
-    let c : Cell Row = record { generation = g; value = None } in
-    record {
-      leads = λ serial h found.
-          let live : IsLiveAt cells doomed serial h = keyed.leads serial h found in
-          let other : h.slot ≢ slot = λ e.
-          let one : times h.slot (slot ∷ []) ≡ 1 = rw e (times_head slot [] ∙ omega (arith, times-nil slot)) in
-          absurd (omega (arith, live.kept, taken h.slot)) in
-          record { row = live.row; reads = read-off slot cells (set cells slot c) h (AgreeOff-set cells slot c) other ∙ live.reads; same = live.same; kept = omega (arith, taken h.slot, live.kept) };
-      lists = λ h r found kept.
-          elim (cases_eq h.slot slot) [
-            | inl e ↦ absurd (let none = read-set_none cells slot g h within e in cc)
-            | inr other ↦ keyed.lists h r (sym (read-off slot cells (set cells slot c) h (AgreeOff-set cells slot c) other) ∙ found) (omega (arith, taken h.slot, times_other h.slot slot (λ e. other (sym e)), kept))
-          ];
-    }
-
 -- a free cell stays empty, and so is the cell that was freed
 pub AreEmpty-freed : (cells : List (Cell Row)) (n g : ℕ) (free : List ℕ) → n < length cells → AreEmpty cells free → AreEmpty (set cells n (record { generation = g; value = None })) (n ∷ free)
 AreEmpty-freed cells n g free within empty =
@@ -83,72 +67,98 @@ AreEmpty-freed cells n g free within empty =
       | inr ne ↦ rw (get_or-set_other cells n (get_or free k d) c empty_cell ne) (empty k d h)
     ])
 
+-- the cells, once that of a handle is emptied, and how often they were freed
+abbrev pub emptied : Handle → List (Cell Row) → List (Cell Row)
+emptied h cells = set cells h.slot (record { generation = h.generation + 1; value = None })
+
+pub freed_of-emptied : (cells : List (Cell Row)) (h : Handle) → h.slot < length cells → Reads cells h → freed_of (emptied h cells) ≡ freed_of cells + 1
+freed_of-emptied cells h within reads =
+    omega (arith, sum_by-set (λ (x : Cell Row). x.generation) cells h.slot (record { generation = h.generation + 1; value = None }) empty_cell within, generation_of_read cells h reads)
+
+-- what a freed cell leaves, of which the handle was in hand or a pending insertion, and isn't doomed any more
+pub IsIntact-freed : (s t : State) (h : Handle) (hand : List Handle) → t ≡ record s { cells = emptied h s.cells; free = h.slot ∷ s.free; pending_in = t.pending_in; pending_out = t.pending_out; serials = t.serials; tally = t.tally } → Reads s.cells h → ((n : ℕ) → times n (slots t.pending_in) + times n (h.slot ∷ []) ≡ times n (slots s.pending_in) + times n (slots hand)) → times h.slot (slots t.pending_out) ≡ 0 → ((n : ℕ) → times n (slots t.pending_out) ≤ times n (slots s.column)) → All (Reads s.cells) t.pending_in → All (Reads s.cells) t.pending_out → IsKeyed (emptied h s.cells) (slots t.pending_out) t.serials → freed_of s.cells + length t.pending_out < greatest → IsCounted t.tally → IsIntact s hand → IsIntact t []
+IsIntact-freed s t h hand same reads counts off few pending_reads doomed_reads keyed spare counted intact =
+    let owned = intact.owned in
+    let c : Cell Row = record { generation = h.generation + 1; value = None } in
+    let cells = emptied h s.cells in
+    let agree = AgreeOff-set s.cells h.slot c in
+    let places_are = times-places h.slot s.column s.pending_in s.free hand in
+    let here = times_head h.slot [] in
+    let most = once-most s.cells s.free s.column s.pending_in s.pending_out hand h.slot owned in
+    let within = once-within s.cells s.free s.column s.pending_in s.pending_out hand h.slot (omega (arith, counts h.slot)) owned in
+    let off_column : times h.slot (slots s.column) ≡ 0 = omega (arith, counts h.slot) in
+    rw same (record {
+      owned = record {
+        once = λ n. rw (length-set s.cells h.slot c) (omega (arith, owned.once n, counts n, times-places n s.column s.pending_in s.free hand, times-places n s.column t.pending_in (h.slot ∷ s.free) [], times-nil n, times-cons n h.slot s.free, times_one n h.slot));
+        column_reads = Reads-off h.slot s.cells cells s.column agree off_column owned.column_reads;
+        pending_reads = Reads-off h.slot s.cells cells t.pending_in agree (omega (arith, counts h.slot)) pending_reads;
+        hand_reads = All-nil (Reads cells);
+        doomed_reads = Reads-off h.slot s.cells cells t.pending_out agree off doomed_reads;
+        doomed_once = λ n. omega (arith, few n, times-append n (slots s.column) []);
+      };
+      obeyed = rw (keys-off h.slot s.cells cells s.column agree off_column) intact.obeyed;
+      rising = intact.rising;
+      inside = intact.inside;
+      keyed = keyed;
+      empty = AreEmpty-freed s.cells h.slot (h.generation + 1) s.free within intact.empty;
+      within = All-set (λ (x : Cell Row). IfSome x.value (λ r. IsIn s.keys r.key.0)) s.cells h.slot c tt intact.within;
+      few_cells = omega (arith, intact.few_cells, length-set s.cells h.slot c);
+      few_freed = omega (arith, spare, freed_of-emptied s.cells h within reads);
+      counted = counted;
+    })
+
 -- what was freed and what is doomed are together as many as before
 pub freed-buried : (c : Carried) → IsDoomed c → IsIntact c.store (c.hand ∷ []) → freed_of (buried c).cells + length (buried c).pending_out ≡ freed_of c.store.cells + length c.store.pending_out
 freed-buried c doomed intact =
     let s = c.store in
     let known = doomed_hand c doomed intact in
-    let g = generation_of_read s.cells c.hand (intact.owned.hand_reads 0 c.hand (omega arith)) in
-    let y : Cell Row = record { generation = c.hand.generation + 1; value = None } in
-    let sums = sum_by-set (λ (x : Cell Row). x.generation) s.cells c.hand.slot y empty_cell known.apart.within in
-    let gone = length-remove s.pending_out (place_in s.pending_out c.hand.slot) known.place in
-    omega (arith, sums, g, gone)
+    omega (arith, freed_of-emptied s.cells c.hand known.apart.within (intact.owned.hand_reads 0 c.hand (omega arith)), length-remove s.pending_out (place_in s.pending_out c.hand.slot) known.place)
 
 -- a generation that is to be raised is below its greatest number
 pub freed-doomed : (s : State) (hand : List Handle) → 0 < length s.pending_out → IsIntact s hand → freed_of s.cells < greatest
 freed-doomed s hand some intact = omega (arith, intact.few_freed)
 
+-- the hand's cell shows no row, and showed none before
+hides_buried : (c : Carried) → IsDoomed c → IsIntact c.store (c.hand ∷ []) → Hides c.store.cells (buried c).cells (slots c.store.pending_out) (slots (buried c).pending_out) c.hand.slot
+hides_buried c doomed intact =
+    let s = c.store in
+    let known = doomed_hand c doomed intact in
+    Hides-emptied s.cells (slots s.pending_out) (slots (buried c).pending_out) c.hand.slot (c.hand.generation + 1) known.apart.within (λ n ne. omega (arith, known.taken n, times_other n c.hand.slot (λ e. ne (sym e))))
+
 pub IsIntact-buried : (c : Carried) → IsDoomed c → IsIntact c.store (c.hand ∷ []) → IsIntact (buried c) []
 IsIntact-buried c doomed intact =
     let s = c.store in
-    let hand = c.hand in
+    let slot = c.hand.slot in
     let owned = intact.owned in
     let known = doomed_hand c doomed intact in
-    let apart = known.apart in
-    let cell : Cell Row = record { generation = hand.generation + 1; value = None } in
-    let left = remove s.pending_out (place_in s.pending_out hand.slot) in
-    let cells = set s.cells hand.slot cell in
-    let agree = AgreeOff-set s.cells hand.slot cell in
-    let off_left : times hand.slot (slots left) ≡ 0 = omega (arith, known.taken hand.slot, known.once, times_head hand.slot [], times-nil hand.slot) in
-    record {
-      owned = record {
-        once = λ n. rw (length-set s.cells hand.slot cell) (omega (arith, owned.once n, times-places n s.column s.pending_in s.free (hand ∷ []), times-places n s.column s.pending_in (hand.slot ∷ s.free) [], times-nil n, times-cons n hand.slot s.free, times_one n hand.slot));
-        column_reads = Reads-off hand.slot s.cells cells s.column agree apart.off_column owned.column_reads;
-        pending_reads = Reads-off hand.slot s.cells cells s.pending_in agree apart.off_pending owned.pending_reads;
-        hand_reads = All-nil (Reads cells);
-        doomed_reads = Reads-off hand.slot s.cells cells left agree off_left (All-removed (Reads s.cells) s.pending_out (place_in s.pending_out hand.slot) owned.doomed_reads);
-        doomed_once = λ n. elim (cases_eq hand.slot n) [
-          | inl e ↦ rw (← e) (omega (arith, off_left))
-          | inr ne ↦ omega (arith, owned.doomed_once n, known.taken n, times-append n (slots s.column) (slots (hand ∷ [])), times-append n (slots s.column) [], times-nil n, times_other n hand.slot ne)
-        ];
-      };
-      obeyed = rw (keys-off hand.slot s.cells cells s.column agree apart.off_column) intact.obeyed;
-      rising = intact.rising;
-      inside = intact.inside;
-      keyed = IsKeyed-buried s.cells (slots s.pending_out) (slots left) s.serials hand.slot (hand.generation + 1) apart.within known.taken intact.keyed;
-      empty = AreEmpty-freed s.cells hand.slot (hand.generation + 1) s.free apart.within intact.empty;
-      within = All-set (λ (x : Cell Row). IfSome x.value (λ r. IsIn s.keys r.key.0)) s.cells hand.slot cell tt intact.within;
-      few_cells = omega (arith, intact.few_cells, length-set s.cells hand.slot cell);
-      few_freed = omega (arith, intact.few_freed, freed-buried c doomed intact);
-      counted = IsCounted-taken_out s.tally intact.counted;
-    }
+    let off = off_buried c doomed intact in
+    IsIntact-freed s (buried c) c.hand (c.hand ∷ []) refl (owned.hand_reads 0 c.hand (omega arith)) (λ n. refl) off
+    (λ n. elim (cases_eq slot n) [
+      | inl e ↦ rw (← e) (omega (arith, off))
+      | inr ne ↦ omega (arith, owned.doomed_once n, known.taken n, times-append n (slots s.column) (slots (c.hand ∷ [])), times_other n slot ne)
+    ])
+    owned.pending_reads
+    (All-removed (Reads s.cells) s.pending_out (place_in s.pending_out slot) owned.doomed_reads)
+    (IsKeyed-less s.cells (buried c).cells (slots s.pending_out) (slots (buried c).pending_out) s.serials s.serials slot (hides_buried c doomed intact)
+    (λ n g found. (λ e. let kept = (intact.keyed.leads n g found).kept in let once = known.once in absurd (omega (arith, known.once, sym (ap (λ k. times k (slots s.pending_out)) e) ∙ kept)), found))
+    (λ n g ne found. found)
+    intact.keyed)
+    (omega (arith, intact.few_freed, length-remove s.pending_out (place_in s.pending_out slot) known.place))
+    (IsCounted-taken_out s.tally intact.counted)
+    intact
 
 -- commands see the same rows
 pub live_rows-buried : (c : Carried) → IsDoomed c → IsIntact c.store (c.hand ∷ []) → live_rows (buried c) ≡ live_rows c.store
 live_rows-buried c doomed intact =
     let s = c.store in
-    let slot = c.hand.slot in
     let known = doomed_hand c doomed intact in
-    let cell : Cell Row = record { generation = c.hand.generation + 1; value = None } in
+    let hides = hides_buried c doomed intact in
     let left = slots (buried c).pending_out in
-    let cells = set s.cells slot cell in
-    let same : (n : ℕ) → live_at cells left n ≡ live_at s.cells (slots s.pending_out) n = λ n. elim (cases_eq n slot) [
-      | inl e ↦ rw (e, known.once, get_or-set_same s.cells slot cell empty_cell known.apart.within) (none_either (times slot left == 0))
-      | inr ne ↦
-          let doomed_too : times n (slots s.pending_out) ≡ times n left = omega (arith, known.taken n, times_other n slot (λ e. ne (sym e))) in
-          rw (doomed_too, get_or-set_other s.cells slot n cell empty_cell ne) refl
+    let same : (n : ℕ) → live_at (buried c).cells left n ≡ live_at s.cells (slots s.pending_out) n = λ n. elim (cases_eq n c.hand.slot) [
+      | inl e ↦ rw e (hides.none ∙ rw known.once refl)
+      | inr ne ↦ sym (live_at-off s.cells (buried c).cells (slots s.pending_out) left c.hand.slot n hides ne)
     ] in
-    rw (length-set s.cells slot cell) (ap (λ (f : ℕ → Option Row). filter_map f (range_with_len 0 (length s.cells))) (λ i n. same n i))
+    rw (length-set s.cells c.hand.slot (record { generation = c.hand.generation + 1; value = None })) (ap (λ (f : ℕ → Option Row). filter_map f (range_with_len 0 (length s.cells))) (λ i n. same n i))
 
 pub Follows-buried : (c : Carried) → IsDoomed c → IsIntact c.store (c.hand ∷ []) → Follows c.store (buried c)
 Follows-buried c doomed intact = record {

@@ -1,11 +1,11 @@
 -- What commands see, as cells get and lose rows and rows are doomed; and that it is what column, pending insertions and hand hold.
-use Rattle.std.proofs.Common.{◌≡◌, ◌≢◌, ℕ, zero, suc, ◌+◌, ◌<◌, ◌≤◌, Bool, true, false, ltb, List, [], ◌∷◌, ◌++◌, length, get_or, cond, Option, Some, None, refl, sym, ap, ◌∙◌, inl, inr, arith, zero-add, add-zero}
+use Rattle.std.proofs.Common.{◌≡◌, ◌≢◌, ℕ, zero, suc, ◌+◌, ◌<◌, ◌≤◌, Bool, true, false, ltb, List, [], ◌∷◌, ◌++◌, length, get_or, set, cond, Option, Some, None, refl, sym, ap, ◌∙◌, inl, inr, arith, zero-add, add-zero}
 use Rattle.std.specs.Prelude.{◌==◌}
 use Rattle.std.specs.List.{All, cons_option, filter_map, range_with_len}
 use Rattle.std.specs.List.Sorted.{IsPermutation}
 use Rattle.std.specs.Option.{IfSome}
 use Rattle.std.proofs.lemmas.List.Sorted.{IsPermutation-refl, IsPermutation-cons, IsPermutation-trans, IsPermutation-middle, IsPermutation-sym}
-use Rattle.std.proofs.lemmas.List.{append-nil, get_or_past}
+use Rattle.std.proofs.lemmas.List.{append-nil, get_or_past, get_or-set_same}
 use Rattle.std.proofs.lemmas.List.Elements.{filter_map-append}
 use Rattle.std.proofs.lemmas.Bool.{cases_eq, cases_lt, lt-ltb, le-ltb}
 use Rattle.crack_row.proofs.Lists.{filter_map_agree, filter_map_none, filter_map-map, All-filter_map, IsPermutation-filter_map}
@@ -14,7 +14,7 @@ use Rattle.crack_row.specs.declared.Row.{Row}
 use Rattle.crack_arena.specs.Arena.{Cell, Handle, times, cell_at, empty_cell, slots}
 use Rattle.crack_arena.proofs.Times.{times-nil, times-cons, times_one, times_other, times_head, times_apart, times-append}
 use Rattle.crack_state.specs.State.{State, places, Reads, IsOwned, IsIntact, AreEmpty, live_at, live_rows, live_read, live_among}
-use Rattle.crack_state.proofs.CellLaws.{read_is_value}
+use Rattle.crack_state.proofs.CellLaws.{AgreeOff, AgreeOff-set, read_is_value}
 
 -- nothing, whatever the test says: what a cell without a value shows, doomed or not
 pub none_either : (b : Bool) → cond {A = Option Row} b None None ≡ None
@@ -86,6 +86,29 @@ times-range_from k a (suc n) above = elim (cases_eq a k) [
 -- each number below n stands once among the first n, and no other
 pub times-range : (k n : ℕ) → times k (range_with_len 0 n) ≡ cond (ltb k n) 1 0
 times-range k n = times-range_from k 0 n (omega arith) ∙ rw zero-add refl
+
+-- the cell of this number shows no row any more; the others, and which of them are doomed, are as before
+pub record Hides (cells after : List (Cell Row)) (doomed left : List ℕ) (slot : ℕ) : Type 0 where
+  pub others : AgreeOff slot cells after
+  pub kept : (n : ℕ) → n ≢ slot → times n left ≡ times n doomed
+  pub none : live_at after left slot ≡ None
+
+-- a cell that was emptied
+pub Hides-emptied : (cells : List (Cell Row)) (doomed left : List ℕ) (slot g : ℕ) → slot < length cells → ((n : ℕ) → n ≢ slot → times n left ≡ times n doomed) → Hides cells (set cells slot (record { generation = g; value = None })) doomed left slot
+Hides-emptied cells doomed left slot g within kept =
+    let c : Cell Row = record { generation = g; value = None } in
+    record { others = AgreeOff-set cells slot c; kept = kept; none = rw (get_or-set_same cells slot c empty_cell within) (none_either (times slot left == 0)) }
+
+pub live_at-off : (cells after : List (Cell Row)) (doomed left : List ℕ) (slot n : ℕ) → Hides cells after doomed left slot → n ≢ slot → live_at cells doomed n ≡ live_at after left n
+live_at-off cells after doomed left slot n hides ne = rw (hides.kept n ne, hides.others n ne) refl
+
+-- the row that it showed is one less that commands see
+pub live_rows-less : (s t : State) (slot : ℕ) (row : Row) → Hides s.cells t.cells (slots s.pending_out) (slots t.pending_out) slot → length t.cells ≡ length s.cells → slot < length s.cells → live_at s.cells (slots s.pending_out) slot ≡ Some row → IsPermutation (row ∷ live_rows t) (live_rows s)
+live_rows-less s t slot row hides long within had =
+    let before = live_at s.cells (slots s.pending_out) in
+    let after = live_at t.cells (slots t.pending_out) in
+    let once : times slot (range_with_len 0 (length s.cells)) ≡ 1 = times-range slot (length s.cells) ∙ rw (lt-ltb slot (length s.cells) within) refl in
+    rw long (IsPermutation-sym (live_rows s) _ (filter_map-less before after slot row (range_with_len 0 (length s.cells)) had hides.none (λ k ne. live_at-off s.cells t.cells (slots s.pending_out) (slots t.pending_out) slot k hides ne) once))
 
 -- what is given of the cells' numbers is, in some order, what is given of those in all places
 pub IsPermutation-places : {X : Type 0} (f : ℕ → Option X) (s : State) (hand : List Handle) → IsOwned s.cells s.free s.column s.pending_in s.pending_out hand → IsPermutation (filter_map f (range_with_len 0 (length s.cells))) (filter_map f (places s hand))

@@ -1,10 +1,10 @@
 -- What the commands on one row do to a store: it stays intact, one live row goes or is replaced, and no other changes.
-use Rattle.std.proofs.Common.{◌≡◌, ◌≢◌, ℕ, ◌+◌, ◌<◌, ◌≤◌, Bool, true, false, eqb, ltb, List, [], ◌∷◌, ◌++◌, map, filter, length, get_or, set, cond, Option, Some, None, refl, sym, ap, ◌∙◌, inl, inr, arith, length-set}
-use Rattle.std.specs.Prelude.{◌==◌, IfSome, unwrap_or, is_some, not}
-use Rattle.std.specs.List.{All, remove, filter_map, range_with_len}
+use Rattle.std.proofs.Common.{◌≡◌, ◌≢◌, ℕ, ◌+◌, ◌<◌, ◌≤◌, Bool, true, false, ltb, List, [], ◌∷◌, ◌++◌, map, length, get_or, set, cond, Option, Some, None, refl, sym, ap, ◌∙◌, inl, inr, arith, length-set}
+use Rattle.std.specs.Prelude.{◌==◌, IfSome, unwrap_or, is_some}
+use Rattle.std.specs.List.{All, filter_map, range_with_len}
 use Rattle.std.specs.List.Sorted.{IsPermutation}
 use Rattle.std.specs.Option.{option_map}
-use Rattle.std.proofs.lemmas.List.{get_or-set_same, get_or-set_other, length_push}
+use Rattle.std.proofs.lemmas.List.{get_or-set_same, length_push}
 use Rattle.std.proofs.lemmas.List.Elements.{All-nil, All-push, All-set, All-contains, Contains-append_right}
 use Rattle.std.proofs.lemmas.List.Sorted.{IsPermutation-sym, IsPermutation-trans, IsPermutation-map}
 use Rattle.std.proofs.lemmas.List.Sums.{sum_by-set}
@@ -14,15 +14,16 @@ use Rattle.crack_row.specs.Ranges.{IsIn}
 use Rattle.crack_row.specs.Rows.{replaced}
 use Rattle.crack_row.specs.declared.Row.{Row}
 use Rattle.crack_arena.specs.Arena.{Cell, Handle, StandsAt, times, read, cell_at, empty_cell, slots, no_handle, place_in}
-use Rattle.crack_arena.proofs.Times.{times-nil, times-cons, times_one, times_other, times_head, times-append, times-map-append}
-use Rattle.crack_state.specs.State.{State, places, Reads, IsOwned, IsIntact, IsKeyed, IsLiveAt, AreEmpty, handle_of, freed_of, live_at, live_rows}
+use Rattle.crack_arena.proofs.Times.{times-nil, times_other, times_head, times-append, times-map-append}
+use Rattle.crack_state.specs.State.{State, places, Reads, IsIntact, IsKeyed, IsLiveAt, AreEmpty, handle_of, freed_of, live_at, live_rows}
 use Rattle.crack_state.specs.Steps.{next_handle, admitted, SameButRoom}
 use Rattle.crack_state.specs.Points.{pending_by, handle_by, Maps, MayFree, struck, doomed_too, overwritten, renewed, Cancels, Dooms, Renews, Rewrites, IsRenewable, IsRewritable}
 use Rattle.crack_state.proofs.OwnedLaws.{times-taken, times-places}
-use Rattle.crack_state.proofs.CellLaws.{AgreeOff-set, read-off, Reads-off, keys-off, generation_of_read, reads_some, one_handle, stands_there, read-value, cell_within}
-use Rattle.crack_state.proofs.LiveLaws.{filter_map-less, times-range, none_either, split_at_member}
-use Rattle.crack_state.proofs.AdmitLaws.{Filled, handle_of-push, read-new, read_same, IsIntact-admitted, live_rows-admitted, freed-admitted, cells-admitted}
-use Rattle.crack_state.proofs.BuryLaws.{read-set_none, AreEmpty-freed}
+use Rattle.crack_state.proofs.CellLaws.{AgreeOff-set, read-off, keys-off, generation_of_read, reads_some, one_handle, stands_there, read-value, cell_within}
+use Rattle.crack_state.proofs.LiveLaws.{Hides, Hides-emptied, live_rows-less, split_at_member}
+use Rattle.crack_state.proofs.KeyedLaws.{maps_other, maps_this, IsKeyed-alike, IsKeyed-lost, forgotten, Maps-forgotten}
+use Rattle.crack_state.proofs.AdmitLaws.{Filled, handle_of-push, IsKeyed-more, IsIntact-admitted, live_rows-admitted, freed-admitted, cells-admitted}
+use Rattle.crack_state.proofs.BuryLaws.{freed_of-emptied, IsIntact-freed}
 
 -- the handle that a serial leads to, and whether it is a pending insertion
 pub record FoundBy (s : State) (serial : ℕ) (pending : Bool) : Type 0 where
@@ -91,138 +92,42 @@ listed_at s serial h found listed intact =
     let live : IsLiveAt s.cells (slots s.pending_out) serial h = intact.keyed.leads serial h found in
     stands_there s.cells s.pending_in h (reads_some s.cells h live.row live.reads) intact.owned.pending_reads listed
 
--- another serial leads to another cell
-apart_handle : (s : State) (serial n : ℕ) (h g : Handle) → serial ≢ n → handle_of s.serials serial ≡ Some h → handle_of s.serials n ≡ Some g → IsKeyed s.cells (slots s.pending_out) s.serials → g.slot ≢ h.slot
-apart_handle s serial n h g ne found other keyed = λ e.
-    let mine : IsLiveAt s.cells (slots s.pending_out) serial h = keyed.leads serial h found in
-    let theirs : IsLiveAt s.cells (slots s.pending_out) n g = keyed.leads n g other in
-    let same : g ≡ h = one_handle s.cells g h (reads_some s.cells g theirs.row theirs.reads) (reads_some s.cells h mine.row mine.reads) e in
-    let rows : Some theirs.row ≡ Some mine.row = sym theirs.reads ∙ ap (read s.cells) same ∙ mine.reads in
-    let row : theirs.row ≡ mine.row = ap (λ (o : Option Row). unwrap_or o mine.row) rows in
-    ne (sym mine.same ∙ ap (λ (r : Row). r.serial.0) (sym row) ∙ theirs.same)
-
--- what the map has then for another serial, and for this one
-maps_other : (serial n : ℕ) (o : Option Handle) (serials after : List (ℕ × Handle)) → Maps serial o serials after → serial ≢ n → handle_of after n ≡ handle_of serials n
-maps_other serial n o serials after maps ne = maps n ∙ rw (ne_eqb serial n ne) refl
-
-maps_this : (serial n : ℕ) (o : Option Handle) (serials after : List (ℕ × Handle)) → Maps serial o serials after → serial ≡ n → handle_of after n ≡ o
-maps_this serial n o serials after maps e = maps n ∙ rw (eq-eqb serial n e) refl
-
--- maps that answer alike lead alike
-IsKeyed-alike : (cells : List (Cell Row)) (doomed : List ℕ) (serials after : List (ℕ × Handle)) → ((n : ℕ) → handle_of after n ≡ handle_of serials n) → IsKeyed cells doomed serials → IsKeyed cells doomed after
-IsKeyed-alike cells doomed serials after alike keyed = record {
-  leads = λ n g found. keyed.leads n g (sym (alike n) ∙ found);
-  lists = λ g r found kept. alike r.serial.0 ∙ keyed.lists g r found kept;
-}
-
--- the row of a serial leaves cells and map
-IsKeyed-struck : (s : State) (serial : ℕ) (h : Handle) (after : List (ℕ × Handle)) → handle_of s.serials serial ≡ Some h → Maps serial None s.serials after → IsIntact s [] → IsKeyed (struck h s).cells (slots s.pending_out) after
-IsKeyed-struck s serial h after found maps intact =
-    let keyed = intact.keyed in
-    let known = stands1 s serial h found intact in
-    let c : Cell Row = record { generation = h.generation + 1; value = None } in
-    let agree = AgreeOff-set s.cells h.slot c in
-    record {
-      leads = λ n g is. elim (cases_eq serial n) [
-        | inl e ↦ let none = maps_this serial n None s.serials after maps e in absurd (cc)
-        | inr ne ↦
-            let old : handle_of s.serials n ≡ Some g = sym (maps_other serial n None s.serials after maps ne) ∙ is in
-            let live : IsLiveAt s.cells (slots s.pending_out) n g = keyed.leads n g old in
-            let apart = apart_handle s serial n h g ne found old keyed in
-            record { row = live.row; reads = read-off h.slot s.cells (set s.cells h.slot c) g agree apart ∙ live.reads; same = live.same; kept = live.kept }
-      ];
-      lists = λ g r reads kept. elim (cases_eq g.slot h.slot) [
-        | inl e ↦ absurd (let none = read-set_none s.cells h.slot (h.generation + 1) g known.within e in cc)
-        | inr ne ↦
-            let old = keyed.lists g r (sym (read-off h.slot s.cells (set s.cells h.slot c) g agree ne) ∙ reads) kept in
-            let differs : serial ≢ r.serial.0 = λ e. let same = ap (handle_of s.serials) e in ne (ap (λ (o : Option Handle). (unwrap_or o h).slot) (sym old ∙ sym same ∙ found)) in
-            maps_other serial r.serial.0 None s.serials after maps differs ∙ old
-      ];
-    }
-
-IsOwned-struck : (s : State) (h : Handle) → StandsAt s.pending_in (place_in s.pending_in h.slot) h → times h.slot (slots s.column) ≡ 0 → times h.slot (slots s.pending_in) ≡ 1 → times h.slot (slots s.pending_out) ≡ 0 → IsOwned s.cells s.free s.column s.pending_in s.pending_out [] → IsOwned (struck h s).cells (h.slot ∷ s.free) s.column (remove s.pending_in (place_in s.pending_in h.slot)) s.pending_out []
-IsOwned-struck s h at off_column once kept owned =
-    let c : Cell Row = record { generation = h.generation + 1; value = None } in
-    let cells = set s.cells h.slot c in
-    let agree = AgreeOff-set s.cells h.slot c in
-    let place = place_in s.pending_in h.slot in
-    let left = remove s.pending_in place in
-    let taken : (n : ℕ) → times n (slots left) + times n (slots (h ∷ [])) ≡ times n (slots s.pending_in) = λ n. times-taken n s.pending_in place h at.within at.is in
-    let off_left : times h.slot (slots left) ≡ 0 = omega (arith, taken h.slot, once, times_head h.slot [], times-nil h.slot) in
-    record {
-      once = λ n. rw (length-set s.cells h.slot c) (omega (arith, owned.once n, taken n, times-places n s.column s.pending_in s.free [], times-places n s.column left (h.slot ∷ s.free) [], times-cons n h.slot s.free, times_one n h.slot));
-      column_reads = Reads-off h.slot s.cells cells s.column agree off_column owned.column_reads;
-      pending_reads = Reads-off h.slot s.cells cells left agree off_left (All-removed (Reads s.cells) s.pending_in place owned.pending_reads);
-      hand_reads = All-nil (Reads cells);
-      doomed_reads = Reads-off h.slot s.cells cells s.pending_out agree kept owned.doomed_reads;
-      doomed_once = owned.doomed_once;
-    }
-
--- a cell is freed once more
-freed-struck : (s : State) (h : Handle) → h.slot < length s.cells → Reads s.cells h → freed_of (struck h s).cells ≡ freed_of s.cells + 1
-freed-struck s h within reads =
-    let c : Cell Row = record { generation = h.generation + 1; value = None } in
-    omega (arith, sum_by-set (λ (x : Cell Row). x.generation) s.cells h.slot c empty_cell within, generation_of_read s.cells h reads)
+-- the cell of a cancelled row shows none
+hides_struck : (s : State) (serial : ℕ) (h : Handle) → handle_of s.serials serial ≡ Some h → IsIntact s [] → Hides s.cells (struck h s).cells (slots s.pending_out) (slots s.pending_out) h.slot
+hides_struck s serial h found intact = Hides-emptied s.cells (slots s.pending_out) (slots s.pending_out) h.slot (h.generation + 1) (stands1 s serial h found intact).within (λ n ne. refl)
 
 -- the store that a cancel leaves, whatever its map looks like
 pub IsIntact-struck : (s : State) (serial : ℕ) (h : Handle) (after : List (ℕ × Handle)) → handle_of s.serials serial ≡ Some h → 0 < times h.slot (slots s.pending_in) → Maps serial None s.serials after → MayFree s → IsIntact s [] → IsIntact (record (struck h s) { serials = after }) []
 IsIntact-struck s serial h after found listed maps few intact =
-    let known = stands1 s serial h found intact in
-    let live = known.live in
-    let reads = reads_some s.cells h live.row live.reads in
-    let c : Cell Row = record { generation = h.generation + 1; value = None } in
-    let cells = set s.cells h.slot c in
-    let agree = AgreeOff-set s.cells h.slot c in
-    let off_column : times h.slot (slots s.column) ≡ 0 = omega (arith, known.once, listed) in
-    record {
-      owned = IsOwned-struck s h (listed_at s serial h found listed intact) off_column (omega (arith, known.once, listed)) live.kept intact.owned;
-      obeyed = rw (keys-off h.slot s.cells cells s.column agree off_column) intact.obeyed;
-      rising = intact.rising;
-      inside = intact.inside;
-      keyed = IsKeyed-struck s serial h after found maps intact;
-      empty = AreEmpty-freed s.cells h.slot (h.generation + 1) s.free known.within intact.empty;
-      within = All-set (λ (x : Cell Row). IfSome x.value (λ r. IsIn s.keys r.key.0)) s.cells h.slot c tt intact.within;
-      few_cells = omega (arith, intact.few_cells, length-set s.cells h.slot c);
-      few_freed = omega (arith, few, freed-struck s h known.within reads);
-      counted = intact.counted;
-    }
+    let owned = intact.owned in
+    let doomed = slots s.pending_out in
+    let at = listed_at s serial h found listed intact in
+    let place = place_in s.pending_in h.slot in
+    IsIntact-freed s (record (struck h s) { serials = after }) h [] refl (reads_by s serial h found intact)
+    (λ n. omega (arith, times-taken n s.pending_in place h at.within at.is, times-nil n))
+    (stands1 s serial h found intact).live.kept
+    (λ n. omega (arith, owned.doomed_once n, times-append n (slots s.column) [], times-nil n))
+    (All-removed (Reads s.cells) s.pending_in place owned.pending_reads)
+    owned.doomed_reads
+    (IsKeyed-lost s.cells (struck h s).cells doomed doomed s.serials after serial h (hides_struck s serial h found intact) found maps intact.keyed)
+    few
+    intact.counted
+    intact
 
 -- its row is the difference
 pub live_rows-struck : (s : State) (serial : ℕ) (h : Handle) (row : Row) → handle_of s.serials serial ≡ Some h → read s.cells h ≡ Some row → IsIntact s [] → IsPermutation (row ∷ live_rows (struck h s)) (live_rows s)
 live_rows-struck s serial h row found reads intact =
     let known = stands1 s serial h found intact in
-    let c : Cell Row = record { generation = h.generation + 1; value = None } in
-    let cells = set s.cells h.slot c in
-    let doomed = slots s.pending_out in
-    let numbers = range_with_len 0 (length s.cells) in
-    let had : live_at s.cells doomed h.slot ≡ Some row = rw known.live.kept (read-value s.cells h row reads) in
-    let lacks : live_at cells doomed h.slot ≡ None = rw (get_or-set_same s.cells h.slot c empty_cell known.within) (none_either (times h.slot doomed == 0)) in
-    let once : times h.slot numbers ≡ 1 = times-range h.slot (length s.cells) ∙ rw (lt-ltb h.slot (length s.cells) known.within) refl in
-    let less = filter_map-less (live_at s.cells doomed) (live_at cells doomed) h.slot row numbers had lacks (λ k ne. rw (get_or-set_other s.cells h.slot k c empty_cell ne) refl) once in
-    rw (length-set s.cells h.slot c) (IsPermutation-sym (live_rows s) _ less)
+    live_rows-less s (struck h s) h.slot row (hides_struck s serial h found intact) (length-set s.cells h.slot (record { generation = h.generation + 1; value = None })) known.within (rw known.live.kept (read-value s.cells h row reads))
 
--- the row of a serial is doomed, and leaves the map
-IsKeyed-doomed : (s : State) (serial : ℕ) (h : Handle) (after : List (ℕ × Handle)) → handle_of s.serials serial ≡ Some h → Maps serial None s.serials after → IsIntact s [] → IsKeyed s.cells (slots (s.pending_out ++ h ∷ [])) after
-IsKeyed-doomed s serial h after found maps intact =
-    let keyed = intact.keyed in
-    let more : (n : ℕ) → times n (slots (s.pending_out ++ h ∷ [])) ≡ times n (slots s.pending_out) + times n (h.slot ∷ []) = λ n. times-map-append n (λ (x : Handle). x.slot) s.pending_out (h ∷ []) in
-    record {
-      leads = λ n g is. elim (cases_eq serial n) [
-        | inl e ↦ let none = maps_this serial n None s.serials after maps e in absurd (cc)
-        | inr ne ↦
-            let old : handle_of s.serials n ≡ Some g = sym (maps_other serial n None s.serials after maps ne) ∙ is in
-            let live : IsLiveAt s.cells (slots s.pending_out) n g = keyed.leads n g old in
-            let apart = apart_handle s serial n h g ne found old keyed in
-            record { row = live.row; reads = live.reads; same = live.same; kept = omega (arith, more g.slot, live.kept, times_other g.slot h.slot (λ e. apart (sym e))) }
-      ];
-      lists = λ g r reads kept.
-          let ne : g.slot ≢ h.slot = λ e.
-          let one : times g.slot (h.slot ∷ []) ≡ 1 = rw e (times_head h.slot [] ∙ omega (arith, times-nil h.slot)) in
-          absurd (omega (arith, more g.slot, kept, one)) in
-          let old = keyed.lists g r reads (omega (arith, more g.slot, kept)) in
-          let differs : serial ≢ r.serial.0 = λ e. let same = ap (handle_of s.serials) e in ne (ap (λ (o : Option Handle). (unwrap_or o h).slot) (sym old ∙ sym same ∙ found)) in
-          maps_other serial r.serial.0 None s.serials after maps differs ∙ old;
-    }
+-- a handle that is doomed too
+times-doomed : (n : ℕ) (s : State) (h : Handle) → times n (slots (doomed_too h s).pending_out) ≡ times n (slots s.pending_out) + times n (h.slot ∷ [])
+times-doomed n s h = times-map-append n (λ (x : Handle). x.slot) s.pending_out (h ∷ [])
+
+hides_doomed : (s : State) (h : Handle) → times h.slot (slots s.pending_out) ≡ 0 → Hides s.cells s.cells (slots s.pending_out) (slots (doomed_too h s).pending_out) h.slot
+hides_doomed s h kept =
+    let one : times h.slot (slots (doomed_too h s).pending_out) ≡ 1 = omega (arith, times-doomed h.slot s h, kept, times_head h.slot [], times-nil h.slot) in
+    record { others = λ m ne. refl; kept = λ n ne. omega (arith, times-doomed n s h, times_other n h.slot (λ e. ne (sym e))); none = rw one refl }
 
 -- the store that a doom leaves, whatever its map looks like
 pub IsIntact-doomed : (s : State) (serial : ℕ) (h : Handle) (after : List (ℕ × Handle)) → handle_of s.serials serial ≡ Some h → times h.slot (slots s.pending_in) ≡ 0 → Maps serial None s.serials after → MayFree s → IsIntact s [] → IsIntact (record (doomed_too h s) { serials = after }) []
@@ -231,7 +136,6 @@ IsIntact-doomed s serial h after found unlisted maps few intact =
     let live = known.live in
     let owned = intact.owned in
     let in_column : times h.slot (slots s.column) ≡ 1 = omega (arith, known.once, unlisted) in
-    let more : (n : ℕ) → times n (slots (s.pending_out ++ h ∷ [])) ≡ times n (slots s.pending_out) + times n (h.slot ∷ []) = λ n. times-map-append n (λ (x : Handle). x.slot) s.pending_out (h ∷ []) in
     record {
       owned = record {
         once = owned.once;
@@ -240,14 +144,14 @@ IsIntact-doomed s serial h after found unlisted maps few intact =
         hand_reads = owned.hand_reads;
         doomed_reads = All-push (Reads s.cells) s.pending_out h owned.doomed_reads (reads_some s.cells h live.row live.reads);
         doomed_once = λ n. elim (cases_eq h.slot n) [
-          | inl e ↦ rw (← e) (omega (arith, more h.slot, live.kept, times_head h.slot [], times-nil h.slot, in_column, times-append h.slot (slots s.column) []))
-          | inr ne ↦ omega (arith, more n, owned.doomed_once n, times_other n h.slot ne)
+          | inl e ↦ rw (← e) (omega (arith, times-doomed h.slot s h, live.kept, times_head h.slot [], times-nil h.slot, in_column, times-append h.slot (slots s.column) []))
+          | inr ne ↦ omega (arith, times-doomed n s h, owned.doomed_once n, times_other n h.slot ne)
         ];
       };
       obeyed = intact.obeyed;
       rising = intact.rising;
       inside = intact.inside;
-      keyed = IsKeyed-doomed s serial h after found maps intact;
+      keyed = IsKeyed-lost s.cells s.cells (slots s.pending_out) (slots (doomed_too h s).pending_out) s.serials after serial h (hides_doomed s h live.kept) found maps intact.keyed;
       empty = intact.empty;
       within = intact.within;
       few_cells = intact.few_cells;
@@ -259,18 +163,7 @@ IsIntact-doomed s serial h after found unlisted maps few intact =
 pub live_rows-doomed : (s : State) (serial : ℕ) (h : Handle) (row : Row) → handle_of s.serials serial ≡ Some h → read s.cells h ≡ Some row → IsIntact s [] → IsPermutation (row ∷ live_rows (doomed_too h s)) (live_rows s)
 live_rows-doomed s serial h row found reads intact =
     let known = stands1 s serial h found intact in
-    let doomed = slots s.pending_out in
-    let after = slots (s.pending_out ++ h ∷ []) in
-    let more : (n : ℕ) → times n after ≡ times n doomed + times n (h.slot ∷ []) = λ n. times-map-append n (λ (x : Handle). x.slot) s.pending_out (h ∷ []) in
-    let numbers = range_with_len 0 (length s.cells) in
-    let had : live_at s.cells doomed h.slot ≡ Some row = rw known.live.kept (read-value s.cells h row reads) in
-    let one : times h.slot after ≡ 1 = omega (arith, more h.slot, known.live.kept, times_head h.slot [], times-nil h.slot) in
-    let lacks : live_at s.cells after h.slot ≡ None = rw one refl in
-    let once : times h.slot numbers ≡ 1 = times-range h.slot (length s.cells) ∙ rw (lt-ltb h.slot (length s.cells) known.within) refl in
-    let others : (k : ℕ) → k ≢ h.slot → live_at s.cells doomed k ≡ live_at s.cells after k = λ k ne.
-    let same : times k after ≡ times k doomed = omega (arith, more k, times_other k h.slot (λ e. ne (sym e))) in
-    rw same refl in
-    IsPermutation-sym (live_rows s) _ (filter_map-less (live_at s.cells doomed) (live_at s.cells after) h.slot row numbers had lacks others once)
+    live_rows-less s (doomed_too h s) h.slot row (hides_doomed s h known.live.kept) refl known.within (rw known.live.kept (read-value s.cells h row reads))
 
 -- a cell that was written anew reads through every handle of it
 reads_over : (cells : List (Cell Row)) (h g : Handle) (row : Row) → h.slot < length cells → Reads cells h → Reads cells g → g.slot ≡ h.slot → Reads (set cells h.slot (record { generation = h.generation; value = Some row })) g
@@ -289,29 +182,24 @@ Reads_over cells h row hs within h_reads reads =
       | inr ne ↦ rw (read-off h.slot cells (set cells h.slot c) (get_or hs k d) (AgreeOff-set cells h.slot c) ne) (reads k d j)
     ]
 
+-- the row of a serial goes, and another comes in its cell
 IsKeyed-rewritten : (s : State) (h : Handle) (row : Row) → handle_of s.serials row.serial.0 ≡ Some h → IsIntact s [] → IsKeyed (overwritten row h s).cells (slots s.pending_out) s.serials
 IsKeyed-rewritten s h row found intact =
-    let keyed = intact.keyed in
-    let known = stands1 s row.serial.0 h found intact in
-    let c : Cell Row = record { generation = h.generation; value = Some row } in
-    let cells = set s.cells h.slot c in
-    let agree = AgreeOff-set s.cells h.slot c in
-    let fill : Filled s.cells cells h row = record { cell = get_or-set_same s.cells h.slot c empty_cell known.within; others = agree } in
-    record {
-      leads = λ n g is. elim (cases_eq row.serial.0 n) [
-        | inl e ↦
-            let same : g ≡ h = ap (λ (o : Option Handle). unwrap_or o h) (sym is ∙ ap (handle_of s.serials) (sym e) ∙ found) in
-            record { row = row; reads = rw same (read-new s.cells cells h row fill); same = e; kept = rw same known.live.kept }
-        | inr ne ↦
-            let live : IsLiveAt s.cells (slots s.pending_out) n g = keyed.leads n g is in
-            let apart = apart_handle s row.serial.0 n h g ne found is keyed in
-            record { row = live.row; reads = read-off h.slot s.cells cells g agree apart ∙ live.reads; same = live.same; kept = live.kept }
-      ];
-      lists = λ g r reads kept. elim (cases_eq g.slot h.slot) [
-        | inl e ↦ let same = read_same s.cells cells h g row r fill e reads in rw (same.handle, same.row) found
-        | inr ne ↦ keyed.lists g r (sym (read-off h.slot s.cells cells g agree ne) ∙ reads) kept
-      ];
-    }
+    let serial = row.serial.0 in
+    let known = stands1 s serial h found intact in
+    let between = forgotten serial s.serials in
+    let gone = Maps-forgotten serial s.serials in
+    let doomed = slots s.pending_out in
+    let none : Cell Row = record { generation = h.generation + 1; value = None } in
+    let full : Cell Row = record { generation = h.generation; value = Some row } in
+    let less = set s.cells h.slot none in
+    let lost = IsKeyed-lost s.cells less doomed doomed s.serials between serial h (hides_struck s serial h found intact) found gone intact.keyed in
+    let fill : Filled less (set s.cells h.slot full) h row = record { cell = get_or-set_same s.cells h.slot full empty_cell known.within; others = λ m ne. AgreeOff-set s.cells h.slot full m ne ∙ sym (AgreeOff-set s.cells h.slot none m ne) } in
+    let back : Maps serial (Some h) between s.serials = λ n. elim (cases_eq serial n) [
+      | inl e ↦ rw (eq-eqb serial n e) (ap (handle_of s.serials) (sym e) ∙ found)
+      | inr ne ↦ rw (ne_eqb serial n ne) (sym (maps_other serial n None s.serials between gone ne))
+    ] in
+    IsKeyed-more less (set s.cells h.slot full) doomed between s.serials h row fill known.live.kept (ap (λ (x : Cell Row). x.value) (get_or-set_same s.cells h.slot none empty_cell known.within)) (maps_this serial serial None s.serials between gone refl) back lost
 
 -- the store that a write in place leaves
 pub IsIntact-rewritten : (s : State) (h : Handle) (row : Row) → handle_of s.serials row.serial.0 ≡ Some h → 0 < times h.slot (slots s.pending_in) → IsIn s.keys row.key.0 → IsIntact s [] → IsIntact (overwritten row h s) []
@@ -345,29 +233,6 @@ IsIntact-rewritten s h row found listed inside intact =
       few_freed = omega (arith, intact.few_freed, sum_by-set (λ (x : Cell Row). x.generation) s.cells h.slot c empty_cell known.within, generation_of_read s.cells h reads);
       counted = intact.counted;
     }
-
--- the map without a serial
-abbrev pub forgotten : ℕ → List (ℕ × Handle) → List (ℕ × Handle)
-forgotten serial serials = filter (λ (e : ℕ × Handle). not (eqb serial e.0)) serials
-
-pub Maps-forgotten : (serial : ℕ) (serials : List (ℕ × Handle)) → Maps serial None serials (forgotten serial serials)
-Maps-forgotten serial [] n = by_test (eqb serial n)
-  where
-    by_test : (b : Bool) → None ≡ cond {A = Option Handle} b None None
-    by_test true = refl
-    by_test false = refl
-Maps-forgotten serial (e ∷ es) n =
-    let rest = Maps-forgotten serial es n in
-    elim (cases_eq serial e.0) [
-      | inl same ↦ elim (cases_eq n e.0) [
-        | inl here ↦ rw (eq-eqb serial e.0 same) (rest ∙ rw (eq-eqb serial n (same ∙ sym here)) refl)
-        | inr away ↦ rw (eq-eqb serial e.0 same, ne_eqb n e.0 away) rest
-      ]
-      | inr other ↦ elim (cases_eq n e.0) [
-        | inl here ↦ rw (ne_eqb serial e.0 other, eq-eqb n e.0 here, ne_eqb serial n (λ same. other (same ∙ here))) refl
-        | inr away ↦ rw (ne_eqb serial e.0 other, ne_eqb n e.0 away) rest
-      ]
-    ]
 
 -- the store that a doom leaves, with such a map
 abbrev between_doomed : Row → Handle → State → State
@@ -436,23 +301,19 @@ pub live_rows-rewritten : (s : State) (h : Handle) (row : Row) → handle_of s.s
 live_rows-rewritten s h row found intact =
     let serial = row.serial.0 in
     let known = stands1 s serial h found intact in
-    let live = known.live in
     let doomed = slots s.pending_out in
-    let numbers = range_with_len 0 (length s.cells) in
+    let between = forgotten serial s.serials in
     let none : Cell Row = record { generation = h.generation + 1; value = None } in
     let full : Cell Row = record { generation = h.generation; value = Some row } in
-    let less = set s.cells h.slot none in
-    let cells = set s.cells h.slot full in
-    let gone = live_rows-struck s serial h live.row found live.reads intact in
-    let keyed = IsKeyed-struck s serial h (forgotten serial s.serials) found (Maps-forgotten serial s.serials) intact in
-    let fresh = maps_this serial serial None s.serials (forgotten serial s.serials) (Maps-forgotten serial s.serials) refl in
-    let apart = others_live less doomed (forgotten serial s.serials) serial (range_with_len 0 (length less)) fresh keyed in
-    let had : live_at cells doomed h.slot ≡ Some row = rw (live.kept, get_or-set_same s.cells h.slot full empty_cell known.within) refl in
-    let lacks : live_at less doomed h.slot ≡ None = rw (get_or-set_same s.cells h.slot none empty_cell known.within) (none_either (times h.slot doomed == 0)) in
-    let once : times h.slot numbers ≡ 1 = times-range h.slot (length s.cells) ∙ rw (lt-ltb h.slot (length s.cells) known.within) refl in
-    let come = filter_map-less (live_at cells doomed) (live_at less doomed) h.slot row numbers had lacks (λ k ne. rw (get_or-set_other s.cells h.slot k full empty_cell ne, get_or-set_other s.cells h.slot k none empty_cell ne) refl) once in
-    let put : IsPermutation (row ∷ live_rows (struck h s)) (live_rows (overwritten row h s)) = rw (length-set s.cells h.slot none, length-set s.cells h.slot full) (IsPermutation-sym (filter_map (live_at cells doomed) numbers) _ come) in
-    replaced_in row live.row (live_rows s) (live_rows (struck h s)) (live_rows (overwritten row h s)) live.same apart gone put
+    let less = struck h s in
+    let hides = hides_struck s serial h found intact in
+    let gone = live_rows-struck s serial h known.live.row found known.live.reads intact in
+    let lost = IsKeyed-lost s.cells less.cells doomed doomed s.serials between serial h hides found (Maps-forgotten serial s.serials) intact.keyed in
+    let apart = others_live less.cells doomed between serial (range_with_len 0 (length less.cells)) (maps_this serial serial None s.serials between (Maps-forgotten serial s.serials) refl) lost in
+    let back : Hides (overwritten row h s).cells less.cells doomed doomed h.slot = record { others = λ m ne. hides.others m ne ∙ sym (AgreeOff-set s.cells h.slot full m ne); kept = λ n ne. refl; none = hides.none } in
+    let had : live_at (overwritten row h s).cells doomed h.slot ≡ Some row = rw (known.live.kept, get_or-set_same s.cells h.slot full empty_cell known.within) refl in
+    replaced_in row known.live.row (live_rows s) (live_rows less) (live_rows (overwritten row h s)) known.live.same apart gone
+    (live_rows-less (overwritten row h s) less h.slot row back (omega (arith, length-set s.cells h.slot none, length-set s.cells h.slot full)) (omega (arith, known.within, length-set s.cells h.slot full)) had)
 
 -- so does a renewal
 pub live_rows-renewed : (s : State) (h : Handle) (row : Row) → handle_of s.serials row.serial.0 ≡ Some h → times h.slot (slots s.pending_in) ≡ 0 → MayFree s → IsIntact s [] → IsPermutation (map (replaced row) (live_rows s)) (live_rows (renewed row h s))
@@ -484,7 +345,7 @@ Spends-cancels serial s t pending intact cancels =
     Spends-room 0 1 s (record (struck h s) { serials = t.serials }) t cancels.after (record {
       keys = refl;
       cells = omega (arith, length-set s.cells h.slot c);
-      freed = omega (arith, freed-struck s h known.within (reads_some s.cells h known.live.row known.live.reads));
+      freed = omega (arith, freed_of-emptied s.cells h known.within (reads_some s.cells h known.live.row known.live.reads));
     })
 
 pub Spends-dooms : (serial : ℕ) (s t : State) → Dooms serial s t → Spends 0 1 s t
