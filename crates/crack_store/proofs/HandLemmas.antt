@@ -8,31 +8,46 @@ use Rattle.crack_arena.specs.Arena.{Handle, same_handle, StandsAt, IsFirstAt, Is
 use Rattle.crack_arena.proofs.Times.{times_head, times-cons}
 use Rattle.crack_column.specs.Column.{Column, first_aside, exchanged_aside}
 use Rattle.crack_column.proofs.Remembering.{Remembers-set}
+use Rattle.crack_index.specs.Marks.{Index}
+use Rattle.crack_state.specs.declared.MergeReport.{MergeReport}
 use Rattle.crack_state.specs.State.{State, Carried, IsIntact}
+use Rattle.crack_state.specs.Steps.{hand_key, put_at}
 use Rattle.crack_state.proofs.OwnedLaws.{times-places, hand_apart}
 use Rattle.crack_store.specs.declared.inside.Inside.{Inside}
+use Rattle.crack_store.specs.declared.notes.Notes.{Notes}
+use Rattle.crack_store.specs.declared.carrying.Near.{Near}
 use Rattle.crack_store.specs.Inside.{lists_of}
-use Rattle.crack_store.specs.Hand.{hand_of, HasHand}
+use Rattle.crack_store.specs.Hand.{hand_of, carried_of, IsNear, HasHand, KeepsHand}
 
--- the row that a step takes into the hand is the one that stood at the place where it puts the hand
-pub met_at : (column : Column) (place : ℕ) (d : Handle) → place < length column.handles → (first_aside (exchanged_aside place column)).handle ≡ get_or column.handles place d
-met_at column place d within = get_or_default column.handles place no_handle d within
+-- what a step makes is this store with a cell in hand, and keeps what belongs to it
+pub record IsMade (p : Inside) (near : Near) (d : Carried) : Type 0 where
+  pub is : carried_of p ≡ d
+  pub keeps : KeepsHand p near
 
--- what is kept with a hand stays right where it changes places with another row
-pub HasHand-exchanged : (p q : Inside) (place : ℕ) → HasHand p → place < length p.column.handles → q.column ≡ exchanged_aside place p.column → q.arena ≡ p.arena → q.pending_in ≡ p.pending_in → q.pending_out ≡ p.pending_out → q.in_room ≡ p.in_room → IsIntact (lists_of q) (hand_of q ∷ []) → HasHand q
-HasHand-exchanged p q place has within column arena pending_in pending_out in_room intact = record {
-  kept = record {
-    intact = intact;
-    remembers = rw (column, arena) (Remembers-set p.arena.cells p.column.handles p.column.remembered place (hand_of p) (first_aside p.column).memory has.agrees has.kept.remembers);
-    keys_in = rw (arena, pending_in) has.kept.keys_in;
-    keys_out = rw (arena, pending_out) has.kept.keys_out;
-    room = rw (pending_in, in_room) has.kept.room;
-    covered = rw (arena, pending_in) has.kept.covered;
-  };
-  aside = rw column (omega arith);
-  agrees = rw (column, arena) (has.kept.remembers.right place no_handle within);
-  room = rw column has.room;
-}
+-- the hand changes places with a row of the column
+pub exchanged_to : (p : Inside) (column : Column) (index : Index) (notes : Notes) (tally : MergeReport) (place : ℕ) (near : Near) (d : Carried) → HasHand p → column ≡ exchanged_aside place p.column → place < length p.column.handles → put_at place index.marks tally (carried_of p) ≡ d → IsIntact d.store (d.hand ∷ []) → IsNear d.store.marks (hand_key d) near → IsMade (record p { column = column; index = index; notes = notes; tally = tally }) near d
+exchanged_to p column index notes tally place near d has column_is within put intact is_near =
+    let q = record p { column = column; index = index; notes = notes; tally = tally } in
+    let is : carried_of q ≡ d = rw (column_is, get_or_default p.column.handles place no_handle (hand_of p) within) put in
+    record {
+      is = is;
+      keeps = record {
+        has = record {
+          kept = record {
+            intact = rw (← is) at intact;
+            remembers = rw column_is (Remembers-set p.arena.cells p.column.handles p.column.remembered place (hand_of p) (first_aside p.column).memory has.agrees has.kept.remembers);
+            keys_in = has.kept.keys_in;
+            keys_out = has.kept.keys_out;
+            room = has.kept.room;
+            covered = has.kept.covered;
+          };
+          aside = rw column_is (omega arith);
+          agrees = rw column_is (has.kept.remembers.right place no_handle within);
+          room = rw column_is has.room;
+        };
+        is_near = rw (← is) at is_near;
+      };
+    }
 
 -- handles that are told to be the same are one
 pub same_handles : (h k : Handle) → same_handle h k ≡ true → h ≡ k

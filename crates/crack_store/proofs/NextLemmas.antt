@@ -1,15 +1,18 @@
 -- What a look-up of a bound next to a key tells.
-use Rattle.std.proofs.Common.{◌≡◌, ℕ, ◌<◌, ◌^◌, ◌-◌, ◌∷◌, [], List, length, Option, Some, None, refl, sym, ap, ◌∙◌, arith}
+use Rattle.std.proofs.Common.{◌≡◌, ℕ, ◌<◌, ◌^◌, ◌-◌, ◌∷◌, [], List, map, length, Option, Some, None, refl, sym, ap, ◌∙◌, arith}
 use Rattle.std.specs.Prelude.{Contains, IfSome}
 use Rattle.std.proofs.lemmas.List.Elements.{All-contains}
 use Rattle.crack_index.specs.declared.mark.Mark.{Mark}
 use Rattle.crack_index.specs.declared.near.NearBound.{NearBound}
-use Rattle.crack_index.specs.Marks.{near_mark, next_mark, last_mark}
+use Rattle.crack_index.specs.Marks.{near_mark, next_mark, last_mark, first_behind, last_before, raised, lowered}
 use Rattle.crack_index.proofs.MarkLaws.{next_mark-is, last_mark-is}
 use Rattle.crack_arena.specs.Arena.{Handle}
 use Rattle.crack_state.specs.State.{State, Carried, IsIntact}
-use Rattle.crack_state.specs.Steps.{hand_key, piece_start, piece_end}
+use Rattle.crack_state.specs.Steps.{hand_key, piece_start, piece_end, more, put_at, pushed_on, pulled_back, bounds_above, bounds_up_to}
 use Rattle.crack_state.proofs.PieceLaws.{piece_start-le}
+use Rattle.crack_state.proofs.StepLaws.{IsIntact-pushed_on, bounds_above-pushed_on}
+use Rattle.crack_state.proofs.PullLaws.{IsIntact-pulled_back, bounds_up_to-pulled_back}
+use Rattle.crack_state.proofs.NearLaws.{next-pushed_on, last-pulled_back}
 use Rattle.crack_store.specs.declared.carrying.Near.{Near}
 use Rattle.crack_store.specs.declared.carrying.Near.TheVariants.{Above, Below}
 use Rattle.crack_store.specs.Hand.{IsNear}
@@ -22,34 +25,41 @@ near_found found n o value is = sym value ∙ ap near_mark is
 pub near_none : (found : Option NearBound) (o : Option Mark) → near_mark found ≡ o → found ≡ None → o ≡ None
 near_none found o value is = sym value ∙ ap near_mark is
 
--- the bound where the own piece of the hand ends, before the column does
+-- the bound where the own piece of the hand ends, before the column does, and what becomes of a hand that is put there
 pub record IsUp (c : Carried) (m : Mark) : Type 0 where
-  pub found : next_mark (hand_key c) c.store.marks ≡ Some m
   pub listed : Contains c.store.marks m
   pub small : m.position < 2 ^ 64 - 1
-  pub place : piece_end c.store (hand_key c) ≡ m.position
   pub within : m.position < length c.store.column
+  pub after : put_at m.position (map (raised m.bound.0 m.position) c.store.marks) (record c.store.tally { moved = more c.store.tally.moved }) c ≡ pushed_on c
+  pub intact : IsIntact (pushed_on c).store ((pushed_on c).hand ∷ [])
+  pub next : next_mark (hand_key (pushed_on c)) (pushed_on c).store.marks ≡ first_behind m.position c.store.marks
+  pub nearer : bounds_above (hand_key (pushed_on c)) (pushed_on c).store.marks < bounds_above (hand_key c) c.store.marks
 
 pub is_up : (c : Carried) (found : Option NearBound) (n : NearBound) → near_mark found ≡ next_mark (hand_key c) c.store.marks → found ≡ Some n → piece_end c.store (hand_key c) < length c.store.column → IsIntact c.store (c.hand ∷ []) → IsUp c n.mark
 is_up c found n value is room intact =
     let s = c.store in
     let at = near_found found n (next_mark (hand_key c) s.marks) value is in
     let next = next_mark-is (hand_key c) s.marks n.mark intact.rising at in
+    let within : n.mark.position < length s.column = rw at at room in
     record {
-      found = at;
       listed = next.listed;
       small = All-contains (λ (x : Mark). x.position < 2 ^ 64 - 1) s.marks n.mark (positions_small s (c.hand ∷ []) intact) next.listed;
-      place = rw at refl;
-      within = rw at at room;
+      within = within;
+      after = rw at refl;
+      intact = IsIntact-pushed_on c room intact;
+      next = next-pushed_on c n.mark at within intact;
+      nearer = bounds_above-pushed_on c room intact;
     }
 
--- the bound where the own piece of the hand begins, behind the column's front
+-- the bound where the own piece of the hand begins, behind the column's front, and what becomes of a hand that is put before it
 pub record IsDown (c : Carried) (m : Mark) : Type 0 where
-  pub found : last_mark (hand_key c) c.store.marks ≡ Some m
   pub listed : Contains c.store.marks m
-  pub place : piece_start c.store (hand_key c) ≡ m.position
   pub above : 0 < m.position
   pub within : m.position - 1 < length c.store.column
+  pub after : put_at (m.position - 1) (map (lowered m.bound.0 m.position) c.store.marks) (record c.store.tally { pulled = more c.store.tally.pulled }) c ≡ pulled_back c
+  pub intact : IsIntact (pulled_back c).store ((pulled_back c).hand ∷ [])
+  pub next : last_mark (hand_key (pulled_back c)) (pulled_back c).store.marks ≡ last_before m.position c.store.marks
+  pub nearer : bounds_up_to (hand_key (pulled_back c)) (pulled_back c).store.marks < bounds_up_to (hand_key c) c.store.marks
 
 pub is_down : (c : Carried) (found : Option NearBound) (n : NearBound) → near_mark found ≡ last_mark (hand_key c) c.store.marks → found ≡ Some n → 0 < piece_start c.store (hand_key c) → IsIntact c.store (c.hand ∷ []) → IsDown c n.mark
 is_down c found n value is some intact =
@@ -59,11 +69,13 @@ is_down c found n value is some intact =
     let above : 0 < n.mark.position = rw at at some in
     let place : piece_start s (hand_key c) ≡ n.mark.position = rw at refl in
     record {
-      found = at;
       listed = last.listed;
-      place = place;
       above = above;
       within = omega (arith, above, place, piece_start-le s (hand_key c) intact.rising intact.obeyed);
+      after = rw at refl;
+      intact = IsIntact-pulled_back c some intact;
+      next = last-pulled_back c n.mark at above intact;
+      nearer = bounds_up_to-pulled_back c some intact;
     }
 
 pub next_listed : (s : State) (hand : List Handle) (key : ℕ) (found : Option NearBound) → IsIntact s hand → near_mark found ≡ next_mark key s.marks → IfSome found (λ n. Contains s.marks n.mark)
