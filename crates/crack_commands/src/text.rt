@@ -419,6 +419,7 @@ fn push_field(text: &mut Text, number: u64)
 }
 
 /// Adds a number in decimal: 20 digits at most.
+#[inline(always)]
 #[tactic(auto, using(std::proofs::lemmas::Fmt::decimal_digit))]
 fn push_number<const ROOM: usize>(text: &mut ArrayVec<u8, ROOM>, number: u64)
     requires { length text.old.items + 20 ≤ ROOM }

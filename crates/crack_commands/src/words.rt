@@ -162,6 +162,7 @@ fn leading_digits(bytes: &[u8]) -> (u64, usize)
 }
 
 /// The value of a block of digits at the front, and how many these are: none where there are fewer.
+#[inline(always)]
 fn leading_block(bytes: &[u8]) -> (u64, usize)
     ensures within { result.1 ≤ length bytes.now }
     ensures digits { list_all is_digit (take result.1 bytes.now) ≡ true }
