@@ -14,8 +14,7 @@ use Rattle.crack_state.specs.State.{State, Carried, Reads, IsIntact, column_keys
 use Rattle.crack_state.specs.Steps.{hand_key, piece_start, piece_end, lower_last, IsDoomed, lifted_last, pulled_back}
 use Rattle.crack_state.proofs.OwnedLaws.{times-places, once-most, hand_apart}
 use Rattle.crack_state.proofs.CellLaws.{one_handle, stands_there}
-use Rattle.crack_state.proofs.ObeyedLaws.{Divides-order}
-use Rattle.crack_state.proofs.PieceLaws.{Divides-listed}
+use Rattle.crack_state.proofs.PieceLaws.{Divides-order, Divides-listed}
 use Rattle.crack_state.proofs.PullLaws.{met_below}
 
 -- a piece ends at or behind a place where each bound above its key stands there or behind it

@@ -13,13 +13,11 @@ pub mod LiveLaws
 pub mod LookUpLaws
 pub mod MergeLaws
 pub mod NearLaws
-pub mod ObeyedLaws
 pub mod OutsideLaws
 pub mod OwnedLaws
 pub mod PieceLaws
 pub mod PointLaws
 pub mod PullLaws
-pub mod RowLists
 pub mod SettledLaws
 pub mod StepLaws
 pub mod StretchLaws

@@ -1,5 +1,5 @@
 -- What commands see, as cells get and lose rows and rows are doomed; and that it is what column, pending insertions and hand hold.
-use Rattle.std.proofs.Common.{◌≡◌, ◌≢◌, ℕ, zero, suc, ◌+◌, ◌<◌, ◌≤◌, Bool, true, false, ltb, List, [], ◌∷◌, ◌++◌, length, get_or, set, cond, Option, Some, None, refl, sym, ap, ◌∙◌, inl, inr, arith, zero-add, add-zero}
+use Rattle.std.proofs.Common.{◌≡◌, ◌≢◌, ℕ, zero, suc, ◌+◌, ◌<◌, Bool, true, false, ltb, List, [], ◌∷◌, ◌++◌, length, get_or, set, cond, Option, Some, None, refl, sym, ap, ◌∙◌, inl, inr, arith, zero-add}
 use Rattle.std.specs.Prelude.{◌==◌}
 use Rattle.std.specs.List.{All, cons_option, filter_map, range_with_len}
 use Rattle.std.specs.List.Sorted.{IsPermutation}
@@ -7,8 +7,9 @@ use Rattle.std.specs.Option.{IfSome}
 use Rattle.std.proofs.lemmas.List.Sorted.{IsPermutation-refl, IsPermutation-cons, IsPermutation-trans, IsPermutation-middle, IsPermutation-sym}
 use Rattle.std.proofs.lemmas.List.{append-nil, get_or_past, get_or-set_same}
 use Rattle.std.proofs.lemmas.List.Elements.{filter_map-append}
+use Rattle.std.proofs.lemmas.Bool.Decides.{nat_tests}
 use Rattle.std.proofs.lemmas.Bool.{cases_eq, cases_lt, lt-ltb, le-ltb}
-use Rattle.crack_row.proofs.Lists.{filter_map_agree, filter_map_none, filter_map-map, All-filter_map, IsPermutation-filter_map}
+use Rattle.crack_row.proofs.Lists.{range_with_len-more, filter_map_agree, filter_map_none, filter_map-map, All-filter_map, IsPermutation-filter_map}
 use Rattle.crack_row.specs.Ranges.{IsIn}
 use Rattle.crack_row.specs.declared.Row.{Row}
 use Rattle.crack_arena.specs.Arena.{Cell, Handle, times, cell_at, empty_cell, slots}
@@ -70,22 +71,10 @@ IsPermutation-times (x ∷ xs) ys same =
     let fewer = IsPermutation-times xs rest (λ n. omega (arith, rw split.is at (same n), times-cons n x xs, times-append n split.front (x ∷ split.back), times-append n split.front split.back, times-cons n x split.back)) in
     rw split.is (IsPermutation-trans (x ∷ xs) (x ∷ rest) (split.front ++ x ∷ split.back) (IsPermutation-cons x xs rest fewer) (IsPermutation-sym (split.front ++ x ∷ split.back) (x ∷ rest) (IsPermutation-middle split.front x split.back)))
 
-times-range_below : (k a n : ℕ) → k < a → times k (range_with_len a n) ≡ 0
-times-range_below k a zero below = times-nil k
-times-range_below k a (suc n) below = omega (arith, times-cons k a (range_with_len (a + 1) n), times_one k a, times_other k a (λ e. absurd (omega arith)), times-range_below k (a + 1) n (omega arith))
-
-times-range_from : (k a n : ℕ) → a ≤ k → times k (range_with_len a n) ≡ cond (ltb k (a + n)) 1 0
-times-range_from k a zero above = times-nil k ∙ rw (add-zero, le-ltb k a above) refl
-times-range_from k a (suc n) above = elim (cases_eq a k) [
-  | inl e ↦ rw (← e, lt-ltb a (a + suc n) (omega arith)) (omega (arith, times_head a (range_with_len (a + 1) n), times-range_below a (a + 1) n (omega arith)))
-  | inr ne ↦
-      let shift : a + 1 + n ≡ a + suc n = omega arith in
-      rw (← shift) (omega (arith, times-cons k a (range_with_len (a + 1) n), times_one k a, times_other k a ne, times-range_from k (a + 1) n (omega arith)))
-]
-
 -- each number below n stands once among the first n, and no other
 pub times-range : (k n : ℕ) → times k (range_with_len 0 n) ≡ cond (ltb k n) 1 0
-times-range k n = times-range_from k 0 n (omega arith) ∙ rw zero-add refl
+times-range k zero = rw (le-ltb k 0 (omega arith)) (times-nil k)
+times-range k (suc n) = rw (range_with_len-more 0 n, zero-add) (times-append k (range_with_len 0 n) (n ∷ []) ∙ rw (times-range k n, times_one k n) (grind (arith, nat_tests)))
 
 -- the cell of this number shows no row any more; the others, and which of them are doomed, are as before
 pub record Hides (cells after : List (Cell Row)) (doomed left : List ℕ) (slot : ℕ) : Type 0 where

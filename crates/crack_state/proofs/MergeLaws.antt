@@ -1,8 +1,7 @@
 -- When a merge has given what its policy promises.
-use Rattle.std.proofs.Common.{◌≡◌, ℕ, ◌≤◌, Bool, true, false, List, [], ◌∷◌, refl, ap, inl, inr, arith}
-use Rattle.std.specs.Prelude.{◌||◌}
+use Rattle.std.proofs.Common.{◌≡◌, ℕ, ◌≤◌, true, false, List, [], ◌∷◌, refl, ap, inl, inr, arith}
 use Rattle.std.specs.List.{All, list_any}
-use Rattle.std.proofs.lemmas.Bool.{cases_lt, lt-ltb, le-leb, true≢false}
+use Rattle.std.proofs.lemmas.Bool.{cases_lt, lt-ltb, le-leb, true≢false, or_parts}
 use Rattle.std.proofs.lemmas.List.Elements.{All-nil, All-cons}
 use Rattle.crack_row.specs.Ranges.{Range, is_in}
 use Rattle.crack_row.specs.declared.Row.{Row}
@@ -23,10 +22,6 @@ Stands-follows s t bound follows stands = λ low high.
 pub IsCracked-follows : (s t : State) (r : Range) → Follows s t → IsCracked s r → IsCracked t r
 IsCracked-follows s t r follows cracked = (Stands-follows s t r.low follows cracked.0, Stands-follows s t r.high follows cracked.1)
 
-neither : (a b : Bool) → (a || b) ≡ false → (a ≡ false) × (b ≡ false)
-neither true b e = absurd (true≢false e)
-neither false b e = (refl, e)
-
 -- a key that isn't in the range is outside it
 pub outside_of_not_in : (r : Range) (key : ℕ) → is_in r key ≡ false → IsOutside r key
 outside_of_not_in r key none = elim (cases_lt key r.low) [
@@ -40,13 +35,13 @@ outside_of_not_in r key none = elim (cases_lt key r.low) [
 outside_all : (cells : List (Cell Row)) (r : Range) (hs : List Handle) → list_any (λ h. is_in r (key_at cells h)) hs ≡ false → All (ReadsOutside cells r) hs
 outside_all cells r [] none = All-nil (ReadsOutside cells r)
 outside_all cells r (h ∷ hs) none =
-    let both = neither (is_in r (key_at cells h)) (list_any (λ g. is_in r (key_at cells g)) hs) none in
+    let both = or_parts (is_in r (key_at cells h)) (list_any (λ g. is_in r (key_at cells g)) hs) none in
     All-cons (ReadsOutside cells r) h hs (outside_of_not_in r (key_at cells h) both.0) (outside_all cells r hs both.1)
 
 -- where no pending row has its key in the range, each has it outside
 pub outside-untouched : (s : State) (r : Range) → is_touched s r ≡ false → All (ReadsOutside s.cells r) s.pending_in × All (ReadsOutside s.cells r) s.pending_out
 outside-untouched s r untouched =
-    let both = neither (list_any (λ h. is_in r (key_at s.cells h)) s.pending_in) (list_any (λ h. is_in r (key_at s.cells h)) s.pending_out) untouched in
+    let both = or_parts (list_any (λ h. is_in r (key_at s.cells h)) s.pending_in) (list_any (λ h. is_in r (key_at s.cells h)) s.pending_out) untouched in
     (outside_all s.cells r s.pending_in both.0, outside_all s.cells r s.pending_out both.1)
 
 -- complete: no pending row is in the range, and nothing was done

@@ -1,8 +1,9 @@
 -- Handles outside a range, and what is left of a list whose handles of the range go in their order.
-use Rattle.std.proofs.Common.{◌≡◌, ℕ, zero, suc, ◌+◌, ◌<◌, ◌≤◌, Bool, true, false, List, [], ◌∷◌, ◌++◌, length, get_or, take, drop, refl, sym, ap, ◌∙◌, arith, length-append}
+use Rattle.std.proofs.Common.{◌≡◌, ℕ, zero, suc, ◌+◌, ◌<◌, ◌≤◌, Bool, true, false, List, [], ◌∷◌, ◌++◌, length, get_or, take, drop, refl, sym, ap, ◌∙◌, inl, inr, arith, length-append}
 use Rattle.std.specs.Prelude.{not}
 use Rattle.std.specs.List.{All, remove}
 use Rattle.std.proofs.lemmas.List.Elements.{All-nil, All-cons, All-head, All-tail, filter-append}
+use Rattle.std.proofs.lemmas.Bool.{cases_Bool}
 use Rattle.std.proofs.lemmas.List.{take-append-drop, get_or-append-add}
 use Rattle.std.proofs.lemmas.List.Sums.{length-filter}
 use Rattle.std.proofs.lemmas.List.Filters.{length-filter_both}
@@ -49,49 +50,40 @@ module _ (cells : List (Cell Row)) (r : Range) where
   -- some of a list, and of its handles outside the range
   pub SomeOf-outside : (some all : List Handle) → SomeOf some all → SomeOf (outside_of cells r some) (outside_of cells r all)
   SomeOf-outside some all nothing = nothing
-  SomeOf-outside some all (left_out h one more of) = by_test (inside h) refl (SomeOf-outside one more of)
-    where
-      by_test : (b : Bool) → inside h ≡ b → SomeOf (outside_of cells r one) (outside_of cells r more) → SomeOf (outside_of cells r one) (outside_of cells r (h ∷ more))
-      by_test true is rest = rw (outside_of-in h more is) rest
-      by_test false is rest = rw (outside_of-out h more is) (left_out h (outside_of cells r one) (outside_of cells r more) rest)
-  SomeOf-outside some all (kept h one more of) = by_test (inside h) refl (SomeOf-outside one more of)
-    where
-      by_test : (b : Bool) → inside h ≡ b → SomeOf (outside_of cells r one) (outside_of cells r more) → SomeOf (outside_of cells r (h ∷ one)) (outside_of cells r (h ∷ more))
-      by_test true is rest = rw (outside_of-in h more is, outside_of-in h one is) rest
-      by_test false is rest = rw (outside_of-out h more is, outside_of-out h one is) (kept h (outside_of cells r one) (outside_of cells r more) rest)
+  SomeOf-outside some all (left_out h one more of) = elim (cases_Bool (inside h)) [
+    | inl is ↦ rw (outside_of-in h more is) (SomeOf-outside one more of)
+    | inr is ↦ rw (outside_of-out h more is) (left_out h (outside_of cells r one) (outside_of cells r more) (SomeOf-outside one more of))
+  ]
+  SomeOf-outside some all (kept h one more of) = elim (cases_Bool (inside h)) [
+    | inl is ↦ rw (outside_of-in h more is, outside_of-in h one is) (SomeOf-outside one more of)
+    | inr is ↦ rw (outside_of-out h more is, outside_of-out h one is) (kept h (outside_of cells r one) (outside_of cells r more) (SomeOf-outside one more of))
+  ]
 
   -- of those that are gone no more were outside the range than all
   pub length-SomeOf_outside : (some all : List Handle) → SomeOf some all → length (outside_of cells r all) + length some ≤ length (outside_of cells r some) + length all
   length-SomeOf_outside some all nothing = omega arith
-  length-SomeOf_outside some all (left_out h one more of) = by_test (inside h) refl (length-SomeOf_outside one more of)
-    where
-      by_test : (b : Bool) → inside h ≡ b → length (outside_of cells r more) + length one ≤ length (outside_of cells r one) + length more → length (outside_of cells r (h ∷ more)) + length one ≤ length (outside_of cells r one) + length (h ∷ more)
-      by_test true is rest = rw (outside_of-in h more is) (omega arith)
-      by_test false is rest = rw (outside_of-out h more is) (omega arith)
-  length-SomeOf_outside some all (kept h one more of) = by_test (inside h) refl (length-SomeOf_outside one more of)
-    where
-      by_test : (b : Bool) → inside h ≡ b → length (outside_of cells r more) + length one ≤ length (outside_of cells r one) + length more → length (outside_of cells r (h ∷ more)) + length (h ∷ one) ≤ length (outside_of cells r (h ∷ one)) + length (h ∷ more)
-      by_test true is rest = rw (outside_of-in h more is, outside_of-in h one is) (omega arith)
-      by_test false is rest = rw (outside_of-out h more is, outside_of-out h one is) (omega arith)
+  length-SomeOf_outside some all (left_out h one more of) = elim (cases_Bool (inside h)) [
+    | inl is ↦ rw (outside_of-in h more is) (omega (arith, length-SomeOf_outside one more of))
+    | inr is ↦ rw (outside_of-out h more is) (omega (arith, length-SomeOf_outside one more of))
+  ]
+  length-SomeOf_outside some all (kept h one more of) = elim (cases_Bool (inside h)) [
+    | inl is ↦ rw (outside_of-in h more is, outside_of-in h one is) (omega (arith, length-SomeOf_outside one more of))
+    | inr is ↦ rw (outside_of-out h more is, outside_of-out h one is) (omega (arith, length-SomeOf_outside one more of))
+  ]
 
   -- each handle is in the range or outside it
   pub length-outside : (hs : List Handle) → length (outside_of cells r hs) + count_inside cells r hs ≡ length hs
   length-outside hs =
-      let split = length-filter_both (λ h. not (inside h)) inside (λ h. twice (inside h)) hs in
+      let split = length-filter_both inside (λ h. not (inside h)) (λ h. refl) hs in
       omega (arith, split, length-filter inside hs)
-    where
-      twice : (b : Bool) → b ≡ not (not b)
-      twice true = refl
-      twice false = refl
 
   -- those outside have their key outside
   pub All-outside : (hs : List Handle) → All (ReadsOutside cells r) (outside_of cells r hs)
   All-outside [] = All-nil (ReadsOutside cells r)
-  All-outside (h ∷ hs) = by_test (inside h) refl (All-outside hs)
-    where
-      by_test : (b : Bool) → inside h ≡ b → All (ReadsOutside cells r) (outside_of cells r hs) → All (ReadsOutside cells r) (outside_of cells r (h ∷ hs))
-      by_test true is rest = rw (outside_of-in h hs is) rest
-      by_test false is rest = rw (outside_of-out h hs is) (All-cons (ReadsOutside cells r) h (outside_of cells r hs) (outside_of_not_in r (key_at cells h) is) rest)
+  All-outside (h ∷ hs) = elim (cases_Bool (inside h)) [
+    | inl is ↦ rw (outside_of-in h hs is) (All-outside hs)
+    | inr is ↦ rw (outside_of-out h hs is) (All-cons (ReadsOutside cells r) h (outside_of cells r hs) (outside_of_not_in r (key_at cells h) is) (All-outside hs))
+  ]
 
   -- where none is in the range, all are outside it
   pub outside_of-all : (hs : List Handle) → All (λ h. inside h ≡ false) hs → outside_of cells r hs ≡ hs

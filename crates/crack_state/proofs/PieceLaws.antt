@@ -1,19 +1,66 @@
--- The own piece of a key, and what its bounds are among the marks.
-use Rattle.std.proofs.Common.{◌≡◌, ℕ, zero, suc, ◌+◌, ◌<◌, ◌≤◌, List, [], ◌∷◌, map, length, get_or, cond, ltb, leb, Option, Some, None, refl, sym, ap, ◌∙◌, arith}
-use Rattle.std.specs.List.{Contains}
-use Rattle.std.proofs.lemmas.Bool.{lt-ltb, le-ltb, lt-leb, le-leb}
+-- The own piece of a key, what its bounds are among the marks, and how a step of a carry keeps the bounds obeyed.
+use Rattle.std.proofs.Common.{◌≡◌, ℕ, ◌+◌, ◌<◌, ◌≤◌, List, [], ◌∷◌, ◌++◌, map, length, get_or, set, ap, inl, inr, arith, zero, suc, cond, ltb, leb, Option, Some, None, refl, sym, ◌∙◌}
+use Rattle.std.specs.List.{All, Contains, sum_by}
+use Rattle.std.proofs.lemmas.Bool.{cases_lt}
 use Rattle.std.proofs.lemmas.Bool.Decides.{nat_tests}
+use Rattle.std.proofs.lemmas.List.Elements.{All-map}
+use Rattle.crack_index.specs.declared.mark.Mark.{Mark}
+use Rattle.crack_index.specs.Marks.{raised, Rising, lowered, next_mark, last_mark, start_of, end_of, bounds_of}
+use Rattle.crack_index.proofs.MarkLaws.{raised_cases, next_mark-is, next_mark-none, last_mark-is, last_mark-none, bounds_of-raised, Rising-raised}
+use Rattle.crack_column.proofs.Divisions.{IsDividedAt-order, IsDividedAt-set_below, IsDividedAt-set_above, IsDividedAt-raised, IsDividedAt-append_above, IsDividedAt-append_below}
+use Rattle.crack_state.specs.State.{Divides, IsObeyed, State, AreInside, column_keys}
 use Rattle.std.proofs.lemmas.List.{length-map}
 use Rattle.std.proofs.lemmas.List.Sums.{sum_by-cons}
-use Rattle.std.proofs.lemmas.List.Elements.{All-map}
 use Rattle.crack_row.specs.Ranges.{Range}
-use Rattle.crack_index.specs.declared.mark.Mark.{Mark}
-use Rattle.crack_index.specs.Marks.{Rising, raised, lowered, next_mark, last_mark, start_of, end_of, bounds_of}
-use Rattle.crack_index.proofs.MarkLaws.{next_mark-is, next_mark-none, last_mark-is, last_mark-none, bounds_of-raised, Rising-raised}
 use Rattle.crack_arena.specs.Rows.{key_at}
-use Rattle.crack_state.specs.State.{State, Divides, IsObeyed, AreInside, column_keys}
 use Rattle.crack_state.specs.Steps.{piece_start, piece_end, raise_next, bounds_above, bounds_up_to}
-use Rattle.crack_state.proofs.ObeyedLaws.{Divides-order}
+
+-- a bound above another stands at or behind it
+pub Divides-order : (keys : List ℕ) (m n : Mark) → Divides keys m → Divides keys n → m.bound.0 ≤ n.bound.0 → m.position ≤ n.position
+Divides-order keys m n d e h = IsDividedAt-order m.bound.0 n.bound.0 keys m.position n.position h d e
+
+Divides-raised : (keys : List ℕ) (x : ℕ) (high m : Mark) → high.position < length keys → x < high.bound.0 → Divides keys high → Divides keys m → (x < m.bound.0 → high.bound.0 ≤ m.bound.0) → Divides (set keys high.position x) (raised high.bound.0 high.position m)
+Divides-raised keys x high m inside above divides d least =
+    let place = high.position in
+    elim (raised_cases high.bound.0 place m) [
+      | inl up ↦ rw (ap (λ (x : Mark). x.position) up.2, ← up.1) (IsDividedAt-raised m.bound.0 keys m.position x (omega arith) (omega arith) d)
+      | inr same ↦ rw (ap (λ (x : Mark). x.position) same.0) (elim (cases_lt x m.bound.0) [
+        | inl l ↦
+            let far : place < m.position = let u = Divides-order keys high m divides d (least l) in let v = same.1 (least l) in omega arith in
+            IsDividedAt-set_below m.bound.0 keys m.position place x far l d
+        | inr l ↦ IsDividedAt-set_above m.bound.0 keys m.position place x (Divides-order keys m high d divides (omega arith)) l d
+      ])
+    ]
+
+-- `push_on`: the hand is put where the piece of its key ends, and the bounds above its key that stood there move up
+pub Obeyed-raised : (keys : List ℕ) (marks : List Mark) (x : ℕ) (high : Mark) → high.position < length keys → IsObeyed marks keys → All (λ m. x < m.bound.0 → high.bound.0 ≤ m.bound.0) marks → x < high.bound.0 → Divides keys high → IsObeyed (map (raised high.bound.0 high.position) marks) (set keys high.position x)
+Obeyed-raised keys marks x high inside obeyed least above divides =
+    All-map (Divides (set keys high.position x)) (raised high.bound.0 high.position) marks
+    (λ k d h. Divides-raised keys x high (get_or marks k d) inside above divides (obeyed k d h) (least k d h))
+
+Divides-push_raised : (keys : List ℕ) (x : ℕ) (high m : Mark) → high.position ≡ length keys → Divides keys high → Divides keys m → (x < m.bound.0 → high.bound.0 ≤ m.bound.0) → x < high.bound.0 → Divides (keys ++ x ∷ []) (raised high.bound.0 high.position m)
+Divides-push_raised keys x high m at_end divides d least above =
+    elim (raised_cases high.bound.0 high.position m) [
+      | inl up ↦
+          let last : m.position ≡ length keys = omega arith in
+          rw (ap (λ (x : Mark). x.position) up.2, last) (IsDividedAt-append_below m.bound.0 keys x (omega arith) (rw last at d))
+      | inr same ↦ rw (ap (λ (x : Mark). x.position) same.0) (elim (cases_lt x m.bound.0) [
+        | inl l ↦
+            let far : high.position ≤ m.position = Divides-order keys high m divides d (least l) in
+            absurd (same.1 (least l) (omega (arith, d.within)))
+        | inr l ↦ IsDividedAt-append_above m.bound.0 keys m.position x l d
+      ])
+    ]
+
+-- `append` where a bound above the key stands at the end
+pub Obeyed-push_raised : (keys : List ℕ) (marks : List Mark) (x : ℕ) (high : Mark) → high.position ≡ length keys → IsObeyed marks keys → All (λ m. x < m.bound.0 → high.bound.0 ≤ m.bound.0) marks → x < high.bound.0 → Divides keys high → IsObeyed (map (raised high.bound.0 high.position) marks) (keys ++ x ∷ [])
+Obeyed-push_raised keys marks x high at_end obeyed least above divides =
+    All-map (Divides (keys ++ x ∷ [])) (raised high.bound.0 high.position) marks
+    (λ k d h. Divides-push_raised keys x high (get_or marks k d) at_end divides (obeyed k d h) (least k d h) above)
+
+-- `append` where no bound is above the key
+pub Obeyed-push : (keys : List ℕ) (marks : List Mark) (x : ℕ) → IsObeyed marks keys → All (λ m. m.bound.0 ≤ x) marks → IsObeyed marks (keys ++ x ∷ [])
+Obeyed-push keys marks x obeyed low = λ k d h. IsDividedAt-append_above (get_or marks k d).bound.0 keys (get_or marks k d).position x (low k d h) (obeyed k d h)
 
 -- a mark that is listed divides the keys
 pub Divides-listed : (keys : List ℕ) (marks : List Mark) (m : Mark) → IsObeyed marks keys → Contains marks m → Divides keys m
@@ -75,50 +122,25 @@ piece_start-behind s key k d rising obeyed within below = by_last (last_mark key
         let is_last = last_mark-is key s.marks m rising some in
         Divides-order (column_keys s) (get_or s.marks k d) m (obeyed k d within) (Divides-listed (column_keys s) s.marks m obeyed is_last.listed) (is_last.greatest k d within below)
 
--- 1 for a bound above the key
-abbrev above_by : ℕ → Mark → ℕ
-above_by key m = cond (ltb key m.bound.0) 1 0
+-- marks that move count for less, where none counts for more and one for less
+sum_by-moved_le : (f : Mark → Mark) (after before : Mark → ℕ) → ((m : Mark) → after (f m) ≤ before m) → (marks : List Mark) → sum_by after (map f marks) ≤ sum_by before marks
+sum_by-moved_le f after before most [] = omega arith
+sum_by-moved_le f after before most (n ∷ ns) = omega (arith, sum_by-cons after (f n) (map f ns), sum_by-cons before n ns, most n, sum_by-moved_le f after before most ns)
 
-above_by-le : (key next : ℕ) (m : Mark) → key ≤ next → above_by next m ≤ above_by key m
-above_by-le key next m h = grind (arith, nat_tests)
-
-bounds_above-cons : (key : ℕ) (m : Mark) (ms : List Mark) → bounds_above key (m ∷ ms) ≡ above_by key m + bounds_above key ms
-bounds_above-cons key m ms = sum_by-cons (above_by key) m ms
-
-bounds_above-le : (low place key next : ℕ) (marks : List Mark) → key ≤ next → bounds_above next (map (raised low place) marks) ≤ bounds_above key marks
-bounds_above-le low place key next [] h = omega arith
-bounds_above-le low place key next (n ∷ ns) h = omega (arith, bounds_above-cons next (raised low place n) (map (raised low place) ns), bounds_above-cons key n ns, above_by-le key next n h, bounds_above-le low place key next ns h)
+sum_by-moved_less : (f : Mark → Mark) (after before : Mark → ℕ) → ((m : Mark) → after (f m) ≤ before m) → (marks : List Mark) (m : Mark) (k : ℕ) → k < length marks → get_or marks k m ≡ m → after (f m) < before m → sum_by after (map f marks) < sum_by before marks
+sum_by-moved_less f after before most [] m k h found less = absurd (omega arith)
+sum_by-moved_less f after before most (n ∷ ns) m zero h found less =
+    let here : after (f n) < before n = rw found less in
+    omega (arith, sum_by-cons after (f n) (map f ns), sum_by-cons before n ns, here, sum_by-moved_le f after before most ns)
+sum_by-moved_less f after before most (n ∷ ns) m (suc k) h found less =
+    omega (arith, sum_by-cons after (f n) (map f ns), sum_by-cons before n ns, most n, sum_by-moved_less f after before most ns m k (omega arith) found less)
 
 -- fewer bounds are above a key that is at or above the next bound
 pub bounds_above-less : (low place key next : ℕ) (marks : List Mark) (m : Mark) (k : ℕ) → k < length marks → get_or marks k m ≡ m → key < m.bound.0 → m.bound.0 ≤ next → bounds_above next (map (raised low place) marks) < bounds_above key marks
-bounds_above-less low place key next [] m k h found more below = absurd (omega arith)
-bounds_above-less low place key next (n ∷ ns) m zero h found more below =
-    let was : above_by key n ≡ 1 = rw (found, lt-ltb key m.bound.0 more) refl in
-    let now : above_by next n ≡ 0 = rw (found, le-ltb next m.bound.0 below) refl in
-    omega (arith, was, now, bounds_above-cons next (raised low place n) (map (raised low place) ns), bounds_above-cons key n ns, bounds_above-le low place key next ns (omega arith))
-bounds_above-less low place key next (n ∷ ns) m (suc k) h found more below =
-    omega (arith, bounds_above-cons next (raised low place n) (map (raised low place) ns), bounds_above-cons key n ns, above_by-le key next n (omega arith), bounds_above-less low place key next ns m k (omega arith) found more below)
-
--- 1 for a bound at or below the key
-abbrev up_to_by : ℕ → Mark → ℕ
-up_to_by key m = cond (leb m.bound.0 key) 1 0
-
-up_to_by-le : (key next : ℕ) (m : Mark) → next ≤ key → up_to_by next m ≤ up_to_by key m
-up_to_by-le key next m h = grind (arith, nat_tests)
-
-bounds_up_to-cons : (key : ℕ) (m : Mark) (ms : List Mark) → bounds_up_to key (m ∷ ms) ≡ up_to_by key m + bounds_up_to key ms
-bounds_up_to-cons key m ms = sum_by-cons (up_to_by key) m ms
-
-bounds_up_to-le : (high place key next : ℕ) (marks : List Mark) → next ≤ key → bounds_up_to next (map (lowered high place) marks) ≤ bounds_up_to key marks
-bounds_up_to-le high place key next [] h = omega arith
-bounds_up_to-le high place key next (n ∷ ns) h = omega (arith, bounds_up_to-cons next (lowered high place n) (map (lowered high place) ns), bounds_up_to-cons key n ns, up_to_by-le key next n h, bounds_up_to-le high place key next ns h)
+bounds_above-less low place key next marks m k h found more below =
+    sum_by-moved_less (raised low place) (λ (x : Mark). cond (ltb next x.bound.0) 1 0) (λ (x : Mark). cond (ltb key x.bound.0) 1 0) (λ x. grind (arith, nat_tests)) marks m k h found (grind (arith, nat_tests))
 
 -- fewer bounds are at or below a key that is below the last of them
 pub bounds_up_to-less : (high place key next : ℕ) (marks : List Mark) (m : Mark) (k : ℕ) → k < length marks → get_or marks k m ≡ m → m.bound.0 ≤ key → next < m.bound.0 → bounds_up_to next (map (lowered high place) marks) < bounds_up_to key marks
-bounds_up_to-less high place key next [] m k h found below more = absurd (omega arith)
-bounds_up_to-less high place key next (n ∷ ns) m zero h found below more =
-    let was : up_to_by key n ≡ 1 = rw (found, le-leb m.bound.0 key below) refl in
-    let now : up_to_by next n ≡ 0 = rw (found, lt-leb m.bound.0 next more) refl in
-    omega (arith, was, now, bounds_up_to-cons next (lowered high place n) (map (lowered high place) ns), bounds_up_to-cons key n ns, bounds_up_to-le high place key next ns (omega arith))
-bounds_up_to-less high place key next (n ∷ ns) m (suc k) h found below more =
-    omega (arith, bounds_up_to-cons next (lowered high place n) (map (lowered high place) ns), bounds_up_to-cons key n ns, up_to_by-le key next n (omega arith), bounds_up_to-less high place key next ns m k (omega arith) found below more)
+bounds_up_to-less high place key next marks m k h found below more =
+    sum_by-moved_less (lowered high place) (λ (x : Mark). cond (leb x.bound.0 next) 1 0) (λ (x : Mark). cond (leb x.bound.0 key) 1 0) (λ x. grind (arith, nat_tests)) marks m k h found (grind (arith, nat_tests))

@@ -1,5 +1,5 @@
 -- The steps of a pull, and the step back to the pending insertions, keep a store intact.
-use Rattle.std.proofs.Common.{◌≡◌, ◌⊎◌, ℕ, zero, suc, ◌+◌, ◌-◌, ◌<◌, ◌≤◌, List, [], ◌∷◌, ◌++◌, map, length, get_or, set, take, Option, Some, None, refl, sym, ap, ◌∙◌, inl, inr, arith}
+use Rattle.std.proofs.Common.{◌≡◌, ℕ, zero, suc, ◌+◌, ◌-◌, ◌<◌, ◌≤◌, List, [], ◌∷◌, ◌++◌, map, length, get_or, set, take, Option, Some, None, refl, sym, ap, ◌∙◌, inl, inr, arith}
 use Rattle.std.specs.List.{All, remove}
 use Rattle.std.proofs.lemmas.Bool.{cases_eq, cases_lt}
 use Rattle.std.proofs.lemmas.Bool.Decides.{nat_tests}
@@ -11,34 +11,22 @@ use Rattle.crack_arena.specs.Rows.{key_at}
 use Rattle.crack_arena.proofs.Times.{times-nil, times_other, times-map-append}
 use Rattle.crack_index.specs.declared.mark.Mark.{Mark}
 use Rattle.crack_index.specs.Marks.{Rising, last_mark, start_of, lowered, lowered_at, bounds_of}
-use Rattle.crack_index.proofs.MarkLaws.{last_mark-is, bounds_of-lowered, bounds_of-lowered_at, Rising-lowered, Rising-lowered_at}
+use Rattle.crack_index.proofs.MarkLaws.{last_mark-is, lowered_cases, bounds_of-lowered, bounds_of-lowered_at, Rising-lowered, Rising-lowered_at}
 use Rattle.crack_column.proofs.Divisions.{IsDividedAt-set_below, IsDividedAt-set_above, IsDividedAt-lowered, IsDividedAt-take}
 use Rattle.crack_state.specs.State.{State, Carried, Reads, Divides, IsObeyed, AreInside, IsIntact, column_keys}
 use Rattle.crack_state.specs.Steps.{hand_key, piece_start, piece_end, lower_last, more, lifted_last, pulled_back, exchanged, bounds_up_to, returned}
 use Rattle.crack_state.specs.Merge.{Follows}
 use Rattle.crack_state.proofs.Counters.{IsCounted-evicted, IsCounted-pulled}
 use Rattle.crack_state.proofs.OwnedLaws.{times-taken}
-use Rattle.crack_state.proofs.ObeyedLaws.{Divides-order}
-use Rattle.crack_state.proofs.PieceLaws.{Divides-listed, piece_end-le, piece_end-before, piece_start-behind, bounds_up_to-less}
+use Rattle.crack_state.proofs.PieceLaws.{Divides-order, Divides-listed, piece_end-le, piece_end-before, piece_start-behind, bounds_up_to-less}
 use Rattle.crack_state.proofs.StepLaws.{IsIntact-moved, IsIntact-put_at}
-
--- whether `lowered` moves a bound
-lowered_place : (high place : ℕ) (m : Mark) → ((m.bound.0 ≤ high) × (m.position ≡ place) × ((lowered high place m).position ≡ place - 1)) ⊎ (((lowered high place m).position ≡ m.position) × ((m.bound.0 ≤ high) → m.position ≡ place → ⊥))
-lowered_place high place m =
-    elim (cases_lt high m.bound.0) [
-      | inl l ↦ inr (grind (arith, nat_tests), λ h e. omega arith)
-      | inr l ↦ elim (cases_eq m.position place) [
-        | inl e ↦ inl (l, e, grind (arith, nat_tests))
-        | inr ne ↦ inr (grind (arith, nat_tests), λ h e. ne e)
-      ]
-    ]
 
 Divides-lowered : (keys : List ℕ) (x : ℕ) (low m : Mark) → 0 < low.position → low.bound.0 ≤ x → Divides keys low → Divides keys m → (m.bound.0 ≤ x → m.bound.0 ≤ low.bound.0) → Divides (set keys (low.position - 1) x) (lowered low.bound.0 low.position m)
 Divides-lowered keys x low m inside above divides d greatest_below =
     let place = low.position in
-    elim (lowered_place low.bound.0 place m) [
-      | inl down ↦ rw (down.2, ← down.1) (IsDividedAt-lowered m.bound.0 keys m.position x (omega arith) (omega arith) d)
-      | inr same ↦ rw same.0 (elim (cases_lt x m.bound.0) [
+    elim (lowered_cases low.bound.0 place m) [
+      | inl down ↦ rw (ap (λ (x : Mark). x.position) down.2, ← down.1) (IsDividedAt-lowered m.bound.0 keys m.position x (omega arith) (omega arith) d)
+      | inr same ↦ rw (ap (λ (x : Mark). x.position) same.0) (elim (cases_lt x m.bound.0) [
         | inl l ↦
             let far : place ≤ m.position = Divides-order keys low m divides d (omega arith) in
             IsDividedAt-set_below m.bound.0 keys m.position (place - 1) x (omega arith) l d

@@ -14,8 +14,7 @@ use Rattle.crack_state.specs.declared.MergeReport.{MergeReport}
 use Rattle.crack_state.specs.State.{State, Carried, Reads, column_keys, IsObeyed, AreInside, IsCounted, IsIntact}
 use Rattle.crack_state.specs.Steps.{hand_key, piece_end, raise_next, more, put_at, lifted, pushed_on, appended, SameButRoom, bounds_above}
 use Rattle.crack_state.proofs.Counters.{IsCounted-put_in, IsCounted-moved}
-use Rattle.crack_state.proofs.ObeyedLaws.{Obeyed-raised, Obeyed-push, Obeyed-push_raised}
-use Rattle.crack_state.proofs.PieceLaws.{Divides-listed, Rising-raise_next, AreInside-raise_next, bounds_above-less}
+use Rattle.crack_state.proofs.PieceLaws.{Obeyed-raised, Obeyed-push, Obeyed-push_raised, Divides-listed, Rising-raise_next, AreInside-raise_next, bounds_above-less}
 use Rattle.crack_state.proofs.OwnedLaws.{times-exchange, times-taken, times-places}
 
 -- what a step leaves that moves handles: cells and free numbers, pending deletions and map
