@@ -5,7 +5,7 @@ use Rattle.std.specs.List.{All, remove}
 use Rattle.std.proofs.lemmas.Bool.{cases_eq, true≢false}
 use Rattle.std.proofs.lemmas.List.Edits.{length-remove}
 use Rattle.std.proofs.lemmas.List.Sums.{count_by-le-length}
-use Rattle.crack_row.proofs.Lists.{map_agree, length-removed}
+use Rattle.crack_row.proofs.Lists.{map_agree}
 use Rattle.crack_row.specs.Ranges.{Range}
 use Rattle.crack_row.specs.declared.Row.{Row}
 use Rattle.crack_row.specs.declared.command.Policy.{Policy}
@@ -14,16 +14,16 @@ use Rattle.crack_arena.specs.Rows.{key_of_row, key_at, keys_at}
 use Rattle.crack_index.specs.declared.mark.Mark.{Mark}
 use Rattle.crack_index.specs.Marks.{bounds_of}
 use Rattle.crack_state.specs.declared.MergeReport.{MergeReport}
-use Rattle.crack_state.specs.State.{State, Carried, Reads, IsIntact, live_rows, freed_of}
+use Rattle.crack_state.specs.State.{State, Carried, Reads, IsIntact}
 use Rattle.crack_state.specs.Steps.{hand_key, piece_start, IsDoomed, lifted, lifted_last, appended, pulled_back, exchanged, buried, SameButRoom, bounds_up_to}
-use Rattle.crack_state.specs.Merge.{Follows, Tallies, StillReads, Advances, outside_of}
+use Rattle.crack_state.specs.Merge.{Follows, Tallies, SomeOf, StillReads, Advances, outside_of}
 use Rattle.crack_state.proofs.OwnedLaws.{hand_apart}
 use Rattle.crack_state.proofs.CellLaws.{AgreeOff-set, read-off}
-use Rattle.crack_state.proofs.Counters.{Rises-none, Rises-one, raised_counter}
+use Rattle.crack_state.proofs.Counters.{Rises, Rises-none, Rises-one, raised_counter}
 use Rattle.crack_state.proofs.OutsideLaws.{SomeOf-refl, SomeOf-trans, SomeOf-remove, outside_of-reads}
 use Rattle.crack_state.proofs.PullLaws.{Follows-lifted_last, Follows-pulled_back, bounds_up_to-pulled_back}
-use Rattle.crack_state.proofs.BuryLaws.{read-set_none, Follows-buried, Tallies-carried_buried}
-use Rattle.crack_state.proofs.FollowLaws.{Pushes, Follows-trans, Follows-room, Follows-lifted, Follows-appended, Follows-Pushes, length_marks-Follows, Tallies-trans, Tallies-room, Tallies-step, Tallies-carried}
+use Rattle.crack_state.proofs.BuryLaws.{doomed_stands, read-set_none, Follows-buried}
+use Rattle.crack_state.proofs.FollowLaws.{Pushes, Follows-trans, Follows-kept, Follows-room, Follows-appended, length_marks-Follows, Tallies-trans, Tallies-room, Tallies-step, Tallies-carried}
 
 pub StillReads-refl : (cells : List (Cell Row)) → StillReads cells cells
 StillReads-refl cells = λ h reads. refl
@@ -70,32 +70,33 @@ pub record CarriedIn (s t : State) (i : ℕ) : Type 0 where
   pub pending_in : t.pending_in ≡ remove s.pending_in i
   pub few : length s.pending_out ≤ length t.pending_out + 1
 
-follows_pushed : (s : State) (i : ℕ) (c : Carried) → Pushes (lifted i s) c → Follows s c.store
-follows_pushed s i c pushes = Follows-trans s (lifted i s).store c.store (Follows-lifted i s) (Follows-Pushes (lifted i s) c pushes)
+-- what was moved, and then put behind the column or buried: cells and pending deletions change at the end alone
+advances_by : (policy : Policy) (s u t : State) → u.keys ≡ s.keys → u.cells ≡ s.cells → u.pending_out ≡ s.pending_out → bounds_of u.marks ≡ bounds_of s.marks → Follows u t → StillReads u.cells t.cells → SomeOf t.pending_out u.pending_out → Tallies policy s t → Advances policy s t
+advances_by policy s u t keys cells doomed bounds follows reads some tallies = record {
+  follows = Follows-trans s u t (Follows-kept s u keys cells doomed bounds) follows;
+  tallies = tallies;
+  reads = StillReads-trans s.cells u.cells t.cells (rw cells (StillReads-refl s.cells)) reads;
+  pending_out = rw doomed at some;
+}
+
+carried_in : (s t : State) (i out : ℕ) (c : Carried) → i < length s.pending_in → IsIntact s [] → Pushes (lifted i s) c → t.tally ≡ record c.store.tally { taken_out = t.tally.taken_out } → t.pending_in ≡ c.store.pending_in → Follows c.store t → StillReads c.store.cells t.cells → SomeOf t.pending_out c.store.pending_out → Rises out c.store.tally.taken_out t.tally.taken_out → length t.pending_out + out ≡ length c.store.pending_out → out ≤ 1 → CarriedIn s t i
+carried_in s t i out c inside intact pushes ends ends_in follows reads some rises ends_out one =
+    let doomed = ap (λ (x : State). x.pending_out) pushes.same in
+    record {
+      advances = λ policy. advances_by policy s c.store t (ap (λ (x : State). x.keys) pushes.same) (ap (λ (x : State). x.cells) pushes.same) doomed pushes.bounds follows reads some (Tallies-carried policy s t i out c inside intact pushes ends ends_in rises ends_out);
+      pending_in = ends_in ∙ ap (λ (x : State). x.pending_in) pushes.same;
+      few = omega (arith, ends_out, one, ap length doomed);
+    }
 
 pub CarriedIn-appended : (s : State) (i : ℕ) (c : Carried) → i < length s.pending_in → IsIntact s [] → Pushes (lifted i s) c → CarriedIn s (appended c) i
-CarriedIn-appended s i c inside intact pushes = record {
-  advances = λ policy. record {
-    follows = Follows-trans s c.store (appended c) (follows_pushed s i c pushes) (Follows-appended c);
-    tallies = Tallies-carried policy s i c inside intact pushes;
-    reads = rw (ap (λ (x : State). x.cells) pushes.same) (StillReads-refl s.cells);
-    pending_out = rw (ap (λ (x : State). x.pending_out) pushes.same) (SomeOf-refl s.pending_out);
-  };
-  pending_in = ap (λ (x : State). x.pending_in) pushes.same;
-  few = omega (arith, ap (λ (x : State). length x.pending_out) pushes.same);
-}
+CarriedIn-appended s i c inside intact pushes =
+    carried_in s (appended c) i 0 c inside intact pushes refl refl (Follows-appended c) (StillReads-refl c.store.cells) (SomeOf-refl c.store.pending_out) (Rises-none c.store.tally.taken_out c.store.tally.taken_out refl) (omega arith) (omega arith)
 
 pub CarriedIn-buried : (s : State) (i : ℕ) (c : Carried) → i < length s.pending_in → IsIntact s [] → Pushes (lifted i s) c → IsDoomed c → IsIntact c.store (c.hand ∷ []) → CarriedIn s (buried c) i
-CarriedIn-buried s i c inside intact pushes doomed now = record {
-  advances = λ policy. record {
-    follows = Follows-trans s c.store (buried c) (follows_pushed s i c pushes) (Follows-buried c doomed now);
-    tallies = Tallies-carried_buried policy s i c inside doomed intact now pushes;
-    reads = StillReads-trans s.cells c.store.cells (buried c).cells (rw (ap (λ (x : State). x.cells) pushes.same) (StillReads-refl s.cells)) (StillReads-buried c now);
-    pending_out = rw (ap (λ (x : State). x.pending_out) pushes.same) (SomeOf-remove s.pending_out (place_in s.pending_out c.hand.slot));
-  };
-  pending_in = ap (λ (x : State). x.pending_in) pushes.same;
-  few = omega (arith, ap (λ (x : State). length x.pending_out) pushes.same, length-removed c.store.pending_out (place_in c.store.pending_out c.hand.slot));
-}
+CarriedIn-buried s i c inside intact pushes doomed now =
+    let taken = c.store.tally.taken_out in
+    let place = place_in c.store.pending_out c.hand.slot in
+    carried_in s (buried c) i 1 c inside intact pushes refl refl (Follows-buried c doomed now) (StillReads-buried c now) (SomeOf-remove c.store.pending_out place) (Rises-one taken (buried c).tally.taken_out taken refl refl now.counted.taken_out) (omega (arith, length-remove c.store.pending_out place (doomed_stands c doomed now).within)) (omega arith)
 
 -- what the steps of a pull keep, from the column's last row on: each brings the hand nearer to the column's front
 pub record Draws (s : State) (c : Carried) : Type 0 where
@@ -151,15 +152,6 @@ pub record TakenOut (s t : State) (slot : ℕ) : Type 0 where
   pub pending_in : t.pending_in ≡ s.pending_in
   pub pending_out : t.pending_out ≡ remove s.pending_out (place_in s.pending_out slot)
 
-follows_drawn : (s : State) (e : Carried) → Drawn s e → Follows s e.store
-follows_drawn s e drawn = record {
-  keys = ap (λ (x : State). x.keys) drawn.same;
-  live = ap live_rows drawn.same;
-  bounds = drawn.bounds;
-  cells = ap (λ (x : State). length x.cells) drawn.same;
-  freed = ap (λ (x : State). freed_of x.cells + length x.pending_out) drawn.same;
-}
-
 tallies_drawn : (policy : Policy) (s : State) (e : Carried) → Drawn s e → place_in s.pending_out e.hand.slot < length s.pending_out → IsIntact e.store (e.hand ∷ []) → Tallies policy s (buried e)
 tallies_drawn policy s e drawn within intact =
     let tally = ap (λ (x : State). x.tally) drawn.same in
@@ -176,16 +168,13 @@ tallies_drawn policy s e drawn within intact =
     (omega (arith, ap (λ (x : State). length (remove x.pending_out (place_in x.pending_out e.hand.slot))) drawn.same, length-remove s.pending_out (place_in s.pending_out e.hand.slot) within))
 
 pub TakenOut-buried : (s : State) (e : Carried) → Drawn s e → place_in s.pending_out e.hand.slot < length s.pending_out → IsDoomed e → IsIntact e.store (e.hand ∷ []) → TakenOut s (buried e) e.hand.slot
-TakenOut-buried s e drawn within doomed intact = record {
-  advances = λ policy. record {
-    follows = Follows-trans s e.store (buried e) (follows_drawn s e drawn) (Follows-buried e doomed intact);
-    tallies = tallies_drawn policy s e drawn within intact;
-    reads = StillReads-trans s.cells e.store.cells (buried e).cells (rw (ap (λ (x : State). x.cells) drawn.same) (StillReads-refl s.cells)) (StillReads-buried e intact);
-    pending_out = rw (ap (λ (x : State). x.pending_out) drawn.same) (SomeOf-remove s.pending_out (place_in s.pending_out e.hand.slot));
-  };
-  pending_in = ap (λ (x : State). x.pending_in) drawn.same;
-  pending_out = ap (λ (x : State). remove x.pending_out (place_in x.pending_out e.hand.slot)) drawn.same;
-}
+TakenOut-buried s e drawn within doomed intact =
+    let out = ap (λ (x : State). x.pending_out) drawn.same in
+    record {
+      advances = λ policy. advances_by policy s e.store (buried e) (ap (λ (x : State). x.keys) drawn.same) (ap (λ (x : State). x.cells) drawn.same) out drawn.bounds (Follows-buried e doomed intact) (StillReads-buried e intact) (SomeOf-remove e.store.pending_out (place_in e.store.pending_out e.hand.slot)) (tallies_drawn policy s e drawn within intact);
+      pending_in = ap (λ (x : State). x.pending_in) drawn.same;
+      pending_out = ap (λ hs. remove hs (place_in hs e.hand.slot)) out;
+    }
 
 -- handles that still read have the keys that they had
 pub keys_still : (cells after : List (Cell Row)) (hs : List Handle) → StillReads cells after → All (Reads after) hs → keys_at after hs ≡ keys_at cells hs

@@ -10,19 +10,16 @@ use Rattle.std.proofs.lemmas.Bool.{cases_eq}
 use Rattle.crack_row.proofs.Lists.{All-removed}
 use Rattle.crack_row.specs.Ranges.{IsIn}
 use Rattle.crack_row.specs.declared.Row.{Row}
-use Rattle.crack_row.specs.declared.command.Policy.{Policy}
 use Rattle.crack_arena.specs.Arena.{Cell, Handle, StandsAt, times, read, cell_at, empty_cell, slots, place_in}
 use Rattle.crack_arena.proofs.Times.{times-nil, times-cons, times_one, times_other, times_head, times-append}
-use Rattle.crack_state.specs.declared.MergeReport.{MergeReport}
 use Rattle.crack_state.specs.State.{State, Carried, Reads, IsIntact, IsKeyed, IsCounted, AreEmpty, freed_of, live_at, live_rows, greatest}
-use Rattle.crack_state.specs.Steps.{hand_key, IsDoomed, lifted, buried}
-use Rattle.crack_state.specs.Merge.{Follows, Tallies}
+use Rattle.crack_state.specs.Steps.{IsDoomed, buried}
+use Rattle.crack_state.specs.Merge.{Follows}
 use Rattle.crack_state.proofs.OwnedLaws.{times-taken, times-places, once-most, once-within, HandApart, hand_apart}
 use Rattle.crack_state.proofs.CellLaws.{AgreeOff-set, Reads-off, keys-off, generation_of_read, stands_there}
-use Rattle.crack_state.proofs.Counters.{IsCounted-taken_out, Rises-one}
+use Rattle.crack_state.proofs.Counters.{IsCounted-taken_out}
 use Rattle.crack_state.proofs.LiveLaws.{none_either, Hides, Hides-emptied, live_at-off}
 use Rattle.crack_state.proofs.KeyedLaws.{IsKeyed-less}
-use Rattle.crack_state.proofs.FollowLaws.{Pushes, Tallies-step, bounds_above-few}
 
 -- the hand, which is doomed, is the pending deletion of its cell
 pub doomed_stands : (c : Carried) → IsDoomed c → IsIntact c.store (c.hand ∷ []) → StandsAt c.store.pending_out (place_in c.store.pending_out c.hand.slot) c.hand
@@ -168,19 +165,3 @@ Follows-buried c doomed intact = record {
   cells = length-set c.store.cells c.hand.slot (record { generation = c.hand.generation + 1; value = None });
   freed = freed-buried c doomed intact;
 }
-
--- a whole carry that ends at a doomed row: lifted, pushed on, buried
-pub Tallies-carried_buried : (policy : Policy) (s : State) (i : ℕ) (c : Carried) → i < length s.pending_in → IsDoomed c → IsIntact s [] → IsIntact c.store (c.hand ∷ []) → Pushes (lifted i s) c → Tallies policy s (buried c)
-Tallies-carried_buried policy s i c inside doomed intact now pushes =
-    let tally = ap (λ (x : State). x.tally) pushes.same in
-    let pulled = ap (λ (x : MergeReport). x.pulled) tally in
-    Tallies-step policy s (buried c) 1 1
-    (Rises-one s.tally.put_in c.store.tally.put_in s.tally.put_in (ap (λ (x : MergeReport). x.put_in) tally) refl intact.counted.put_in)
-    (Rises-one s.tally.taken_out (buried c).tally.taken_out c.store.tally.taken_out refl (ap (λ (x : MergeReport). x.taken_out) tally) now.counted.taken_out)
-    (ap (λ (x : MergeReport). x.evicted) tally)
-    pushes.moved_rises
-    (omega (arith, pushes.moved, bounds_above-few (hand_key (lifted i s)) s.marks))
-    (omega (arith, pulled))
-    (omega (arith, pulled))
-    (omega (arith, ap (λ (x : State). length x.pending_in) pushes.same, length-remove s.pending_in i inside))
-    (omega (arith, ap (λ (x : State). length x.pending_out) pushes.same, length-remove c.store.pending_out (place_in c.store.pending_out c.hand.slot) (doomed_hand c doomed now).place))

@@ -12,8 +12,8 @@ use Rattle.crack_row.specs.declared.Row.{Row}
 use Rattle.crack_arena.specs.Arena.{Cell, Handle, times, read, cell_at, empty_cell, slots}
 use Rattle.crack_arena.proofs.Times.{times-map-IsPermutation}
 use Rattle.crack_index.specs.declared.mark.Mark.{Mark}
-use Rattle.crack_index.specs.Marks.{Rising, Fits, added, next_mark, last_mark, start_of, end_of, HasBound}
-use Rattle.crack_index.proofs.MarkLaws.{next_mark-is, last_mark-is, All-added, Contains-kept, HasBound-added, Rising-added, HasBound-mark, HasBound-contains}
+use Rattle.crack_index.specs.Marks.{Rising, added, next_mark, last_mark, start_of, end_of, HasBound}
+use Rattle.crack_index.proofs.MarkLaws.{next_mark-is, last_mark-is, Fits-piece, All-added, Contains-kept, HasBound-added, Rising-added, HasBound-mark, HasBound-contains}
 use Rattle.crack_arena.specs.Rows.{key_of_row, key_at}
 use Rattle.crack_column.specs.Column.{Memory, IsDividedAt, Cracks}
 use Rattle.crack_column.proofs.Divisions.{IsDividedAt-zero, IsDividedAt-end}
@@ -54,129 +54,110 @@ key_within keys cells h within reads = by_value (read cells h) refl reads
 pub column_keys-within : (s : State) (hand : List Handle) → IsIntact s hand → All (λ k. IsIn s.keys k) (column_keys s)
 column_keys-within s hand intact = All-map (λ k. IsIn s.keys k) (key_at s.cells) s.column (λ k d h. key_within s.keys s.cells (get_or s.column k d) intact.within (intact.owned.column_reads k d h))
 
--- a bound at or below another divides the keys at the place
-record Before (keys : List ℕ) (bound place : ℕ) : Type 0 where
-  number : ℕ
-  less : number ≤ bound
-  divides : IsDividedAt number keys place
+-- at the place, a number divides the keys at or below which all in question is, or at or above which
+abbrev DividesAt : List ℕ → ℕ → (ℕ → Type 0) → Type 0
+DividesAt keys place Is = (number : ℕ) × Is number × IsDividedAt number keys place
 
--- a bound at or above another divides the keys at the place
-record Behind (keys : List ℕ) (bound place : ℕ) : Type 0 where
-  number : ℕ
-  more : bound ≤ number
-  divides : IsDividedAt number keys place
-
-piece_before : (s : State) (bound : ℕ) → Rising s.marks → IsObeyed s.marks (column_keys s) → Before (column_keys s) bound (piece_start s bound)
+piece_before : (s : State) (bound : ℕ) → Rising s.marks → IsObeyed s.marks (column_keys s) → DividesAt (column_keys s) (piece_start s bound) (λ n. n ≤ bound)
 piece_before s bound rising obeyed = by_last (last_mark bound s.marks) refl
   where
-    by_last : (last : Option Mark) → last_mark bound s.marks ≡ last → Before (column_keys s) bound (start_of last)
-    by_last None none = record { number = 0; less = omega arith; divides = IsDividedAt-zero (column_keys s) }
+    by_last : (last : Option Mark) → last_mark bound s.marks ≡ last → DividesAt (column_keys s) (start_of last) (λ n. n ≤ bound)
+    by_last None none = (0, omega arith, IsDividedAt-zero (column_keys s))
     by_last (Some m) found =
         let is_last = last_mark-is bound s.marks m rising found in
-        record { number = m.bound.0; less = is_last.below; divides = Divides-listed (column_keys s) s.marks m obeyed is_last.listed }
+        (m.bound.0, is_last.below, Divides-listed (column_keys s) s.marks m obeyed is_last.listed)
 
-piece_behind : (s : State) (hand : List Handle) (bound : ℕ) → bound < s.keys.high → IsIntact s hand → Behind (column_keys s) bound (piece_end s bound)
+piece_behind : (s : State) (hand : List Handle) (bound : ℕ) → bound < s.keys.high → IsIntact s hand → DividesAt (column_keys s) (piece_end s bound) (λ n. bound ≤ n)
 piece_behind s hand bound high intact = by_next (next_mark bound s.marks) refl
   where
-    by_next : (next : Option Mark) → next_mark bound s.marks ≡ next → Behind (column_keys s) bound (end_of (length s.column) next)
+    by_next : (next : Option Mark) → next_mark bound s.marks ≡ next → DividesAt (column_keys s) (end_of (length s.column) next) (λ n. bound ≤ n)
     by_next None none =
         let all = column_keys-within s hand intact in
-        record {
-          number = s.keys.high;
-          more = omega arith;
-          divides = rw (length-map s.column (key_at s.cells)) at (IsDividedAt-end s.keys.high (column_keys s) (λ k d h. (all k d h).1));
-        }
+        (s.keys.high, omega arith, rw (length-map s.column (key_at s.cells)) at (IsDividedAt-end s.keys.high (column_keys s) (λ k d h. (all k d h).1)))
     by_next (Some m) found =
         let is_next = next_mark-is bound s.marks m intact.rising found in
-        record { number = m.bound.0; more = omega (arith, is_next.above); divides = Divides-listed (column_keys s) s.marks m intact.obeyed is_next.listed }
+        (m.bound.0, omega (arith, is_next.above), Divides-listed (column_keys s) s.marks m intact.obeyed is_next.listed)
 
--- a mark of another bound stands outside the bound's own piece, or at an end of it
-mark_outside : (s : State) (bound k : ℕ) (d : Mark) → Rising s.marks → IsObeyed s.marks (column_keys s) → k < length s.marks → ((get_or s.marks k d).position ≤ piece_start s bound) ⊎ (piece_end s bound ≤ (get_or s.marks k d).position)
-mark_outside s bound k d rising obeyed h = elim (cases_lt bound (get_or s.marks k d).bound.0) [
-  | inl l ↦ inr (piece_end-before s bound k d rising obeyed h l)
-  | inr l ↦ inl (piece_start-behind s bound k d rising obeyed h l)
-]
+module _ (s u : State) (hand : List Handle) (bound : Bound) (c : CracksAt s u bound) (intact : IsIntact s hand) where
+  abbrev from : ℕ
+  from = piece_start s bound.0
 
--- every mark divides the cracked column, the new one too
-Obeyed-cracked : (s u : State) (hand : List Handle) (bound : Bound) → IsIntact s hand → (c : CracksAt s u bound) → IsObeyed (added (record { bound = bound; position = c.place }) s.marks) (map (key_at s.cells) u.column)
-Obeyed-cracked s u hand bound intact c =
-    let from = piece_start s bound.0 in
-    let to = piece_end s bound.0 in
-    let low = piece_before s bound.0 intact.rising intact.obeyed in
-    let high = piece_behind s hand bound.0 c.high intact in
-    let keys = map (key_at s.cells) u.column in
-    All-added (Divides keys) (record { bound = bound; position = c.place }) s.marks
-    (Cracks-divides s.cells bound.0 from to s.column c.known u.column c.known' c.place c.cracks low.number high.number low.less high.more low.divides high.divides)
-    (λ k d h. Cracks-keeps s.cells bound.0 from to s.column c.known u.column c.known' c.place c.cracks (get_or s.marks k d).bound.0 (get_or s.marks k d).position (mark_outside s bound.0 k d intact.rising intact.obeyed h) (intact.obeyed k d h))
+  abbrev to : ℕ
+  to = piece_end s bound.0
 
--- the new mark stands in order
-Fits-cracked : (s u : State) (hand : List Handle) (bound : Bound) → IsIntact s hand → (c : CracksAt s u bound) → Fits (record { bound = bound; position = c.place }) s.marks
-Fits-cracked s u hand bound intact c =
-    let from = piece_start s bound.0 in
-    let to = piece_end s bound.0 in
-    record {
-      behind = λ k d h less. omega (arith, c.cracks.low, piece_start-behind s bound.0 k d intact.rising intact.obeyed h (omega arith));
-      before = λ k d h more. omega (arith, c.cracks.high, piece_end-before s bound.0 k d intact.rising intact.obeyed h more);
-    }
+  abbrev new_mark : Mark
+  new_mark = record { bound = bound; position = c.place }
 
--- a crack keeps a store intact
-pub IsIntact-cracked : (s u : State) (hand : List Handle) (bound : Bound) → CracksAt s u bound → IsIntact s hand → IsIntact u hand
-IsIntact-cracked s u hand bound c intact =
-    let from = piece_start s bound.0 in
-    let to = piece_end s bound.0 in
-    let m : Mark = record { bound = bound; position = c.place } in
-    let owned = intact.owned in
-    let whole = Cracks-whole s.cells bound.0 from to s.column c.known u.column c.known' c.place c.cracks in
-    let counts : (n : ℕ) → times n (slots u.column) ≡ times n (slots s.column) = λ n. times-map-IsPermutation n (λ (h : Handle). h.slot) s.column u.column whole in
-    rw c.after (IsIntact-moved s (cracked_at bound c.place u.column s) hand hand refl
-    (λ n. omega (arith, counts n))
-    (λ n few. omega (arith, few, counts n))
-    (All-permutation (Reads s.cells) s.column u.column whole owned.column_reads)
-    owned.pending_reads
-    owned.hand_reads
-    (Obeyed-cracked s u hand bound intact c)
-    (Rising-added m s.marks intact.rising c.missing (Fits-cracked s u hand bound intact c))
-    (All-added (λ (x : Mark). (s.keys.low < x.bound.0) × (x.bound.0 < s.keys.high)) m s.marks (c.low, c.high) intact.inside)
-    intact.counted
-    intact)
+  -- outside the bound's own piece, or at an end of it
+  abbrev Outside : ℕ → Type 0
+  Outside p = (p ≤ from) ⊎ (to ≤ p)
 
--- where pieces begin and end is outside the bound's own piece, or at an end of it
-cuts_outside : (s : State) (bound : ℕ) → Rising s.marks → IsObeyed s.marks (column_keys s) → All (λ p. ((p ≤ piece_start s bound) ⊎ (piece_end s bound ≤ p)) × (p ≤ length s.column)) (cuts s)
-cuts_outside s bound rising obeyed =
-    let Out : ℕ → Type 0 = λ p. ((p ≤ piece_start s bound) ⊎ (piece_end s bound ≤ p)) × (p ≤ length s.column) in
-    let positions : All Out (map (λ (m : Mark). m.position) s.marks) = All-map Out (λ (m : Mark). m.position) s.marks (λ k d h. (mark_outside s bound k d rising obeyed h, omega (arith, (obeyed k d h).within, length-map s.column (key_at s.cells)))) in
-    All-cons Out 0 (map (λ (m : Mark). m.position) s.marks ++ length s.column ∷ []) (inl (omega arith), omega arith) (All-push Out (map (λ (m : Mark). m.position) s.marks) (length s.column) positions (inr (piece_end-le s bound rising obeyed), omega arith))
+  -- a mark of another bound stands there
+  mark_outside : All (λ (m : Mark). Outside m.position) s.marks
+  mark_outside = λ k d h. elim (cases_lt bound.0 (get_or s.marks k d).bound.0) [
+    | inl l ↦ inr (piece_end-before s bound.0 k d intact.rising intact.obeyed h l)
+    | inr l ↦ inl (piece_start-behind s bound.0 k d intact.rising intact.obeyed h l)
+  ]
 
--- a crack refines a store
-pub RefinesAt-cracked : (s u : State) (hand : List Handle) (bound : Bound) → CracksAt s u bound → IsIntact s hand → RefinesAt s u bound.0
-RefinesAt-cracked s u hand bound c intact =
-    let from = piece_start s bound.0 in
-    let to = piece_end s bound.0 in
-    let m : Mark = record { bound = bound; position = c.place } in
-    let outside = cuts_outside s bound.0 intact.rising intact.obeyed in
-    let Out : ℕ → Type 0 = λ p. ((p ≤ from) ⊎ (to ≤ p)) × (p ≤ length s.column) in
-    let marks : u.marks ≡ added m s.marks = ap (λ (x : State). x.marks) c.after in
-    record {
-      same = rw c.after refl;
-      long = length-Cracks s.cells bound.0 from to s.column c.known u.column c.known' c.place c.cracks;
-      pieces = λ p q is_p is_q.
-          let out_p = All-contains Out (cuts s) p outside is_p in
-          let out_q = All-contains Out (cuts s) q outside is_q in
-          let apart : (q ≤ from) ⊎ (to ≤ p) → IsPermutation (between p q s.column) (between p q u.column) = λ o. rw (Cracks-apart s.cells bound.0 from to s.column c.known u.column c.known' c.place c.cracks p q out_q.1 o) (IsPermutation-refl (between p q s.column)) in
-          elim out_q.0 [
-            | inl l ↦ apart (inl l)
-            | inr l ↦ elim out_p.0 [
-              | inl k ↦ Cracks-around s.cells bound.0 from to s.column c.known u.column c.known' c.place c.cracks p q k l out_q.1
-              | inr k ↦ apart (inr k)
-            ]
-          ];
-      kept = λ n is. rw marks (Contains-kept m s.marks n is);
-      added = λ b is. rw marks ((HasBound-added m s.marks b).1 (inl is.0));
-      only = λ b has. elim ((HasBound-added m s.marks b).0 (rw marks at has)) [
-        | inl is ↦ inr (is, omega (arith, c.low), omega (arith, c.high))
-        | inr there ↦ inl there
-      ];
-    }
+  -- every mark divides the cracked column, the new one too
+  Obeyed-cracked : IsObeyed (added new_mark s.marks) (map (key_at s.cells) u.column)
+  Obeyed-cracked =
+      let low = piece_before s bound.0 intact.rising intact.obeyed in
+      let high = piece_behind s hand bound.0 c.high intact in
+      All-added (Divides (map (key_at s.cells) u.column)) new_mark s.marks
+      (Cracks-divides s.cells bound.0 from to s.column c.known u.column c.known' c.place c.cracks low.0 high.0 low.1 high.1 low.2 high.2)
+      (λ k d h. Cracks-keeps s.cells bound.0 from to s.column c.known u.column c.known' c.place c.cracks (get_or s.marks k d).bound.0 (get_or s.marks k d).position (mark_outside k d h) (intact.obeyed k d h))
+
+  -- a crack keeps a store intact
+  pub IsIntact-cracked : IsIntact u hand
+  IsIntact-cracked =
+      let owned = intact.owned in
+      let whole = Cracks-whole s.cells bound.0 from to s.column c.known u.column c.known' c.place c.cracks in
+      let counts : (n : ℕ) → times n (slots u.column) ≡ times n (slots s.column) = λ n. times-map-IsPermutation n (λ (h : Handle). h.slot) s.column u.column whole in
+      rw c.after (IsIntact-moved s (cracked_at bound c.place u.column s) hand hand refl
+      (λ n. omega (arith, counts n))
+      (λ n few. omega (arith, few, counts n))
+      (All-permutation (Reads s.cells) s.column u.column whole owned.column_reads)
+      owned.pending_reads
+      owned.hand_reads
+      Obeyed-cracked
+      (Rising-added new_mark s.marks intact.rising c.missing (Fits-piece new_mark (length s.column) s.marks intact.rising c.cracks.low c.cracks.high))
+      (All-added (λ (x : Mark). (s.keys.low < x.bound.0) × (x.bound.0 < s.keys.high)) new_mark s.marks (c.low, c.high) intact.inside)
+      intact.counted
+      intact)
+
+  -- where pieces begin and end is outside the bound's own piece, or at an end of it
+  cuts_outside : All (λ p. Outside p × (p ≤ length s.column)) (cuts s)
+  cuts_outside =
+      let Out : ℕ → Type 0 = λ p. Outside p × (p ≤ length s.column) in
+      let positions : All Out (map (λ (m : Mark). m.position) s.marks) = All-map Out (λ (m : Mark). m.position) s.marks (λ k d h. (mark_outside k d h, omega (arith, (intact.obeyed k d h).within, length-map s.column (key_at s.cells)))) in
+      All-cons Out 0 (map (λ (m : Mark). m.position) s.marks ++ length s.column ∷ []) (inl (omega arith), omega arith) (All-push Out (map (λ (m : Mark). m.position) s.marks) (length s.column) positions (inr (piece_end-le s bound.0 intact.rising intact.obeyed), omega arith))
+
+  -- a crack refines a store
+  pub RefinesAt-cracked : RefinesAt s u bound.0
+  RefinesAt-cracked =
+      let marks : u.marks ≡ added new_mark s.marks = ap (λ (x : State). x.marks) c.after in
+      record {
+        same = rw c.after refl;
+        long = length-Cracks s.cells bound.0 from to s.column c.known u.column c.known' c.place c.cracks;
+        pieces = λ p q is_p is_q.
+            let out_p = All-contains (λ n. Outside n × (n ≤ length s.column)) (cuts s) p cuts_outside is_p in
+            let out_q = All-contains (λ n. Outside n × (n ≤ length s.column)) (cuts s) q cuts_outside is_q in
+            let apart : (q ≤ from) ⊎ (to ≤ p) → IsPermutation (between p q s.column) (between p q u.column) = λ o. rw (Cracks-apart s.cells bound.0 from to s.column c.known u.column c.known' c.place c.cracks p q out_q.1 o) (IsPermutation-refl (between p q s.column)) in
+            elim out_q.0 [
+              | inl l ↦ apart (inl l)
+              | inr l ↦ elim out_p.0 [
+                | inl k ↦ Cracks-around s.cells bound.0 from to s.column c.known u.column c.known' c.place c.cracks p q k l out_q.1
+                | inr k ↦ apart (inr k)
+              ]
+            ];
+        kept = λ n is. rw marks (Contains-kept new_mark s.marks n is);
+        added = λ b is. rw marks ((HasBound-added new_mark s.marks b).1 (inl is.0));
+        only = λ b has. elim ((HasBound-added new_mark s.marks b).0 (rw marks at has)) [
+          | inl is ↦ inr (is, omega (arith, c.low), omega (arith, c.high))
+          | inr there ↦ inl there
+        ];
+      }
 
 -- the place of a mark is one where pieces begin and end
 cut_of : (s : State) (m : Mark) → Contains s.marks m → Contains (cuts s) m.position
@@ -206,34 +187,23 @@ RefinesBy-refl IsNew s there = record {
   only = λ b has. inl has;
 }
 
--- one refinement after another
-pub RefinesBy-trans : (IsNew IsNewer : ℕ → Type 0) (s u v : State) → RefinesBy IsNew s u → RefinesBy IsNewer u v → RefinesBy (λ b. IsNew b ⊎ IsNewer b) s v
-RefinesBy-trans IsNew IsNewer s u v a b = record {
+-- one refinement after another, with the bounds of both, said otherwise
+RefinesBy-trans : (New First Second : ℕ → Type 0) (s u v : State) → ((b : ℕ) → First b ⊎ Second b → New b) → ((b : ℕ) → New b → First b ⊎ Second b) → RefinesBy First s u → RefinesBy Second u v → RefinesBy New s v
+RefinesBy-trans New First Second s u v is_new new_is a b = record {
   same = b.same ∙ ap (λ (x : State). let y : State = record x { column = v.column; marks = v.marks; column_room = v.column_room; in_room = v.in_room } in y) a.same;
   long = b.long ∙ a.long;
-  pieces = λ p q is_p is_q. IsPermutation-trans (between p q s.column) (between p q u.column) (between p q v.column) (a.pieces p q is_p is_q) (b.pieces p q (cuts_kept IsNew s u a p is_p) (cuts_kept IsNew s u a q is_q));
+  pieces = λ p q is_p is_q. IsPermutation-trans (between p q s.column) (between p q u.column) (between p q v.column) (a.pieces p q is_p is_q) (b.pieces p q (cuts_kept First s u a p is_p) (cuts_kept First s u a q is_q));
   kept = λ m is. b.kept m (a.kept m is);
-  added = λ n is. elim is [
+  added = λ n is. elim (new_is n is) [
     | inl new ↦
         let at = HasBound-contains u.marks n (a.added n new) in
         rw at.2 at (HasBound-mark v.marks at.0 (b.kept at.0 at.1))
     | inr newer ↦ b.added n newer
   ];
   only = λ n has. elim (b.only n has) [
-    | inl before ↦ elim (a.only n before) [ inl first ↦ inl first | inr new ↦ inr (inl new) ]
-    | inr newer ↦ inr (inr newer)
+    | inl before ↦ elim (a.only n before) [ inl first ↦ inl first | inr new ↦ inr (is_new n (inl new)) ]
+    | inr newer ↦ inr (is_new n (inr newer))
   ];
-}
-
--- the bounds that may be new, said otherwise
-pub RefinesBy-as : (IsNew IsNewer : ℕ → Type 0) (s u : State) → ((b : ℕ) → IsNew b → IsNewer b) → ((b : ℕ) → IsNewer b → IsNew b) → RefinesBy IsNew s u → RefinesBy IsNewer s u
-RefinesBy-as IsNew IsNewer s u more fewer a = record {
-  same = a.same;
-  long = a.long;
-  pieces = a.pieces;
-  kept = a.kept;
-  added = λ b is. a.added b (fewer b is);
-  only = λ b has. elim (a.only b has) [ inl before ↦ inl before | inr new ↦ inr (more b new) ];
 }
 
 pub keys-refined : (IsNew : ℕ → Type 0) (s u : State) → RefinesBy IsNew s u → u.keys ≡ s.keys
@@ -245,20 +215,22 @@ Refines-both s u v r first second ends a b =
     let keys = keys-refined (λ n. (n ≡ first) × (s.keys.low < n) × (n < s.keys.high)) s u a in
     let low : u.keys.low ≡ s.keys.low = ap (λ (x : Range). x.low) keys in
     let high : u.keys.high ≡ s.keys.high = ap (λ (x : Range). x.high) keys in
-    let New : ℕ → Type 0 = λ n. ((n ≡ first) × (s.keys.low < n) × (n < s.keys.high)) ⊎ ((n ≡ second) × (u.keys.low < n) × (n < u.keys.high)) in
-    RefinesBy-as New (IsInner s.keys r) s v
+    let First : ℕ → Type 0 = λ n. (n ≡ first) × (s.keys.low < n) × (n < s.keys.high) in
+    let Second : ℕ → Type 0 = λ n. (n ≡ second) × (u.keys.low < n) × (n < u.keys.high) in
+    RefinesBy-trans (IsInner s.keys r) First Second s u v
     (λ n is. elim is [
       | inl l ↦ (elim ends [ inl e ↦ inl (l.0 ∙ e.0) | inr e ↦ inr (l.0 ∙ e.0) ], l.1, l.2)
       | inr l ↦ (elim ends [ inl e ↦ inr (l.0 ∙ e.1) | inr e ↦ inl (l.0 ∙ e.1) ], omega (arith, low, l.1), omega (arith, high, l.2))
     ])
     (λ n is.
-    let is_first : n ≡ first → New n = λ e. inl (e, is.1, is.2) in
-    let is_second : n ≡ second → New n = λ e. inr (e, omega (arith, low, is.1), omega (arith, high, is.2)) in
+    let is_first : n ≡ first → First n ⊎ Second n = λ e. inl (e, is.1, is.2) in
+    let is_second : n ≡ second → First n ⊎ Second n = λ e. inr (e, omega (arith, low, is.1), omega (arith, high, is.2)) in
     elim is.0 [
       | inl l ↦ elim ends [ inl e ↦ is_first (l ∙ sym e.0) | inr e ↦ is_second (l ∙ sym e.1) ]
       | inr l ↦ elim ends [ inl e ↦ is_second (l ∙ sym e.1) | inr e ↦ is_first (l ∙ sym e.0) ]
     ])
-    (RefinesBy-trans (λ n. (n ≡ first) × (s.keys.low < n) × (n < s.keys.high)) (λ n. (n ≡ second) × (u.keys.low < n) × (n < u.keys.high)) s u v a b)
+    a
+    b
 
 -- commands see the same rows
 pub live_rows-refined : (IsNew : ℕ → Type 0) (s u : State) → RefinesBy IsNew s u → live_rows u ≡ live_rows s

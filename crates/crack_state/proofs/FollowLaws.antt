@@ -8,8 +8,8 @@ use Rattle.crack_row.specs.declared.command.Policy.TheVariants.{Complete, Gradua
 use Rattle.crack_index.specs.declared.mark.Mark.{Mark}
 use Rattle.crack_index.specs.Marks.{next_mark, bounds_of}
 use Rattle.crack_state.specs.declared.MergeReport.{MergeReport}
-use Rattle.crack_state.specs.State.{State, Carried, IsIntact, live_rows, freed_of}
-use Rattle.crack_state.specs.Steps.{hand_key, piece_end, lifted, pushed_on, appended, SameButRoom, bounds_above}
+use Rattle.crack_state.specs.State.{State, Carried, IsIntact}
+use Rattle.crack_state.specs.Steps.{more, hand_key, piece_end, lifted, pushed_on, appended, SameButRoom, bounds_above}
 use Rattle.crack_state.specs.Merge.{Follows, Counts, IsExact, Tallies, MayEvict}
 use Rattle.crack_state.proofs.Counters.{Rises, Rises-none, Rises-one, raised_counter}
 use Rattle.crack_state.proofs.PieceLaws.{bounds_of-raise_next, length-bounds}
@@ -26,6 +26,11 @@ Follows-trans s t u a b = record {
   cells = b.cells ∙ a.cells;
   freed = b.freed ∙ a.freed;
 }
+
+-- a step that leaves cells and pending deletions
+pub Follows-kept : (s t : State) → t.keys ≡ s.keys → t.cells ≡ s.cells → t.pending_out ≡ s.pending_out → bounds_of t.marks ≡ bounds_of s.marks → Follows s t
+Follows-kept s t keys cells doomed bounds =
+    record { keys = keys; live = rw (cells, doomed) refl; bounds = bounds; cells = ap length cells; freed = rw (cells, doomed) refl }
 
 pub Follows-room : (s t : State) → SameButRoom s t → Follows s t
 Follows-room s t room = rw room.same (record { keys = refl; live = refl; bounds = refl; cells = refl; freed = refl })
@@ -135,26 +140,23 @@ Pushes-pushed_on b c ends intact pushes =
     }
 
 pub Follows-Pushes : (b c : Carried) → Pushes b c → Follows b.store c.store
-Follows-Pushes b c pushes = record {
-  keys = ap (λ (x : State). x.keys) pushes.same;
-  live = ap live_rows pushes.same;
-  bounds = pushes.bounds;
-  cells = ap (λ (x : State). length x.cells) pushes.same;
-  freed = ap (λ (x : State). freed_of x.cells + length x.pending_out) pushes.same;
-}
+Follows-Pushes b c pushes =
+    Follows-kept b.store c.store (ap (λ (x : State). x.keys) pushes.same) (ap (λ (x : State). x.cells) pushes.same) (ap (λ (x : State). x.pending_out) pushes.same) pushes.bounds
 
--- a whole carry that ends at the column's end: lifted, pushed on, appended
-pub Tallies-carried : (policy : Policy) (s : State) (i : ℕ) (c : Carried) → i < length s.pending_in → IsIntact s [] → Pushes (lifted i s) c → Tallies policy s (appended c)
-Tallies-carried policy s i c inside intact pushes =
-    let tally = ap (λ (x : State). x.tally) pushes.same in
+-- a whole carry: lifted, pushed on, and then put behind the column, or buried, which takes out a row
+pub Tallies-carried : (policy : Policy) (s t : State) (i out : ℕ) (c : Carried) → i < length s.pending_in → IsIntact s [] → Pushes (lifted i s) c → t.tally ≡ record c.store.tally { taken_out = t.tally.taken_out } → t.pending_in ≡ c.store.pending_in → Rises out c.store.tally.taken_out t.tally.taken_out → length t.pending_out + out ≡ length c.store.pending_out → Tallies policy s t
+Tallies-carried policy s t i out c inside intact pushes ends ends_in rises ends_out =
+    let tally : t.tally ≡ record s.tally { put_in = more s.tally.put_in; taken_out = t.tally.taken_out; moved = c.store.tally.moved } = ends ∙ ap (λ (x : State). let y : MergeReport = record x.tally { taken_out = t.tally.taken_out } in y) pushes.same in
+    let moved = ap (λ (x : MergeReport). x.moved) tally in
     let pulled = ap (λ (x : MergeReport). x.pulled) tally in
-    Tallies-step policy s (appended c) 1 0
-    (Rises-one s.tally.put_in c.store.tally.put_in s.tally.put_in (ap (λ (x : MergeReport). x.put_in) tally) refl intact.counted.put_in)
-    (Rises-none s.tally.taken_out c.store.tally.taken_out (ap (λ (x : MergeReport). x.taken_out) tally))
+    let taken_out = ap (λ (x : State). x.tally.taken_out) pushes.same in
+    Tallies-step policy s t 1 out
+    (Rises-one s.tally.put_in t.tally.put_in s.tally.put_in (ap (λ (x : MergeReport). x.put_in) tally) refl intact.counted.put_in)
+    (record { rises = omega (arith, rises.rises, taken_out); exact = λ less. omega (arith, rises.exact less, taken_out) })
     (ap (λ (x : MergeReport). x.evicted) tally)
-    pushes.moved_rises
-    (omega (arith, pushes.moved, bounds_above-few (hand_key (lifted i s)) s.marks))
+    (omega (arith, moved, pushes.moved_rises))
+    (omega (arith, moved, pushes.moved, bounds_above-few (hand_key (lifted i s)) s.marks))
     (omega (arith, pulled))
     (omega (arith, pulled))
-    (omega (arith, ap (λ (x : State). length x.pending_in) pushes.same, length-remove s.pending_in i inside))
-    (omega (arith, ap (λ (x : State). length x.pending_out) pushes.same))
+    (omega (arith, ap length ends_in, ap (λ (x : State). length x.pending_in) pushes.same, length-remove s.pending_in i inside))
+    (omega (arith, ends_out, ap (λ (x : State). length x.pending_out) pushes.same))
