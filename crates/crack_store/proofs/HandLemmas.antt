@@ -18,6 +18,7 @@ use Rattle.crack_store.specs.declared.notes.Notes.{Notes}
 use Rattle.crack_store.specs.declared.carrying.Near.{Near}
 use Rattle.crack_store.specs.Inside.{lists_of}
 use Rattle.crack_store.specs.Hand.{hand_of, carried_of, IsNear, HasHand, KeepsHand}
+use Rattle.crack_store.proofs.RememberLemmas.{KeepsIntact-column}
 
 -- what a step makes is this store with a cell in hand, and keeps what belongs to it
 pub record IsMade (p : Inside) (near : Near) (d : Carried) : Type 0 where
@@ -33,14 +34,7 @@ exchanged_to p column index notes tally place near d has column_is within put in
       is = is;
       keeps = record {
         has = record {
-          kept = record {
-            intact = rw (← is) at intact;
-            remembers = rw column_is (Remembers-set p.arena.cells p.column.handles p.column.remembered place (hand_of p) (first_aside p.column).memory has.agrees has.kept.remembers);
-            keys_in = has.kept.keys_in;
-            keys_out = has.kept.keys_out;
-            room = has.kept.room;
-            covered = has.kept.covered;
-          };
+          kept = KeepsIntact-column p column index notes tally (hand_of p ∷ []) (hand_of q ∷ []) has.kept (rw (← is) at intact) (rw column_is (Remembers-set p.arena.cells p.column.handles p.column.remembered place (hand_of p) (first_aside p.column).memory has.agrees has.kept.remembers));
           aside = rw column_is (omega arith);
           agrees = rw column_is (has.kept.remembers.right place no_handle within);
           room = rw column_is has.room;

@@ -1,14 +1,19 @@
 -- What the column and the pending lists remember stays right where a cell changes of which they have no row.
-use Rattle.std.proofs.Common.{◌≡◌, ℕ, ◌+◌, List, [], ◌∷◌, get_or, None, refl}
+use Rattle.std.proofs.Common.{◌≡◌, ℕ, List, [], get_or, refl}
 use Rattle.crack_row.specs.declared.Row.{Row}
 use Rattle.crack_arena.specs.Arena.{Cell, Handle, times, slots, cells_with}
 use Rattle.crack_arena.specs.Rows.{key_at, RemembersKeys}
-use Rattle.crack_column.specs.Column.{Memory, Remembers}
-use Rattle.crack_state.specs.State.{State, Carried, IsIntact}
-use Rattle.crack_state.specs.Steps.{next_handle, buried}
-use Rattle.crack_state.proofs.OwnedLaws.{apart_from_times, hand_apart}
-use Rattle.crack_state.proofs.CellLaws.{AgreeOff, AgreeOff-set, read-off, key_at-off}
+use Rattle.crack_column.specs.Column.{Column, Memory, Remembers}
+use Rattle.crack_index.specs.Marks.{Index}
+use Rattle.crack_state.specs.declared.MergeReport.{MergeReport}
+use Rattle.crack_state.specs.State.{State, IsIntact}
+use Rattle.crack_state.specs.Steps.{next_handle}
+use Rattle.crack_state.proofs.OwnedLaws.{apart_from_times}
+use Rattle.crack_state.proofs.CellLaws.{AgreeOff, read-off, key_at-off}
 use Rattle.crack_state.proofs.AdmitLaws.{filled, unused, read-new}
+use Rattle.crack_store.specs.declared.inside.Inside.{Inside}
+use Rattle.crack_store.specs.declared.notes.Notes.{Notes}
+use Rattle.crack_store.specs.Inside.{lists_of, KeepsIntact}
 
 pub Remembers-off : (n : ℕ) (cells after : List (Cell Row)) (hs : List Handle) (remembered : List Memory) → AgreeOff n cells after → times n (slots hs) ≡ 0 → Remembers cells hs remembered → Remembers after hs remembered
 Remembers-off n cells after hs remembered agree none remembers = record {
@@ -23,12 +28,16 @@ Remembers-admitted row s remembered intact remembers =
     let off = unused s s.free refl intact.owned in
     Remembers-off (next_handle s).slot s.cells (cells_with row s.cells s.free) s.column remembered fill.others off.column remembers
 
--- the cell of the hand is freed
-pub Remembers-buried : (c : Carried) (remembered : List Memory) → IsIntact c.store (c.hand ∷ []) → Remembers c.store.cells c.store.column remembered → Remembers (buried c).cells c.store.column remembered
-Remembers-buried c remembered intact remembers =
-    let s = c.store in
-    let apart = hand_apart s.cells s.free s.column s.pending_in s.pending_out c.hand intact.owned in
-    Remembers-off c.hand.slot s.cells (buried c).cells s.column remembered (AgreeOff-set s.cells c.hand.slot (record { generation = c.hand.generation + 1; value = None })) apart.off_column remembers
+-- where a step leaves the cells and the pending lists alone, what is remembered of these stays right
+pub KeepsIntact-column : (p : Inside) (column : Column) (index : Index) (notes : Notes) (tally : MergeReport) (before after : List Handle) → KeepsIntact p before → IsIntact (lists_of (record p { column = column; index = index; notes = notes; tally = tally })) after → Remembers p.arena.cells column.handles column.remembered → KeepsIntact (record p { column = column; index = index; notes = notes; tally = tally }) after
+KeepsIntact-column p column index notes tally before after kept intact remembers = record {
+  intact = intact;
+  remembers = remembers;
+  keys_in = kept.keys_in;
+  keys_out = kept.keys_out;
+  room = kept.room;
+  covered = kept.covered;
+}
 
 -- what a pending list remembers stays right likewise
 pub RemembersKeys-off : (n : ℕ) (cells after : List (Cell Row)) (hs : List Handle) (keys : List ℕ) → AgreeOff n cells after → times n (slots hs) ≡ 0 → RemembersKeys cells hs keys → RemembersKeys after hs keys

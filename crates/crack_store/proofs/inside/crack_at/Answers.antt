@@ -2,6 +2,7 @@ use Rattle.std.proofs.Common.{◌≡◌, ◌<◌, [], refl}
 use Rattle.crack_state.proofs.PieceLaws.{piece_end-le}
 use Rattle.crack_state.proofs.CrackLaws.{CracksAt, IsIntact-cracked, RefinesAt-cracked, RefinesBy-refl}
 use Rattle.crack_store.specs.Inside.{lists_of}
+use Rattle.crack_store.proofs.RememberLemmas.{KeepsIntact-column}
 use Rattle.crack_store.proofs.inside.crack_at.Goals as goal
 
 pub crack_two-place-requires-clause-within : goal.crack_two-place-requires-clause-within
@@ -31,14 +32,7 @@ pub returns-clause-intact : goal.returns-clause-intact
 returns-clause-intact c =
     let old = c.args.inside.now in
     let new = record old { column = c.crack_two-place.new.self; index = c.add.new.self } in
-    record {
-      intact = IsIntact-cracked (lists_of old) (lists_of new) [] c.args.bound (cracked c) c.requires.intact.intact;
-      remembers = c.crack_two-place.ensures.remembered;
-      keys_in = c.requires.intact.keys_in;
-      keys_out = c.requires.intact.keys_out;
-      room = c.requires.intact.room;
-      covered = c.requires.intact.covered;
-    }
+    KeepsIntact-column old _ _ _ _ [] [] c.requires.intact (IsIntact-cracked (lists_of old) (lists_of new) [] c.args.bound (cracked c) c.requires.intact.intact) c.crack_two-place.ensures.remembered
 
 pub returns-clause-refined : goal.returns-clause-refined
 returns-clause-refined c =

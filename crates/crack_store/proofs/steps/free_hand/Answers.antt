@@ -8,7 +8,7 @@ use Rattle.crack_state.proofs.BuryLaws.{doomed_stands, off_buried, freed-doomed,
 use Rattle.crack_store.specs.Inside.{lists_of}
 use Rattle.crack_store.specs.Hand.{hand_of, carried_of}
 use Rattle.crack_store.proofs.HandLemmas.{when_some}
-use Rattle.crack_store.proofs.RememberLemmas.{Remembers-buried, RemembersKeys-off}
+use Rattle.crack_store.proofs.RememberLemmas.{Remembers-off, RemembersKeys-off}
 use Rattle.crack_store.proofs.steps.free_hand.Goals as goal
 
 pub strike-requires : goal.strike-requires
@@ -24,6 +24,14 @@ free-requires c =
     let stands = doomed_stands carried doomed c.requires.hand.kept.intact in
     freed-doomed carried.store (carried.hand ∷ []) (omega (arith, stands.within)) c.requires.hand.kept.intact
 
+-- the cell of the hand is freed
+freed : (c : goal.After-inside-1) → c.free.new.self ≡ freed_at (hand_of c.args.inside.now) c.args.inside.now.arena
+freed c =
+    let arena = c.args.inside.now.arena in
+    let hand = hand_of c.args.inside.now in
+    let reads = c.requires.hand.kept.intact.owned.hand_reads 0 hand (omega arith) in
+    when_some c.free.result (read arena.cells hand) (c.free.new.self ≡ arena) (c.free.new.self ≡ freed_at hand arena) (rw c.aside-hand.ensures at c.free.ensures.value) reads (rw c.aside-hand.ensures at c.free.ensures.after)
+
 pub returns-clause-intact : goal.returns-clause-intact
 returns-clause-intact c =
     let carried : Carried = carried_of c.args.inside.now in
@@ -32,35 +40,21 @@ returns-clause-intact c =
     let doomed : IsDoomed carried = c.requires.doomed in
     let apart = hand_apart s.cells s.free s.column s.pending_in s.pending_out hand c.requires.hand.kept.intact.owned in
     let agree = AgreeOff-set s.cells hand.slot (record { generation = hand.generation + 1; value = None }) in
-    let reads = c.requires.hand.kept.intact.owned.hand_reads 0 (hand_of c.args.inside.now) (omega arith) in
-    let value = rw c.aside-hand.ensures at c.free.ensures.value in
-    let result = rw c.aside-hand.ensures at c.free.ensures.after in
-    let after : c.free.new.self ≡ freed_at (hand_of c.args.inside.now) c.args.inside.now.arena = when_some c.free.result (read c.args.inside.now.arena.cells (hand_of c.args.inside.now)) (c.free.new.self ≡ c.args.inside.now.arena) (c.free.new.self ≡ freed_at (hand_of c.args.inside.now) c.args.inside.now.arena) value reads result in
     record {
-      intact = rw (after, c.strike.ensures.handles, c.aside-hand.ensures, c.saturating_add-inside.ensures) (IsIntact-buried carried doomed c.requires.hand.kept.intact);
-      remembers = rw after (Remembers-buried carried c.args.inside.now.column.remembered c.requires.hand.kept.intact c.requires.hand.kept.remembers);
-      keys_in = rw after (RemembersKeys-off hand.slot s.cells (buried carried).cells s.pending_in c.args.inside.now.pending_in.keys agree apart.off_pending c.requires.hand.kept.keys_in);
-      keys_out = rw after (RemembersKeys-off hand.slot s.cells (buried carried).cells c.strike.new.self.handles c.strike.new.self.keys agree (rw (c.strike.ensures.handles, c.aside-hand.ensures) (off_buried carried doomed c.requires.hand.kept.intact)) (c.strike.ensures.remembered s.cells c.requires.hand.kept.keys_out));
+      intact = rw (freed c, c.strike.ensures.handles, c.aside-hand.ensures, c.saturating_add-inside.ensures) (IsIntact-buried carried doomed c.requires.hand.kept.intact);
+      remembers = rw (freed c) (Remembers-off hand.slot s.cells (buried carried).cells s.column c.args.inside.now.column.remembered agree apart.off_column c.requires.hand.kept.remembers);
+      keys_in = rw (freed c) (RemembersKeys-off hand.slot s.cells (buried carried).cells s.pending_in c.args.inside.now.pending_in.keys agree apart.off_pending c.requires.hand.kept.keys_in);
+      keys_out = rw (freed c) (RemembersKeys-off hand.slot s.cells (buried carried).cells c.strike.new.self.handles c.strike.new.self.keys agree (rw (c.strike.ensures.handles, c.aside-hand.ensures) (off_buried carried doomed c.requires.hand.kept.intact)) (c.strike.ensures.remembered s.cells c.requires.hand.kept.keys_out));
       room = c.requires.hand.kept.room;
-      covered = rw after (omega (arith, c.requires.hand.kept.covered, length-set s.cells hand.slot (record { generation = hand.generation + 1; value = None })));
+      covered = rw (freed c) (omega (arith, c.requires.hand.kept.covered, length-set s.cells hand.slot (record { generation = hand.generation + 1; value = None })));
     }
 
 pub returns-clause-after : goal.returns-clause-after
 returns-clause-after c =
-    let s = lists_of c.args.inside.now in
-    let hand = hand_of c.args.inside.now in
-    let reads = c.requires.hand.kept.intact.owned.hand_reads 0 (hand_of c.args.inside.now) (omega arith) in
-    let value = rw c.aside-hand.ensures at c.free.ensures.value in
-    let result = rw c.aside-hand.ensures at c.free.ensures.after in
-    let after : c.free.new.self ≡ freed_at (hand_of c.args.inside.now) c.args.inside.now.arena = when_some c.free.result (read c.args.inside.now.arena.cells (hand_of c.args.inside.now)) (c.free.new.self ≡ c.args.inside.now.arena) (c.free.new.self ≡ freed_at (hand_of c.args.inside.now) c.args.inside.now.arena) value reads result in
-    rw (after, c.strike.ensures.handles, c.aside-hand.ensures, c.saturating_add-inside.ensures) refl
+    rw (freed c, c.strike.ensures.handles, c.aside-hand.ensures, c.saturating_add-inside.ensures) refl
 
 pub returns-clause-live : goal.returns-clause-live
 returns-clause-live c =
     let carried : Carried = carried_of c.args.inside.now in
     let doomed : IsDoomed carried = c.requires.doomed in
-    let reads = c.requires.hand.kept.intact.owned.hand_reads 0 (hand_of c.args.inside.now) (omega arith) in
-    let value = rw c.aside-hand.ensures at c.free.ensures.value in
-    let result = rw c.aside-hand.ensures at c.free.ensures.after in
-    let after : c.free.new.self ≡ freed_at (hand_of c.args.inside.now) c.args.inside.now.arena = when_some c.free.result (read c.args.inside.now.arena.cells (hand_of c.args.inside.now)) (c.free.new.self ≡ c.args.inside.now.arena) (c.free.new.self ≡ freed_at (hand_of c.args.inside.now) c.args.inside.now.arena) value reads result in
-    rw (after, c.strike.ensures.handles, c.aside-hand.ensures) (live_rows-buried carried doomed c.requires.hand.kept.intact)
+    rw (freed c, c.strike.ensures.handles, c.aside-hand.ensures) (live_rows-buried carried doomed c.requires.hand.kept.intact)

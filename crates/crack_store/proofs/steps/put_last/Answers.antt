@@ -7,6 +7,7 @@ use Rattle.crack_store.specs.Inside.{lists_of}
 use Rattle.crack_store.specs.Hand.{hand_of, carried_of}
 use Rattle.crack_store.proofs.EdgeLemmas.{positions_small}
 use Rattle.crack_store.proofs.NextLemmas.{next_listed}
+use Rattle.crack_store.proofs.RememberLemmas.{KeepsIntact-column}
 use Rattle.crack_store.proofs.steps.put_last.Goals as goal
 
 pub raise_next-requires-clause-there : goal.raise_next-requires-clause-there
@@ -25,11 +26,4 @@ returns-clause-intact c =
     let ends : piece_end s (hand_key carried) ≡ length s.column = c.requires.ends in
     let above : near_mark c.args.above ≡ next_mark (hand_key carried) s.marks = c.requires.above in
     let marks : c.raise_next.new.index.marks ≡ raise_next (next_mark (hand_key carried) s.marks) s.marks = rw above at c.raise_next.ensures.marks in
-    record {
-      intact = rw (c.append_aside.ensures.after, marks) (IsIntact-appended carried ends c.requires.hand.kept.intact);
-      remembers = c.append_aside.ensures.remembered c.args.inside.now.arena.cells c.requires.hand.kept.remembers c.requires.hand.agrees;
-      keys_in = c.requires.hand.kept.keys_in;
-      keys_out = c.requires.hand.kept.keys_out;
-      room = c.requires.hand.kept.room;
-      covered = c.requires.hand.kept.covered;
-    }
+    KeepsIntact-column c.args.inside.now _ _ _ _ (carried.hand ∷ []) [] c.requires.hand.kept (rw (c.append_aside.ensures.after, marks) (IsIntact-appended carried ends c.requires.hand.kept.intact)) (c.append_aside.ensures.remembered s.cells c.requires.hand.kept.remembers c.requires.hand.agrees)

@@ -4,11 +4,7 @@ use Rattle.crack_store.specs.Inside.{lists_of}
 use Rattle.crack_store.proofs.store.Store.make_room.Goals as goal
 
 pub reserve-requires : goal.reserve-requires
-reserve-requires c =
-    let intact = c.self.invariant.intact in
-    omega (arith, cells-intact (lists_of c.self.inside.inside) [] intact, intact.few_cells)
+reserve-requires c = omega (arith, cells-intact (lists_of c.self.inside.inside) [] c.self.invariant.intact, c.self.invariant.intact.few_cells)
 
 pub reserve-requires-2 : goal.reserve-requires-2
-reserve-requires-2 c =
-    let intact = c.self.invariant.intact in
-    omega (arith, cells-intact (lists_of c.self.inside.inside) [] intact, intact.few_cells)
+reserve-requires-2 c = omega (arith, cells-intact (lists_of c.self.inside.inside) [] c.self.invariant.intact, c.self.invariant.intact.few_cells)
