@@ -1,5 +1,5 @@
 -- What calls on the inside tell of a step that takes a row back or out.
-use Rattle.std.proofs.Common.{◌≡◌, ℕ, zero, suc, ◌+◌, ◌-◌, ◌<◌, ◌≤◌, Bool, true, false, List, [], ◌∷◌, ◌++◌, length, get_or, take, Option, Some, None, refl, sym, ap, ◌∙◌, inl, inr, arith}
+use Rattle.std.proofs.Common.{◌≡◌, ℕ, zero, suc, ◌+◌, ◌-◌, ◌<◌, ◌≤◌, Bool, true, false, List, [], ◌∷◌, ◌++◌, length, get_or, take, Option, Some, None, refl, sym, ap, subst, ◌∙◌, inl, inr, arith}
 use Rattle.std.specs.Prelude.{nat_lt, if◌then◌else◌, MatchOption, IsSome, is_some}
 use Rattle.std.proofs.lemmas.Bool.{cases_eq, true≢false, eq-eqb, ne_eqb}
 use Rattle.std.proofs.lemmas.List.{get_or_default}
@@ -42,6 +42,10 @@ exchanged_to p column index notes tally place near d has column_is within put in
         is_near = rw (← is) at is_near;
       };
     }
+
+-- what a caller sees of a store with a cell in hand is intact
+pub intact_hand : (p : Inside) (near : Near) (c : Carried) → carried_of p ≡ c → KeepsHand p near → IsIntact c.store (c.hand ∷ [])
+intact_hand p near c is keeps = subst (λ (d : Carried). IsIntact d.store (d.hand ∷ [])) is keeps.has.kept.intact
 
 -- handles that are told to be the same are one
 pub same_handles : (h k : Handle) → same_handle h k ≡ true → h ≡ k

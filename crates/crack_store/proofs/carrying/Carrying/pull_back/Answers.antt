@@ -12,10 +12,9 @@ use Rattle.crack_store.proofs.carrying.Carrying.pull_back.Goals.{In-Some}
 
 pub unreachable-unreachable : goal.unreachable-unreachable
 unreachable-unreachable c =
-    let carried : Carried = carried_of c.self.inside.inside in
-    let none : last_mark (hand_key carried) carried.store.marks ≡ None = near_none c.bound_below.result (last_mark (hand_key carried) carried.store.marks) (rw (← c.self.view_is) at c.bound_below.ensures) c.in_default.is in
-    let some : 0 < piece_start carried.store (hand_key carried) = rw (← c.self.view_is) at c.requires in
-    let never : 0 < 0 = rw none at some in
+    let now = c.args.self.now in
+    let none = near_none c.bound_below.result (last_mark (hand_key now) now.store.marks) c.bound_below.ensures c.in_default.is in
+    let never : 0 < 0 = rw none at c.requires in
     absurd (omega arith)
 
 -- the bound that was found

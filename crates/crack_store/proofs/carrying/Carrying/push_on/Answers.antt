@@ -12,10 +12,9 @@ use Rattle.crack_store.proofs.carrying.Carrying.push_on.Goals.{In-Some}
 
 pub unreachable-unreachable : goal.unreachable-unreachable
 unreachable-unreachable c =
-    let carried : Carried = carried_of c.self.inside.inside in
-    let none : next_mark (hand_key carried) carried.store.marks ≡ None = near_none c.bound_above.result (next_mark (hand_key carried) carried.store.marks) (rw (← c.self.view_is) at c.bound_above.ensures) c.in_default.is in
-    let room : piece_end carried.store (hand_key carried) < length carried.store.column = rw (← c.self.view_is) at c.requires in
-    let within : length carried.store.column < length carried.store.column = rw none at room in
+    let now = c.args.self.now in
+    let none = near_none c.bound_above.result (next_mark (hand_key now) now.store.marks) c.bound_above.ensures c.in_default.is in
+    let within : length now.store.column < length now.store.column = rw none at c.requires in
     absurd (omega arith)
 
 -- the bound that was found

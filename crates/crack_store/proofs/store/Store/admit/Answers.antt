@@ -13,6 +13,7 @@ use Rattle.crack_store.specs.Inside.{lists_of}
 use Rattle.crack_store.proofs.AdmitLemmas.{is_covered, all_covered}
 use Rattle.crack_store.proofs.RememberLemmas.{Remembers-admitted, RemembersKeys-off, Added, added}
 use Rattle.crack_store.proofs.store.Store.admit.Goals as goal
+use Rattle.crack_store.proofs.store.Store.admit.Goals.{After-put_reserved-handle}
 
 at_ok : {A E : Type 0} (r : Result A E) (P : Type 0) → IsOk r → OnOk r P → P
 at_ok (Ok x) P ok h = h
@@ -26,43 +27,31 @@ reserve-requires c =
 pub push_keyed-requires-clause-room : goal.push_keyed-requires-clause-room
 push_keyed-requires-clause-room c = omega (arith, c.in_ok-reserve.ensures.room, ap (λ (p : Pending). p.room) c.in_ok-make_places.ensures.same)
 
+-- the row gets the next handle
+handle : (c : After-put_reserved-handle) → c.put_reserved-handle.result ≡ next_handle (lists_of c.self.inside.inside)
+handle c = rw (ap (λ a. a.cells) c.in_ok-reserve-2.ensures.same, ap (λ a. a.free) c.in_ok-reserve-2.ensures.same) at c.put_reserved-handle.ensures.handle
+
 pub push_keyed-requires-clause-covered : goal.push_keyed-requires-clause-covered
 push_keyed-requires-clause-covered c =
-    let s = lists_of c.self.inside.inside in
-    let cells_is : c.reserve-2.new.self.cells ≡ s.cells = ap (λ a. a.cells) c.in_ok-reserve-2.ensures.same in
-    let free_is : c.reserve-2.new.self.free ≡ s.free = ap (λ a. a.free) c.in_ok-reserve-2.ensures.same in
-    let next : c.put_reserved-handle.result ≡ next_handle s = rw (cells_is, free_is) at c.put_reserved-handle.ensures.handle in
-    is_covered c.args.row s c.put_reserved-handle.result c.cells.result c.free_cells.result c.make_places.new.self.covered next (rw cells_is at c.cells.ensures) (rw free_is at c.free_cells.ensures) c.in_ok-make_places.ensures.covered c.self.invariant.intact
+    let next = handle (goal.at.push_keyed-requires-clause-covered c).After-put_reserved-handle in
+    is_covered c.args.row (lists_of c.self.inside.inside) c.put_reserved-handle.result c.cells.result c.free_cells.result c.make_places.new.self.covered next (rw (ap (λ a. a.cells) c.in_ok-reserve-2.ensures.same) at c.cells.ensures) (rw (ap (λ a. a.free) c.in_ok-reserve-2.ensures.same) at c.free_cells.ensures) c.in_ok-make_places.ensures.covered c.self.invariant.intact
 
 pub push_keyed-requires-clause-absent : goal.push_keyed-requires-clause-absent
 push_keyed-requires-clause-absent c =
-    let s = lists_of c.self.inside.inside in
-    let cells_is : c.reserve-2.new.self.cells ≡ s.cells = ap (λ a. a.cells) c.in_ok-reserve-2.ensures.same in
-    let free_is : c.reserve-2.new.self.free ≡ s.free = ap (λ a. a.free) c.in_ok-reserve-2.ensures.same in
-    let next : c.put_reserved-handle.result ≡ next_handle s = rw (cells_is, free_is) at c.put_reserved-handle.ensures.handle in
-    rw (c.in_ok-make_places.ensures.same, c.in_ok-reserve.ensures.same) (added c.args.row s c.self.invariant.intact c.put_reserved-handle.result next).off_in
-
--- the row gets the next handle
-handle : (c : goal.After-self-1) → c.put_reserved-handle.result ≡ next_handle (lists_of c.self.inside.inside)
-handle c =
-    let s = lists_of c.self.inside.inside in
-    let cells_is : c.reserve-2.new.self.cells ≡ s.cells = ap (λ a. a.cells) c.in_ok-reserve-2.ensures.same in
-    let free_is : c.reserve-2.new.self.free ≡ s.free = ap (λ a. a.free) c.in_ok-reserve-2.ensures.same in
-    let next : c.put_reserved-handle.result ≡ next_handle s = rw (cells_is, free_is) at c.put_reserved-handle.ensures.handle in
-    next
+    let next = handle (goal.at.push_keyed-requires-clause-absent c).After-put_reserved-handle in
+    rw (c.in_ok-make_places.ensures.same, c.in_ok-reserve.ensures.same) (added c.args.row (lists_of c.self.inside.inside) c.self.invariant.intact c.put_reserved-handle.result next).off_in
 
 -- the store is the admitted one, but for room
 after : (c : goal.After-self-1) → SameButRoom (admitted c.args.row (lists_of c.self.inside.inside)) (lists_of (record c.self.inside.inside { arena = c.put_reserved-handle.new.self; pending_in = c.push_keyed.new.self; in_room = 0; serials = c.insert.new.self }))
 after c =
     let s = lists_of c.self.inside.inside in
     let serial = c.args.row.serial.0 in
-    let cells_is : c.reserve-2.new.self.cells ≡ s.cells = ap (λ a. a.cells) c.in_ok-reserve-2.ensures.same in
-    let free_is : c.reserve-2.new.self.free ≡ s.free = ap (λ a. a.free) c.in_ok-reserve-2.ensures.same in
+    let next = handle (goal.at.invariant_of-self-2 c).After-put_reserved-handle in
     let fresh : handle_of s.serials serial ≡ None = rw (← c.self.view_is) at c.requires.fresh in
     let entries = at_ok c.insert.result _ (c.insert.ensures.succeeds (omega (arith, c.growth.ensures, c.in_ok-reserve-3.ensures.ok))) c.insert.ensures.entries in
-    let listed : c.insert.new.self.entries ≡ s.serials ++ (serial, next_handle s) ∷ [] = (rw (c.in_ok-reserve-3.ensures.entries, handle c) at entries) ∙ insert_entry-new nat_eq c.self.inside.inside.serials serial (next_handle s) fresh in
+    let listed : c.insert.new.self.entries ≡ s.serials ++ (serial, next_handle s) ∷ [] = (rw (c.in_ok-reserve-3.ensures.entries, next) at entries) ∙ insert_entry-new nat_eq c.self.inside.inside.serials serial (next_handle s) fresh in
     record {
-      same = rw (c.put_reserved-handle.ensures.after, cells_is, free_is, c.push_keyed.ensures.after, c.in_ok-make_places.ensures.same, c.in_ok-reserve.ensures.same, listed, handle c) refl;
+      same = rw (c.put_reserved-handle.ensures.after, ap (λ a. a.cells) c.in_ok-reserve-2.ensures.same, ap (λ a. a.free) c.in_ok-reserve-2.ensures.same, c.push_keyed.ensures.after, c.in_ok-make_places.ensures.same, c.in_ok-reserve.ensures.same, listed, next) refl;
     }
 
 -- its cells are those with the row
@@ -77,7 +66,7 @@ invariant_of-self-2 c =
     let may : IsAdmissible row s = rw (← c.self.view_is) at c.requires in
     let h = c.put_reserved-handle.result in
     let cells = cells_with row s.cells s.free in
-    let plus : Added row s h = added row s c.self.invariant.intact h (handle c) in
+    let plus : Added row s h = added row s c.self.invariant.intact h (handle (goal.at.invariant_of-self-2 c).After-put_reserved-handle) in
     let kept_in = c.self.inside.inside.pending_in in
     let kept_out = c.self.inside.inside.pending_out in
     record {
