@@ -71,32 +71,18 @@ module _ (ceiling : Option ℕ) (r : Range) (high : IsCeiling ceiling r) where
   Finds-ended Evicts c from found intact over finds = rw (pending_keys-returned c) (Finds-push r (pending_keys c.store) (hand_key c) from found (not_inside ceiling r (hand_key c) high over) finds)
   Finds-ended Appends c from found intact over finds = finds
 
-ended_room : (rule : CarryEnd) (c : Carried) (column_room in_room : ℕ) → SameButRoom (ended rule c) (ended rule (record { store = record c.store { column_room = column_room; in_room = in_room }; hand = c.hand }))
-ended_room Buries c column_room in_room = record { same = refl }
-ended_room Evicts c column_room in_room = record { same = refl }
-ended_room Appends c column_room in_room = record { same = refl }
+-- where room is made while a row is in hand, its carry ends by the same rule, in the same way
+pub record EndsAlike (rule : CarryEnd) (c d : Carried) : Type 0 where
+  pub same : SameButRoom (ended rule c) (ended rule d)
+  pub may : MayEnd rule c → MayEnd rule d
 
--- a hand whose store got room
-carried_is : (s : State) (h g : Handle) (t : State) → s ≡ t → h ≡ g → ◌≡◌ {A = Carried} (record { store = s; hand = h }) (record { store = t; hand = g })
-carried_is s h g t stores hands = rw (stores, hands) refl
-
-abbrev with_room : Carried → ℕ → ℕ → Carried
-with_room c column_room in_room = record { store = record c.store { column_room = column_room; in_room = in_room }; hand = c.hand }
-
-may_end : (rule : CarryEnd) (c : Carried) (column_room in_room : ℕ) → MayEnd rule c → MayEnd rule (with_room c column_room in_room)
-may_end Buries c column_room in_room may = may
-may_end Evicts c column_room in_room may = may
-may_end Appends c column_room in_room may = may
-
-module _ (rule : CarryEnd) (c d : Carried) (room : SameButRoom c.store d.store) (hand : d.hand ≡ c.hand) where
-  made : d ≡ with_room c d.store.column_room d.store.in_room
-  made = carried_is d.store d.hand c.hand (record c.store { column_room = d.store.column_room; in_room = d.store.in_room }) room.same hand
-
-  pub SameButRoom-ended : SameButRoom (ended rule c) (ended rule d)
-  SameButRoom-ended = rw made (ended_room rule c d.store.column_room d.store.in_room)
-
-  pub MayEnd-room : MayEnd rule c → MayEnd rule d
-  MayEnd-room may = rw made (may_end rule c d.store.column_room d.store.in_room may)
+pub EndsAlike-room : (rule : CarryEnd) (c d : Carried) → SameButRoom c.store d.store → d.hand ≡ c.hand → EndsAlike rule c d
+EndsAlike-room rule c d room hand = alike rule d.store d.hand d.store.column_room d.store.in_room room.same hand
+  where
+    alike : (rule : CarryEnd) (t : State) (h : Handle) (column_room in_room : ℕ) → t ≡ record c.store { column_room = column_room; in_room = in_room } → h ≡ c.hand → EndsAlike rule c (record { store = t; hand = h })
+    alike Buries t h column_room in_room store hand = rw (store, hand) (record { same = record { same = refl }; may = λ may. may })
+    alike Evicts t h column_room in_room store hand = rw (store, hand) (record { same = record { same = refl }; may = λ may. may })
+    alike Appends t h column_room in_room store hand = rw (store, hand) (record { same = record { same = refl }; may = λ may. may })
 
 -- what room is left
 pub record HasRoom (s : State) : Type 0 where

@@ -1,4 +1,4 @@
-mod Deleting
+pub mod Deleting
 mod Ending
 pub mod Finding
 mod Inserting

@@ -7,18 +7,18 @@ use Rattle.crack_row.specs.Ranges.{Range}
 use Rattle.crack_row.specs.declared.command.Policy.TheVariants.{Ripple}
 use Rattle.crack_arena.specs.Arena.{Handle}
 use Rattle.crack_index.specs.Marks.{bounds_of}
-use Rattle.crack_state.specs.declared.MergeReport.{MergeReport}
 use Rattle.crack_state.specs.State.{State, Carried, IsIntact, greatest}
-use Rattle.crack_state.specs.Steps.{hand_key, piece_end, IsDoomed, lifted, pushed_on, appended, buried, returned}
-use Rattle.crack_state.specs.Merge.{Follows, Tallies, Advances, IsExact, edge}
-use Rattle.crack_state.proofs.AdvanceLaws.{CarriedIn-appended, CarriedIn-buried, StillReads-refl}
+use Rattle.crack_state.specs.Steps.{hand_key, IsDoomed, lifted, pushed_on, appended, buried, returned}
+use Rattle.crack_state.specs.Merge.{Follows, Tallies, Counts, IsExact, edge}
+use Rattle.crack_state.proofs.AdvanceLaws.{CarriedIn, CarriedIn-appended, CarriedIn-buried, StillReads-refl}
 use Rattle.crack_state.proofs.BuryLaws.{IsIntact-buried}
 use Rattle.crack_state.proofs.Counters.{raised_counter}
-use Rattle.crack_state.proofs.FollowLaws.{Pushes, Follows-trans, Follows-lifted, Follows-Pushes, bounds_above-few}
+use Rattle.crack_state.proofs.FollowLaws.{Pushes, Follows-trans, Follows-lifted, Follows-Pushes, Tallies-carried}
 use Rattle.crack_state.proofs.OutsideLaws.{SomeOf-refl}
 use Rattle.crack_state.proofs.PullLaws.{IsIntact-returned, Follows-returned}
 use Rattle.crack_state.proofs.StepLaws.{IsIntact-lifted, IsIntact-pushed_on, IsIntact-appended}
-use Rattle.crack_merge.specs.Merges.{Carries, BuriesFew, buries, evicts, ends, goes_on}
+use Rattle.crack_merge.specs.Loops.{PutsIn}
+use Rattle.crack_merge.specs.Merges.{Carries, buries, evicts, ends, goes_on}
 use Rattle.crack_merge.proofs.RangeLaws.{kept_hand}
 use Rattle.crack_ripple.specs.Near.{pieces_of, MovesNear}
 use Rattle.crack_ripple.proofs.EdgeLaws.{IsRangeOf, IsRangeOf-follows, low_within, high_within, AppendsInside-appended}
@@ -36,47 +36,32 @@ pub record EvictsOne (s t : State) (r : Range) (i : ℕ) : Type 0 where
 
 -- the i-th pending insertion, one of the range, was carried
 pub record CarriesNear (s t : State) (r : Range) (i : ℕ) : Type 0 where
-  pub advances : Advances Ripple s t
+  pub puts : PutsIn Ripple s t
   pub intact : IsIntact t []
   pub stays : StaysOutside s t r
   pub moves : MovesNear s t r
-  pub few : BuriesFew s t
   pub left : (t.pending_in ≡ remove s.pending_in i) ⊎ EvictsOne s t r i
 
--- a carry that ends at a row to be evicted: lifted, pushed on, returned
+-- a carry that ends at a row to be evicted counts what one counts that ends at the column's end, and that row
 tallies_evicted : (s : State) (i : ℕ) (c : Carried) → i < length s.pending_in → IsIntact s [] → IsIntact c.store (c.hand ∷ []) → Pushes (lifted i s) c → Tallies Ripple s (returned c)
 tallies_evicted s i c inside intact now pushes =
-    let tally = ap (λ (x : State). x.tally) pushes.same in
-    let put_in = ap (λ (x : MergeReport). x.put_in) tally in
-    let taken_out = ap (λ (x : MergeReport). x.taken_out) tally in
-    let evicted = ap (λ (x : MergeReport). x.evicted) tally in
-    let pulled = ap (λ (x : MergeReport). x.pulled) tally in
-    let counter = raised_counter s.tally.put_in in
-    let risen = counter.rises intact.counted.put_in in
-    let out = raised_counter c.store.tally.evicted in
-    let out_risen = out.rises now.counted.evicted in
+    let ended = Tallies-carried Ripple s i c inside intact pushes in
+    let counter = raised_counter c.store.tally.evicted in
+    let evicted = ap (λ (x : State). x.tally.evicted) pushes.same in
     let gone = length-remove s.pending_in i inside in
+    let left = ap (λ (x : State). length x.pending_in) pushes.same in
     let more = length-append c.store.pending_in (c.hand ∷ []) in
-    let few = bounds_above-few (hand_key (lifted i s)) s.marks in
-    let one : IsExact (returned c).tally → c.store.tally.put_in ≡ s.tally.put_in + 1 = λ exact. put_in ∙ counter.exact (omega (arith, exact.put_in, put_in)) in
-    let two : IsExact (returned c).tally → (returned c).tally.evicted ≡ s.tally.evicted + 1 = λ exact. out.exact exact.evicted ∙ ap (λ n. n + 1) evicted in
+    let counts : IsExact (returned c).tally → Counts s (appended c) (length s.marks + 1) = λ exact.
+    ended.counts (record { put_in = exact.put_in; taken_out = exact.taken_out; evicted = omega (arith, exact.evicted, counter.rises now.counted.evicted); moved = exact.moved; pulled = exact.pulled }) in
     record {
-      put_in_rises = omega (arith, put_in, risen);
-      taken_out_rises = omega (arith, taken_out);
-      evicted_rises = omega (arith, evicted, out_risen);
-      moved_rises = omega (arith, pushes.moved_rises);
-      pulled_rises = omega (arith, pulled);
-      counts = λ exact. record {
-        put_in = omega (arith, one exact, two exact, gone, more, ap (λ (x : State). length x.pending_in) pushes.same);
-        taken_out = omega (arith, taken_out, ap (λ (x : State). length x.pending_out) pushes.same);
-        moved = more_moved c.store.tally.moved s.tally.moved s.tally.put_in c.store.tally.put_in (length s.marks) (one exact) (omega (arith, pushes.moved, few));
-        pulled = omega (arith, pulled, ap (λ n. n * (length s.marks + 1)) taken_out);
-      };
-      evicts = λ exact. omega (arith, one exact, two exact);
+      put_in_rises = ended.put_in_rises;
+      taken_out_rises = ended.taken_out_rises;
+      evicted_rises = omega (arith, evicted, counter.rises now.counted.evicted);
+      moved_rises = ended.moved_rises;
+      pulled_rises = ended.pulled_rises;
+      counts = λ exact. let was = counts exact in record { put_in = omega (arith, was.put_in, counter.exact exact.evicted, more); taken_out = was.taken_out; moved = was.moved; pulled = was.pulled };
+      evicts = λ exact. omega (arith, (counts exact).put_in, counter.exact exact.evicted, evicted, gone, left);
     }
-  where
-    more_moved : (moved before put_in after q : ℕ) → after ≡ put_in + 1 → moved ≤ before + q → moved + put_in * (q + 1) ≤ before + after * (q + 1)
-    more_moved moved before put_in after q one few = rw one (grind arith)
 
 -- it moved at most as many rows as the range has pieces
 moved_few : (s : State) (r : Range) (i : ℕ) (c : Carried) → IsIntact s [] → r.low ≤ hand_key (lifted i s) → Ripples r (lifted i s) c → c.store.tally.put_in < greatest → c.store.tally.moved + s.tally.put_in * pieces_of s r ≤ s.tally.moved + c.store.tally.put_in * pieces_of s r
@@ -97,64 +82,50 @@ module _ (s : State) (r : Range) (i : ℕ) (of : IsRangeOf s r) (inside : i < le
   of_pushed : (c : Carried) → Ripples r (lifted i s) c → IsRangeOf c.store r
   of_pushed c ripples = IsRangeOf-follows s c.store r (follows_pushed c ripples) of
 
-  stays_pushed : (c : Carried) → Ripples r (lifted i s) c → StaysOutside s c.store r
-  stays_pushed c ripples =
-      StaysOutside-trans s (lifted i s).store c.store r (StaysOutside-same s (lifted i s).store r (record { keys = refl; column = refl; marks = refl }) (high_within s [] r of intact)) ripples.stays
-
-  CarriesNear-buried : (c : Carried) → Ripples r (lifted i s) c → IsDoomed c → IsIntact c.store (c.hand ∷ []) → CarriesNear s (buried c) r i
-  CarriesNear-buried c ripples doomed now =
-      let carried = CarriedIn-buried s i c inside intact ripples.pushes doomed now in
-      let stays = stays_pushed c ripples in
+  -- where the carry has ended
+  CarriesNear-ended : (c : Carried) (t : State) → Ripples r (lifted i s) c → PutsIn Ripple s t → IsIntact t [] → StaysOutside c.store t r → t.tally.put_in ≡ c.store.tally.put_in → t.tally.moved ≡ c.store.tally.moved → (t.pending_in ≡ remove s.pending_in i) ⊎ EvictsOne s t r i → CarriesNear s t r i
+  CarriesNear-ended c t ripples puts now stays put_in moved left =
+      let lifts : StaysOutside s (lifted i s).store r = StaysOutside-same s (lifted i s).store r refl (high_within s [] r of intact) in
       record {
-        advances = carried.advances Ripple;
-        intact = IsIntact-buried c doomed now;
-        stays = StaysOutside-trans s c.store (buried c) r stays (StaysOutside-same c.store (buried c) r (record { keys = refl; column = refl; marks = refl }) stays.within);
-        moves = λ exact. moved_few s r i c intact above ripples exact.put_in;
-        few = omega (arith, carried.few, ap length carried.pending_in, length-remove s.pending_in i inside);
-        left = inl carried.pending_in;
+        puts = puts;
+        intact = now;
+        stays = StaysOutside-trans s c.store t r (StaysOutside-trans s (lifted i s).store c.store r lifts ripples.stays) stays;
+        moves = λ exact. rw (put_in, moved) (moved_few s r i c intact above ripples (rw put_in at exact.put_in));
+        left = left;
       }
 
-  CarriesNear-appended : (c : Carried) → Ripples r (lifted i s) c → hand_key c < r.high → piece_end c.store (hand_key c) ≡ length c.store.column → IsIntact c.store (c.hand ∷ []) → CarriesNear s (appended c) r i
-  CarriesNear-appended c ripples below at_end now =
-      let carried = CarriedIn-appended s i c inside intact ripples.pushes in
-      let of_now = of_pushed c ripples in
-      record {
-        advances = carried.advances Ripple;
-        intact = IsIntact-appended c at_end now;
-        stays = StaysOutside-trans s c.store (appended c) r (stays_pushed c ripples) (StaysOutside-appended c r (AppendsInside-appended c r of_now now ripples.above below at_end) (low_within c.store (c.hand ∷ []) r of_now now));
-        moves = λ exact. moved_few s r i c intact above ripples exact.put_in;
-        few = omega (arith, carried.few, ap length carried.pending_in, length-remove s.pending_in i inside);
-        left = inl carried.pending_in;
-      }
+  CarriesNear-carried : (c : Carried) (t : State) → Ripples r (lifted i s) c → CarriedIn s t i → IsIntact t [] → StaysOutside c.store t r → t.tally.put_in ≡ c.store.tally.put_in → t.tally.moved ≡ c.store.tally.moved → CarriesNear s t r i
+  CarriesNear-carried c t ripples carried now stays put_in moved =
+      CarriesNear-ended c t ripples (record { advances = carried.advances Ripple; few = omega (arith, carried.few, ap length carried.pending_in, length-remove s.pending_in i inside) }) now stays put_in moved (inl carried.pending_in)
 
   CarriesNear-returned : (c : Carried) → Ripples r (lifted i s) c → ¬ IsDoomed c → r.high ≤ hand_key c → IsIntact c.store (c.hand ∷ []) → CarriesNear s (returned c) r i
   CarriesNear-returned c ripples kept behind now =
-      let pushes = ripples.pushes in
-      let pending_in = ap (λ (x : State). x.pending_in) pushes.same in
-      let pending_out = ap (λ (x : State). x.pending_out) pushes.same in
-      let stays = stays_pushed c ripples in
+      let same = ripples.pushes.same in
+      let pending_in = ap (λ (x : State). x.pending_in) same in
+      let pending_out = ap (λ (x : State). x.pending_out) same in
       let met = ripples.met behind in
-      record {
+      let puts : PutsIn Ripple s (returned c) = record {
         advances = record {
           follows = Follows-trans s c.store (returned c) (follows_pushed c ripples) (Follows-returned c);
-          tallies = tallies_evicted s i c inside intact now pushes;
-          reads = rw (ap (λ (x : State). x.cells) pushes.same) (StillReads-refl s.cells);
+          tallies = tallies_evicted s i c inside intact now ripples.pushes;
+          reads = rw (ap (λ (x : State). x.cells) same) (StillReads-refl s.cells);
           pending_out = rw pending_out (SomeOf-refl s.pending_out);
         };
-        intact = IsIntact-returned c (kept_hand c kept) now;
-        stays = StaysOutside-trans s c.store (returned c) r stays (StaysOutside-same c.store (returned c) r (record { keys = refl; column = refl; marks = refl }) stays.within);
-        moves = λ exact. moved_few s r i c intact above ripples exact.put_in;
         few = omega (arith, ap length pending_out, ap length pending_in, length-append c.store.pending_in (c.hand ∷ []), length-remove s.pending_in i inside);
-        left = inr (record { evicted = c.hand; pending_in = ap (λ hs. hs ++ c.hand ∷ []) pending_in; within = met.within; up = met.up; is = met.is });
-      }
+      } in
+      CarriesNear-ended c (returned c) ripples puts (IsIntact-returned c (kept_hand c kept) now) (StaysOutside-same c.store (returned c) r refl ripples.stays.within) refl refl (inr (record { evicted = c.hand; pending_in = ap (λ hs. hs ++ c.hand ∷ []) pending_in; within = met.within; up = met.up; is = met.is }))
 
   -- a carry that goes on from where pushes have led
   carried_from : (c : Carried) (t : State) → Ripples r (lifted i s) c → IsIntact c.store (c.hand ∷ []) → Carries (Some r.high) c t → CarriesNear s t r i
-  carried_from c t ripples now (buries d doomed) = CarriesNear-buried d ripples doomed now
+  carried_from c t ripples now (buries d doomed) =
+      CarriesNear-carried d (buried d) ripples (CarriedIn-buried s i d inside intact ripples.pushes doomed now) (IsIntact-buried d doomed now) (StaysOutside-same d.store (buried d) r refl ripples.stays.within) refl refl
   carried_from c t ripples now (evicts d bound kept is behind) =
       let same : r.high ≡ bound = ap (λ o. unwrap_or o 0) is in
       CarriesNear-returned d ripples kept (omega (arith, same, behind)) now
-  carried_from c t ripples now (ends d kept below at_end) = CarriesNear-appended d ripples below at_end now
+  carried_from c t ripples now (ends d kept below at_end) =
+      let of_now = of_pushed d ripples in
+      let stays = StaysOutside-appended d r (AppendsInside-appended d r of_now now ripples.above below at_end) (low_within d.store (d.hand ∷ []) r of_now now) in
+      CarriesNear-carried d (appended d) ripples (CarriedIn-appended s i d inside intact ripples.pushes) (IsIntact-appended d at_end now) stays refl refl
   carried_from c t ripples now (goes_on d u kept below before rest) =
       carried_from (pushed_on d) u (Ripples-pushed_on r (lifted i s) d (of_pushed d ripples) now below before ripples) (IsIntact-pushed_on d before now) rest
 

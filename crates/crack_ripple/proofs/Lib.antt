@@ -3,7 +3,6 @@ mod EdgeLaws
 mod Evicted
 mod Merging
 mod Pieces
-mod Pulling
 mod Putting
 mod Rippling
 mod Staying

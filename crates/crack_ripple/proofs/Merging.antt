@@ -1,9 +1,8 @@
 -- What a ripple merge has done where it ends.
-use Rattle.std.proofs.Common.{◌≡◌, ℕ, ◌<◌, ◌≤◌, false, [], ◌++◌, Result, Ok, Err, Some, IfOk, IfErr, ◌∙◌, inr, arith}
+use Rattle.std.proofs.Common.{◌≡◌, ◌<◌, ◌≤◌, false, [], ◌++◌, Some, ◌∙◌, inr, arith}
 use Rattle.std.specs.List.{All}
 use Rattle.std.proofs.lemmas.List.Elements.{All-append}
 use Rattle.crack_row.specs.Ranges.{Range}
-use Rattle.crack_row.specs.declared.refusal.Refusal.{Refusal}
 use Rattle.crack_row.specs.declared.command.Policy.TheVariants.{Ripple}
 use Rattle.crack_state.specs.State.{State, IsIntact}
 use Rattle.crack_state.specs.Merge.{ReadsOutside, IsCracked, IsSettled, Merges, Tallies, is_touched, outside_of}
@@ -14,10 +13,11 @@ use Rattle.crack_state.proofs.OutsideLaws.{All-outside}
 use Rattle.crack_state.proofs.MergeLaws.{Merges-untouched}
 use Rattle.crack_state.proofs.SettledLaws.{IsSettled-of}
 use Rattle.crack_merge.specs.Merges.{CarriesAll, CarriesSome, PullsAll, BuriesFew, Stops}
+use Rattle.crack_merge.proofs.Deleting.{TakesInside-PullsOut}
+use Rattle.crack_merge.proofs.Finding.{LacksFirst-missed}
 use Rattle.crack_ripple.specs.Near.{PutsInNear, TakesOutNear, MovesNear}
 use Rattle.crack_ripple.proofs.EdgeLaws.{IsRangeOf, IsRangeOf-follows}
 use Rattle.crack_ripple.proofs.Evicted.{behind_range}
-use Rattle.crack_ripple.proofs.Pulling.{TakesNear-PullsOut, TakesOutNear-all}
 use Rattle.crack_ripple.proofs.Putting.{PutsNear-CarriesIn, PutsNear-room, PutsInNear-all, Stops-PutsNear, MovesNear-trans}
 
 -- as calls require it
@@ -34,31 +34,21 @@ pub record PutIn (s t : State) (r : Range) : Type 0 where
   pub tallies : Tallies Ripple s t
   pub moves : MovesNear s t r
 
-PutIn-carried : (s t : State) (r : Range) → IsRangeOf s r → IsIntact s [] → CarriesAll (Some r.high) r s t → PutIn s t r
+pub PutIn-carried : (s t : State) (r : Range) → IsRangeOf s r → IsIntact s [] → CarriesAll (Some r.high) r s t → PutIn s t r
 PutIn-carried s t r of intact all =
     let was = PutsNear-CarriesIn s r of intact all.from t all.carries in
-    record { near = PutsInNear-all s r of intact all.from t was all.none; tallies = was.advances.tallies; moves = was.moves }
+    record { near = PutsInNear-all s r of intact all.from t was all.none; tallies = was.puts.advances.tallies; moves = was.moves }
 
 -- all that it has to say where it is refused
 pub record StopsIn (s t : State) (r : Range) : Type 0 where
   pub stops : Stops Ripple s t r
   pub few : BuriesFew s t
 
-StopsIn-carried : (s t : State) (r : Range) → IsRangeOf s r → IsIntact s [] → CarriesSome (Some r.high) r s t → StopsIn s t r
+pub StopsIn-carried : (s t : State) (r : Range) → IsRangeOf s r → IsIntact s [] → CarriesSome (Some r.high) r s t → StopsIn s t r
 StopsIn-carried s t r of intact part =
     let was = PutsNear-CarriesIn s r of intact part.from part.last part.carries in
     let now = PutsNear-room s part.last t r part.from part.room was in
-    record { stops = Stops-PutsNear s r of intact part.from t now; few = now.few }
-
--- the result of the carries of a range
-module _ (s : State) (r : Range) (of : IsRangeOf s r) (intact : IsIntact s []) (ceiling : ℕ) (is : ceiling ≡ r.high) where
-  pub if_put_in : (P : State → Type 0) → ((t : State) → PutIn s t r → P t) → (result : Result State (State × Refusal)) → IfOk result (λ t. CarriesAll (Some ceiling) r s t) → IfOk result P
-  if_put_in P says (Ok t) all = says t (PutIn-carried s t r of intact (rw is at all))
-  if_put_in P says (Err e) all = tt
-
-  pub if_stopped : (P : State × Refusal → Type 0) → ((e : State × Refusal) → StopsIn s e.0 r → P e) → (result : Result State (State × Refusal)) → IfErr result (λ e. CarriesSome (Some ceiling) r s e.0) → IfErr result P
-  if_stopped P says (Ok t) part = tt
-  if_stopped P says (Err e) part = says e (StopsIn-carried s e.0 r of intact (rw is at part))
+    record { stops = Stops-PutsNear s r of intact part.from t now; few = now.puts.few }
 
 -- all that a call that takes out has to say
 pub record TakenOut (s t : State) (r : Range) : Type 0 where
@@ -68,10 +58,18 @@ pub record TakenOut (s t : State) (r : Range) : Type 0 where
 
 pub TakenOut-pulled : (s t : State) (r : Range) → IsIntact s [] → PullsAll r s t → TakenOut s t r
 TakenOut-pulled s t r intact all =
-    let was = TakesNear-PullsOut s r intact all.from t all.pulls in
+    let was = TakesInside-PullsOut Ripple s r all.from t intact all.pulls in
+    let advances = was.takes.advances in
     record {
-      near = TakesOutNear-all s r intact all.from t was all.none;
-      tallies = was.advances.tallies;
+      near = record {
+        follows = advances.follows;
+        intact = was.intact;
+        pending_in = was.takes.pending_in;
+        pending_out = LacksFirst-missed s.cells t.cells r s.pending_out t.pending_out all.from advances.reads was.intact.owned.doomed_reads was.lacks all.none;
+        reads = advances.reads;
+        long = was.long;
+      };
+      tallies = advances.tallies;
       moves = λ _. let put_in = was.put_in in let moved = was.moved in rw (put_in, moved) (omega arith);
     }
 

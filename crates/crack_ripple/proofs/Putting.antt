@@ -1,5 +1,5 @@
 -- What the carries of a range do under ripple.
-use Rattle.std.proofs.Common.{◌≡◌, ℕ, suc, ◌+◌, ◌-◌, ◌*◌, ◌<◌, ◌≤◌, true, false, List, [], ◌∷◌, ◌++◌, length, get_or, take, drop, Some, None, refl, sym, ap, ◌∙◌, inl, inr, arith, length-append}
+use Rattle.std.proofs.Common.{◌≡◌, ℕ, suc, ◌+◌, ◌-◌, ◌<◌, ◌≤◌, true, false, List, [], ◌∷◌, ◌++◌, length, get_or, take, drop, Some, None, refl, sym, ap, ◌∙◌, inl, inr, arith, length-append}
 use Rattle.std.specs.List.{All, remove}
 use Rattle.std.proofs.lemmas.Bool.{cases_lt, true≢false}
 use Rattle.std.proofs.lemmas.List.{append-nil, append_assoc, get_or_append_left, get_or-append_right, get_or-map, get_or-drop, length-map, length-drop, take-append-drop}
@@ -14,18 +14,20 @@ use Rattle.crack_pending.specs.Pending.{Finds, IsFirstIn}
 use Rattle.crack_pending.proofs.Searches.{is_in-false}
 use Rattle.crack_state.specs.State.{State, IsIntact}
 use Rattle.crack_state.specs.Steps.{lifted, SameButRoom}
-use Rattle.crack_state.specs.Merge.{Advances, IsExact, SomeOf, nothing, edge, outside_of}
-use Rattle.crack_state.proofs.AdvanceLaws.{Advances-refl, Advances-room, Advances-trans, keys_still}
+use Rattle.crack_state.specs.Merge.{IsExact, SomeOf, nothing, edge, outside_of}
+use Rattle.crack_state.proofs.AdvanceLaws.{keys_still}
 use Rattle.crack_state.proofs.FollowLaws.{IsExact-before}
 use Rattle.crack_state.proofs.OutsideLaws.{LacksFirst, LacksFirst-none, LacksFirst-next, LacksFirst-all, NoneInside, length-outside}
 use Rattle.crack_state.proofs.StepLaws.{IsIntact-room}
-use Rattle.crack_merge.specs.Merges.{Carries, CarriesIn, begins, carries, BuriesFew, Stops}
+use Rattle.crack_merge.specs.Loops.{PutsIn}
+use Rattle.crack_merge.specs.Merges.{Carries, CarriesIn, begins, carries, Stops}
+use Rattle.crack_merge.proofs.CarryLaws.{PutsIn-room, PutsIn-trans, Stops-Advances}
 use Rattle.crack_merge.proofs.Finding.{none_inside, inside_at}
-use Rattle.crack_ripple.specs.Near.{pieces_of, MovesNear, PutsInNear}
+use Rattle.crack_ripple.specs.Near.{MovesNear, PutsInNear}
 use Rattle.crack_ripple.proofs.Carrying.{CarriesNear, CarriesNear-Carries, EvictsOne}
 use Rattle.crack_ripple.proofs.EdgeLaws.{IsRangeOf, IsRangeOf-follows, high_within}
 use Rattle.crack_ripple.proofs.Evicted.{SomeOf-push, SomeOf-front, length-SomeOf, behind_range}
-use Rattle.crack_ripple.proofs.Staying.{StaysOutside, StaysOutside-refl, StaysOutside-same, StaysOutside-trans, SamePlaces-room, row_at_end, length-StaysOutside}
+use Rattle.crack_ripple.proofs.Staying.{StaysOutside, StaysOutside-same, StaysOutside-trans, row_at_end, length-StaysOutside}
 
 -- what two parts of a merge moved
 pub MovesNear-trans : (s t u : State) (r : Range) → bounds_of t.marks ≡ bounds_of s.marks → (IsExact u.tally → IsExact t.tally) → MovesNear s t r → MovesNear t u r → MovesNear s u r
@@ -33,12 +35,6 @@ MovesNear-trans s t u r same before a b = λ exact.
     let first = a (before exact) in
     let second = rw same at (b exact) in
     omega arith
-
-MovesNear-room : (s t : State) (r : Range) → SameButRoom s t → MovesNear s t r
-MovesNear-room s t r room = λ exact.
-    let moved = ap (λ (x : State). x.tally.moved) room.same in
-    let put_in = ap (λ (x : State). x.tally.put_in * pieces_of s r) room.same in
-    omega (arith, moved, put_in)
 
 -- of the rows that were evicted, which are of those behind the range, none stands behind where the range's end has moved to
 pub record EvictsUpTo (s t : State) (r : Range) (evicted : List Handle) : Type 0 where
@@ -48,11 +44,10 @@ pub record EvictsUpTo (s t : State) (r : Range) (evicted : List Handle) : Type 0
 
 -- pending insertions of the range up to some place were carried, and the search goes on from `from`
 pub record PutsNear (s t : State) (r : Range) (from : ℕ) : Type 0 where
-  pub advances : Advances Ripple s t
+  pub puts : PutsIn Ripple s t
   pub intact : IsIntact t []
   pub stays : StaysOutside s t r
   pub moves : MovesNear s t r
-  pub few : BuriesFew s t
   pub left : List Handle
   pub evicted : List Handle
   pub pending_in : t.pending_in ≡ left ++ evicted
@@ -61,11 +56,10 @@ pub record PutsNear (s t : State) (r : Range) (from : ℕ) : Type 0 where
 
 pub PutsNear-none : (s : State) (r : Range) → IsRangeOf s r → IsIntact s [] → PutsNear s s r 0
 PutsNear-none s r of intact = record {
-  advances = Advances-refl Ripple s;
+  puts = PutsIn-room Ripple s s (record { same = refl });
   intact = intact;
-  stays = StaysOutside-refl s r (high_within s [] r of intact);
+  stays = StaysOutside-same s s r refl (high_within s [] r of intact);
   moves = λ _. omega arith;
-  few = omega arith;
   left = s.pending_in;
   evicted = [];
   pending_in = sym (append-nil s.pending_in);
@@ -75,23 +69,17 @@ PutsNear-none s r of intact = record {
 
 -- room for the next was made, or not found
 pub PutsNear-room : (s t v : State) (r : Range) (from : ℕ) → SameButRoom t v → PutsNear s t r from → PutsNear s v r from
-PutsNear-room s t v r from room was =
-    let same_in : v.pending_in ≡ t.pending_in = ap (λ (x : State). x.pending_in) room.same in
-    let same_out : v.pending_out ≡ t.pending_out = ap (λ (x : State). x.pending_out) room.same in
-    let stays = StaysOutside-trans s t v r was.stays (StaysOutside-same t v r (SamePlaces-room t v room) was.stays.within) in
-    let on = Advances-room Ripple t v room in
-    record {
-      advances = Advances-trans Ripple s t v was.advances on;
-      intact = IsIntact-room t v [] room was.intact;
-      stays = stays;
-      moves = MovesNear-trans s t v r was.advances.follows.bounds (IsExact-before Ripple t v on.tallies) was.moves (MovesNear-room t v r room);
-      few = omega (arith, was.few, ap length same_in, ap length same_out);
-      left = was.left;
-      evicted = was.evicted;
-      pending_in = same_in ∙ was.pending_in;
-      up_to = record { count = was.up_to.count; before = omega (arith, was.up_to.before, (StaysOutside-same t v r (SamePlaces-room t v room) was.stays.within).rises); some = was.up_to.some };
-      lacks = was.lacks;
-    }
+PutsNear-room s t v r from room was = record {
+  puts = PutsIn-trans Ripple s t v was.puts (PutsIn-room Ripple t v room);
+  intact = IsIntact-room t v [] room was.intact;
+  stays = StaysOutside-trans s t v r was.stays (StaysOutside-same t v r (rw room.same refl) was.stays.within);
+  moves = rw room.same was.moves;
+  left = was.left;
+  evicted = was.evicted;
+  pending_in = ap (λ (x : State). x.pending_in) room.same ∙ was.pending_in;
+  up_to = record { count = was.up_to.count; before = rw room.same was.up_to.before; some = was.up_to.some };
+  lacks = was.lacks;
+}
 
 -- the evicted are outside the range
 evicted_outside : (s t : State) (r : Range) (evicted : List Handle) → IsRangeOf s r → IsIntact s [] → EvictsUpTo s t r evicted → All (λ h. is_in r (key_at s.cells h) ≡ false) evicted
@@ -119,7 +107,7 @@ module _ (s v u : State) (r : Range) (from place : ℕ) (of : IsRangeOf s r) (in
   whole = was.left ++ was.evicted
 
   first_was : IsFirstIn r (keys_at s.cells whole) from place
-  first_was = rw (keys_still s.cells v.cells v.pending_in was.advances.reads was.intact.owned.pending_reads, was.pending_in) at first
+  first_was = rw (keys_still s.cells v.cells v.pending_in was.puts.advances.reads was.intact.owned.pending_reads, was.pending_in) at first
 
   within_whole : place < length whole
   within_whole = omega (arith, first_was.within, length-map whole (key_at s.cells))
@@ -142,25 +130,21 @@ module _ (s v u : State) (r : Range) (from place : ℕ) (of : IsRangeOf s r) (in
   removed = ap (λ hs. remove hs place) was.pending_in ∙ remove-append_left was.left was.evicted place before_evicted
 
   module _ (carried : CarriesNear v u r place) where
-    advances_next : Advances Ripple s u
-    advances_next = Advances-trans Ripple s v u was.advances carried.advances
+    puts_next : PutsIn Ripple s u
+    puts_next = PutsIn-trans Ripple s v u was.puts carried.puts
 
     moves_next : MovesNear s u r
-    moves_next = MovesNear-trans s v u r was.advances.follows.bounds (IsExact-before Ripple v u carried.advances.tallies) was.moves carried.moves
+    moves_next = MovesNear-trans s v u r was.puts.advances.follows.bounds (IsExact-before Ripple v u carried.puts.advances.tallies) was.moves carried.moves
 
     stays_next : StaysOutside s u r
     stays_next = StaysOutside-trans s v u r was.stays carried.stays
 
-    few_next : length s.pending_out + length u.pending_in ≤ length u.pending_out + length s.pending_in
-    few_next = omega (arith, was.few, carried.few)
-
     PutsNear-kept : u.pending_in ≡ remove v.pending_in place → PutsNear s u r place
     PutsNear-kept same = record {
-      advances = advances_next;
+      puts = puts_next;
       intact = carried.intact;
       stays = stays_next;
       moves = moves_next;
-      few = few_next;
       left = remove was.left place;
       evicted = was.evicted;
       pending_in = same ∙ removed;
@@ -178,11 +162,10 @@ module _ (s v u : State) (r : Range) (from place : ℕ) (of : IsRangeOf s r) (in
         let long : length v.column ≡ length s.column = was.stays.long one.within in
         let is : (d : Handle) → get_or (drop (edge s r.high) s.column) gone d ≡ one.evicted = λ d. get_or-drop (edge s r.high) s.column gone d ∙ ap (λ n. get_or s.column n d) at ∙ sym (row_at_end s v r d was.stays) ∙ one.is d in
         record {
-          advances = advances_next;
+          puts = puts_next;
           intact = carried.intact;
           stays = stays_next;
           moves = moves_next;
-          few = few_next;
           left = remove was.left place;
           evicted = was.evicted ++ one.evicted ∷ [];
           pending_in = one.pending_in ∙ ap (λ hs. hs ++ one.evicted ∷ []) removed ∙ append_assoc (remove was.left place) was.evicted (one.evicted ∷ []);
@@ -198,7 +181,7 @@ module _ (s v u : State) (r : Range) (from place : ℕ) (of : IsRangeOf s r) (in
   PutsNear-carried carrying =
       let within : place < length v.pending_in = omega (arith, first.within, length-map v.pending_in (key_at v.cells)) in
       let holds = rw (get_or-map (key_at v.cells) v.pending_in place no_handle 0 within) at first.holds in
-      let carried = CarriesNear-Carries v r place (IsRangeOf-follows s v r was.advances.follows of) within was.intact holds.0 u holds.1 carrying in
+      let carried = CarriesNear-Carries v r place (IsRangeOf-follows s v r was.puts.advances.follows of) within was.intact holds.0 u holds.1 carrying in
       elim carried.left [ inl same ↦ PutsNear-kept carried same | inr one ↦ PutsNear-evicted carried one ]
 
 -- the search found a row of the range, and it was carried
@@ -219,7 +202,7 @@ module _ (s : State) (r : Range) (of : IsRangeOf s r) (intact : IsIntact s []) w
     evicted_some = SomeOf-front was.evicted (drop (edge s r.high) s.column) was.up_to.count was.up_to.some
 
     fewer_out : length t.pending_out ≤ length s.pending_out
-    fewer_out = length-SomeOf t.pending_out s.pending_out was.advances.pending_out
+    fewer_out = length-SomeOf t.pending_out s.pending_out was.puts.advances.pending_out
 
     long_in : length t.pending_in ≡ length was.left + length was.evicted
     long_in = ap length was.pending_in ∙ length-append was.left was.evicted
@@ -228,22 +211,22 @@ module _ (s : State) (r : Range) (of : IsRangeOf s r) (intact : IsIntact s []) w
     pub PutsInNear-all : Finds r (keys_at t.cells t.pending_in) from None → PutsInNear s t r
     PutsInNear-all finds =
         let whole = was.left ++ was.evicted in
-        let missed = rw (keys_still s.cells t.cells t.pending_in was.advances.reads was.intact.owned.pending_reads, was.pending_in, length-map whole (key_at s.cells)) at finds in
+        let missed = rw (keys_still s.cells t.cells t.pending_in was.puts.advances.reads was.intact.owned.pending_reads, was.pending_in, length-map whole (key_at s.cells)) at finds in
         let none = none_inside s.cells r whole from (length whole) (omega arith) missed in
         let all : was.left ≡ outside_of s.cells r s.pending_in = LacksFirst-all s.cells r s.pending_in was.left from was.lacks (none_before s.cells r was.left was.evicted from (length was.left) (omega arith) (λ j d start before. none j d start (omega (arith, before, length-append was.left was.evicted)))) in
         let split = length-outside s.cells r s.pending_in in
         record {
-          follows = was.advances.follows;
+          follows = was.puts.advances.follows;
           intact = was.intact;
           evicts = record {
             evicted = was.evicted;
             pending_in = was.pending_in ∙ ap (λ hs. hs ++ was.evicted) all;
             some = evicted_some;
-            few = omega (arith, was.few, fewer_out, long_in, ap length all, split);
+            few = omega (arith, was.puts.few, fewer_out, long_in, ap length all, split);
           };
-          pending_out = was.advances.pending_out;
-          few = omega (arith, was.few, long_in, ap length all, split);
-          reads = was.advances.reads;
+          pending_out = was.puts.advances.pending_out;
+          few = omega (arith, was.puts.few, long_in, ap length all, split);
+          reads = was.puts.advances.reads;
           before = was.stays.before;
           behind = was.stays.behind;
           long = length-StaysOutside s t r was.stays;
@@ -257,17 +240,11 @@ module _ (s : State) (r : Range) (of : IsRangeOf s r) (intact : IsIntact s []) w
         let back = drop passed s.pending_in in
         let split : length front + length back ≡ length s.pending_in = sym (length-append front back) ∙ ap length (take-append-drop passed s.pending_in) in
         let left : length was.left ≡ length (outside_of s.cells r front) + length back = ap length was.lacks.left_are ∙ length-append (outside_of s.cells r front) back in
-        record {
-          follows = was.advances.follows;
-          intact = was.intact;
-          tallies = was.advances.tallies;
-          taken = record {
-            passed = passed;
-            within = was.lacks.within;
-            evicted = was.evicted;
-            pending_in = was.pending_in ∙ ap (λ hs. hs ++ was.evicted) was.lacks.left_are;
-            some = evicted_some;
-            few = omega (arith, was.few, fewer_out, long_in, left, split, length-outside s.cells r front);
-          };
-          pending_out = was.advances.pending_out;
-        }
+        Stops-Advances Ripple s t r was.puts.advances was.intact (record {
+          passed = passed;
+          within = was.lacks.within;
+          evicted = was.evicted;
+          pending_in = was.pending_in ∙ ap (λ hs. hs ++ was.evicted) was.lacks.left_are;
+          some = evicted_some;
+          few = omega (arith, was.puts.few, fewer_out, long_in, left, split, length-outside s.cells r front);
+        })

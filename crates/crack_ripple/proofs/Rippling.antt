@@ -15,7 +15,7 @@ use Rattle.crack_state.proofs.FollowLaws.{Pushes, Pushes-refl, Pushes-pushed_on}
 use Rattle.crack_state.proofs.StepLaws.{met_key}
 use Rattle.crack_ripple.proofs.EdgeLaws.{IsRangeOf, PushesBetween-pushed_on}
 use Rattle.crack_ripple.proofs.Pieces.{pieces_ahead, pieces_ahead-less}
-use Rattle.crack_ripple.proofs.Staying.{StaysOutside, StaysOutside-refl, StaysOutside-trans, StaysOutside-pushed_on, row_at_end}
+use Rattle.crack_ripple.proofs.Staying.{StaysOutside, StaysOutside-same, StaysOutside-trans, StaysOutside-pushed_on, row_at_end}
 
 -- the hand is the row that stood first behind the range, whose end has moved up
 pub record MetBehind (b c : Carried) (r : Range) : Type 0 where
@@ -35,7 +35,7 @@ pub record Ripples (r : Range) (b c : Carried) : Type 0 where
 pub Ripples-refl : (r : Range) (c : Carried) → r.low ≤ hand_key c → hand_key c < r.high → edge c.store r.high ≤ length c.store.column → Ripples r c c
 Ripples-refl r c above below within = record {
   pushes = Pushes-refl c;
-  stays = StaysOutside-refl c.store r within;
+  stays = StaysOutside-same c.store c.store r refl within;
   above = above;
   same = λ _. refl;
   met = λ more. absurd (omega arith);

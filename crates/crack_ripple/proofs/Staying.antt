@@ -7,7 +7,7 @@ use Rattle.std.proofs.lemmas.List.{take-append-le, take-set-le, drop-set-lt, dro
 use Rattle.crack_row.specs.Ranges.{Range}
 use Rattle.crack_arena.specs.Arena.{Handle}
 use Rattle.crack_state.specs.State.{State, Carried, IsIntact}
-use Rattle.crack_state.specs.Steps.{hand_key, piece_end, pushed_on, appended, SameButRoom}
+use Rattle.crack_state.specs.Steps.{hand_key, piece_end, pushed_on, appended}
 use Rattle.crack_state.specs.Merge.{edge}
 use Rattle.crack_state.proofs.FollowLaws.{Follows-pushed_on}
 use Rattle.crack_state.proofs.StepLaws.{IsIntact-pushed_on}
@@ -24,8 +24,9 @@ pub record StaysOutside (s t : State) (r : Range) : Type 0 where
   pub before : take (edge s r.low) t.column ≡ take (edge s r.low) s.column
   pub behind : drop (edge t r.high) t.column ≡ drop (edge t r.high) s.column
 
-pub StaysOutside-refl : (s : State) (r : Range) → edge s r.high ≤ length s.column → StaysOutside s s r
-StaysOutside-refl s r within = record { low = refl; rises = omega arith; within = within; grows = omega arith; long = λ _. refl; before = refl; behind = refl }
+-- where keys, column and marks are the same
+pub StaysOutside-same : (s t : State) (r : Range) → t ≡ record t { keys = s.keys; column = s.column; marks = s.marks } → edge s r.high ≤ length s.column → StaysOutside s t r
+StaysOutside-same s t r same within = rw same (record { low = refl; rises = omega arith; within = within; grows = omega arith; long = λ _. refl; before = refl; behind = refl })
 
 -- what is the same from a place on is the same from a later place on
 drop_later : (xs ys : List Handle) (p q : ℕ) → p ≤ q → drop p xs ≡ drop p ys → drop q xs ≡ drop q ys
@@ -100,25 +101,3 @@ row_at_end s t r d stays = first_of t.column (edge t r.high) ∙ ap (λ hs. get_
     first_of [] (suc n) = refl
     first_of (x ∷ xs) zero = refl
     first_of (x ∷ xs) (suc n) = first_of xs n
-
--- the same column, bounds and keys
-pub record SamePlaces (s t : State) : Type 0 where
-  pub keys : t.keys ≡ s.keys
-  pub column : t.column ≡ s.column
-  pub marks : t.marks ≡ s.marks
-
-pub StaysOutside-same : (s t : State) (r : Range) → SamePlaces s t → edge s r.high ≤ length s.column → StaysOutside s t r
-StaysOutside-same s t r same within =
-    let place : (bound : ℕ) → edge t bound ≡ edge s bound = λ bound. rw (same.keys, same.column, same.marks) refl in
-    record {
-      low = place r.low;
-      rises = omega (arith, place r.high);
-      within = omega (arith, place r.high, ap length same.column, within);
-      grows = omega (arith, ap length same.column);
-      long = λ _. ap length same.column;
-      before = ap (take (edge s r.low)) same.column;
-      behind = ap (drop (edge t r.high)) same.column;
-    }
-
-pub SamePlaces-room : (s t : State) → SameButRoom s t → SamePlaces s t
-SamePlaces-room s t room = record { keys = ap (λ (x : State). x.keys) room.same; column = ap (λ (x : State). x.column) room.same; marks = ap (λ (x : State). x.marks) room.same }

@@ -1,7 +1,10 @@
-use Rattle.crack_merge.specs.Merges.{ceiling_of, begins}
-use Rattle.crack_merge.proofs.Ending.{MayEnd-room}
-use Rattle.crack_merge.proofs.Onward.{IsOnWay-first, IsOnWay-next, CarriesAll-ended, CarriesSome-ended, left_in-less}
+use Rattle.std.proofs.Common.{Some, None}
+use Rattle.crack_merge.specs.Loops.{ended}
+use Rattle.crack_merge.specs.Merges.{ceiling_of, begins, carries}
+use Rattle.crack_merge.proofs.Ending.{EndsAlike, EndsAlike-room}
+use Rattle.crack_merge.proofs.Onward.{Arrives, Arrives-ended, IsOnWay-next, left_in-less}
 use Rattle.crack_merge.proofs.carries.carry_range.Goals as goal
+use Rattle.crack_merge.proofs.carries.carry_range.Goals.{After-facts, After-make_room-in-insertions}
 
 pub returns-in_default-clause-ok : goal.returns-in_default-clause-ok
 returns-in_default-clause-ok c = record { from = 0; carries = begins; none = c.in_default.ensures }
@@ -12,30 +15,49 @@ returns-in-Err-clause-stops c = record { from = 0; last = c.args.store; carries 
 pub insertions-init : goal.insertions-init
 insertions-init c =
     let made = c.in_default-make_room.ensures in
-    rw c.lift-carrying.ensures.after (IsOnWay-first (ceiling_of c.args.ceiling) c.args.range c.args.store c.make_room.new.self c.in-Some.first c.in-Some.ensures made.same made.column made.pending_in)
+    rw c.lift-carrying.ensures.after (record {
+      carries_in = λ t rest. carries 0 c.in-Some.first c.args.store c.make_room.new.self t begins c.in-Some.ensures made.same rest;
+      room = record { column = made.column; pending_in = made.pending_in };
+    })
+
+-- the row in hand has come as far as to the rule that ends its carry
+arrives : (c : After-facts) → Arrives (ceiling_of c.args.ceiling) c.args.range c.args.store c.insertions.from c.carry-rule.result c.carry-rule.new.carrying
+arrives c =
+    Arrives-ended (ceiling_of c.args.ceiling) c.args.range c.requires c.args.store c.insertions.from c.insertions.carrying c.carry-rule.new.carrying c.carry-rule.result c.insertions.invariant c.carry-rule.ensures.carries c.facts.ensures c.carry-rule.ensures.evicts
+
+-- room was made for the next
+alike : (c : After-make_room-in-insertions) → EndsAlike c.carry-rule.result c.carry-rule.new.carrying c.make_room-in-insertions.new.self
+alike c =
+    let made = rw c.seek_in.ensures.same at c.make_room-in-insertions.ensures in
+    EndsAlike-room c.carry-rule.result c.carry-rule.new.carrying c.make_room-in-insertions.new.self made.same made.hand
 
 pub returns-in_default-seek_in-clause-ok : goal.returns-in_default-seek_in-clause-ok
 returns-in_default-seek_in-clause-ok c =
-    rw (c.end.ensures, c.seek_in.ensures.same) (CarriesAll-ended (ceiling_of c.args.ceiling) c.args.range c.requires c.args.store c.insertions.from c.insertions.carrying c.carry-rule.new.carrying c.carry-rule.result c.insertions.invariant c.carry-rule.ensures.carries c.facts.ensures c.carry-rule.ensures.evicts c.in_default-seek_in.ensures.finds)
+    rw (c.end.ensures, c.seek_in.ensures.same) (record { from = c.insertions.from; carries = (arrives (goal.at.returns-in_default-seek_in-clause-ok c).After-facts).carries_in; none = (arrives (goal.at.returns-in_default-seek_in-clause-ok c).After-facts).finds None c.in_default-seek_in.ensures.finds })
 
 pub returns-in-Err-make_room-clause-stops : goal.returns-in-Err-make_room-clause-stops
 returns-in-Err-make_room-clause-stops c =
-    rw c.end-in-Err-make_room.ensures (CarriesSome-ended (ceiling_of c.args.ceiling) c.args.range c.requires c.args.store c.insertions.from c.insertions.carrying c.carry-rule.new.carrying c.carry-rule.result c.insertions.invariant c.carry-rule.ensures.carries c.facts.ensures c.carry-rule.ensures.evicts c.make_room-in-insertions.new.self (rw c.seek_in.ensures.same at c.make_room-in-insertions.ensures.same) (rw c.seek_in.ensures.same at c.make_room-in-insertions.ensures.hand) c.in-Some-seek_in.place c.in-Some-seek_in.ensures.finds)
+    rw c.end-in-Err-make_room.ensures (record {
+      from = c.insertions.from;
+      last = ended c.carry-rule.result c.carry-rule.new.carrying;
+      carries = (arrives (goal.at.returns-in-Err-make_room-clause-stops c).After-facts).carries_in;
+      next = c.in-Some-seek_in.place;
+      left = (arrives (goal.at.returns-in-Err-make_room-clause-stops c).After-facts).finds (Some c.in-Some-seek_in.place) c.in-Some-seek_in.ensures.finds;
+      room = (alike (goal.at.returns-in-Err-make_room-clause-stops c).After-make_room-in-insertions).same;
+    })
 
 pub end-requires-in-Err-make_room-clause-ends : goal.end-requires-in-Err-make_room-clause-ends
-end-requires-in-Err-make_room-clause-ends c =
-    MayEnd-room c.carry-rule.result c.carry-rule.new.carrying c.make_room-in-insertions.new.self (rw c.seek_in.ensures.same at c.make_room-in-insertions.ensures.same) (rw c.seek_in.ensures.same at c.make_room-in-insertions.ensures.hand) c.carry-rule.ensures.ends
+end-requires-in-Err-make_room-clause-ends c = (alike (goal.at.end-requires-in-Err-make_room-clause-ends c).After-make_room-in-insertions).may c.carry-rule.ensures.ends
 
 pub end_and_lift-requires-clause-ends : goal.end_and_lift-requires-clause-ends
-end_and_lift-requires-clause-ends c =
-    MayEnd-room c.carry-rule.result c.carry-rule.new.carrying c.make_room-in-insertions.new.self (rw c.seek_in.ensures.same at c.make_room-in-insertions.ensures.same) (rw c.seek_in.ensures.same at c.make_room-in-insertions.ensures.hand) c.carry-rule.ensures.ends
+end_and_lift-requires-clause-ends c = (alike (goal.at.end_and_lift-requires-clause-ends c).After-make_room-in-insertions).may c.carry-rule.ensures.ends
 
 pub insertions-preserved : goal.insertions-preserved
 insertions-preserved c =
-    let d = c.make_room-in-insertions in
-    rw c.end_and_lift.ensures (IsOnWay-next (ceiling_of c.args.ceiling) c.args.range c.requires c.args.store c.insertions.from c.insertions.carrying c.carry-rule.new.carrying c.carry-rule.result c.insertions.invariant c.carry-rule.ensures.carries c.facts.ensures c.carry-rule.ensures.evicts d.new.self (rw c.seek_in.ensures.same at d.ensures.same) (rw c.seek_in.ensures.same at d.ensures.hand) c.in-Some-seek_in.place c.in-Some-seek_in.ensures.finds c.in_default-make_room-2.ensures.column c.in_default-make_room-2.ensures.pending_in)
+    let room = c.in_default-make_room-2.ensures in
+    rw c.end_and_lift.ensures (IsOnWay-next (ceiling_of c.args.ceiling) c.args.range c.args.store c.insertions.from c.in-Some-seek_in.place c.carry-rule.result c.carry-rule.new.carrying c.make_room-in-insertions.new.self (arrives (goal.at.insertions-preserved c).After-facts) (alike (goal.at.insertions-preserved c).After-make_room-in-insertions) c.in-Some-seek_in.ensures.finds room.column room.pending_in)
 
 pub insertions-smaller : goal.insertions-smaller
 insertions-smaller c =
-    let d = c.make_room-in-insertions in
-    rw c.end_and_lift.ensures (left_in-less (ceiling_of c.args.ceiling) c.args.range c.requires c.args.store c.insertions.from c.insertions.carrying c.carry-rule.new.carrying c.carry-rule.result c.insertions.invariant c.carry-rule.ensures.carries c.facts.ensures c.carry-rule.ensures.evicts d.new.self (rw c.seek_in.ensures.same at d.ensures.same) (rw c.seek_in.ensures.same at d.ensures.hand) c.in-Some-seek_in.place c.in-Some-seek_in.ensures.finds c.carry-rule.ensures.cells c.carry-rule.ensures.pending_in)
+    let less = left_in-less (ceiling_of c.args.ceiling) c.args.range c.args.store c.insertions.from c.in-Some-seek_in.place c.carry-rule.result c.carry-rule.new.carrying c.make_room-in-insertions.new.self (arrives (goal.at.insertions-smaller c).After-facts) (alike (goal.at.insertions-smaller c).After-make_room-in-insertions) c.in-Some-seek_in.ensures.finds in
+    rw c.end_and_lift.ensures (rw (c.carry-rule.ensures.cells, c.carry-rule.ensures.pending_in) at less)

@@ -1,20 +1,25 @@
 use Rattle.std.proofs.Common.{sym, ◌∙◌, arith}
 use Rattle.std.proofs.lemmas.Bool.{true≢false}
 use Rattle.crack_row.specs.declared.command.Policy.TheVariants.{Complete}
-use Rattle.crack_state.proofs.MergeLaws.{IsCracked-follows, Merges-untouched}
-use Rattle.crack_merge.proofs.Merging.{Merges-all, Tallies-both}
+use Rattle.crack_state.specs.Merge.{Advances}
+use Rattle.crack_state.proofs.AdvanceLaws.{Advances-trans}
+use Rattle.crack_state.proofs.MergeLaws.{IsCracked-follows, Merges-touched, Merges-untouched}
 use Rattle.crack_merge.proofs.complete.merge_complete.Goals as goal
+use Rattle.crack_merge.proofs.complete.merge_complete.Goals.{After-take_out_all-merged}
 
 pub returns-then-not-is_touched-clause-merges : goal.returns-then-not-is_touched-clause-merges
 returns-then-not-is_touched-clause-merges c =
     Merges-untouched c.args.store c.args.range (omega (arith, c.requires.some)) c.requires.low c.requires.high c.requires.cracked (sym c.is_touched.ensures ∙ c.if-not-is_touched.true) c.facts.ensures
 
+both : (c : After-take_out_all-merged) → Advances Complete c.args.store c.take_out_all-merged.result
+both c = Advances-trans Complete c.args.store c.in-Ok.filled c.take_out_all-merged.result c.in-Ok.ensures.ok.advances c.take_out_all-merged.ensures.takes.advances
+
 pub returns-in-Ok-clause-merges : goal.returns-in-Ok-clause-merges
 returns-in-Ok-clause-merges c =
-    Merges-all c.args.store c.in-Ok.filled c.take_out_all-merged.result c.args.range c.requires.some c.requires.low c.requires.high c.requires.cracked (sym c.is_touched.ensures ∙ c.if-not-is_touched.false) c.in-Ok.ensures.ok c.in-Ok.ensures.all c.take_out_all-merged.ensures.takes c.take_out_all-merged.ensures.all c.facts-in-Ok.ensures
+    Merges-touched c.args.store c.take_out_all-merged.result c.args.range (omega (arith, c.requires.some)) c.requires.low c.requires.high c.requires.cracked (sym c.is_touched.ensures ∙ c.if-not-is_touched.false) (both (goal.at.returns-in-Ok-clause-merges c).After-take_out_all-merged).follows (c.take_out_all-merged.ensures.takes.pending_in ∙ c.in-Ok.ensures.all) c.take_out_all-merged.ensures.all c.facts-in-Ok.ensures
 
 pub returns-in-Ok-clause-tallies : goal.returns-in-Ok-clause-tallies
-returns-in-Ok-clause-tallies c = Tallies-both Complete c.args.store c.in-Ok.filled c.take_out_all-merged.result c.in-Ok.ensures.ok c.take_out_all-merged.ensures.takes
+returns-in-Ok-clause-tallies c = (both (goal.at.returns-in-Ok-clause-tallies c).After-take_out_all-merged).tallies
 
 pub returns-in-Err-clause-stops : goal.returns-in-Err-clause-stops
 returns-in-Err-clause-stops c = c.in-Err.ensures.stops c.args.range

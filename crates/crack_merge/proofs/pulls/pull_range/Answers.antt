@@ -1,5 +1,4 @@
-use Rattle.std.proofs.Common.{length, ap, arith}
-use Rattle.std.proofs.lemmas.List.Edits.{length-remove}
+use Rattle.std.proofs.Common.{arith}
 use Rattle.crack_state.proofs.DrawLaws.{column_some}
 use Rattle.crack_merge.specs.Merges.{begins, pulls}
 use Rattle.crack_merge.proofs.Deleting.{ahead_of_last}
@@ -13,7 +12,7 @@ pub lift_last-requires : goal.lift_last-requires
 lift_last-requires c = rw c.seek_out.ensures (column_some c.deletions.store (omega (arith, (rw c.seek_out.ensures at c.doomed-doomed.ensures).within)) c.facts.ensures)
 
 pub pull-store-requires-clause-ahead : goal.pull-store-requires-clause-ahead
-pull-store-requires-clause-ahead c = rw (c.lift_last.ensures.after, c.seek_out.ensures) (λ place stands. ahead_of_last c.deletions.store c.in-Some.place c.doomed-doomed.result c.facts.ensures (rw c.seek_out.ensures at c.doomed-doomed.ensures) place c.doomed-doomed.result stands)
+pull-store-requires-clause-ahead c = rw (c.lift_last.ensures.after, c.seek_out.ensures) (ahead_of_last c.deletions.store c.in-Some.place c.doomed-doomed.result c.facts.ensures (rw c.seek_out.ensures at c.doomed-doomed.ensures))
 
 pub deletions-preserved : goal.deletions-preserved
 deletions-preserved c =
@@ -21,9 +20,7 @@ deletions-preserved c =
 
 pub deletions-smaller : goal.deletions-smaller
 deletions-smaller c =
-    let stands = rw c.seek_out.ensures at c.doomed-doomed.ensures in
-    let taken = TakesAt-Pulls c.deletions.store c.pull-store.result c.in-Some.place c.doomed-doomed.result c.facts.ensures stands (rw (c.lift_last.ensures.after, c.seek_out.ensures) at c.pull-store.ensures) in
-    omega (arith, ap length taken.pending_out, length-remove c.deletions.store.pending_out c.in-Some.place stands.within)
+    (TakesAt-Pulls c.deletions.store c.in-Some.place c.doomed-doomed.result c.facts.ensures (rw c.seek_out.ensures at c.doomed-doomed.ensures) c.pull-store.result (rw (c.lift_last.ensures.after, c.seek_out.ensures) at c.pull-store.ensures)).fewer
 
 pub returns : goal.returns
 returns c = record { from = c.deletions.from; pulls = c.deletions.invariant; none = c.in_default.ensures }
