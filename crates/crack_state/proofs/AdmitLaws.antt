@@ -7,12 +7,13 @@ use Rattle.std.proofs.lemmas.List.Sorted.{IsPermutation-sym}
 use Rattle.std.proofs.lemmas.List.Sums.{sum_by-set, sum_by_push}
 use Rattle.std.proofs.lemmas.List.{append-nil, get_or-set_other, get_or-set_same, get_or_past, get_or_push, get_or_append_left, length_push}
 use Rattle.std.proofs.lemmas.List.Elements.{filter_map-append, All-nil, All-push, All-set, All-head, All-tail}
+use Rattle.std.proofs.lemmas.Bool.Decides.{nat_tests}
 use Rattle.std.proofs.lemmas.Bool.{cases_eq, cases_lt, ne_eqb, eq-eqb, eqb-true, lt-ltb, le-ltb}
 use Rattle.crack_row.proofs.Lists.{map_fixed, range_with_len-more}
 use Rattle.crack_row.specs.Ranges.{IsIn}
 use Rattle.crack_row.specs.declared.Row.{Row}
 use Rattle.crack_arena.specs.Arena.{Cell, Handle, times, read, cell_at, empty_cell, handle_for, cells_with, slots}
-use Rattle.crack_arena.proofs.Times.{times-nil, times-cons, times_one, times_other, times_head, times-append, times-map-append, times_map_at}
+use Rattle.crack_arena.proofs.Times.{times-nil, times-cons, times_one, times_head, times-append, times-map-append, times_map_at}
 use Rattle.crack_state.specs.State.{State, places, Reads, IsOwned, IsIntact, IsKeyed, IsLiveAt, AreEmpty, HaveKeysIn, handle_of, freed_of, live_at, live_rows}
 use Rattle.crack_state.specs.Steps.{next_handle, admitted, IsAdmissible}
 use Rattle.crack_state.specs.Points.{Maps}
@@ -84,23 +85,9 @@ read_same cells after h g r q fill e found =
 
 once_filled : (s : State) (r : Row) (free : List ℕ) → s.free ≡ free → IsOwned s.cells s.free s.column s.pending_in s.pending_out [] → (n : ℕ) → times n (slots s.column) + times n (slots s.pending_in) + times n ((handle_for s.cells free).slot ∷ []) + times n (drop 1 free) ≡ cond (ltb n (length (cells_with r s.cells free))) 1 0
 once_filled s r [] is owned n =
-    let c : Cell Row = record { generation = 0; value = Some r } in
-    let total = times-places n s.column s.pending_in s.free [] in
-    let before = owned.once n in
     let free_none : times n s.free ≡ 0 = rw is (times-nil n) in
-    elim (cases_eq (length s.cells) n) [
-      | inl e ↦
-          let none : times n (places s []) ≡ 0 = before ∙ rw (le-ltb n (length s.cells) (omega arith)) refl in
-          rw (lt-ltb n (length (s.cells ++ c ∷ [])) (omega (arith, length_push s.cells c)), e) (omega (arith, times_head n [], times-nil n))
-      | inr ne ↦ elim (cases_lt n (length s.cells)) [
-        | inl l ↦
-            let one : times n (places s []) ≡ 1 = before ∙ rw (lt-ltb n (length s.cells) l) refl in
-            rw (lt-ltb n (length (s.cells ++ c ∷ [])) (omega (arith, length_push s.cells c))) (omega (arith, times_other n (length s.cells) ne, times-nil n))
-        | inr l ↦
-            let none : times n (places s []) ≡ 0 = before ∙ rw (le-ltb n (length s.cells) l) refl in
-            rw (le-ltb n (length (s.cells ++ c ∷ [])) (omega (arith, length_push s.cells c, ne))) (omega (arith, times_other n (length s.cells) ne, times-nil n))
-      ]
-    ]
+    let before : times n (slots s.column) + times n (slots s.pending_in) ≡ cond (ltb n (length s.cells)) 1 0 = omega (arith, owned.once n, times-places n s.column s.pending_in s.free [], times-nil n) in
+    rw (length_push s.cells (record { generation = 0; value = Some r }), times_one n (length s.cells), times-nil n, before) (grind (arith, nat_tests))
 once_filled s r (m ∷ ns) is owned n =
     let c : Cell Row = record { generation = (cell_at s.cells m).generation; value = Some r } in
     let free_is : times n s.free ≡ times n (m ∷ ns) = ap (times n) is in
@@ -189,14 +176,15 @@ length_cells-admitted : (row : Row) (s : State) (free : List ℕ) → s.free ≡
 length_cells-admitted row s [] is room few = omega (arith, ap length is, length_push s.cells (record { generation = 0; value = Some row }))
 length_cells-admitted row s (n ∷ ns) is room few = omega (arith, length-set s.cells n (record { generation = (cell_at s.cells n).generation; value = Some row }))
 
-pub IsIntact-admitted : (row : Row) (s : State) → IsAdmissible row s → IsIntact s [] → IsIntact (admitted row s) []
-IsIntact-admitted row s may intact =
+-- the store that a new row leaves, whatever its map looks like
+pub IsIntact-grown : (row : Row) (s t : State) → t ≡ record (admitted row s) { serials = t.serials; in_room = t.in_room } → Maps row.serial.0 (Some (next_handle s)) s.serials t.serials → IsAdmissible row s → IsIntact s [] → IsIntact t []
+IsIntact-grown row s t same maps may intact =
     let owned = intact.owned in
     let h = next_handle s in
     let cells = cells_with row s.cells s.free in
     let fill : Filled s.cells cells h row = filled s row s.free refl owned in
     let off : IsUnused s h.slot = unused s s.free refl owned in
-    record {
+    rw same (record {
       owned = record {
         once = λ n. omega (arith, once_filled s row s.free refl owned n, times-places n s.column (s.pending_in ++ h ∷ []) (drop 1 s.free) [], times-map-append n (λ (x : Handle). x.slot) s.pending_in (h ∷ []), times-nil n);
         column_reads = Reads-off h.slot s.cells cells s.column fill.others off.column owned.column_reads;
@@ -208,13 +196,16 @@ IsIntact-admitted row s may intact =
       obeyed = rw (keys-off h.slot s.cells cells s.column fill.others off.column) intact.obeyed;
       rising = intact.rising;
       inside = intact.inside;
-      keyed = IsKeyed-more s.cells cells (slots s.pending_out) s.serials (admitted row s).serials h row fill off.doomed (vacant s s.free refl intact.empty) may.fresh (handle_of-push s.serials row.serial.0 h may.fresh) intact.keyed;
+      keyed = IsKeyed-more s.cells cells (slots s.pending_out) s.serials t.serials h row fill off.doomed (vacant s s.free refl intact.empty) may.fresh maps intact.keyed;
       empty = AreEmpty-admitted row s s.free refl owned intact.empty;
       within = HaveKeysIn-admitted row s s.free may.within intact.within;
       few_cells = length_cells-admitted row s s.free refl may.cell intact.few_cells;
       few_freed = omega (arith, intact.few_freed, freed_of-admitted row s s.free refl owned);
       counted = intact.counted;
-    }
+    })
+
+pub IsIntact-admitted : (row : Row) (s : State) → IsAdmissible row s → IsIntact s [] → IsIntact (admitted row s) []
+IsIntact-admitted row s may intact = IsIntact-grown row s (admitted row s) refl (handle_of-push s.serials row.serial.0 (next_handle s) may.fresh) may intact
 
 -- commands see the admitted row besides
 pub live_rows-admitted : (row : Row) (s : State) → IsIntact s [] → IsPermutation (row ∷ live_rows s) (live_rows (admitted row s))

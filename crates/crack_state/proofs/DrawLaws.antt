@@ -1,6 +1,7 @@
 -- Where a doomed row stands, as a pull comes nearer to it.
 use Rattle.std.proofs.Common.{◌≡◌, ◌≢◌, ◌⊎◌, ℕ, zero, suc, ◌+◌, ◌-◌, ◌<◌, ◌≤◌, List, [], ◌∷◌, map, length, get_or, Option, Some, None, refl, sym, ap, ◌∙◌, inl, inr, arith, length-set}
 use Rattle.std.specs.List.{All}
+use Rattle.std.proofs.lemmas.Bool.Decides.{nat_tests}
 use Rattle.std.proofs.lemmas.Bool.{cases_eq, cases_lt, eq-eqb, ne_eqb}
 use Rattle.std.proofs.lemmas.List.{length-map, get_or-map, get_or_default, get_or-set_other, length-take-le}
 use Rattle.std.proofs.lemmas.List.Elements.{All-contains, All-map}
@@ -9,7 +10,7 @@ use Rattle.crack_arena.specs.Rows.{key_at}
 use Rattle.crack_arena.proofs.Times.{times-nil, times-cons, times_other, times_head, times-append, times-le-length, times_map_at}
 use Rattle.crack_index.specs.declared.mark.Mark.{Mark}
 use Rattle.crack_index.specs.Marks.{Rising, next_mark, last_mark, start_of, end_of, lowered, lowered_at}
-use Rattle.crack_index.proofs.MarkLaws.{next_mark-is, last_mark-is, lowered_cases, lowered_at_cases}
+use Rattle.crack_index.proofs.MarkLaws.{next_mark-is, last_mark-is}
 use Rattle.crack_state.specs.State.{State, Carried, Reads, IsIntact, column_keys}
 use Rattle.crack_state.specs.Steps.{hand_key, piece_start, piece_end, lower_last, IsDoomed, lifted_last, pulled_back}
 use Rattle.crack_state.proofs.OwnedLaws.{times-places, once-most, hand_apart}
@@ -77,13 +78,7 @@ MetAt-pulled_back c some intact after = by_last (last_mark (hand_key c) c.store.
             piece_start-most (pulled_back c).store (hand_key (pulled_back c)) (m.position - 1) after.rising (rw (marks, key) (All-map (λ (n : Mark). n.bound.0 ≤ key_at s.cells met → n.position ≤ m.position - 1) (lowered m.bound.0 m.position) s.marks (λ k d h low.
                 let n = get_or s.marks k d in
                 let order : n.position ≤ m.position = Divides-order (column_keys s) n m (intact.obeyed k d h) divides (omega (arith, low, below)) in
-                elim (lowered_cases m.bound.0 m.position n) [
-                  | inl down ↦ omega (arith, ap (λ (x : Mark). x.position) down.2, down.1)
-                  | inr same ↦ elim (cases_eq n.position m.position) [
-                    | inl e ↦ absurd (same.1 (omega (arith, low, below)) e)
-                    | inr ne ↦ omega (arith, ap (λ (x : Mark). x.position) same.0, order, ne)
-                  ]
-                ]))),
+                grind (arith, nat_tests)))),
           );
           end = omega (
             arith,
@@ -91,10 +86,7 @@ MetAt-pulled_back c some intact after = by_last (last_mark (hand_key c) c.store.
             piece_end-least (pulled_back c).store (hand_key (pulled_back c)) (m.position - 1) after.rising (omega (arith, within, length-set s.column (piece_start s (hand_key c) - 1) c.hand)) (rw (marks, key) (All-map (λ (n : Mark). key_at s.cells met < n.bound.0 → m.position - 1 ≤ n.position) (lowered m.bound.0 m.position) s.marks (λ k d h high.
                 let n = get_or s.marks k d in
                 let behind = mark_behind s (c.hand ∷ []) k (m.position - 1) d met intact h within read high in
-                elim (lowered_cases m.bound.0 m.position n) [
-                  | inl down ↦ omega (arith, ap (λ (x : Mark). x.position) down.2, down.1)
-                  | inr same ↦ omega (arith, ap (λ (x : Mark). x.position) same.0, behind)
-                ]))),
+                grind (arith, nat_tests)))),
           );
         }
 
@@ -109,10 +101,7 @@ piece_end-lifted_last s some intact after =
     (All-map (λ (n : Mark). key_at s.cells last < n.bound.0 → length (lifted_last s).store.column ≤ n.position) (lowered_at (length s.column)) s.marks (λ k d h high.
     let n = get_or s.marks k d in
     let behind = mark_behind s [] k (length s.column - 1) d last intact h within read high in
-    elim (lowered_at_cases (length s.column) n) [
-      | inl down ↦ omega (arith, ap (λ (x : Mark). x.position) down.1, down.0, shorter)
-      | inr same ↦ omega (arith, ap (λ (x : Mark). x.position) same.1, behind, shorter)
-    ]))
+    grind (arith, nat_tests)))
 
 -- a handle that stands in a list is counted there
 counted : (hs : List Handle) (place : ℕ) (h : Handle) → StandsAt hs place h → 0 < times h.slot (slots hs)

@@ -1,5 +1,5 @@
 -- Which serials lead where, as a row goes; and a serial above those of all live rows isn't in the map.
-use Rattle.std.proofs.Common.{◌≡◌, ◌≢◌, ℕ, ◌<◌, Bool, true, false, eqb, List, [], ◌∷◌, filter, length, cond, Option, Some, None, refl, sym, ap, ◌∙◌, inl, inr, arith, zero-add}
+use Rattle.std.proofs.Common.{◌≡◌, ◌≢◌, ℕ, ◌<◌, eqb, List, [], ◌∷◌, filter, length, Option, Some, None, refl, sym, ap, ◌∙◌, inl, inr, arith, zero-add}
 use Rattle.std.specs.Prelude.{unwrap_or, not}
 use Rattle.std.proofs.lemmas.Bool.{cases_eq, ne_eqb, eq-eqb}
 use Rattle.std.specs.List.{All, Contains, range_with_len}
@@ -10,7 +10,7 @@ use Rattle.crack_row.specs.declared.Row.{Row}
 use Rattle.crack_arena.specs.Arena.{Cell, Handle, times, read, slots}
 use Rattle.crack_state.specs.State.{State, IsIntact, IsKeyed, IsLiveAt, handle_of, live_at, live_rows}
 use Rattle.crack_state.specs.Points.{Maps}
-use Rattle.crack_state.proofs.LiveLaws.{Hides}
+use Rattle.crack_state.proofs.LiveLaws.{none_either, Hides}
 use Rattle.crack_state.proofs.CellLaws.{read-off, reads_some, one_handle, read-value, cell_within}
 
 -- a row that a handle reads is live, unless it is doomed
@@ -48,12 +48,12 @@ maps_other serial n o serials after maps ne = maps n ∙ rw (ne_eqb serial n ne)
 pub maps_this : (serial n : ℕ) (o : Option Handle) (serials after : List (ℕ × Handle)) → Maps serial o serials after → serial ≡ n → handle_of after n ≡ o
 maps_this serial n o serials after maps e = maps n ∙ rw (eq-eqb serial n e) refl
 
--- maps that answer alike lead alike
-pub IsKeyed-alike : (cells : List (Cell Row)) (doomed : List ℕ) (serials after : List (ℕ × Handle)) → ((n : ℕ) → handle_of after n ≡ handle_of serials n) → IsKeyed cells doomed serials → IsKeyed cells doomed after
-IsKeyed-alike cells doomed serials after alike keyed = record {
-  leads = λ n g found. keyed.leads n g (sym (alike n) ∙ found);
-  lists = λ g r found kept. alike r.serial.0 ∙ keyed.lists g r found kept;
-}
+-- after one change at a serial another at it
+pub Maps-over : (serial : ℕ) (o p : Option Handle) (serials between after : List (ℕ × Handle)) → Maps serial o serials between → Maps serial p serials after → Maps serial p between after
+Maps-over serial o p serials between after first second n = elim (cases_eq serial n) [
+  | inl e ↦ rw (eq-eqb serial n e) (maps_this serial n p serials after second e)
+  | inr ne ↦ rw (ne_eqb serial n ne) (maps_other serial n p serials after second ne ∙ sym (maps_other serial n o serials between first ne))
+]
 
 -- a row goes: its cell shows none, and no serial leads there
 pub IsKeyed-less : (cells after : List (Cell Row)) (doomed left : List ℕ) (serials later : List (ℕ × Handle)) (slot : ℕ) → Hides cells after doomed left slot → ((n : ℕ) (g : Handle) → handle_of later n ≡ Some g → (g.slot ≢ slot) × (handle_of serials n ≡ Some g)) → ((n : ℕ) (g : Handle) → g.slot ≢ slot → handle_of serials n ≡ Some g → handle_of later n ≡ Some g) → IsKeyed cells doomed serials → IsKeyed after left later
@@ -87,11 +87,7 @@ abbrev pub forgotten : ℕ → List (ℕ × Handle) → List (ℕ × Handle)
 forgotten serial serials = filter (λ (e : ℕ × Handle). not (eqb serial e.0)) serials
 
 pub Maps-forgotten : (serial : ℕ) (serials : List (ℕ × Handle)) → Maps serial None serials (forgotten serial serials)
-Maps-forgotten serial [] n = by_test (eqb serial n)
-  where
-    by_test : (b : Bool) → None ≡ cond {A = Option Handle} b None None
-    by_test true = refl
-    by_test false = refl
+Maps-forgotten serial [] n = sym (none_either (eqb serial n))
 Maps-forgotten serial (e ∷ es) n =
     let rest = Maps-forgotten serial es n in
     elim (cases_eq serial e.0) [

@@ -1,24 +1,24 @@
 -- What commands see, as cells get and lose rows and rows are doomed; and that it is what column, pending insertions and hand hold.
 use Rattle.std.proofs.Common.{◌≡◌, ◌≢◌, ℕ, zero, suc, ◌+◌, ◌<◌, Bool, true, false, ltb, List, [], ◌∷◌, ◌++◌, length, get_or, set, cond, Option, Some, None, refl, sym, ap, ◌∙◌, inl, inr, arith, zero-add}
 use Rattle.std.specs.Prelude.{◌==◌}
-use Rattle.std.specs.List.{All, cons_option, filter_map, range_with_len}
+use Rattle.std.specs.List.{All, filter_map, range_with_len}
 use Rattle.std.specs.List.Sorted.{IsPermutation}
 use Rattle.std.specs.Option.{IfSome}
 use Rattle.std.proofs.lemmas.List.Sorted.{IsPermutation-refl, IsPermutation-cons, IsPermutation-trans, IsPermutation-middle, IsPermutation-sym}
-use Rattle.std.proofs.lemmas.List.{append-nil, get_or_past, get_or-set_same}
+use Rattle.std.proofs.lemmas.List.{append-nil, get_or-set_same}
 use Rattle.std.proofs.lemmas.List.Elements.{filter_map-append}
 use Rattle.std.proofs.lemmas.Bool.Decides.{nat_tests}
-use Rattle.std.proofs.lemmas.Bool.{cases_eq, cases_lt, lt-ltb, le-ltb}
+use Rattle.std.proofs.lemmas.Bool.{eq-eqb, eqb-true, cases_eq, lt-ltb, le-ltb}
 use Rattle.crack_row.proofs.Lists.{range_with_len-more, filter_map_agree, filter_map_none, filter_map-map, All-filter_map, IsPermutation-filter_map}
 use Rattle.crack_row.specs.Ranges.{IsIn}
 use Rattle.crack_row.specs.declared.Row.{Row}
-use Rattle.crack_arena.specs.Arena.{Cell, Handle, times, cell_at, empty_cell, slots}
+use Rattle.crack_arena.specs.Arena.{Cell, Handle, times, read, cell_at, empty_cell, slots}
 use Rattle.crack_arena.proofs.Times.{times-nil, times-cons, times_one, times_other, times_head, times_apart, times-append}
 use Rattle.crack_state.specs.State.{State, places, Reads, IsOwned, IsIntact, AreEmpty, live_at, live_rows, live_read, live_among}
-use Rattle.crack_state.proofs.CellLaws.{AgreeOff, AgreeOff-set, read_is_value}
+use Rattle.crack_state.proofs.CellLaws.{AgreeOff, AgreeOff-set, read_is_value, read-value, cell_within}
 
 -- nothing, whatever the test says: what a cell without a value shows, doomed or not
-pub none_either : (b : Bool) → cond {A = Option Row} b None None ≡ None
+pub none_either : {X : Type 0} (b : Bool) → cond {A = Option X} b None None ≡ None
 none_either true = refl
 none_either false = refl
 
@@ -28,23 +28,6 @@ filter_map-off f g n [] agree none = refl
 filter_map-off f g n (m ∷ ms) agree none =
     let apart = times_apart n m ms none in
     rw (agree m apart.0, filter_map-off f g n ms agree apart.1) refl
-
--- where the one has a row at a number that stands in the list once, the other has none, and they agree at all others, that row
--- is the difference
-pub filter_map-less : (f g : ℕ → Option Row) (n : ℕ) (r : Row) (ns : List ℕ) → f n ≡ Some r → g n ≡ None → ((k : ℕ) → k ≢ n → f k ≡ g k) → times n ns ≡ 1 → IsPermutation (filter_map f ns) (r ∷ filter_map g ns)
-filter_map-less f g n r [] had lacks agree once = absurd (omega (arith, times-nil n))
-filter_map-less f g n r (m ∷ ms) had lacks agree once = elim (cases_eq m n) [
-  | inl e ↦
-      let rest : filter_map f ms ≡ filter_map g ms = filter_map-off f g n ms agree (omega (arith, once, times-cons n m ms, times_one n m, ap (λ k. times n (k ∷ [])) e, times_head n [], times-nil n)) in
-      rw (e, had, lacks, rest) (IsPermutation-refl (r ∷ filter_map g ms))
-  | inr ne ↦
-      let rest = filter_map-less f g n r ms had lacks agree (omega (arith, once, times-cons n m ms, times_one n m, times_other n m ne)) in
-      rw (agree m ne) (by_head (g m) (filter_map f ms) (filter_map g ms) rest)
-]
-  where
-    by_head : (o : Option Row) (xs ys : List Row) → IsPermutation xs (r ∷ ys) → IsPermutation (cons_option o xs) (r ∷ cons_option o ys)
-    by_head None xs ys p = p
-    by_head (Some x) xs ys p = IsPermutation-trans (x ∷ xs) (x ∷ r ∷ ys) (r ∷ x ∷ ys) (IsPermutation-cons x xs (r ∷ ys) p) (IsPermutation-middle (x ∷ []) r ys)
 
 -- a list split at an element
 pub record Split (x : ℕ) (ys : List ℕ) : Type 0 where
@@ -60,6 +43,17 @@ split_at_member x (y ∷ ys) some = elim (cases_eq y x) [
       let rest = split_at_member x ys (omega (arith, times-cons x y ys, times_one x y, times_other x y ne)) in
       record { front = y ∷ rest.front; back = rest.back; is = ap (λ zs. y ∷ zs) rest.is }
 ]
+
+-- where the one has a row at a number that stands in the list once, the other has none, and they agree at all others, that row
+-- is the difference
+pub filter_map-less : (f g : ℕ → Option Row) (n : ℕ) (r : Row) (ns : List ℕ) → f n ≡ Some r → g n ≡ None → ((k : ℕ) → k ≢ n → f k ≡ g k) → times n ns ≡ 1 → IsPermutation (filter_map f ns) (r ∷ filter_map g ns)
+filter_map-less f g n r ns had lacks agree once =
+    let at = split_at_member n ns (omega (arith, once)) in
+    let sums = times-append n at.front (n ∷ at.back) in
+    let total : times n (at.front ++ n ∷ at.back) ≡ 1 = rw at.is at once in
+    let front = filter_map-off f g n at.front agree (omega (arith, times_head n at.back)) in
+    let back = filter_map-off f g n at.back agree (omega (arith, times_head n at.back)) in
+    rw (at.is, filter_map-append f at.front (n ∷ at.back), filter_map-append g at.front (n ∷ at.back), had, lacks, front, back) (IsPermutation-middle (filter_map g at.front) r (filter_map g at.back))
 
 -- lists in which each number stands equally often are the same, in some order
 pub IsPermutation-times : (xs ys : List ℕ) → ((n : ℕ) → times n xs ≡ times n ys) → IsPermutation xs ys
@@ -99,6 +93,17 @@ live_rows-less s t slot row hides long within had =
     let once : times slot (range_with_len 0 (length s.cells)) ≡ 1 = times-range slot (length s.cells) ∙ rw (lt-ltb slot (length s.cells) within) refl in
     rw long (IsPermutation-sym (live_rows s) _ (filter_map-less before after slot row (range_with_len 0 (length s.cells)) had hides.none (λ k ne. live_at-off s.cells t.cells (slots s.pending_out) (slots t.pending_out) slot k hides ne) once))
 
+-- what holds of each row that a handle reads and that isn't doomed holds of all that cells show
+pub All-live_at : (P : Row → Type 0) (cells : List (Cell Row)) (doomed numbers : List ℕ) → ((h : Handle) (r : Row) → read cells h ≡ Some r → times h.slot doomed ≡ 0 → P r) → All P (filter_map (live_at cells doomed) numbers)
+All-live_at P cells doomed numbers each = All-filter_map P (live_at cells doomed) numbers (λ n. by_value n (times n doomed == 0) (cell_at cells n).value refl refl)
+  where
+    by_value : (n : ℕ) (b : Bool) (o : Option Row) → (times n doomed == 0) ≡ b → (cell_at cells n).value ≡ o → IfSome (cond b o None) P
+    by_value n false o kept is = tt
+    by_value n true None kept is = tt
+    by_value n true (Some r) kept is =
+        let h : Handle = record { slot = n; generation = (cell_at cells n).generation } in
+        each h r (rw (eq-eqb h.generation h.generation refl) is) (eqb-true (times n doomed) 0 kept)
+
 -- what is given of the cells' numbers is, in some order, what is given of those in all places
 pub IsPermutation-places : {X : Type 0} (f : ℕ → Option X) (s : State) (hand : List Handle) → IsOwned s.cells s.free s.column s.pending_in s.pending_out hand → IsPermutation (filter_map f (range_with_len 0 (length s.cells))) (filter_map f (places s hand))
 IsPermutation-places f s hand owned = IsPermutation-filter_map f (range_with_len 0 (length s.cells)) (places s hand) (IsPermutation-times (range_with_len 0 (length s.cells)) (places s hand) (λ n. times-range n (length s.cells) ∙ sym (owned.once n)))
@@ -121,17 +126,5 @@ live_rows-among s hand intact =
 
 -- the keys of the live rows are the partition's
 pub live_rows-within : (s : State) → IsIntact s [] → All (λ (r : Row). IsIn s.keys r.key.0) (live_rows s)
-live_rows-within s intact = All-filter_map (λ (r : Row). IsIn s.keys r.key.0) (live_at s.cells (slots s.pending_out)) (range_with_len 0 (length s.cells)) (λ n. by_test (times n (slots s.pending_out) == 0) (cell_at s.cells n).value (value n))
-  where
-    In : Option Row → Type 0
-    In o = IfSome o (λ r. IsIn s.keys r.key.0)
-
-    value : (n : ℕ) → In (cell_at s.cells n).value
-    value n = elim (cases_lt n (length s.cells)) [
-      | inl l ↦ intact.within n empty_cell l
-      | inr l ↦ rw (get_or_past s.cells n empty_cell l) tt
-    ]
-
-    by_test : (b : Bool) (o : Option Row) → In o → In (cond b o None)
-    by_test true o given = given
-    by_test false o given = tt
+live_rows-within s intact = All-live_at (λ (r : Row). IsIn s.keys r.key.0) s.cells (slots s.pending_out) (range_with_len 0 (length s.cells)) (λ h r reads kept.
+    rw (read-value s.cells h r reads) at (intact.within h.slot empty_cell (cell_within s.cells h r reads)))

@@ -1,18 +1,19 @@
 -- What a look-up of a serial tells of the live rows, and of any list of them; and how such a list changes.
-use Rattle.std.proofs.Common.{◌≡◌, ◌≢◌, ℕ, Bool, true, false, List, [], ◌∷◌, map, filter, length, get_or, cond, Option, Some, None, IsSome, refl, sym, ap, ◌∙◌}
-use Rattle.std.specs.Prelude.{◌==◌, IfSome, unwrap_or, is_some}
+use Rattle.std.proofs.Common.{◌≡◌, ◌≢◌, ℕ, Bool, true, false, List, [], ◌∷◌, map, filter, length, get_or, Option, Some, None, IsSome, refl, sym, ap, ◌∙◌}
+use Rattle.std.specs.Prelude.{◌==◌, unwrap_or, is_some}
 use Rattle.std.specs.List.{All, Contains, find, range_with_len}
 use Rattle.std.specs.List.Sorted.{IsPermutation}
 use Rattle.std.specs.Option.{option_and_then}
 use Rattle.std.proofs.lemmas.List.Sorted.{All-permutation, Contains-permutation, IsPermutation-sym, IsPermutation-trans, IsPermutation-map}
 use Rattle.std.proofs.lemmas.Bool.{ne_eqb, eq-eqb, eqb-true, true≢false}
-use Rattle.crack_row.proofs.Lists.{All-filter_map, IsPermutation-filter, filter_all, find_only, find_none}
+use Rattle.crack_row.proofs.Lists.{IsPermutation-filter, filter_all, find_only, find_none}
 use Rattle.crack_row.specs.Rows.{is_other, replaced}
 use Rattle.crack_row.specs.declared.Row.{Row}
-use Rattle.crack_arena.specs.Arena.{Handle, times, read, cell_at, slots}
-use Rattle.crack_state.specs.State.{State, IsIntact, IsLiveAt, handle_of, live_at, live_rows}
+use Rattle.crack_arena.specs.Arena.{Handle, read, slots}
+use Rattle.crack_state.specs.State.{State, IsIntact, IsLiveAt, handle_of, live_rows}
 use Rattle.crack_state.specs.Points.{row_by, pending_by, handle_by, Cancels, Dooms}
 use Rattle.crack_state.proofs.KeyedLaws.{Contains-live}
+use Rattle.crack_state.proofs.LiveLaws.{All-live_at}
 use Rattle.crack_state.proofs.PointLaws.{found_by, reads_by, others_live}
 
 -- the row that a serial leads to is a live one, and of this serial
@@ -48,22 +49,9 @@ row_by-none s serial none intact = others_live s.cells (slots s.pending_out) s.s
 
 -- no other live row has its serial
 pub row_by-only : (s : State) (serial : ℕ) (row : Row) → row_by s serial ≡ Some row → IsIntact s [] → All (λ (r : Row). r.serial.0 ≡ serial → r ≡ row) (live_rows s)
-row_by-only s serial row is intact =
-    All-filter_map Same (live_at s.cells (slots s.pending_out)) (range_with_len 0 (length s.cells)) (λ n. by_value n (times n (slots s.pending_out) == 0) (cell_at s.cells n).value refl refl)
-  where
-    Same : Row → Type 0
-    Same r = r.serial.0 ≡ serial → r ≡ row
-
-    by_value : (n : ℕ) (b : Bool) (o : Option Row) → (times n (slots s.pending_out) == 0) ≡ b → (cell_at s.cells n).value ≡ o → IfSome (cond b o None) Same
-    by_value n false o kept value = tt
-    by_value n true None kept value = tt
-    by_value n true (Some r) kept value = λ e.
-        let h : Handle = record { slot = n; generation = (cell_at s.cells n).generation } in
-        let reads : read s.cells h ≡ Some r = rw (eq-eqb h.generation h.generation refl) value in
-        let leads = intact.keyed.lists h r reads (eqb-true (times n (slots s.pending_out)) 0 kept) in
-        let at : handle_of s.serials serial ≡ Some h = ap (handle_of s.serials) (sym e) ∙ leads in
-        let found : Some r ≡ Some row = sym reads ∙ sym (row_by-handle s serial h at) ∙ is in
-        ap (λ (o : Option Row). unwrap_or o row) found
+row_by-only s serial row is intact = All-live_at (λ (r : Row). r.serial.0 ≡ serial → r ≡ row) s.cells (slots s.pending_out) (range_with_len 0 (length s.cells)) (λ h r reads kept e.
+    let found : Some r ≡ Some row = sym reads ∙ sym (row_by-handle s serial h (ap (handle_of s.serials) (sym e) ∙ intact.keyed.lists h r reads kept)) ∙ is in
+    ap (λ (o : Option Row). unwrap_or o row) found)
 
 -- so a look-up finds what a search of any list of the live rows finds
 pub row_by-find : (s : State) (serial : ℕ) (plain : List Row) → IsIntact s [] → IsPermutation (live_rows s) plain → row_by s serial ≡ find (λ (r : Row). r.serial.0 == serial) plain

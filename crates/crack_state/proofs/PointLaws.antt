@@ -1,28 +1,28 @@
 -- What the commands on one row do to a store: it stays intact, one live row goes or is replaced, and no other changes.
-use Rattle.std.proofs.Common.{◌≡◌, ◌≢◌, ℕ, ◌+◌, ◌<◌, ◌≤◌, Bool, true, false, ltb, List, [], ◌∷◌, ◌++◌, map, length, get_or, set, cond, Option, Some, None, refl, sym, ap, ◌∙◌, inl, inr, arith, length-set}
-use Rattle.std.specs.Prelude.{◌==◌, IfSome, unwrap_or, is_some}
-use Rattle.std.specs.List.{All, filter_map, range_with_len}
+use Rattle.std.proofs.Common.{◌≡◌, ◌≢◌, ℕ, ◌+◌, ◌<◌, ◌≤◌, Bool, true, false, ltb, List, [], ◌∷◌, map, length, get_or, set, Option, Some, None, refl, sym, ap, ◌∙◌, inl, inr, arith, length-set}
+use Rattle.std.specs.Prelude.{IfSome, unwrap_or, is_some}
+use Rattle.std.specs.List.{All, Contains, filter_map, range_with_len}
 use Rattle.std.specs.List.Sorted.{IsPermutation}
 use Rattle.std.specs.Option.{option_map}
 use Rattle.std.proofs.lemmas.List.{get_or-set_same, length_push}
 use Rattle.std.proofs.lemmas.List.Elements.{All-nil, All-push, All-set, All-contains, Contains-append_right}
 use Rattle.std.proofs.lemmas.List.Sorted.{IsPermutation-sym, IsPermutation-trans, IsPermutation-map}
 use Rattle.std.proofs.lemmas.List.Sums.{sum_by-set}
-use Rattle.std.proofs.lemmas.Bool.{cases_eq, cases_lt, ne_eqb, eq-eqb, eqb-true, lt-ltb, true≢false}
-use Rattle.crack_row.proofs.Lists.{All-removed, All-filter_map, map_fixed}
+use Rattle.std.proofs.lemmas.Bool.{ltb-false, cases_eq, cases_lt, ne_eqb, eq-eqb, lt-ltb, true≢false}
+use Rattle.crack_row.proofs.Lists.{All-removed, map_fixed}
 use Rattle.crack_row.specs.Ranges.{IsIn}
 use Rattle.crack_row.specs.Rows.{replaced}
 use Rattle.crack_row.specs.declared.Row.{Row}
 use Rattle.crack_arena.specs.Arena.{Cell, Handle, StandsAt, times, read, cell_at, empty_cell, slots, no_handle, place_in}
 use Rattle.crack_arena.proofs.Times.{times-nil, times_other, times_head, times-append, times-map-append}
 use Rattle.crack_state.specs.State.{State, places, Reads, IsIntact, IsKeyed, IsLiveAt, AreEmpty, handle_of, freed_of, live_at, live_rows}
-use Rattle.crack_state.specs.Steps.{next_handle, admitted, SameButRoom}
+use Rattle.crack_state.specs.Steps.{next_handle, SameButRoom}
 use Rattle.crack_state.specs.Points.{pending_by, handle_by, Maps, MayFree, struck, doomed_too, overwritten, renewed, Cancels, Dooms, Renews, Rewrites, IsRenewable, IsRewritable}
 use Rattle.crack_state.proofs.OwnedLaws.{times-taken, times-places}
 use Rattle.crack_state.proofs.CellLaws.{AgreeOff-set, read-off, keys-off, generation_of_read, reads_some, one_handle, stands_there, read-value, cell_within}
-use Rattle.crack_state.proofs.LiveLaws.{Hides, Hides-emptied, live_rows-less, split_at_member}
-use Rattle.crack_state.proofs.KeyedLaws.{maps_other, maps_this, IsKeyed-alike, IsKeyed-lost, forgotten, Maps-forgotten}
-use Rattle.crack_state.proofs.AdmitLaws.{Filled, handle_of-push, IsKeyed-more, IsIntact-admitted, live_rows-admitted, freed-admitted, cells-admitted}
+use Rattle.crack_state.proofs.LiveLaws.{All-live_at, Hides, Hides-emptied, live_rows-less, split_at_member}
+use Rattle.crack_state.proofs.KeyedLaws.{maps_this, Maps-over, IsKeyed-lost, forgotten, Maps-forgotten}
+use Rattle.crack_state.proofs.AdmitLaws.{Filled, IsKeyed-more, IsIntact-grown, live_rows-admitted, freed-admitted, cells-admitted}
 use Rattle.crack_state.proofs.BuryLaws.{freed_of-emptied, IsIntact-freed}
 
 -- the handle that a serial leads to, and whether it is a pending insertion
@@ -55,12 +55,13 @@ pub record Stands1 (s : State) (serial : ℕ) (h : Handle) : Type 0 where
 -- the number of a cell with a value is none of the free ones
 full-off_free : (cells : List (Cell Row)) (n : ℕ) (r : Row) (free : List ℕ) → (cell_at cells n).value ≡ Some r → AreEmpty cells free → times n free ≡ 0
 full-off_free cells n r free full empty = elim (cases_lt 0 (times n free)) [
-  | inl l ↦ let there = split_at_member n free l in absurd (let none : (cell_at cells n).value ≡ None = listed_empty there.front there.back (rw there.is at empty) in cc)
+  | inl l ↦
+      let there = split_at_member n free l in
+      let listed : Contains free n = rw there.is (Contains-append_right there.front (n ∷ there.back) n (0, omega arith, refl)) in
+      let none = All-contains (λ m. (cell_at cells m).value ≡ None) free n empty listed in
+      absurd (cc)
   | inr l ↦ omega arith
 ]
-  where
-    listed_empty : (front back : List ℕ) → AreEmpty cells (front ++ n ∷ back) → (cell_at cells n).value ≡ None
-    listed_empty front back empty = All-contains (λ m. (cell_at cells m).value ≡ None) (front ++ n ∷ back) n empty (Contains-append_right front (n ∷ back) n (0, omega arith, refl))
 
 pub stands1 : (s : State) (serial : ℕ) (h : Handle) → handle_of s.serials serial ≡ Some h → IsIntact s [] → Stands1 s serial h
 stands1 s serial h found intact =
@@ -78,13 +79,7 @@ reads_by s serial h found intact =
 
 -- a row that is no pending insertion isn't listed there
 pub unlisted_by : (s : State) (serial : ℕ) → FoundBy s serial false → times (handle_by s serial).slot (slots s.pending_in) ≡ 0
-unlisted_by s serial found = by_number (times (handle_by s serial).slot (slots s.pending_in)) found.test
-  where
-    by_number : (n : ℕ) → ltb 0 n ≡ false → n ≡ 0
-    by_number n is = elim (cases_lt 0 n) [
-      | inl l ↦ absurd (true≢false (sym (lt-ltb 0 n l) ∙ is))
-      | inr l ↦ omega arith
-    ]
+unlisted_by s serial found = omega (arith, ltb-false 0 (times (handle_by s serial).slot (slots s.pending_in)) found.test)
 
 -- a pending insertion stands at the first place of its cell
 pub listed_at : (s : State) (serial : ℕ) (h : Handle) → handle_of s.serials serial ≡ Some h → 0 < times h.slot (slots s.pending_in) → IsIntact s [] → StandsAt s.pending_in (place_in s.pending_in h.slot) h
@@ -195,11 +190,8 @@ IsKeyed-rewritten s h row found intact =
     let less = set s.cells h.slot none in
     let lost = IsKeyed-lost s.cells less doomed doomed s.serials between serial h (hides_struck s serial h found intact) found gone intact.keyed in
     let fill : Filled less (set s.cells h.slot full) h row = record { cell = get_or-set_same s.cells h.slot full empty_cell known.within; others = λ m ne. AgreeOff-set s.cells h.slot full m ne ∙ sym (AgreeOff-set s.cells h.slot none m ne) } in
-    let back : Maps serial (Some h) between s.serials = λ n. elim (cases_eq serial n) [
-      | inl e ↦ rw (eq-eqb serial n e) (ap (handle_of s.serials) (sym e) ∙ found)
-      | inr ne ↦ rw (ne_eqb serial n ne) (sym (maps_other serial n None s.serials between gone ne))
-    ] in
-    IsKeyed-more less (set s.cells h.slot full) doomed between s.serials h row fill known.live.kept (ap (λ (x : Cell Row). x.value) (get_or-set_same s.cells h.slot none empty_cell known.within)) (maps_this serial serial None s.serials between gone refl) back lost
+    let own : Maps serial (Some h) s.serials s.serials = λ n. elim (cases_eq serial n) [ inl e ↦ rw (eq-eqb serial n e) (ap (handle_of s.serials) (sym e) ∙ found) | inr ne ↦ rw (ne_eqb serial n ne) refl ] in
+    IsKeyed-more less (set s.cells h.slot full) doomed between s.serials h row fill known.live.kept (ap (λ (x : Cell Row). x.value) (get_or-set_same s.cells h.slot none empty_cell known.within)) (maps_this serial serial None s.serials between gone refl) (Maps-over serial None (Some h) s.serials between s.serials gone own) lost
 
 -- the store that a write in place leaves
 pub IsIntact-rewritten : (s : State) (h : Handle) (row : Row) → handle_of s.serials row.serial.0 ≡ Some h → 0 < times h.slot (slots s.pending_in) → IsIn s.keys row.key.0 → IsIntact s [] → IsIntact (overwritten row h s) []
@@ -248,41 +240,13 @@ IsIntact-renewed s h row after found unlisted maps inside may intact =
     let serial = row.serial.0 in
     let d = between_doomed row h s in
     let gone = Maps-forgotten serial s.serials in
-    let fresh : handle_of d.serials serial ≡ None = maps_this serial serial None s.serials (forgotten serial s.serials) gone refl in
-    let new = IsIntact-admitted row d (record { fresh = fresh; within = inside; cell = may.cell }) (IsIntact-between s h row found unlisted may.few intact) in
-    let alike : (n : ℕ) → handle_of after n ≡ handle_of (admitted row d).serials n = λ n. elim (cases_eq serial n) [
-      | inl e ↦ maps_this serial n (Some (next_handle s)) s.serials after maps e ∙ sym (handle_of-push d.serials serial (next_handle s) fresh n ∙ rw (eq-eqb serial n e) refl)
-      | inr ne ↦ maps_other serial n (Some (next_handle s)) s.serials after maps ne ∙ sym (handle_of-push d.serials serial (next_handle s) fresh n ∙ rw (ne_eqb serial n ne) (maps_other serial n None s.serials d.serials gone ne))
-    ] in
-    record {
-      owned = new.owned;
-      obeyed = new.obeyed;
-      rising = new.rising;
-      inside = new.inside;
-      keyed = IsKeyed-alike (admitted row d).cells (slots d.pending_out) (admitted row d).serials after alike new.keyed;
-      empty = new.empty;
-      within = new.within;
-      few_cells = new.few_cells;
-      few_freed = new.few_freed;
-      counted = new.counted;
-    }
+    let fresh : handle_of d.serials serial ≡ None = maps_this serial serial None s.serials d.serials gone refl in
+    IsIntact-grown row d (record (renewed row h s) { serials = after }) refl (Maps-over serial None (Some (next_handle s)) s.serials d.serials after gone maps) (record { fresh = fresh; within = inside; cell = may.cell }) (IsIntact-between s h row found unlisted may.few intact)
 
 -- where a serial isn't in the map, no live row has it
 pub others_live : (cells : List (Cell Row)) (doomed : List ℕ) (serials : List (ℕ × Handle)) (serial : ℕ) (numbers : List ℕ) → handle_of serials serial ≡ None → IsKeyed cells doomed serials → All (λ (r : Row). r.serial.0 ≢ serial) (filter_map (live_at cells doomed) numbers)
-others_live cells doomed serials serial numbers none keyed = All-filter_map Other (live_at cells doomed) numbers (λ n. by_value n (times n doomed == 0) (cell_at cells n).value refl refl)
-  where
-    Other : Row → Type 0
-    Other r = r.serial.0 ≢ serial
-
-    by_value : (n : ℕ) (b : Bool) (o : Option Row) → (times n doomed == 0) ≡ b → (cell_at cells n).value ≡ o → IfSome (cond b o None) Other
-    by_value n false o kept is = tt
-    by_value n true None kept is = tt
-    by_value n true (Some r) kept is = λ e.
-        let h : Handle = record { slot = n; generation = (cell_at cells n).generation } in
-        let reads : read cells h ≡ Some r = rw (eq-eqb h.generation h.generation refl) is in
-        let leads = keyed.lists h r reads (eqb-true (times n doomed) 0 kept) in
-        let same = ap (handle_of serials) e in
-        true≢false (ap is_some (sym leads ∙ same ∙ none))
+others_live cells doomed serials serial numbers none keyed = All-live_at (λ (r : Row). r.serial.0 ≢ serial) cells doomed numbers (λ h r reads kept e.
+    true≢false (ap is_some (sym (keyed.lists h r reads kept) ∙ ap (handle_of serials) e ∙ none)))
 
 -- a list without the serial of a row stays where that row is put in its place
 map-replaced : (row : Row) (rows : List Row) → All (λ (r : Row). r.serial.0 ≢ row.serial.0) rows → map (replaced row) rows ≡ rows
