@@ -145,7 +145,7 @@ IsKeyed-more cells after doomed serials later h row fill off empty fresh maps ke
 }
 
 -- numbers that aren't in a list are none of its elements
-apart_numbers : (ns : List ℕ) (n : ℕ) → times n ns ≡ 0 → All (λ m. m ≢ n) ns
+pub apart_numbers : (ns : List ℕ) (n : ℕ) → times n ns ≡ 0 → All (λ m. m ≢ n) ns
 apart_numbers ns n none = λ k d within same.
     let listed = rw (map_fixed (λ (m : ℕ). m) ns (λ j c i. refl)) at (times_map_at n (λ (m : ℕ). m) ns k d within same) in
     absurd (omega (arith, none, listed))

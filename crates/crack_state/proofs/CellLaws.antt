@@ -1,9 +1,9 @@
 -- What handles read, as a cell or a place changes.
-use Rattle.std.proofs.Common.{◌≡◌, ◌≢◌, ℕ, ◌<◌, List, map, length, get_or, set, cond, Bool, true, false, eqb, Some, None, IsSome, refl, sym, ap, ◌∙◌, inl, inr}
+use Rattle.std.proofs.Common.{◌≡◌, ◌≢◌, ℕ, ◌<◌, List, Option, map, length, get_or, set, true, false, eqb, Some, None, IsSome, refl, sym, ap, ◌∙◌, inl, inr}
 use Rattle.std.specs.List.{All}
 use Rattle.std.proofs.lemmas.List.{get_or-set_other, get_or_past}
 use Rattle.std.proofs.lemmas.List.Elements.{All-get_or}
-use Rattle.std.proofs.lemmas.Bool.{cases_lt, true≢false, eqb-true, eq-eqb}
+use Rattle.std.proofs.lemmas.Bool.{cases_Bool, cases_lt, true≢false, eqb-true, eq-eqb}
 use Rattle.crack_row.proofs.Lists.{map_agree}
 use Rattle.crack_row.specs.declared.Row.{Row}
 use Rattle.crack_arena.specs.Arena.{Cell, Handle, StandsAt, times, read, cell_at, empty_cell, slots, place_in}
@@ -16,13 +16,20 @@ use Rattle.crack_state.proofs.OwnedLaws.{apart_from_times}
 pub reads_some : (cells : List (Cell Row)) (h : Handle) (r : Row) → read cells h ≡ Some r → Reads cells h
 reads_some cells h r is = rw is refl
 
+-- the row that is read
+pub row_read : (cells : List (Cell Row)) (h : Handle) → Reads cells h → (r : Row) × (read cells h ≡ Some r)
+row_read cells h reads = by_value (read cells h) refl reads
+  where
+    by_value : (o : Option Row) → read cells h ≡ o → IsSome o → (r : Row) × (read cells h ≡ Some r)
+    by_value None is some = absurd (true≢false (sym some))
+    by_value (Some r) is some = (r, is)
+
 -- a cell that a handle reads has the handle's generation
 pub generation_of_read : (cells : List (Cell Row)) (h : Handle) → Reads cells h → (cell_at cells h.slot).generation ≡ h.generation
-generation_of_read cells h reads = by_test (eqb (cell_at cells h.slot).generation h.generation) refl reads
-  where
-    by_test : (b : Bool) → eqb (cell_at cells h.slot).generation h.generation ≡ b → IsSome (cond b (cell_at cells h.slot).value None) → (cell_at cells h.slot).generation ≡ h.generation
-    by_test true is some = eqb-true (cell_at cells h.slot).generation h.generation is
-    by_test false is some = absurd (true≢false (sym some))
+generation_of_read cells h reads = elim (cases_Bool (eqb (cell_at cells h.slot).generation h.generation)) [
+  | inl same ↦ eqb-true (cell_at cells h.slot).generation h.generation same
+  | inr other ↦ absurd (true≢false (sym (rw other at reads)))
+]
 
 -- so what a handle reads is its cell's value
 pub read_is_value : (cells : List (Cell Row)) (h : Handle) → Reads cells h → read cells h ≡ (cell_at cells h.slot).value

@@ -9,12 +9,12 @@ use Rattle.std.proofs.lemmas.List.Sorted.{IsPermutation-refl, IsPermutation-tran
 use Rattle.crack_row.specs.Ranges.{Range, IsIn}
 use Rattle.crack_row.specs.declared.Bound.{Bound}
 use Rattle.crack_row.specs.declared.Row.{Row}
-use Rattle.crack_arena.specs.Arena.{Cell, Handle, times, read, cell_at, empty_cell, slots}
+use Rattle.crack_arena.specs.Arena.{Cell, Handle, times, empty_cell, slots}
 use Rattle.crack_arena.proofs.Times.{times-map-IsPermutation}
 use Rattle.crack_index.specs.declared.mark.Mark.{Mark}
 use Rattle.crack_index.specs.Marks.{Rising, added, next_mark, last_mark, start_of, end_of, HasBound}
 use Rattle.crack_index.proofs.MarkLaws.{next_mark-is, last_mark-is, Fits-piece, All-added, Contains-kept, HasBound-added, Rising-added, HasBound-mark, HasBound-contains}
-use Rattle.crack_arena.specs.Rows.{key_of_row, key_at}
+use Rattle.crack_arena.specs.Rows.{key_at}
 use Rattle.crack_column.specs.Column.{Memory, IsDividedAt, Cracks}
 use Rattle.crack_column.proofs.Divisions.{IsDividedAt-zero, IsDividedAt-end}
 use Rattle.crack_column.proofs.Cracking.{length-Cracks, Cracks-apart, Cracks-around, Cracks-whole, Cracks-divides, Cracks-keeps}
@@ -22,7 +22,7 @@ use Rattle.crack_state.specs.State.{State, Reads, Divides, IsObeyed, HaveKeysIn,
 use Rattle.crack_state.specs.Steps.{piece_start, piece_end}
 use Rattle.crack_state.specs.Merge.{IsInner, AreEnds, IsCracked, cuts, RefinesBy, RefinesAt, Refines}
 use Rattle.crack_state.proofs.StepLaws.{IsIntact-moved}
-use Rattle.crack_state.proofs.CellLaws.{read_is_value, cell_within}
+use Rattle.crack_state.proofs.CellLaws.{row_read, read-value, cell_within}
 use Rattle.crack_state.proofs.PieceLaws.{Divides-listed, piece_end-le, piece_end-before, piece_start-behind}
 
 -- crack: a bound divides its own piece at a place; the column's handles stand in this order
@@ -42,13 +42,9 @@ pub record CracksAt (s u : State) (bound : Bound) : Type 0 where
 
 -- the key of what a handle reads is the partition's
 pub key_within : (keys : Range) (cells : List (Cell Row)) (h : Handle) → HaveKeysIn keys cells → Reads cells h → IsIn keys (key_at cells h)
-key_within keys cells h within reads = by_value (read cells h) refl reads
-  where
-    by_value : (o : Option Row) → read cells h ≡ o → Reads cells h → IsIn keys (key_of_row o)
-    by_value None is some = absurd (let a : read cells h ≡ None = is in cc)
-    by_value (Some r) is some =
-        let value : (cell_at cells h.slot).value ≡ Some r = sym (read_is_value cells h some) ∙ is in
-        rw value at (within h.slot empty_cell (cell_within cells h r is))
+key_within keys cells h within reads =
+    let row = row_read cells h reads in
+    rw row.1 (rw (read-value cells h row.0 row.1) at (within h.slot empty_cell (cell_within cells h row.0 row.1)))
 
 -- the keys of the column's rows are the partition's
 pub column_keys-within : (s : State) (hand : List Handle) → IsIntact s hand → All (λ k. IsIn s.keys k) (column_keys s)

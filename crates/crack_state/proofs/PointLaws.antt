@@ -16,13 +16,13 @@ use Rattle.crack_row.specs.declared.Row.{Row}
 use Rattle.crack_arena.specs.Arena.{Cell, Handle, StandsAt, times, read, cell_at, empty_cell, slots, no_handle, place_in}
 use Rattle.crack_arena.proofs.Times.{times-nil, times_other, times_head, times-append, times-map-append}
 use Rattle.crack_state.specs.State.{State, places, Reads, IsIntact, IsKeyed, IsLiveAt, AreEmpty, handle_of, freed_of, live_at, live_rows}
-use Rattle.crack_state.specs.Steps.{next_handle, SameButRoom}
+use Rattle.crack_state.specs.Steps.{next_handle}
 use Rattle.crack_state.specs.Points.{pending_by, handle_by, Maps, MayFree, struck, doomed_too, overwritten, renewed, Cancels, Dooms, Renews, Rewrites, IsRenewable, IsRewritable}
 use Rattle.crack_state.proofs.OwnedLaws.{times-taken, times-places}
 use Rattle.crack_state.proofs.CellLaws.{AgreeOff-set, read-off, keys-off, generation_of_read, reads_some, one_handle, stands_there, read-value, cell_within}
 use Rattle.crack_state.proofs.LiveLaws.{All-live_at, Hides, Hides-emptied, live_rows-less, split_at_member}
 use Rattle.crack_state.proofs.KeyedLaws.{maps_this, Maps-over, IsKeyed-lost, forgotten, Maps-forgotten}
-use Rattle.crack_state.proofs.AdmitLaws.{Filled, IsKeyed-more, IsIntact-grown, live_rows-admitted, freed-admitted, cells-admitted}
+use Rattle.crack_state.proofs.AdmitLaws.{Filled, apart_numbers, IsKeyed-more, IsIntact-grown, live_rows-admitted, freed-admitted, cells-admitted}
 use Rattle.crack_state.proofs.BuryLaws.{freed_of-emptied, IsIntact-freed}
 
 -- the handle that a serial leads to, and whether it is a pending insertion
@@ -160,20 +160,12 @@ live_rows-doomed s serial h row found reads intact =
     let known = stands1 s serial h found intact in
     live_rows-less s (doomed_too h s) h.slot row (hides_doomed s h known.live.kept) refl known.within (rw known.live.kept (read-value s.cells h row reads))
 
--- a cell that was written anew reads through every handle of it
-reads_over : (cells : List (Cell Row)) (h g : Handle) (row : Row) → h.slot < length cells → Reads cells h → Reads cells g → g.slot ≡ h.slot → Reads (set cells h.slot (record { generation = h.generation; value = Some row })) g
-reads_over cells h g row within h_reads g_reads same =
-    let one : g ≡ h = one_handle cells g h g_reads h_reads same in
-    let c : Cell Row = record { generation = h.generation; value = Some row } in
-    let new : read (set cells h.slot c) h ≡ Some row = rw (get_or-set_same cells h.slot c empty_cell within, eq-eqb h.generation h.generation refl) refl in
-    rw one (reads_some (set cells h.slot c) h row new)
-
 -- every handle that read a row reads one, and the column's read the same
 Reads_over : (cells : List (Cell Row)) (h : Handle) (row : Row) (hs : List Handle) → h.slot < length cells → Reads cells h → All (Reads cells) hs → All (Reads (set cells h.slot (record { generation = h.generation; value = Some row }))) hs
 Reads_over cells h row hs within h_reads reads =
     let c : Cell Row = record { generation = h.generation; value = Some row } in
     λ k d j. elim (cases_eq (get_or hs k d).slot h.slot) [
-      | inl e ↦ reads_over cells h (get_or hs k d) row within h_reads (reads k d j) e
+      | inl e ↦ rw (one_handle cells (get_or hs k d) h (reads k d j) h_reads e, get_or-set_same cells h.slot c empty_cell within, eq-eqb h.generation h.generation refl) refl
       | inr ne ↦ rw (read-off h.slot cells (set cells h.slot c) (get_or hs k d) (AgreeOff-set cells h.slot c) ne) (reads k d j)
     ]
 
@@ -216,10 +208,7 @@ IsIntact-rewritten s h row found listed inside intact =
       rising = intact.rising;
       inside = intact.inside;
       keyed = IsKeyed-rewritten s h row found intact;
-      empty = λ k d j. let free = get_or s.free k d in elim (cases_eq free h.slot) [
-        | inl e ↦ absurd (let value = read-value s.cells h known.live.row known.live.reads in let none : (cell_at s.cells free).value ≡ None = intact.empty k d j in let same : (cell_at s.cells free).value ≡ (cell_at s.cells h.slot).value = ap (λ (n : ℕ). (cell_at s.cells n).value) e in cc)
-        | inr ne ↦ rw (agree free ne) (intact.empty k d j)
-      ];
+      empty = λ k d j. rw (agree (get_or s.free k d) (apart_numbers s.free h.slot known.off_free k d j)) (intact.empty k d j);
       within = All-set (λ (x : Cell Row). IfSome x.value (λ r. IsIn s.keys r.key.0)) s.cells h.slot c inside intact.within;
       few_cells = omega (arith, intact.few_cells, length-set s.cells h.slot c);
       few_freed = omega (arith, intact.few_freed, sum_by-set (λ (x : Cell Row). x.generation) s.cells h.slot c empty_cell known.within, generation_of_read s.cells h reads);
@@ -297,16 +286,12 @@ pub record Spends (made spent : ℕ) (s t : State) : Type 0 where
   pub cells : length t.cells ≤ length s.cells + made
   pub freed : freed_of t.cells + length t.pending_out ≤ freed_of s.cells + length s.pending_out + spent
 
--- room is no matter of it
-Spends-room : (made spent : ℕ) (s u t : State) → SameButRoom u t → Spends made spent s u → Spends made spent s t
-Spends-room made spent s u t room spends = rw room.same (record { keys = spends.keys; cells = spends.cells; freed = spends.freed })
-
 pub Spends-cancels : (serial : ℕ) (s t : State) → pending_by s serial ≡ Some true → IsIntact s [] → Cancels serial s t → Spends 0 1 s t
 Spends-cancels serial s t pending intact cancels =
     let h = handle_by s serial in
     let known = stands1 s serial h (found_by s serial true pending).leads intact in
     let c : Cell Row = record { generation = h.generation + 1; value = None } in
-    Spends-room 0 1 s (record (struck h s) { serials = t.serials }) t cancels.after (record {
+    rw cancels.after.same (record {
       keys = refl;
       cells = omega (arith, length-set s.cells h.slot c);
       freed = omega (arith, freed_of-emptied s.cells h known.within (reads_some s.cells h known.live.row known.live.reads));
@@ -315,7 +300,7 @@ Spends-cancels serial s t pending intact cancels =
 pub Spends-dooms : (serial : ℕ) (s t : State) → Dooms serial s t → Spends 0 1 s t
 Spends-dooms serial s t dooms =
     let h = handle_by s serial in
-    Spends-room 0 1 s (record (doomed_too h s) { serials = t.serials }) t dooms.after (record {
+    rw dooms.after.same (record {
       keys = refl;
       cells = omega arith;
       freed = omega (arith, length_push s.pending_out h);
@@ -327,7 +312,7 @@ Spends-renews row s t column few intact renews =
     let found = found_by s row.serial.0 false column in
     let unlisted = unlisted_by s row.serial.0 found in
     let between = IsIntact-between s h row found.leads unlisted few intact in
-    Spends-room 1 1 s (record (renewed row h s) { serials = t.serials }) t renews.after (record {
+    rw renews.after.same (record {
       keys = refl;
       cells = cells-admitted row (between_doomed row h s);
       freed = omega (arith, freed-admitted row (between_doomed row h s) between, length_push s.pending_out h);

@@ -1,27 +1,26 @@
 -- When a range is settled, and what its stretch of the column then answers.
-use Rattle.std.proofs.Common.{◌≡◌, ℕ, suc, ◌+◌, ◌-◌, ◌<◌, ◌≤◌, Bool, true, false, leb, ltb, List, [], ◌∷◌, ◌++◌, length, get_or, take, drop, cond, Option, Some, None, IsSome, refl, sym, ap, ◌∙◌, inl, inr, arith}
+use Rattle.std.proofs.Common.{◌≡◌, ℕ, suc, ◌+◌, ◌-◌, ◌<◌, ◌≤◌, Bool, false, leb, ltb, List, [], ◌∷◌, ◌++◌, length, get_or, take, drop, cond, Option, None, refl, sym, ap, subst, ◌∙◌, inl, inr, arith}
 use Rattle.std.specs.Prelude.{◌==◌}
-use Rattle.std.specs.List.{All, cons_option, filter_map, filter, between, count_by, range_with_len}
+use Rattle.std.specs.List.{All, filter_map, filter, between, count_by, range_with_len}
 use Rattle.std.specs.List.Sorted.{IsPermutation}
 use Rattle.std.proofs.lemmas.List.{append-nil, map-append, length-map, get_or-map, get_or-take, get_or-drop, length-take-le, length-drop}
-use Rattle.std.proofs.lemmas.List.Elements.{filter_map-append, All-head, All-tail}
+use Rattle.std.proofs.lemmas.List.Elements.{filter_map-append, All-take, All-drop, All-head, All-tail}
 use Rattle.std.proofs.lemmas.List.Edits.{split_between, get_or-between, length-between}
 use Rattle.std.proofs.lemmas.List.Sorted.{length_permutation, sum_by-IsPermutation}
 use Rattle.std.proofs.lemmas.List.Sums.{length-filter}
-use Rattle.std.proofs.lemmas.Bool.{cases_eq, cases_lt, lt-ltb, le-ltb, le-leb, lt-leb, true≢false, and_left, and_right}
+use Rattle.std.proofs.lemmas.Bool.{cases_Bool, cases_lt, lt-ltb, le-ltb, le-leb, lt-leb, and_left, and_right}
 use Rattle.crack_row.proofs.Lists.{kept_by, filter-filter_map, filter_map_agree, filter_map_none, filter_map-map}
 use Rattle.crack_row.specs.Ranges.{Range, in_range}
 use Rattle.crack_row.specs.declared.Row.{Row}
-use Rattle.crack_arena.specs.Arena.{Cell, Handle, times, read, cell_at, slots}
-use Rattle.crack_arena.proofs.Times.{times-nil, times-cons, times_one, times_other}
+use Rattle.crack_arena.specs.Arena.{Cell, Handle, times, read, slots, place_in}
 use Rattle.crack_index.specs.Marks.{position_of}
 use Rattle.crack_index.proofs.MarkLaws.{HasBound-contains, place_of-mark}
-use Rattle.crack_arena.specs.Rows.{key_of_row, key_at}
+use Rattle.crack_arena.specs.Rows.{key_at}
 use Rattle.crack_column.specs.Column.{IsDividedAt}
 use Rattle.crack_column.proofs.Divisions.{IsDividedAt-end, IsDividedAt-order}
 use Rattle.crack_state.specs.State.{State, places, Reads, IsOwned, IsIntact, column_keys, live_at, live_rows}
 use Rattle.crack_state.specs.Merge.{IsOutside, ReadsOutside, Stands, IsCracked, edge, stretch, IsSettled}
-use Rattle.crack_state.proofs.CellLaws.{read_is_value}
+use Rattle.crack_state.proofs.CellLaws.{row_read, read-value, stands_there}
 use Rattle.crack_state.proofs.LiveLaws.{none_either, IsPermutation-places}
 use Rattle.crack_state.proofs.CrackLaws.{column_keys-within}
 use Rattle.crack_state.proofs.PieceLaws.{Divides-listed}
@@ -48,9 +47,6 @@ filter-live_rows test s hand owned =
     let live = live_at s.cells (slots s.pending_out) in
     rw (filter-filter_map test live (range_with_len 0 (length s.cells))) (IsPermutation-places (λ n. kept_by test (live n)) s hand owned)
 
-none_kept : (g : ℕ → Option Row) (hs : List Handle) → All (λ (h : Handle). g h.slot ≡ None) hs → filter_map g (slots hs) ≡ []
-none_kept g hs none = filter_map-map g (λ (h : Handle). h.slot) hs ∙ filter_map_none (λ (h : Handle). g h.slot) hs none
-
 all_kept : (g : ℕ → Option Row) (cells : List (Cell Row)) (hs : List Handle) → All (λ (h : Handle). g h.slot ≡ read cells h) hs → filter_map g (slots hs) ≡ filter_map (read cells) hs
 all_kept g cells hs same = filter_map-map g (λ (h : Handle). h.slot) hs ∙ filter_map_agree (λ (h : Handle). g h.slot) (read cells) hs same
 
@@ -63,34 +59,29 @@ outside_false r row out = elim out [
 
 kept_outside : (r : Range) (s : State) (h : Handle) → Reads s.cells h → ReadsOutside s.cells r h → kept_by (in_range r) (live_at s.cells (slots s.pending_out) h.slot) ≡ None
 kept_outside r s h reads out =
-    let value = read_is_value s.cells h reads in
-    by_value (read s.cells h) (times h.slot (slots s.pending_out) == 0) (sym value) out
-  where
-    by_value : (o : Option Row) (b : Bool) → (cell_at s.cells h.slot).value ≡ o → IsOutside r (key_of_row o) → kept_by (in_range r) (cond b (cell_at s.cells h.slot).value None) ≡ None
-    by_value None true is out = rw is refl
-    by_value (Some row) true is out = rw (is, outside_false r row out) refl
-    by_value o false is out = refl
+    let row = row_read s.cells h reads in
+    let outside = outside_false r row.0 (rw row.1 at out) in
+    elim (cases_Bool (times h.slot (slots s.pending_out) == 0)) [ inl e ↦ rw (e, read-value s.cells h row.0 row.1, outside) refl | inr e ↦ rw e refl ]
+
+none_outside : (r : Range) (s : State) (hs : List Handle) → All (Reads s.cells) hs → All (ReadsOutside s.cells r) hs → filter_map (λ n. kept_by (in_range r) (live_at s.cells (slots s.pending_out) n)) (slots hs) ≡ []
+none_outside r s hs reads out =
+    let g : ℕ → Option Row = λ n. kept_by (in_range r) (live_at s.cells (slots s.pending_out) n) in
+    filter_map-map g (λ (h : Handle). h.slot) hs ∙ filter_map_none (λ (h : Handle). g h.slot) hs (λ k d h. kept_outside r s (get_or hs k d) (reads k d h) (out k d h))
 
 kept_inside : (r : Range) (s : State) (h : Handle) → Reads s.cells h → r.low ≤ key_at s.cells h → key_at s.cells h < r.high → times h.slot (slots s.pending_out) ≡ 0 → kept_by (in_range r) (live_at s.cells (slots s.pending_out) h.slot) ≡ read s.cells h
 kept_inside r s h reads above below kept =
-    let value = read_is_value s.cells h reads in
-    rw (kept) (by_value (read s.cells h) (sym value) above below)
-  where
-    by_value : (o : Option Row) → (cell_at s.cells h.slot).value ≡ o → r.low ≤ key_of_row o → key_of_row o < r.high → kept_by (in_range r) (cell_at s.cells h.slot).value ≡ o
-    by_value None is above below = rw is refl
-    by_value (Some row) is above below = rw (is, le-leb r.low row.key.0 above, lt-ltb row.key.0 r.high below) refl
+    let row = row_read s.cells h reads in
+    let low : r.low ≤ row.0.key.0 = rw row.1 at above in
+    let high : row.0.key.0 < r.high = rw row.1 at below in
+    rw (kept, row.1, read-value s.cells h row.0 row.1, le-leb r.low row.0.key.0 low, lt-ltb row.0.key.0 r.high high) refl
 
 -- a row of the range isn't one of these, where they are outside it
 not_among : (cells : List (Cell Row)) (r : Range) (h : Handle) → Reads cells h → r.low ≤ key_at cells h → key_at cells h < r.high → (hs : List Handle) → All (Reads cells) hs → All (ReadsOutside cells r) hs → times h.slot (slots hs) ≡ 0
-not_among cells r h reads above below [] all out = times-nil h.slot
-not_among cells r h reads above below (g ∷ gs) all out = elim (cases_eq g.slot h.slot) [
-  | inl e ↦
-      let theirs = read_is_value cells g (All-head (Reads cells) g gs all) in
-      let keys : key_at cells g ≡ key_at cells h = ap key_of_row (theirs ∙ ap (λ (n : ℕ). (cell_at cells n).value) e ∙ sym (read_is_value cells h reads)) in
-      elim (All-head (ReadsOutside cells r) g gs out) [ inl l ↦ absurd (omega arith) | inr l ↦ absurd (omega arith) ]
-  | inr ne ↦
-      let rest = not_among cells r h reads above below gs (All-tail (Reads cells) g gs all) (All-tail (ReadsOutside cells r) g gs out) in
-      omega (arith, times-cons h.slot g.slot (slots gs), times_one h.slot g.slot, times_other h.slot g.slot ne, rest)
+not_among cells r h reads above below hs all out = elim (cases_lt 0 (times h.slot (slots hs))) [
+  | inl l ↦
+      let stands = stands_there cells hs h reads all l in
+      elim (subst (ReadsOutside cells r) (sym stands.is) (out (place_in hs h.slot) h stands.within)) [ inl l ↦ absurd (omega arith) | inr l ↦ absurd (omega arith) ]
+  | inr l ↦ omega arith
 ]
 
 -- what divides the keys divides the handles
@@ -117,10 +108,8 @@ holds_between s r from to order low high pending doomed intact =
     let mid = between from to s.column in
     let back = drop to s.column in
     let whole : s.column ≡ front ++ (mid ++ back) = split_between s.column from to order in
-    let front_none : filter_map g (slots front) ≡ [] = none_kept g front (λ k d h.
-    let short : length front ≡ from = length-take-le from s.column (omega (arith, high.within)) in
-    let at : get_or front k d ≡ get_or s.column k d = get_or-take from s.column k d (omega arith) in
-    rw at (kept_outside r s (get_or s.column k d) (owned.column_reads k d (omega (arith, high.within))) (inl (low.below k d (omega arith))))) in
+    let front_none : filter_map g (slots front) ≡ [] = none_outside r s front (All-take (Reads s.cells) from s.column owned.column_reads) (λ k d h.
+    rw (get_or-take from s.column k d (omega (arith, length-take-le from s.column (omega (arith, high.within))))) (inl (low.below k d (omega (arith, length-take-le from s.column (omega (arith, high.within))))))) in
     let mid_all : filter_map g (slots mid) ≡ filter_map (read s.cells) mid = all_kept g s.cells mid (λ k d h.
     let len : length mid ≡ to - from = length-between s.column from to high.within in
     let below : from + k < to = omega arith in
@@ -129,11 +118,9 @@ holds_between s r from to order low high pending doomed intact =
     let above = low.above (from + k) d (omega arith) (omega (arith, high.within)) in
     let under = high.below (from + k) d below in
     rw at (kept_inside r s (get_or s.column (from + k) d) reads above under (not_among s.cells r (get_or s.column (from + k) d) reads above under s.pending_out owned.doomed_reads doomed))) in
-    let back_none : filter_map g (slots back) ≡ [] = none_kept g back (λ k d h.
-    let len : length back ≡ length s.column - to = length-drop to s.column in
-    let at : get_or back k d ≡ get_or s.column (to + k) d = get_or-drop to s.column k d in
-    rw at (kept_outside r s (get_or s.column (to + k) d) (owned.column_reads (to + k) d (omega arith)) (inr (high.above (to + k) d (omega arith) (omega arith))))) in
-    let pending_none : filter_map g (slots s.pending_in) ≡ [] = none_kept g s.pending_in (λ k d h. kept_outside r s (get_or s.pending_in k d) (owned.pending_reads k d h) (pending k d h)) in
+    let back_none : filter_map g (slots back) ≡ [] = none_outside r s back (All-drop (Reads s.cells) to s.column owned.column_reads) (λ k d h.
+    rw (get_or-drop to s.column k d) (inr (high.above (to + k) d (omega arith) (omega (arith, length-drop to s.column))))) in
+    let pending_none : filter_map g (slots s.pending_in) ≡ [] = none_outside r s s.pending_in owned.pending_reads pending in
     let free_none : filter_map g s.free ≡ [] = filter_map_none g s.free (λ k d h. rw (intact.empty k d h, none_either (times (get_or s.free k d) (slots s.pending_out) == 0)) refl) in
     let slot : Handle → ℕ = λ h. h.slot in
     let column : filter_map g (slots s.column) ≡ filter_map (read s.cells) mid =
@@ -166,11 +153,9 @@ IsSettled-of s r order low high cracked pending doomed intact =
 -- as many rows as handles that read
 pub length-read : (cells : List (Cell Row)) (hs : List Handle) → All (Reads cells) hs → length (filter_map (read cells) hs) ≡ length hs
 length-read cells [] reads = refl
-length-read cells (h ∷ hs) reads = by_value (read cells h) (filter_map (read cells) hs) (All-head (Reads cells) h hs reads) (length-read cells hs (All-tail (Reads cells) h hs reads))
-  where
-    by_value : (o : Option Row) (rs : List Row) → IsSome o → length rs ≡ length hs → length (cons_option o rs) ≡ suc (length hs)
-    by_value None rs some rest = absurd (true≢false (sym some))
-    by_value (Some r) rs some rest = ap suc rest
+length-read cells (h ∷ hs) reads =
+    let row = row_read cells h (All-head (Reads cells) h hs reads) in
+    rw row.1 (ap suc (length-read cells hs (All-tail (Reads cells) h hs reads)))
 
 -- a settled range has as many places as a list of the same rows has rows of the range
 pub count-settled : (s : State) (r : Range) (plain : List Row) → IsSettled s r → IsPermutation (live_rows s) plain → edge s r.high - edge s r.low ≡ count_by (in_range r) plain

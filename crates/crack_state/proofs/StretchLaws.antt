@@ -25,15 +25,6 @@ AreRising rows = AllPairs (λ (earlier later : Row). earlier.serial.0 < later.se
 rising_head : (row : Row) (rows : List Row) → AreRising (row ∷ rows) → All (λ (r : Row). row.serial.0 < r.serial.0) rows
 rising_head row rows rising = λ k d h. rising 0 (suc k) d (omega arith) (omega (arith, h))
 
-rising_tail : (row : Row) (rows : List Row) → AreRising (row ∷ rows) → AreRising rows
-rising_tail row rows rising = λ i j d less h. rising (suc i) (suc j) d (omega (arith, less)) (omega (arith, h))
-
-sorted_head : (row : Row) (rows : List Row) → IsNonDecreasingBy serial_of (row ∷ rows) → All (λ (r : Row). row.serial.0 ≤ r.serial.0) rows
-sorted_head row rows sorted = λ k d h. sorted 0 (suc k) d (omega arith) (omega (arith, h))
-
-sorted_tail : (row : Row) (rows : List Row) → IsNonDecreasingBy serial_of (row ∷ rows) → IsNonDecreasingBy serial_of rows
-sorted_tail row rows sorted = λ i j d less h. sorted (suc i) (suc j) d (omega (arith, less)) (omega (arith, h))
-
 -- a serial below all isn't there, and that of an element is
 below_none : (n : ℕ) (rows : List Row) → All (λ (r : Row). n < r.serial.0) rows → times n (map serial_of rows) ≡ 0
 below_none n [] below = times-nil n
@@ -56,7 +47,7 @@ same_sorted (x ∷ xs) (y ∷ ys) sorted rising counts among = elim (Contains-ei
       let rest_counts : (n : ℕ) → times n (map serial_of xs) ≡ times n (map serial_of ys) = λ n.
       let heads : times n (serial_of x ∷ []) ≡ times n (serial_of y ∷ []) = ap (λ (k : ℕ). times n (k ∷ [])) same in
       omega (arith, counts n, times-cons n (serial_of x) (map serial_of xs), times_one n (serial_of x), times-cons n (serial_of y) (map serial_of ys), times_one n (serial_of y), heads) in
-      let rest = same_sorted xs ys (sorted_tail x xs sorted) (rising_tail y ys rising) rest_counts (λ r there. elim (Contains-either y ys r (among r (suc there.0, omega (arith, there.1), there.2))) [
+      let rest = same_sorted xs ys (λ i j d less h. sorted (suc i) (suc j) d (omega (arith, less)) (omega (arith, h))) (λ i j d less h. rising (suc i) (suc j) d (omega (arith, less)) (omega (arith, h))) rest_counts (λ r there. elim (Contains-either y ys r (among r (suc there.0, omega (arith, there.1), there.2))) [
         | inl again ↦
             let one : serial_of r ≡ serial_of y = ap serial_of again in
             let more = listed_serial xs r there in
@@ -66,7 +57,7 @@ same_sorted (x ∷ xs) (y ∷ ys) sorted rising counts among = elim (Contains-ei
       cc
   | inr later ↦
       let above : serial_of y < serial_of x = All-contains (λ (r : Row). y.serial.0 < r.serial.0) ys x (rising_head y ys rising) later in
-      let xs_above : All (λ (r : Row). y.serial.0 < r.serial.0) (x ∷ xs) = All-cons (λ (r : Row). y.serial.0 < r.serial.0) x xs above (λ k d h. omega (arith, above, sorted_head x xs sorted k d h)) in
+      let xs_above : All (λ (r : Row). y.serial.0 < r.serial.0) (x ∷ xs) = All-cons (λ (r : Row). y.serial.0 < r.serial.0) x xs above (λ k d h. omega (arith, above, sorted 0 (suc k) d (omega arith) (omega (arith, h)))) in
       absurd (omega (arith, counts (serial_of y), times_head (serial_of y) (map serial_of ys), below_none (serial_of y) (x ∷ xs) xs_above))
 ]
 
