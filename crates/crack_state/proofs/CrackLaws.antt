@@ -116,9 +116,11 @@ module _ (s u : State) (hand : List Handle) (bound : Bound) (c : CracksAt s u bo
       (All-permutation (Reads s.cells) s.column u.column whole owned.column_reads)
       owned.pending_reads
       owned.hand_reads
-      Obeyed-cracked
-      (Rising-added new_mark s.marks intact.rising c.missing (Fits-piece new_mark (length s.column) s.marks intact.rising c.cracks.low c.cracks.high))
-      (All-added (λ (x : Mark). (s.keys.low < x.bound.0) × (x.bound.0 < s.keys.high)) new_mark s.marks (c.low, c.high) intact.inside)
+      (record {
+        obeyed = Obeyed-cracked;
+        rising = Rising-added new_mark s.marks intact.rising c.missing (Fits-piece new_mark (length s.column) s.marks intact.rising c.cracks.low c.cracks.high);
+        inside = All-added (λ (x : Mark). (s.keys.low < x.bound.0) × (x.bound.0 < s.keys.high)) new_mark s.marks (c.low, c.high) intact.inside;
+      })
       intact.counted
       intact)
 

@@ -13,6 +13,7 @@ use Rattle.crack_arena.specs.Arena.{Handle, read, slots}
 use Rattle.crack_state.specs.State.{State, IsIntact, IsLiveAt, handle_of, live_rows}
 use Rattle.crack_state.specs.Points.{row_by, pending_by, handle_by, Cancels, Dooms}
 use Rattle.crack_state.proofs.KeyedLaws.{Contains-live}
+use Rattle.crack_state.proofs.CellLaws.{row_read}
 use Rattle.crack_state.proofs.LiveLaws.{All-live_at}
 use Rattle.crack_state.proofs.PointLaws.{found_by, reads_by, others_live}
 
@@ -60,20 +61,16 @@ row_by-find s serial plain intact same = by_handle (handle_of s.serials serial) 
     has : Row → Bool
     has r = r.serial.0 == serial
 
-    by_row : (o : Option Row) → row_by s serial ≡ o → IsSome o → o ≡ find has plain
-    by_row None is some = absurd (true≢false (sym some))
-    by_row (Some row) is some =
-        let known = row_by-is s serial row is intact in
-        let only = All-permutation (λ (r : Row). r.serial.0 ≡ serial → r ≡ row) (live_rows s) plain same (row_by-only s serial row is intact) in
-        sym (find_only has row plain (Contains-permutation (live_rows s) plain row same known.live) (eq-eqb row.serial.0 serial known.same) (λ k d h e. only k d h (eqb-true (get_or plain k d).serial.0 serial e)))
-
     by_handle : (o : Option Handle) → handle_of s.serials serial ≡ o → row_by s serial ≡ find has plain
     by_handle None found =
         let apart = All-permutation (λ (r : Row). r.serial.0 ≢ serial) (live_rows s) plain same (row_by-none s serial found intact) in
         ap (option_and_then (read s.cells)) found ∙ sym (find_none has plain (λ k d h. ne_eqb (get_or plain k d).serial.0 serial (apart k d h)))
     by_handle (Some h) found =
-        let reads : IsSome (row_by s serial) = rw (row_by-handle s serial h found) (reads_by s serial h found intact) in
-        by_row (row_by s serial) refl reads
+        let row = row_read s.cells h (reads_by s serial h found intact) in
+        let is : row_by s serial ≡ Some row.0 = row_by-handle s serial h found ∙ row.1 in
+        let known = row_by-is s serial row.0 is intact in
+        let only = All-permutation (λ (r : Row). r.serial.0 ≡ serial → r ≡ row.0) (live_rows s) plain same (row_by-only s serial row.0 is intact) in
+        is ∙ sym (find_only has row.0 plain (Contains-permutation (live_rows s) plain row.0 same known.live) (eq-eqb row.0.serial.0 serial known.same) (λ k d h e. only k d h (eqb-true (get_or plain k d).serial.0 serial e)))
 
 -- the serial of a row that was cancelled or doomed is in the map no more
 pub gone-cancels : (serial : ℕ) (s t : State) → Cancels serial s t → handle_of t.serials serial ≡ None

@@ -6,12 +6,13 @@ use Rattle.std.proofs.lemmas.Bool.Decides.{nat_tests}
 use Rattle.std.proofs.lemmas.List.Elements.{All-map}
 use Rattle.crack_index.specs.declared.mark.Mark.{Mark}
 use Rattle.crack_index.specs.Marks.{raised, Rising, lowered, next_mark, last_mark, start_of, end_of, bounds_of}
-use Rattle.crack_index.proofs.MarkLaws.{raised_cases, next_mark-is, next_mark-none, last_mark-is, last_mark-none, bounds_of-raised, Rising-raised}
+use Rattle.crack_index.proofs.MarkLaws.{raised_cases, next_mark-is, next_mark-none, last_mark-is, last_mark-none, bounds_of-raised}
 use Rattle.crack_column.proofs.Divisions.{IsDividedAt-order, IsDividedAt-set_below, IsDividedAt-set_above, IsDividedAt-raised, IsDividedAt-append_above, IsDividedAt-append_below}
-use Rattle.crack_state.specs.State.{Divides, IsObeyed, State, AreInside, column_keys}
+use Rattle.crack_state.specs.State.{Divides, IsObeyed, State, AreInside, IsIntact, column_keys}
 use Rattle.std.proofs.lemmas.List.{length-map}
 use Rattle.std.proofs.lemmas.List.Sums.{sum_by-cons}
 use Rattle.crack_row.specs.Ranges.{Range}
+use Rattle.crack_arena.specs.Arena.{Handle}
 use Rattle.crack_arena.specs.Rows.{key_at}
 use Rattle.crack_state.specs.Steps.{piece_start, piece_end, raise_next, bounds_above, bounds_up_to}
 
@@ -74,13 +75,19 @@ bounds_of-raise_next (Some m) ms = bounds_of-raised m.bound.0 m.position ms
 pub length-bounds : (ms ns : List Mark) → bounds_of ms ≡ bounds_of ns → length ms ≡ length ns
 length-bounds ms ns same = sym (length-map ms (λ (m : Mark). m.bound.0)) ∙ ap length same ∙ length-map ns (λ (m : Mark). m.bound.0)
 
-pub Rising-raise_next : (o : Option Mark) (ms : List Mark) → Rising ms → Rising (raise_next o ms)
-Rising-raise_next None ms rising = rising
-Rising-raise_next (Some m) ms rising = Rising-raised m.bound.0 m.position ms rising
+-- marks that divide the keys of a column, in rising order and inside the partition
+pub record AreMarks (keys : Range) (column : List ℕ) (marks : List Mark) : Type 0 where
+  pub obeyed : IsObeyed marks column
+  pub rising : Rising marks
+  pub inside : AreInside keys marks
 
-pub AreInside-raise_next : (keys : Range) (o : Option Mark) (ms : List Mark) → AreInside keys ms → AreInside keys (raise_next o ms)
-AreInside-raise_next keys None ms inside = inside
-AreInside-raise_next keys (Some m) ms inside = All-map (λ (x : Mark). (keys.low < x.bound.0) × (x.bound.0 < keys.high)) (raised m.bound.0 m.position) ms (λ k d h. inside k d h)
+pub AreMarks-intact : (s : State) (hand : List Handle) → IsIntact s hand → AreMarks s.keys (column_keys s) s.marks
+AreMarks-intact s hand intact = record { obeyed = intact.obeyed; rising = intact.rising; inside = intact.inside }
+
+-- marks that moved, with their bounds
+pub AreMarks-map : (keys : Range) (column : List ℕ) (f : Mark → Mark) (marks : List Mark) → ((m : Mark) → (f m).bound.0 ≡ m.bound.0) → IsObeyed (map f marks) column → Rising (map f marks) → AreInside keys marks → AreMarks keys column (map f marks)
+AreMarks-map keys column f marks same obeyed rising inside =
+    record { obeyed = obeyed; rising = rising; inside = All-map (λ (x : Mark). (keys.low < x.bound.0) × (x.bound.0 < keys.high)) f marks (λ k d h. rw (same (get_or marks k d)) (inside k d h)) }
 
 -- where a piece ends is a place of the column, or its end
 pub piece_end-le : (s : State) (key : ℕ) → Rising s.marks → IsObeyed s.marks (column_keys s) → piece_end s key ≤ length s.column

@@ -5,7 +5,6 @@ use Rattle.std.proofs.lemmas.Bool.{cases_eq, cases_lt}
 use Rattle.std.proofs.lemmas.Bool.Decides.{nat_tests}
 use Rattle.std.proofs.lemmas.List.{length-map, get_or-map, get_or_default, take-map, get_or-take, length-take-le}
 use Rattle.std.proofs.lemmas.List.Elements.{All-map, All-push, All-cons, All-nil, All-get_or, All-head, All-take}
-use Rattle.crack_row.specs.Ranges.{Range}
 use Rattle.crack_arena.specs.Arena.{Handle, no_handle, times, slots}
 use Rattle.crack_arena.specs.Rows.{key_at}
 use Rattle.crack_arena.proofs.Times.{times-nil, times_other, times-map-append}
@@ -13,12 +12,12 @@ use Rattle.crack_index.specs.declared.mark.Mark.{Mark}
 use Rattle.crack_index.specs.Marks.{Rising, last_mark, start_of, lowered, lowered_at, bounds_of}
 use Rattle.crack_index.proofs.MarkLaws.{last_mark-is, lowered_cases, bounds_of-lowered, bounds_of-lowered_at, Rising-lowered, Rising-lowered_at}
 use Rattle.crack_column.proofs.Divisions.{IsDividedAt-set_below, IsDividedAt-set_above, IsDividedAt-lowered, IsDividedAt-take}
-use Rattle.crack_state.specs.State.{State, Carried, Reads, Divides, IsObeyed, AreInside, IsIntact, column_keys}
+use Rattle.crack_state.specs.State.{State, Carried, Reads, Divides, IsObeyed, IsIntact, column_keys}
 use Rattle.crack_state.specs.Steps.{hand_key, piece_start, piece_end, lower_last, more, lifted_last, pulled_back, exchanged, bounds_up_to, returned}
 use Rattle.crack_state.specs.Merge.{Follows}
 use Rattle.crack_state.proofs.Counters.{IsCounted-evicted, IsCounted-pulled}
 use Rattle.crack_state.proofs.OwnedLaws.{times-taken}
-use Rattle.crack_state.proofs.PieceLaws.{Divides-order, Divides-listed, piece_end-le, piece_end-before, piece_start-behind, bounds_up_to-less}
+use Rattle.crack_state.proofs.PieceLaws.{AreMarks, AreMarks-intact, AreMarks-map, Divides-order, Divides-listed, piece_end-le, piece_end-before, piece_start-behind, bounds_up_to-less}
 use Rattle.crack_state.proofs.StepLaws.{IsIntact-moved, IsIntact-put_at}
 
 Divides-lowered : (keys : List ℕ) (x : ℕ) (low m : Mark) → 0 < low.position → low.bound.0 ≤ x → Divides keys low → Divides keys m → (m.bound.0 ≤ x → m.bound.0 ≤ low.bound.0) → Divides (set keys (low.position - 1) x) (lowered low.bound.0 low.position m)
@@ -67,17 +66,6 @@ bounds_of-lower_last : (o : Option Mark) (ms : List Mark) → bounds_of (lower_l
 bounds_of-lower_last None ms = refl
 bounds_of-lower_last (Some m) ms = bounds_of-lowered m.bound.0 m.position ms
 
-Rising-lower_last : (o : Option Mark) (ms : List Mark) → Rising ms → Rising (lower_last o ms)
-Rising-lower_last None ms rising = rising
-Rising-lower_last (Some m) ms rising = Rising-lowered m.bound.0 m.position ms rising
-
-AreInside-lower_last : (keys : Range) (o : Option Mark) (ms : List Mark) → AreInside keys ms → AreInside keys (lower_last o ms)
-AreInside-lower_last keys None ms inside = inside
-AreInside-lower_last keys (Some m) ms inside = All-map (λ (x : Mark). (keys.low < x.bound.0) × (x.bound.0 < keys.high)) (lowered m.bound.0 m.position) ms (λ k d h. inside k d h)
-
-AreInside-lowered_at : (keys : Range) (place : ℕ) (ms : List Mark) → AreInside keys ms → AreInside keys (map (lowered_at place) ms)
-AreInside-lowered_at keys place ms inside = All-map (λ (x : Mark). (keys.low < x.bound.0) × (x.bound.0 < keys.high)) (lowered_at place) ms (λ k d h. inside k d h)
-
 -- the hand, which isn't doomed, goes behind the last pending insertion
 pub IsIntact-returned : (c : Carried) → times c.hand.slot (slots c.store.pending_out) ≡ 0 → IsIntact c.store (c.hand ∷ []) → IsIntact (returned c) []
 IsIntact-returned c kept intact =
@@ -93,9 +81,7 @@ IsIntact-returned c kept intact =
     owned.column_reads
     (All-push (Reads s.cells) s.pending_in c.hand owned.pending_reads (All-head (Reads s.cells) c.hand [] owned.hand_reads))
     (All-nil (Reads s.cells))
-    intact.obeyed
-    intact.rising
-    intact.inside
+    (AreMarks-intact s (c.hand ∷ []) intact)
     (IsCounted-evicted s.tally intact.counted)
     intact
 
@@ -114,9 +100,7 @@ IsIntact-lifted_last s some intact =
     (All-take (Reads s.cells) last s.column owned.column_reads)
     owned.pending_reads
     (All-cons (Reads s.cells) hand [] (All-get_or (Reads s.cells) s.column last no_handle (omega arith) owned.column_reads) (All-nil (Reads s.cells)))
-    (rw (← take-map (key_at s.cells) last s.column, ← keys_len) (Obeyed-lowered_at (column_keys s) s.marks (omega arith) intact.obeyed))
-    (Rising-lowered_at (length s.column) s.marks intact.rising)
-    (AreInside-lowered_at s.keys (length s.column) s.marks intact.inside)
+    (AreMarks-map s.keys (map (key_at s.cells) (take last s.column)) (lowered_at (length s.column)) s.marks (λ x. refl) (rw (← take-map (key_at s.cells) last s.column, ← keys_len) (Obeyed-lowered_at (column_keys s) s.marks (omega arith) intact.obeyed)) (Rising-lowered_at (length s.column) s.marks intact.rising) intact.inside)
     intact.counted
     intact
   where
@@ -136,18 +120,16 @@ IsIntact-pulled_back c some intact =
     IsIntact-put_at (piece_start s (hand_key c) - 1) (lower_last (last_mark (hand_key c) s.marks) s.marks) (record s.tally { pulled = more s.tally.pulled }) c
     both.0
     both.1
-    (Rising-lower_last (last_mark (hand_key c) s.marks) s.marks intact.rising)
-    (AreInside-lower_last s.keys (last_mark (hand_key c) s.marks) s.marks intact.inside)
     (IsCounted-pulled s.tally intact.counted)
     intact
   where
-    by_last : (last : Option Mark) → last_mark (hand_key c) c.store.marks ≡ last → 0 < start_of last → (start_of last - 1 < length c.store.column) × IsObeyed (lower_last last c.store.marks) (set (column_keys c.store) (start_of last - 1) (hand_key c))
+    by_last : (last : Option Mark) → last_mark (hand_key c) c.store.marks ≡ last → 0 < start_of last → (start_of last - 1 < length c.store.column) × AreMarks c.store.keys (set (column_keys c.store) (start_of last - 1) (hand_key c)) (lower_last last c.store.marks)
     by_last None found inside = absurd (omega arith)
     by_last (Some m) found inside =
         let s = c.store in
         let is_last = last_mark-is (hand_key c) s.marks m intact.rising found in
         let divides = Divides-listed (column_keys s) s.marks m intact.obeyed is_last.listed in
-        (omega (arith, divides.within, length-map s.column (key_at s.cells)), Obeyed-lowered (column_keys s) s.marks (hand_key c) m inside intact.obeyed is_last.greatest is_last.below divides)
+        (omega (arith, divides.within, length-map s.column (key_at s.cells)), AreMarks-map s.keys (set (column_keys s) (m.position - 1) (hand_key c)) (lowered m.bound.0 m.position) s.marks (λ x. refl) (Obeyed-lowered (column_keys s) s.marks (hand_key c) m inside intact.obeyed is_last.greatest is_last.below divides) (Rising-lowered m.bound.0 m.position s.marks intact.rising) intact.inside)
 
 -- the row that stood before a piece is below the bound there
 pub met_below : (s : State) (key : ℕ) (m : Mark) (met : Handle) → Rising s.marks → IsObeyed s.marks (column_keys s) → last_mark key s.marks ≡ Some m → 0 < m.position → met ≡ get_or s.column (m.position - 1) met → key_at s.cells met < m.bound.0
@@ -179,14 +161,16 @@ IsIntact-exchanged place c above below intact =
     let key = hand_key c in
     let within : place < length s.column = omega (arith, piece_end-le s key intact.rising intact.obeyed) in
     IsIntact-put_at place s.marks (record s.tally { pulled = more s.tally.pulled }) c within
-    (λ k d h.
-    let m = get_or s.marks k d in
-    elim (cases_lt key m.bound.0) [
-      | inl l ↦ IsDividedAt-set_below m.bound.0 (column_keys s) m.position place key (omega (arith, piece_end-before s key k d intact.rising intact.obeyed h l)) l (intact.obeyed k d h)
-      | inr l ↦ IsDividedAt-set_above m.bound.0 (column_keys s) m.position place key (omega (arith, piece_start-behind s key k d intact.rising intact.obeyed h l)) l (intact.obeyed k d h)
-    ])
-    intact.rising
-    intact.inside
+    (record {
+      obeyed = λ k d h.
+          let m = get_or s.marks k d in
+          elim (cases_lt key m.bound.0) [
+            | inl l ↦ IsDividedAt-set_below m.bound.0 (column_keys s) m.position place key (omega (arith, piece_end-before s key k d intact.rising intact.obeyed h l)) l (intact.obeyed k d h)
+            | inr l ↦ IsDividedAt-set_above m.bound.0 (column_keys s) m.position place key (omega (arith, piece_start-behind s key k d intact.rising intact.obeyed h l)) l (intact.obeyed k d h)
+          ];
+      rising = intact.rising;
+      inside = intact.inside;
+    })
     (IsCounted-pulled s.tally intact.counted)
     intact
 

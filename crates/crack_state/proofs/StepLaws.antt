@@ -8,18 +8,18 @@ use Rattle.crack_arena.specs.Arena.{Handle, no_handle, times, slots}
 use Rattle.crack_arena.specs.Rows.{key_at}
 use Rattle.crack_arena.proofs.Times.{times-nil, times-append, times-map-append}
 use Rattle.crack_index.specs.declared.mark.Mark.{Mark}
-use Rattle.crack_index.specs.Marks.{Rising, next_mark, end_of}
-use Rattle.crack_index.proofs.MarkLaws.{next_mark-is, next_mark-none}
+use Rattle.crack_index.specs.Marks.{Rising, raised, next_mark, end_of}
+use Rattle.crack_index.proofs.MarkLaws.{next_mark-is, next_mark-none, Rising-raised}
 use Rattle.crack_state.specs.declared.MergeReport.{MergeReport}
-use Rattle.crack_state.specs.State.{State, Carried, Reads, column_keys, IsObeyed, AreInside, IsCounted, IsIntact}
+use Rattle.crack_state.specs.State.{State, Carried, Reads, column_keys, IsObeyed, IsCounted, IsIntact}
 use Rattle.crack_state.specs.Steps.{hand_key, piece_end, raise_next, more, put_at, lifted, pushed_on, appended, SameButRoom, bounds_above}
 use Rattle.crack_state.proofs.Counters.{IsCounted-put_in, IsCounted-moved}
-use Rattle.crack_state.proofs.PieceLaws.{Obeyed-raised, Obeyed-push, Obeyed-push_raised, Divides-listed, Rising-raise_next, AreInside-raise_next, bounds_above-less}
+use Rattle.crack_state.proofs.PieceLaws.{Obeyed-raised, Obeyed-push, Obeyed-push_raised, Divides-listed, AreMarks, AreMarks-intact, AreMarks-map, bounds_above-less}
 use Rattle.crack_state.proofs.OwnedLaws.{times-exchange, times-taken, times-places}
 
 -- what a step leaves that moves handles: cells and free numbers, pending deletions and map
-pub IsIntact-moved : (s t : State) (hand hand' : List Handle) → t ≡ record s { column = t.column; pending_in = t.pending_in; marks = t.marks; tally = t.tally; column_room = t.column_room; in_room = t.in_room } → ((n : ℕ) → times n (slots t.column) + times n (slots t.pending_in) + times n (slots hand') ≡ times n (slots s.column) + times n (slots s.pending_in) + times n (slots hand)) → ((n : ℕ) → times n (slots s.pending_out) ≤ times n (slots s.column) + times n (slots hand) → times n (slots s.pending_out) ≤ times n (slots t.column) + times n (slots hand')) → All (Reads s.cells) t.column → All (Reads s.cells) t.pending_in → All (Reads s.cells) hand' → IsObeyed t.marks (map (key_at s.cells) t.column) → Rising t.marks → AreInside s.keys t.marks → IsCounted t.tally → IsIntact s hand → IsIntact t hand'
-IsIntact-moved s t hand hand' same counts few column_reads pending_reads hand_reads obeyed rising inside counted intact =
+pub IsIntact-moved : (s t : State) (hand hand' : List Handle) → t ≡ record s { column = t.column; pending_in = t.pending_in; marks = t.marks; tally = t.tally; column_room = t.column_room; in_room = t.in_room } → ((n : ℕ) → times n (slots t.column) + times n (slots t.pending_in) + times n (slots hand') ≡ times n (slots s.column) + times n (slots s.pending_in) + times n (slots hand)) → ((n : ℕ) → times n (slots s.pending_out) ≤ times n (slots s.column) + times n (slots hand) → times n (slots s.pending_out) ≤ times n (slots t.column) + times n (slots hand')) → All (Reads s.cells) t.column → All (Reads s.cells) t.pending_in → All (Reads s.cells) hand' → AreMarks s.keys (map (key_at s.cells) t.column) t.marks → IsCounted t.tally → IsIntact s hand → IsIntact t hand'
+IsIntact-moved s t hand hand' same counts few column_reads pending_reads hand_reads marked counted intact =
     let owned = intact.owned in
     rw same (record {
       owned = record {
@@ -30,9 +30,9 @@ IsIntact-moved s t hand hand' same counts few column_reads pending_reads hand_re
         doomed_reads = owned.doomed_reads;
         doomed_once = λ n. omega (arith, few n (omega (arith, owned.doomed_once n, times-append n (slots s.column) (slots hand))), times-append n (slots t.column) (slots hand'));
       };
-      obeyed = obeyed;
-      rising = rising;
-      inside = inside;
+      obeyed = marked.obeyed;
+      rising = marked.rising;
+      inside = marked.inside;
       keyed = intact.keyed;
       empty = intact.empty;
       within = intact.within;
@@ -45,7 +45,7 @@ IsIntact-moved s t hand hand' same counts few column_reads pending_reads hand_re
 pub IsIntact-room : (s t : State) (hand : List Handle) → SameButRoom s t → IsIntact s hand → IsIntact t hand
 IsIntact-room s t hand room intact =
     let owned = intact.owned in
-    rw room.same (IsIntact-moved s (record s { column_room = t.column_room; in_room = t.in_room }) hand hand refl (λ n. refl) (λ n few. few) owned.column_reads owned.pending_reads owned.hand_reads intact.obeyed intact.rising intact.inside intact.counted intact)
+    rw room.same (IsIntact-moved s (record s { column_room = t.column_room; in_room = t.in_room }) hand hand refl (λ n. refl) (λ n few. few) owned.column_reads owned.pending_reads owned.hand_reads (AreMarks-intact s hand intact) intact.counted intact)
 
 -- a pending insertion is taken into the hand
 pub IsIntact-lifted : (i : ℕ) (s : State) → i < length s.pending_in → IsIntact s [] → IsIntact (lifted i s).store ((lifted i s).hand ∷ [])
@@ -59,15 +59,13 @@ IsIntact-lifted i s within intact =
     owned.column_reads
     (All-removed (Reads s.cells) s.pending_in i owned.pending_reads)
     (All-cons (Reads s.cells) hand [] (All-get_or (Reads s.cells) s.pending_in i no_handle within owned.pending_reads) owned.hand_reads)
-    intact.obeyed
-    intact.rising
-    intact.inside
+    (AreMarks-intact s [] intact)
     (IsCounted-put_in s.tally intact.counted)
     intact
 
 -- the hand and the handle at a place of the column change places
-pub IsIntact-put_at : (place : ℕ) (marks : List Mark) (tally : MergeReport) (c : Carried) → place < length c.store.column → IsObeyed marks (set (column_keys c.store) place (hand_key c)) → Rising marks → AreInside c.store.keys marks → IsCounted tally → IsIntact c.store (c.hand ∷ []) → IsIntact (put_at place marks tally c).store ((put_at place marks tally c).hand ∷ [])
-IsIntact-put_at place marks tally c within obeyed rising inside counted intact =
+pub IsIntact-put_at : (place : ℕ) (marks : List Mark) (tally : MergeReport) (c : Carried) → place < length c.store.column → AreMarks c.store.keys (set (column_keys c.store) place (hand_key c)) marks → IsCounted tally → IsIntact c.store (c.hand ∷ []) → IsIntact (put_at place marks tally c).store ((put_at place marks tally c).hand ∷ [])
+IsIntact-put_at place marks tally c within marked counted intact =
     let s = c.store in
     let owned = intact.owned in
     let met = get_or s.column place c.hand in
@@ -78,9 +76,7 @@ IsIntact-put_at place marks tally c within obeyed rising inside counted intact =
     (All-set (Reads s.cells) s.column place c.hand (All-head (Reads s.cells) c.hand [] owned.hand_reads) owned.column_reads)
     owned.pending_reads
     (All-cons (Reads s.cells) met [] (All-get_or (Reads s.cells) s.column place c.hand within owned.column_reads) (All-nil (Reads s.cells)))
-    (rw (map-set (key_at s.cells) s.column place c.hand) obeyed)
-    rising
-    inside
+    (rw (map-set (key_at s.cells) s.column place c.hand) marked)
     counted
     intact
 
@@ -90,17 +86,15 @@ IsIntact-pushed_on c ends intact =
     let s = c.store in
     IsIntact-put_at (piece_end s (hand_key c)) (raise_next (next_mark (hand_key c) s.marks) s.marks) (record s.tally { moved = more s.tally.moved }) c ends
     (by_next (next_mark (hand_key c) s.marks) refl ends)
-    (Rising-raise_next (next_mark (hand_key c) s.marks) s.marks intact.rising)
-    (AreInside-raise_next s.keys (next_mark (hand_key c) s.marks) s.marks intact.inside)
     (IsCounted-moved s.tally intact.counted)
     intact
   where
-    by_next : (next : Option Mark) → next_mark (hand_key c) c.store.marks ≡ next → end_of (length c.store.column) next < length c.store.column → IsObeyed (raise_next next c.store.marks) (set (column_keys c.store) (end_of (length c.store.column) next) (hand_key c))
+    by_next : (next : Option Mark) → next_mark (hand_key c) c.store.marks ≡ next → end_of (length c.store.column) next < length c.store.column → AreMarks c.store.keys (set (column_keys c.store) (end_of (length c.store.column) next) (hand_key c)) (raise_next next c.store.marks)
     by_next None found within = absurd (omega arith)
     by_next (Some m) found within =
         let s = c.store in
         let is_next = next_mark-is (hand_key c) s.marks m intact.rising found in
-        Obeyed-raised (column_keys s) s.marks (hand_key c) m (omega (arith, length-map s.column (key_at s.cells))) intact.obeyed is_next.least is_next.above (Divides-listed (column_keys s) s.marks m intact.obeyed is_next.listed)
+        AreMarks-map s.keys (set (column_keys s) m.position (hand_key c)) (raised m.bound.0 m.position) s.marks (λ x. refl) (Obeyed-raised (column_keys s) s.marks (hand_key c) m (omega (arith, length-map s.column (key_at s.cells))) intact.obeyed is_next.least is_next.above (Divides-listed (column_keys s) s.marks m intact.obeyed is_next.listed)) (Rising-raised m.bound.0 m.position s.marks intact.rising) intact.inside
 
 -- the hand becomes the column's last row
 pub IsIntact-appended : (c : Carried) → piece_end c.store (hand_key c) ≡ length c.store.column → IsIntact c.store (c.hand ∷ []) → IsIntact (appended c) []
@@ -115,18 +109,16 @@ IsIntact-appended c ends intact =
     owned.pending_reads
     (All-nil (Reads s.cells))
     (rw (map-append (key_at s.cells) s.column (c.hand ∷ [])) (by_next (next_mark (hand_key c) s.marks) refl ends))
-    (Rising-raise_next (next_mark (hand_key c) s.marks) s.marks intact.rising)
-    (AreInside-raise_next s.keys (next_mark (hand_key c) s.marks) s.marks intact.inside)
     intact.counted
     intact
   where
-    by_next : (next : Option Mark) → next_mark (hand_key c) c.store.marks ≡ next → end_of (length c.store.column) next ≡ length c.store.column → IsObeyed (raise_next next c.store.marks) (column_keys c.store ++ hand_key c ∷ [])
+    by_next : (next : Option Mark) → next_mark (hand_key c) c.store.marks ≡ next → end_of (length c.store.column) next ≡ length c.store.column → AreMarks c.store.keys (column_keys c.store ++ hand_key c ∷ []) (raise_next next c.store.marks)
     by_next None found at_end =
-        Obeyed-push (column_keys c.store) c.store.marks (hand_key c) intact.obeyed (next_mark-none (hand_key c) c.store.marks found)
+        record { obeyed = Obeyed-push (column_keys c.store) c.store.marks (hand_key c) intact.obeyed (next_mark-none (hand_key c) c.store.marks found); rising = intact.rising; inside = intact.inside }
     by_next (Some m) found at_end =
         let s = c.store in
         let is_next = next_mark-is (hand_key c) s.marks m intact.rising found in
-        Obeyed-push_raised (column_keys s) s.marks (hand_key c) m (omega (arith, length-map s.column (key_at s.cells))) intact.obeyed is_next.least is_next.above (Divides-listed (column_keys s) s.marks m intact.obeyed is_next.listed)
+        AreMarks-map s.keys (column_keys s ++ hand_key c ∷ []) (raised m.bound.0 m.position) s.marks (λ x. refl) (Obeyed-push_raised (column_keys s) s.marks (hand_key c) m (omega (arith, length-map s.column (key_at s.cells))) intact.obeyed is_next.least is_next.above (Divides-listed (column_keys s) s.marks m intact.obeyed is_next.listed)) (Rising-raised m.bound.0 m.position s.marks intact.rising) intact.inside
 
 -- the row that stood where a piece ended is at or above the bound there
 pub met_key : (s : State) (key : ℕ) (m : Mark) (met : Handle) → Rising s.marks → IsObeyed s.marks (column_keys s) → next_mark key s.marks ≡ Some m → m.position < length s.column → met ≡ get_or s.column m.position met → m.bound.0 ≤ key_at s.cells met
