@@ -1,5 +1,5 @@
 -- A crack keeps a store intact and refines it; and one refinement after another is one.
-use Rattle.std.proofs.Common.{◌≡◌, ◌⊎◌, ℕ, ◌<◌, ◌≤◌, List, [], ◌∷◌, ◌++◌, map, length, get_or, Option, Some, None, refl, sym, ap, ◌∙◌, subst, inl, inr, arith}
+use Rattle.std.proofs.Common.{◌≡◌, ◌⊎◌, ℕ, ◌<◌, ◌≤◌, List, [], ◌∷◌, ◌++◌, map, length, get_or, refl, sym, ap, ◌∙◌, subst, inl, inr, arith}
 use Rattle.std.specs.List.{All, Contains, between}
 use Rattle.std.specs.List.Sorted.{IsPermutation}
 use Rattle.std.proofs.lemmas.Bool.{cases_lt}
@@ -23,7 +23,7 @@ use Rattle.crack_state.specs.Steps.{piece_start, piece_end}
 use Rattle.crack_state.specs.Merge.{IsInner, AreEnds, IsCracked, cuts, RefinesBy, RefinesAt, Refines}
 use Rattle.crack_state.proofs.StepLaws.{IsIntact-moved}
 use Rattle.crack_state.proofs.CellLaws.{row_read, read-value, cell_within}
-use Rattle.crack_state.proofs.PieceLaws.{Divides-listed, piece_end-le, piece_end-before, piece_start-behind}
+use Rattle.crack_state.proofs.PieceLaws.{cases_Option, Divides-listed, piece_end-le, piece_end-before, piece_start-behind}
 
 -- crack: a bound divides its own piece at a place; the column's handles stand in this order
 abbrev pub cracked_at : Bound → ℕ → List Handle → State → State
@@ -55,24 +55,16 @@ abbrev DividesAt : List ℕ → ℕ → (ℕ → Type 0) → Type 0
 DividesAt keys place Is = (number : ℕ) × Is number × IsDividedAt number keys place
 
 piece_before : (s : State) (bound : ℕ) → Rising s.marks → IsObeyed s.marks (column_keys s) → DividesAt (column_keys s) (piece_start s bound) (λ n. n ≤ bound)
-piece_before s bound rising obeyed = by_last (last_mark bound s.marks) refl
-  where
-    by_last : (last : Option Mark) → last_mark bound s.marks ≡ last → DividesAt (column_keys s) (start_of last) (λ n. n ≤ bound)
-    by_last None none = (0, omega arith, IsDividedAt-zero (column_keys s))
-    by_last (Some m) found =
-        let is_last = last_mark-is bound s.marks m rising found in
-        (m.bound.0, is_last.below, Divides-listed (column_keys s) s.marks m obeyed is_last.listed)
+piece_before s bound rising obeyed = cases_Option (λ o. DividesAt (column_keys s) (start_of o) (λ n. n ≤ bound)) (last_mark bound s.marks) (λ none. (0, omega arith, IsDividedAt-zero (column_keys s))) (λ m found.
+    let is_last = last_mark-is bound s.marks m rising found in
+    (m.bound.0, is_last.below, Divides-listed (column_keys s) s.marks m obeyed is_last.listed))
 
 piece_behind : (s : State) (hand : List Handle) (bound : ℕ) → bound < s.keys.high → IsIntact s hand → DividesAt (column_keys s) (piece_end s bound) (λ n. bound ≤ n)
-piece_behind s hand bound high intact = by_next (next_mark bound s.marks) refl
-  where
-    by_next : (next : Option Mark) → next_mark bound s.marks ≡ next → DividesAt (column_keys s) (end_of (length s.column) next) (λ n. bound ≤ n)
-    by_next None none =
-        let all = column_keys-within s hand intact in
-        (s.keys.high, omega arith, rw (length-map s.column (key_at s.cells)) at (IsDividedAt-end s.keys.high (column_keys s) (λ k d h. (all k d h).1)))
-    by_next (Some m) found =
-        let is_next = next_mark-is bound s.marks m intact.rising found in
-        (m.bound.0, omega (arith, is_next.above), Divides-listed (column_keys s) s.marks m intact.obeyed is_next.listed)
+piece_behind s hand bound high intact =
+    let keys_end = IsDividedAt-end s.keys.high (column_keys s) (λ k d h. (column_keys-within s hand intact k d h).1) in
+    cases_Option (λ o. DividesAt (column_keys s) (end_of (length s.column) o) (λ n. bound ≤ n)) (next_mark bound s.marks) (λ none. (s.keys.high, omega arith, rw (length-map s.column (key_at s.cells)) at keys_end)) (λ m found.
+    let is_next = next_mark-is bound s.marks m intact.rising found in
+    (m.bound.0, omega (arith, is_next.above), Divides-listed (column_keys s) s.marks m intact.obeyed is_next.listed))
 
 module _ (s u : State) (hand : List Handle) (bound : Bound) (c : CracksAt s u bound) (intact : IsIntact s hand) where
   abbrev from : ℕ

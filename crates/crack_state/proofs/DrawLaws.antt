@@ -15,28 +15,20 @@ use Rattle.crack_state.specs.State.{State, Carried, Reads, IsIntact, column_keys
 use Rattle.crack_state.specs.Steps.{hand_key, piece_start, piece_end, lower_last, IsDoomed, lifted_last, pulled_back}
 use Rattle.crack_state.proofs.OwnedLaws.{times-places, once-most, hand_apart}
 use Rattle.crack_state.proofs.CellLaws.{one_handle, stands_there}
-use Rattle.crack_state.proofs.PieceLaws.{Divides-order, Divides-listed}
+use Rattle.crack_state.proofs.PieceLaws.{cases_Option, Divides-order, Divides-listed}
 use Rattle.crack_state.proofs.PullLaws.{met_below}
 
 -- a piece ends at or behind a place where each bound above its key stands there or behind it
 piece_end-least : (s : State) (key place : ℕ) → Rising s.marks → place ≤ length s.column → All (λ (m : Mark). key < m.bound.0 → place ≤ m.position) s.marks → place ≤ piece_end s key
-piece_end-least s key place rising within behind = by_next (next_mark key s.marks) refl
-  where
-    by_next : (next : Option Mark) → next_mark key s.marks ≡ next → place ≤ end_of (length s.column) next
-    by_next None found = within
-    by_next (Some m) found =
-        let is_next = next_mark-is key s.marks m rising found in
-        All-contains (λ (n : Mark). key < n.bound.0 → place ≤ n.position) s.marks m behind is_next.listed is_next.above
+piece_end-least s key place rising within behind = cases_Option (λ o. place ≤ end_of (length s.column) o) (next_mark key s.marks) (λ none. within) (λ m found.
+    let is_next = next_mark-is key s.marks m rising found in
+    All-contains (λ (n : Mark). key < n.bound.0 → place ≤ n.position) s.marks m behind is_next.listed is_next.above)
 
 -- a piece begins at or before a place where each bound at or below its key stands there or before it
 piece_start-most : (s : State) (key place : ℕ) → Rising s.marks → All (λ (m : Mark). m.bound.0 ≤ key → m.position ≤ place) s.marks → piece_start s key ≤ place
-piece_start-most s key place rising before = by_last (last_mark key s.marks) refl
-  where
-    by_last : (last : Option Mark) → last_mark key s.marks ≡ last → start_of last ≤ place
-    by_last None found = omega arith
-    by_last (Some m) found =
-        let is_last = last_mark-is key s.marks m rising found in
-        All-contains (λ (n : Mark). n.bound.0 ≤ key → n.position ≤ place) s.marks m before is_last.listed is_last.below
+piece_start-most s key place rising before = cases_Option (λ o. start_of o ≤ place) (last_mark key s.marks) (λ none. omega arith) (λ m found.
+    let is_last = last_mark-is key s.marks m rising found in
+    All-contains (λ (n : Mark). n.bound.0 ≤ key → n.position ≤ place) s.marks m before is_last.listed is_last.below)
 
 -- a bound above the key of a row stands behind it
 mark_behind : (s : State) (hand : List Handle) (k place : ℕ) (d : Mark) (met : Handle) → IsIntact s hand → k < length s.marks → place < length s.column → met ≡ get_or s.column place met → key_at s.cells met < (get_or s.marks k d).bound.0 → place < (get_or s.marks k d).position

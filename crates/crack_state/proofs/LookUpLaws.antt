@@ -1,11 +1,12 @@
 -- What a look-up of a serial tells of the live rows, and of any list of them; and how such a list changes.
-use Rattle.std.proofs.Common.{◌≡◌, ◌≢◌, ℕ, Bool, true, false, List, [], ◌∷◌, map, filter, length, get_or, Option, Some, None, IsSome, refl, sym, ap, ◌∙◌}
-use Rattle.std.specs.Prelude.{◌==◌, unwrap_or, is_some}
+use Rattle.std.proofs.Common.{◌≡◌, ◌≢◌, ℕ, Bool, List, [], ◌∷◌, map, filter, length, get_or, Option, Some, None, IsSome, refl, sym, ap, ◌∙◌}
+use Rattle.std.specs.Prelude.{◌==◌, unwrap_or}
 use Rattle.std.specs.List.{All, Contains, find, range_with_len}
 use Rattle.std.specs.List.Sorted.{IsPermutation}
 use Rattle.std.specs.Option.{option_and_then}
 use Rattle.std.proofs.lemmas.List.Sorted.{All-permutation, Contains-permutation, IsPermutation-sym, IsPermutation-trans, IsPermutation-map}
-use Rattle.std.proofs.lemmas.Bool.{ne_eqb, eq-eqb, eqb-true, true≢false}
+use Rattle.std.proofs.lemmas.Option.{option_and_then_some, same_Some}
+use Rattle.std.proofs.lemmas.Bool.{ne_eqb, eq-eqb, eqb-true}
 use Rattle.crack_row.proofs.Lists.{IsPermutation-filter, filter_all, find_only, find_none}
 use Rattle.crack_row.specs.Rows.{is_other, replaced}
 use Rattle.crack_row.specs.declared.Row.{Row}
@@ -26,14 +27,10 @@ pub record IsRowBy (s : State) (serial : ℕ) (row : Row) : Type 0 where
   pub live : Contains (live_rows s) row
 
 pub row_by-is : (s : State) (serial : ℕ) (row : Row) → row_by s serial ≡ Some row → IsIntact s [] → IsRowBy s serial row
-row_by-is s serial row is intact = by_handle (handle_of s.serials serial) refl is
-  where
-    by_handle : (o : Option Handle) → handle_of s.serials serial ≡ o → option_and_then (read s.cells) o ≡ Some row → IsRowBy s serial row
-    by_handle None found e = absurd (true≢false (sym (ap is_some e)))
-    by_handle (Some h) found e =
-        let live : IsLiveAt s.cells (slots s.pending_out) serial h = intact.keyed.leads serial h found in
-        let rows : live.row ≡ row = ap (λ (o : Option Row). unwrap_or o row) (sym live.reads ∙ e) in
-        record { handle = h; leads = found; reads = e; same = ap (λ (r : Row). r.serial.0) (sym rows) ∙ live.same; live = Contains-live s h row e live.kept }
+row_by-is s serial row is intact = option_and_then_some (read s.cells) (handle_of s.serials serial) row is (λ h found e.
+    let live : IsLiveAt s.cells (slots s.pending_out) serial h = intact.keyed.leads serial h found in
+    let rows : live.row ≡ row = same_Some live.row row (sym live.reads ∙ e) in
+    record { handle = h; leads = found; reads = e; same = ap (λ (r : Row). r.serial.0) (sym rows) ∙ live.same; live = Contains-live s h row e live.kept })
 
 -- a row is there just where the map has its serial, and just where it is known whether it is pending
 pub row_by-handle : (s : State) (serial : ℕ) (h : Handle) → handle_of s.serials serial ≡ Some h → row_by s serial ≡ read s.cells h

@@ -89,45 +89,32 @@ pub AreMarks-map : (keys : Range) (column : List ℕ) (f : Mark → Mark) (marks
 AreMarks-map keys column f marks same obeyed rising inside =
     record { obeyed = obeyed; rising = rising; inside = All-map (λ (x : Mark). (keys.low < x.bound.0) × (x.bound.0 < keys.high)) f marks (λ k d h. rw (same (get_or marks k d)) (inside k d h)) }
 
+-- what holds of an option that is nothing or something
+pub cases_Option : {X : Type 0} (P : Option X → Type 0) (o : Option X) → (o ≡ None → P None) → ((x : X) → o ≡ Some x → P (Some x)) → P o
+cases_Option P None none some = none refl
+cases_Option P (Some x) none some = some x refl
+
 -- where a piece ends is a place of the column, or its end
 pub piece_end-le : (s : State) (key : ℕ) → Rising s.marks → IsObeyed s.marks (column_keys s) → piece_end s key ≤ length s.column
-piece_end-le s key rising obeyed = by_next (next_mark key s.marks) refl
-  where
-    by_next : (next : Option Mark) → next_mark key s.marks ≡ next → end_of (length s.column) next ≤ length s.column
-    by_next None found = omega arith
-    by_next (Some m) found =
-        let is_next = next_mark-is key s.marks m rising found in
-        omega (arith, (Divides-listed (column_keys s) s.marks m obeyed is_next.listed).within, length-map s.column (key_at s.cells))
+piece_end-le s key rising obeyed = cases_Option (λ o. end_of (length s.column) o ≤ length s.column) (next_mark key s.marks) (λ none. omega arith) (λ m found.
+    omega (arith, (Divides-listed (column_keys s) s.marks m obeyed (next_mark-is key s.marks m rising found).listed).within, length-map s.column (key_at s.cells)))
 
 -- where a piece begins is a place of the column, or its end
 pub piece_start-le : (s : State) (key : ℕ) → Rising s.marks → IsObeyed s.marks (column_keys s) → piece_start s key ≤ length s.column
-piece_start-le s key rising obeyed = by_last (last_mark key s.marks) refl
-  where
-    by_last : (last : Option Mark) → last_mark key s.marks ≡ last → start_of last ≤ length s.column
-    by_last None found = omega arith
-    by_last (Some m) found =
-        let is_last = last_mark-is key s.marks m rising found in
-        omega (arith, (Divides-listed (column_keys s) s.marks m obeyed is_last.listed).within, length-map s.column (key_at s.cells))
+piece_start-le s key rising obeyed = cases_Option (λ o. start_of o ≤ length s.column) (last_mark key s.marks) (λ none. omega arith) (λ m found.
+    omega (arith, (Divides-listed (column_keys s) s.marks m obeyed (last_mark-is key s.marks m rising found).listed).within, length-map s.column (key_at s.cells)))
 
 -- where a bound above the key stands, the key's piece has ended
 pub piece_end-before : (s : State) (key k : ℕ) (d : Mark) → Rising s.marks → IsObeyed s.marks (column_keys s) → k < length s.marks → key < (get_or s.marks k d).bound.0 → piece_end s key ≤ (get_or s.marks k d).position
-piece_end-before s key k d rising obeyed within above = by_next (next_mark key s.marks) refl
-  where
-    by_next : (next : Option Mark) → next_mark key s.marks ≡ next → end_of (length s.column) next ≤ (get_or s.marks k d).position
-    by_next None none = absurd (omega (arith, next_mark-none key s.marks none k d within))
-    by_next (Some m) some =
-        let is_next = next_mark-is key s.marks m rising some in
-        Divides-order (column_keys s) m (get_or s.marks k d) (Divides-listed (column_keys s) s.marks m obeyed is_next.listed) (obeyed k d within) (is_next.least k d within above)
+piece_end-before s key k d rising obeyed within above = cases_Option (λ o. end_of (length s.column) o ≤ (get_or s.marks k d).position) (next_mark key s.marks) (λ none. absurd (omega (arith, next_mark-none key s.marks none k d within))) (λ m found.
+    let is_next = next_mark-is key s.marks m rising found in
+    Divides-order (column_keys s) m (get_or s.marks k d) (Divides-listed (column_keys s) s.marks m obeyed is_next.listed) (obeyed k d within) (is_next.least k d within above))
 
 -- where a bound at or below the key stands, the key's piece hasn't begun
 pub piece_start-behind : (s : State) (key k : ℕ) (d : Mark) → Rising s.marks → IsObeyed s.marks (column_keys s) → k < length s.marks → (get_or s.marks k d).bound.0 ≤ key → (get_or s.marks k d).position ≤ piece_start s key
-piece_start-behind s key k d rising obeyed within below = by_last (last_mark key s.marks) refl
-  where
-    by_last : (last : Option Mark) → last_mark key s.marks ≡ last → (get_or s.marks k d).position ≤ start_of last
-    by_last None none = absurd (omega (arith, last_mark-none key s.marks rising none k d within))
-    by_last (Some m) some =
-        let is_last = last_mark-is key s.marks m rising some in
-        Divides-order (column_keys s) (get_or s.marks k d) m (obeyed k d within) (Divides-listed (column_keys s) s.marks m obeyed is_last.listed) (is_last.greatest k d within below)
+piece_start-behind s key k d rising obeyed within below = cases_Option (λ o. (get_or s.marks k d).position ≤ start_of o) (last_mark key s.marks) (λ none. absurd (omega (arith, last_mark-none key s.marks rising none k d within))) (λ m found.
+    let is_last = last_mark-is key s.marks m rising found in
+    Divides-order (column_keys s) (get_or s.marks k d) m (obeyed k d within) (Divides-listed (column_keys s) s.marks m obeyed is_last.listed) (is_last.greatest k d within below))
 
 -- marks that move count for less, where none counts for more and one for less
 sum_by-moved_le : (f : Mark → Mark) (after before : Mark → ℕ) → ((m : Mark) → after (f m) ≤ before m) → (marks : List Mark) → sum_by after (map f marks) ≤ sum_by before marks
