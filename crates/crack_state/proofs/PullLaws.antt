@@ -17,7 +17,7 @@ use Rattle.crack_state.specs.Steps.{hand_key, piece_start, piece_end, lower_last
 use Rattle.crack_state.specs.Merge.{Follows}
 use Rattle.crack_state.proofs.Counters.{IsCounted-evicted, IsCounted-pulled}
 use Rattle.crack_state.proofs.OwnedLaws.{times-taken}
-use Rattle.crack_state.proofs.PieceLaws.{AreMarks, AreMarks-intact, AreMarks-map, Divides-order, Divides-listed, piece_end-le, piece_end-before, piece_start-behind, bounds_up_to-less}
+use Rattle.crack_state.proofs.PieceLaws.{cases_Option, AreMarks, AreMarks-intact, AreMarks-map, Divides-order, Divides-listed, piece_end-le, piece_end-before, piece_start-behind, bounds_up_to-less}
 use Rattle.crack_state.proofs.StepLaws.{IsIntact-moved, IsIntact-put_at}
 
 Divides-lowered : (keys : List ℕ) (x : ℕ) (low m : Mark) → 0 < low.position → low.bound.0 ≤ x → Divides keys low → Divides keys m → (m.bound.0 ≤ x → m.bound.0 ≤ low.bound.0) → Divides (set keys (low.position - 1) x) (lowered low.bound.0 low.position m)
@@ -116,20 +116,12 @@ IsIntact-lifted_last s some intact =
 pub IsIntact-pulled_back : (c : Carried) → 0 < piece_start c.store (hand_key c) → IsIntact c.store (c.hand ∷ []) → IsIntact (pulled_back c).store ((pulled_back c).hand ∷ [])
 IsIntact-pulled_back c some intact =
     let s = c.store in
-    let both = by_last (last_mark (hand_key c) s.marks) refl some in
-    IsIntact-put_at (piece_start s (hand_key c) - 1) (lower_last (last_mark (hand_key c) s.marks) s.marks) (record s.tally { pulled = more s.tally.pulled }) c
-    both.0
-    both.1
-    (IsCounted-pulled s.tally intact.counted)
-    intact
-  where
-    by_last : (last : Option Mark) → last_mark (hand_key c) c.store.marks ≡ last → 0 < start_of last → (start_of last - 1 < length c.store.column) × AreMarks c.store.keys (set (column_keys c.store) (start_of last - 1) (hand_key c)) (lower_last last c.store.marks)
-    by_last None found inside = absurd (omega arith)
-    by_last (Some m) found inside =
-        let s = c.store in
-        let is_last = last_mark-is (hand_key c) s.marks m intact.rising found in
-        let divides = Divides-listed (column_keys s) s.marks m intact.obeyed is_last.listed in
-        (omega (arith, divides.within, length-map s.column (key_at s.cells)), AreMarks-map s.keys (set (column_keys s) (m.position - 1) (hand_key c)) (lowered m.bound.0 m.position) s.marks (λ x. refl) (Obeyed-lowered (column_keys s) s.marks (hand_key c) m inside intact.obeyed is_last.greatest is_last.below divides) (Rising-lowered m.bound.0 m.position s.marks intact.rising) intact.inside)
+    let After : Option Mark → Type 0 = λ o. 0 < start_of o → (start_of o - 1 < length s.column) × AreMarks s.keys (set (column_keys s) (start_of o - 1) (hand_key c)) (lower_last o s.marks) in
+    let both = cases_Option After (last_mark (hand_key c) s.marks) (λ none inside. absurd (omega arith)) (λ m found inside.
+    let is_last = last_mark-is (hand_key c) s.marks m intact.rising found in
+    let divides = Divides-listed (column_keys s) s.marks m intact.obeyed is_last.listed in
+    (omega (arith, divides.within, length-map s.column (key_at s.cells)), AreMarks-map s.keys (set (column_keys s) (m.position - 1) (hand_key c)) (lowered m.bound.0 m.position) s.marks (λ x. refl) (Obeyed-lowered (column_keys s) s.marks (hand_key c) m inside intact.obeyed is_last.greatest is_last.below divides) (Rising-lowered m.bound.0 m.position s.marks intact.rising) intact.inside)) some in
+    IsIntact-put_at (piece_start s (hand_key c) - 1) (lower_last (last_mark (hand_key c) s.marks) s.marks) (record s.tally { pulled = more s.tally.pulled }) c both.0 both.1 (IsCounted-pulled s.tally intact.counted) intact
 
 -- the row that stood before a piece is below the bound there
 pub met_below : (s : State) (key : ℕ) (m : Mark) (met : Handle) → Rising s.marks → IsObeyed s.marks (column_keys s) → last_mark key s.marks ≡ Some m → 0 < m.position → met ≡ get_or s.column (m.position - 1) met → key_at s.cells met < m.bound.0
@@ -142,17 +134,14 @@ met_below s key m met rising obeyed found some read =
 
 -- after a pull_back fewer bounds are at or below the key in hand
 pub bounds_up_to-pulled_back : (c : Carried) → 0 < piece_start c.store (hand_key c) → IsIntact c.store (c.hand ∷ []) → bounds_up_to (hand_key (pulled_back c)) (pulled_back c).store.marks < bounds_up_to (hand_key c) c.store.marks
-bounds_up_to-pulled_back c some intact = by_last (last_mark (hand_key c) c.store.marks) refl some
-  where
-    by_last : (last : Option Mark) → last_mark (hand_key c) c.store.marks ≡ last → 0 < start_of last → bounds_up_to (key_at c.store.cells (get_or c.store.column (start_of last - 1) c.hand)) (lower_last last c.store.marks) < bounds_up_to (hand_key c) c.store.marks
-    by_last None found inside = absurd (omega arith)
-    by_last (Some m) found inside =
-        let s = c.store in
-        let is_last = last_mark-is (hand_key c) s.marks m intact.rising found in
-        let divides = Divides-listed (column_keys s) s.marks m intact.obeyed is_last.listed in
-        let within : m.position - 1 < length s.column = omega (arith, divides.within, length-map s.column (key_at s.cells)) in
-        let met = get_or s.column (m.position - 1) c.hand in
-        bounds_up_to-less m.bound.0 m.position (hand_key c) (key_at s.cells met) s.marks m is_last.listed.0 is_last.listed.1 is_last.listed.2 is_last.below (met_below s (hand_key c) m met intact.rising intact.obeyed found inside (get_or_default s.column (m.position - 1) c.hand met within))
+bounds_up_to-pulled_back c some intact =
+    let s = c.store in
+    let Fewer : Option Mark → Type 0 = λ o. 0 < start_of o → bounds_up_to (key_at s.cells (get_or s.column (start_of o - 1) c.hand)) (lower_last o s.marks) < bounds_up_to (hand_key c) s.marks in
+    cases_Option Fewer (last_mark (hand_key c) s.marks) (λ none inside. absurd (omega arith)) (λ m found inside.
+    let is_last = last_mark-is (hand_key c) s.marks m intact.rising found in
+    let within : m.position - 1 < length s.column = omega (arith, (Divides-listed (column_keys s) s.marks m intact.obeyed is_last.listed).within, length-map s.column (key_at s.cells)) in
+    let met = get_or s.column (m.position - 1) c.hand in
+    bounds_up_to-less m.bound.0 m.position (hand_key c) (key_at s.cells met) s.marks m is_last.listed.0 is_last.listed.1 is_last.listed.2 is_last.below (met_below s (hand_key c) m met intact.rising intact.obeyed found inside (get_or_default s.column (m.position - 1) c.hand met within))) some
 
 -- the hand and a row of its own piece change places
 pub IsIntact-exchanged : (place : ℕ) (c : Carried) → piece_start c.store (hand_key c) ≤ place → place < piece_end c.store (hand_key c) → IsIntact c.store (c.hand ∷ []) → IsIntact (exchanged place c).store ((exchanged place c).hand ∷ [])

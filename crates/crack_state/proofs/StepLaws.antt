@@ -1,5 +1,5 @@
 -- Each step of a carry keeps a store intact.
-use Rattle.std.proofs.Common.{◌≡◌, ℕ, ◌+◌, ◌<◌, ◌≤◌, List, [], ◌∷◌, ◌++◌, map, length, get_or, set, Option, Some, None, refl, sym, ap, ◌∙◌, arith}
+use Rattle.std.proofs.Common.{◌≡◌, ℕ, ◌+◌, ◌<◌, ◌≤◌, List, [], ◌∷◌, ◌++◌, map, length, get_or, set, Option, Some, refl, sym, ap, ◌∙◌, arith}
 use Rattle.std.specs.List.{All}
 use Rattle.std.proofs.lemmas.List.{map-set, map-append, length-map, get_or-map, get_or_default}
 use Rattle.std.proofs.lemmas.List.Elements.{All-set, All-push, All-cons, All-nil, All-get_or, All-head}
@@ -14,7 +14,7 @@ use Rattle.crack_state.specs.declared.MergeReport.{MergeReport}
 use Rattle.crack_state.specs.State.{State, Carried, Reads, column_keys, IsObeyed, IsCounted, IsIntact}
 use Rattle.crack_state.specs.Steps.{hand_key, piece_end, raise_next, more, put_at, lifted, pushed_on, appended, SameButRoom, bounds_above}
 use Rattle.crack_state.proofs.Counters.{IsCounted-put_in, IsCounted-moved}
-use Rattle.crack_state.proofs.PieceLaws.{Obeyed-raised, Obeyed-push, Obeyed-push_raised, Divides-listed, AreMarks, AreMarks-intact, AreMarks-map, bounds_above-less}
+use Rattle.crack_state.proofs.PieceLaws.{cases_Option, Obeyed-raised, Obeyed-push, Obeyed-push_raised, Divides-listed, AreMarks, AreMarks-intact, AreMarks-map, bounds_above-less}
 use Rattle.crack_state.proofs.OwnedLaws.{times-exchange, times-taken, times-places}
 
 -- what a step leaves that moves handles: cells and free numbers, pending deletions and map
@@ -84,17 +84,11 @@ IsIntact-put_at place marks tally c within marked counted intact =
 pub IsIntact-pushed_on : (c : Carried) → piece_end c.store (hand_key c) < length c.store.column → IsIntact c.store (c.hand ∷ []) → IsIntact (pushed_on c).store ((pushed_on c).hand ∷ [])
 IsIntact-pushed_on c ends intact =
     let s = c.store in
-    IsIntact-put_at (piece_end s (hand_key c)) (raise_next (next_mark (hand_key c) s.marks) s.marks) (record s.tally { moved = more s.tally.moved }) c ends
-    (by_next (next_mark (hand_key c) s.marks) refl ends)
-    (IsCounted-moved s.tally intact.counted)
-    intact
-  where
-    by_next : (next : Option Mark) → next_mark (hand_key c) c.store.marks ≡ next → end_of (length c.store.column) next < length c.store.column → AreMarks c.store.keys (set (column_keys c.store) (end_of (length c.store.column) next) (hand_key c)) (raise_next next c.store.marks)
-    by_next None found within = absurd (omega arith)
-    by_next (Some m) found within =
-        let s = c.store in
-        let is_next = next_mark-is (hand_key c) s.marks m intact.rising found in
-        AreMarks-map s.keys (set (column_keys s) m.position (hand_key c)) (raised m.bound.0 m.position) s.marks (λ x. refl) (Obeyed-raised (column_keys s) s.marks (hand_key c) m (omega (arith, length-map s.column (key_at s.cells))) intact.obeyed is_next.least is_next.above (Divides-listed (column_keys s) s.marks m intact.obeyed is_next.listed)) (Rising-raised m.bound.0 m.position s.marks intact.rising) intact.inside
+    let After : Option Mark → Type 0 = λ o. end_of (length s.column) o < length s.column → AreMarks s.keys (set (column_keys s) (end_of (length s.column) o) (hand_key c)) (raise_next o s.marks) in
+    let marked = cases_Option After (next_mark (hand_key c) s.marks) (λ none within. absurd (omega arith)) (λ m found within.
+    let is_next = next_mark-is (hand_key c) s.marks m intact.rising found in
+    AreMarks-map s.keys (set (column_keys s) m.position (hand_key c)) (raised m.bound.0 m.position) s.marks (λ x. refl) (Obeyed-raised (column_keys s) s.marks (hand_key c) m (omega (arith, length-map s.column (key_at s.cells))) intact.obeyed is_next.least is_next.above (Divides-listed (column_keys s) s.marks m intact.obeyed is_next.listed)) (Rising-raised m.bound.0 m.position s.marks intact.rising) intact.inside) in
+    IsIntact-put_at (piece_end s (hand_key c)) (raise_next (next_mark (hand_key c) s.marks) s.marks) (record s.tally { moved = more s.tally.moved }) c ends (marked ends) (IsCounted-moved s.tally intact.counted) intact
 
 -- the hand becomes the column's last row
 pub IsIntact-appended : (c : Carried) → piece_end c.store (hand_key c) ≡ length c.store.column → IsIntact c.store (c.hand ∷ []) → IsIntact (appended c) []
@@ -102,23 +96,19 @@ IsIntact-appended c ends intact =
     let s = c.store in
     let owned = intact.owned in
     let counts : (n : ℕ) → times n (slots (s.column ++ c.hand ∷ [])) ≡ times n (slots s.column) + times n (slots (c.hand ∷ [])) = λ n. times-map-append n (λ (h : Handle). h.slot) s.column (c.hand ∷ []) in
+    let After : Option Mark → Type 0 = λ o. end_of (length s.column) o ≡ length s.column → AreMarks s.keys (column_keys s ++ hand_key c ∷ []) (raise_next o s.marks) in
+    let marked = cases_Option After (next_mark (hand_key c) s.marks) (λ found at_end. record { obeyed = Obeyed-push (column_keys c.store) c.store.marks (hand_key c) intact.obeyed (next_mark-none (hand_key c) c.store.marks found); rising = intact.rising; inside = intact.inside }) (λ m found at_end.
+    let is_next = next_mark-is (hand_key c) s.marks m intact.rising found in
+    AreMarks-map s.keys (column_keys s ++ hand_key c ∷ []) (raised m.bound.0 m.position) s.marks (λ x. refl) (Obeyed-push_raised (column_keys s) s.marks (hand_key c) m (omega (arith, length-map s.column (key_at s.cells))) intact.obeyed is_next.least is_next.above (Divides-listed (column_keys s) s.marks m intact.obeyed is_next.listed)) (Rising-raised m.bound.0 m.position s.marks intact.rising) intact.inside) in
     IsIntact-moved s (appended c) (c.hand ∷ []) [] refl
     (λ n. omega (arith, counts n, times-nil n))
     (λ n few. omega (arith, few, counts n))
     (All-push (Reads s.cells) s.column c.hand owned.column_reads (All-head (Reads s.cells) c.hand [] owned.hand_reads))
     owned.pending_reads
     (All-nil (Reads s.cells))
-    (rw (map-append (key_at s.cells) s.column (c.hand ∷ [])) (by_next (next_mark (hand_key c) s.marks) refl ends))
+    (rw (map-append (key_at s.cells) s.column (c.hand ∷ [])) (marked ends))
     intact.counted
     intact
-  where
-    by_next : (next : Option Mark) → next_mark (hand_key c) c.store.marks ≡ next → end_of (length c.store.column) next ≡ length c.store.column → AreMarks c.store.keys (column_keys c.store ++ hand_key c ∷ []) (raise_next next c.store.marks)
-    by_next None found at_end =
-        record { obeyed = Obeyed-push (column_keys c.store) c.store.marks (hand_key c) intact.obeyed (next_mark-none (hand_key c) c.store.marks found); rising = intact.rising; inside = intact.inside }
-    by_next (Some m) found at_end =
-        let s = c.store in
-        let is_next = next_mark-is (hand_key c) s.marks m intact.rising found in
-        AreMarks-map s.keys (column_keys s ++ hand_key c ∷ []) (raised m.bound.0 m.position) s.marks (λ x. refl) (Obeyed-push_raised (column_keys s) s.marks (hand_key c) m (omega (arith, length-map s.column (key_at s.cells))) intact.obeyed is_next.least is_next.above (Divides-listed (column_keys s) s.marks m intact.obeyed is_next.listed)) (Rising-raised m.bound.0 m.position s.marks intact.rising) intact.inside
 
 -- the row that stood where a piece ended is at or above the bound there
 pub met_key : (s : State) (key : ℕ) (m : Mark) (met : Handle) → Rising s.marks → IsObeyed s.marks (column_keys s) → next_mark key s.marks ≡ Some m → m.position < length s.column → met ≡ get_or s.column m.position met → m.bound.0 ≤ key_at s.cells met
@@ -130,12 +120,10 @@ met_key s key m met rising obeyed found inside read =
 
 -- after a push_on fewer bounds are above the key in hand
 pub bounds_above-pushed_on : (c : Carried) → piece_end c.store (hand_key c) < length c.store.column → IsIntact c.store (c.hand ∷ []) → bounds_above (hand_key (pushed_on c)) (pushed_on c).store.marks < bounds_above (hand_key c) c.store.marks
-bounds_above-pushed_on c ends intact = by_next (next_mark (hand_key c) c.store.marks) refl ends
-  where
-    by_next : (next : Option Mark) → next_mark (hand_key c) c.store.marks ≡ next → end_of (length c.store.column) next < length c.store.column → bounds_above (key_at c.store.cells (get_or c.store.column (end_of (length c.store.column) next) c.hand)) (raise_next next c.store.marks) < bounds_above (hand_key c) c.store.marks
-    by_next None found within = absurd (omega arith)
-    by_next (Some m) found within =
-        let s = c.store in
-        let is_next = next_mark-is (hand_key c) s.marks m intact.rising found in
-        let met = get_or s.column m.position c.hand in
-        bounds_above-less m.bound.0 m.position (hand_key c) (key_at s.cells met) s.marks m is_next.listed.0 is_next.listed.1 is_next.listed.2 is_next.above (met_key s (hand_key c) m met intact.rising intact.obeyed found within (get_or_default s.column m.position c.hand met within))
+bounds_above-pushed_on c ends intact =
+    let s = c.store in
+    let Fewer : Option Mark → Type 0 = λ o. end_of (length s.column) o < length s.column → bounds_above (key_at s.cells (get_or s.column (end_of (length s.column) o) c.hand)) (raise_next o s.marks) < bounds_above (hand_key c) s.marks in
+    cases_Option Fewer (next_mark (hand_key c) s.marks) (λ none within. absurd (omega arith)) (λ m found within.
+    let is_next = next_mark-is (hand_key c) s.marks m intact.rising found in
+    let met = get_or s.column m.position c.hand in
+    bounds_above-less m.bound.0 m.position (hand_key c) (key_at s.cells met) s.marks m is_next.listed.0 is_next.listed.1 is_next.listed.2 is_next.above (met_key s (hand_key c) m met intact.rising intact.obeyed found within (get_or_default s.column m.position c.hand met within))) ends
