@@ -5,7 +5,7 @@ use Rattle.crack_row.specs.declared.command.Policy.{Policy}
 use Rattle.crack_arena.specs.Arena.{Handle, StandsAt}
 use Rattle.crack_state.specs.State.{State, IsIntact}
 use Rattle.crack_state.specs.Steps.{hand_key, piece_end, lifted_last}
-use Rattle.crack_state.proofs.AdvanceLaws.{Advances-refl, Advances-trans}
+use Rattle.crack_state.proofs.AdvanceLaws.{Advances-refl, Advances-trans, keys_still}
 use Rattle.crack_state.proofs.OutsideLaws.{LacksFirst, LacksFirst-none}
 use Rattle.crack_state.proofs.DrawLaws.{column_some, piece_end-lifted_last}
 use Rattle.crack_state.proofs.PullLaws.{IsIntact-lifted_last}
@@ -36,7 +36,7 @@ TakesInside-PullsOut policy s r from t intact begins =
     record { takes = TakesOut-none policy s; intact = intact; long = refl; put_in = refl; moved = refl; lacks = LacksFirst-none s.cells r s.pending_out }
 TakesInside-PullsOut policy s r from t intact (pulls before place doomed u v rest finds stands pulled) =
     let was = TakesInside-PullsOut policy s r before u intact rest in
-    let found = LacksFirst-found s.cells u.cells r s.pending_out u.pending_out before was.takes.advances.reads was.intact.owned.doomed_reads place was.lacks finds in
+    let found = LacksFirst-found s.cells r s.pending_out u.pending_out before was.lacks place (rw (keys_still s.cells u.cells u.pending_out was.takes.advances.reads was.intact.owned.doomed_reads) at finds) in
     let one = TakesAt-Pulls u place doomed was.intact stands v pulled in
     record {
       takes = TakesOut-trans policy s u v was.takes (one.takes policy);

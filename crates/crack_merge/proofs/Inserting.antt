@@ -6,6 +6,7 @@ use Rattle.crack_row.specs.Ranges.{Range}
 use Rattle.crack_row.specs.declared.command.Policy.TheVariants.{Complete, Gradual}
 use Rattle.crack_state.specs.State.{State, Carried, IsIntact}
 use Rattle.crack_state.specs.Steps.{lifted, SameButRoom}
+use Rattle.crack_state.proofs.AdvanceLaws.{keys_still}
 use Rattle.crack_state.proofs.OutsideLaws.{LacksFirst, LacksFirst-none}
 use Rattle.crack_merge.specs.Merges.{Carries, CarriesIn, begins, carries}
 use Rattle.crack_merge.specs.Loops.{PutsIn}
@@ -55,6 +56,6 @@ PutsInside-CarriesIn s r from t intact begins =
     record { puts = PutsIn-room Gradual s s (record { same = refl }); intact = intact; lacks = LacksFirst-none s.cells r s.pending_in }
 PutsInside-CarriesIn s r from t intact (carries before place u v w rest finds room carried) =
     let was = PutsInside-CarriesIn s r before u intact rest in
-    let found = LacksFirst-found s.cells u.cells r s.pending_in u.pending_in before was.puts.advances.reads was.intact.owned.pending_reads place was.lacks finds in
+    let found = LacksFirst-found s.cells r s.pending_in u.pending_in before was.lacks place (rw (keys_still s.cells u.cells u.pending_in was.puts.advances.reads was.intact.owned.pending_reads) at finds) in
     let one = PutsAt-Carries u v w place room found.0 was.intact carried in
     record { puts = PutsIn-trans Gradual s u w was.puts (one.puts Gradual); intact = one.intact; lacks = rw one.pending_in found.1 }

@@ -4,7 +4,7 @@ use Rattle.crack_row.specs.Ranges.{Range}
 use Rattle.crack_row.specs.declared.command.Policy.TheVariants.{Gradual}
 use Rattle.crack_state.specs.State.{State, IsIntact}
 use Rattle.crack_state.specs.Merge.{IsCracked, Merges, Tallies, without_first}
-use Rattle.crack_state.proofs.AdvanceLaws.{Advances-trans}
+use Rattle.crack_state.proofs.AdvanceLaws.{Advances-trans, keys_still}
 use Rattle.crack_state.proofs.GradualLaws.{Merges-gradual}
 use Rattle.crack_state.proofs.StepLaws.{IsIntact-room}
 use Rattle.crack_merge.specs.Merges.{CarriesAll, CarriesSome, PullsAll, BuriesFew, Stops}
@@ -20,8 +20,8 @@ merges_inside s u t r some low high cracked intact carried pulled =
     let now = TakesInside-PullsOut Gradual u r pulled.from t was.intact pulled.pulls in
     let puts = was.puts.advances in
     let takes = now.takes.advances in
-    let left_in = LacksFirst-missed s.cells u.cells r s.pending_in u.pending_in carried.from puts.reads was.intact.owned.pending_reads was.lacks carried.none in
-    let left_out = LacksFirst-missed u.cells t.cells r u.pending_out t.pending_out pulled.from takes.reads now.intact.owned.doomed_reads now.lacks pulled.none in (
+    let left_in = LacksFirst-missed s.cells r s.pending_in u.pending_in carried.from was.lacks (rw (keys_still s.cells u.cells u.pending_in puts.reads was.intact.owned.pending_reads) at carried.none) in
+    let left_out = LacksFirst-missed u.cells r u.pending_out t.pending_out pulled.from now.lacks (rw (keys_still u.cells t.cells t.pending_out takes.reads now.intact.owned.doomed_reads) at pulled.none) in (
       Merges-gradual s u t r (omega arith) low high cracked puts left_in was.puts.few was.intact takes now.takes.pending_in left_out now.intact,
       (Advances-trans Gradual s u t puts takes).tallies,
     )

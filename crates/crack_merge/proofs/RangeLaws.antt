@@ -1,4 +1,4 @@
--- Carries and pulls keep a store intact.
+-- What the carries and pulls of a range do where no pending row is of it: nothing.
 use Rattle.std.proofs.Common.{◌≡◌, ℕ, ◌<◌, length, get_or, Option, Some, List, Result, Ok, Err, IsOk, IfErr, refl, inl, inr, arith}
 use Rattle.std.specs.List.{All}
 use Rattle.std.proofs.lemmas.Bool.{cases_lt}

@@ -21,7 +21,7 @@ use Rattle.crack_merge.specs.Loops.{PutsIn}
 use Rattle.crack_merge.specs.Merges.{Carries, buries, evicts, ends, goes_on}
 use Rattle.crack_merge.proofs.RangeLaws.{kept_hand}
 use Rattle.crack_ripple.specs.Near.{pieces_of, MovesNear}
-use Rattle.crack_ripple.proofs.EdgeLaws.{IsRangeOf, IsRangeOf-follows, low_within, high_within, AppendsInside-appended}
+use Rattle.crack_ripple.proofs.EdgeLaws.{IsRangeOf, IsRangeOf-follows, high_within}
 use Rattle.crack_ripple.proofs.Pieces.{pieces_ahead-few}
 use Rattle.crack_ripple.proofs.Rippling.{Ripples, Ripples-refl, Ripples-pushed_on}
 use Rattle.crack_ripple.proofs.Staying.{StaysOutside, StaysOutside-same, StaysOutside-trans, StaysOutside-appended}
@@ -123,8 +123,7 @@ module _ (s : State) (r : Range) (i : ℕ) (of : IsRangeOf s r) (inside : i < le
       let same : r.high ≡ bound = ap (λ o. unwrap_or o 0) is in
       CarriesNear-returned d ripples kept (omega (arith, same, behind)) now
   carried_from c t ripples now (ends d kept below at_end) =
-      let of_now = of_pushed d ripples in
-      let stays = StaysOutside-appended d r (AppendsInside-appended d r of_now now ripples.above below at_end) (low_within d.store (d.hand ∷ []) r of_now now) in
+      let stays = StaysOutside-appended d r (of_pushed d ripples) now ripples.above below at_end in
       CarriesNear-carried d (appended d) ripples (CarriedIn-appended s i d inside intact ripples.pushes) (IsIntact-appended d at_end now) stays refl refl
   carried_from c t ripples now (goes_on d u kept below before rest) =
       carried_from (pushed_on d) u (Ripples-pushed_on r (lifted i s) d (of_pushed d ripples) now below before ripples) (IsIntact-pushed_on d before now) rest

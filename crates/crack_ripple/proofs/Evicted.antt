@@ -1,38 +1,36 @@
 -- Rows that are evicted, one after the other, from a column's part.
 use Rattle.std.proofs.Common.{◌≡◌, ℕ, zero, suc, ◌+◌, ◌<◌, ◌≤◌, List, [], ◌∷◌, ◌++◌, length, get_or, take, drop, arith}
 use Rattle.std.specs.List.{All}
-use Rattle.std.proofs.lemmas.List.{get_or-drop, length-map, length-drop, get_or-map}
+use Rattle.std.proofs.lemmas.List.{take-take, take_more, get_or-drop, length-map, length-drop, get_or-map}
 use Rattle.std.proofs.lemmas.List.Elements.{All-nil, All-cons, All-head, All-tail}
 use Rattle.crack_row.specs.Ranges.{Range}
 use Rattle.crack_arena.specs.Arena.{Handle}
 use Rattle.crack_arena.specs.Rows.{key_at}
 use Rattle.crack_state.specs.State.{State, IsIntact}
 use Rattle.crack_state.specs.Merge.{SomeOf, nothing, left_out, kept, edge}
-use Rattle.crack_state.proofs.OutsideLaws.{SomeOf-none}
+use Rattle.crack_state.proofs.OutsideLaws.{SomeOf-none, SomeOf-trans}
 use Rattle.crack_ripple.proofs.EdgeLaws.{IsRangeOf, high_divides}
 
--- some of a list's front, and one behind it
-pub SomeOf-push : (some all : List Handle) (n k : ℕ) (h : Handle) → n ≤ k → k < length all → ((d : Handle) → get_or all k d ≡ h) → SomeOf some (take n all) → SomeOf (some ++ h ∷ []) (take (suc k) all)
-SomeOf-push some [] n k h order within is of = absurd (omega arith)
-SomeOf-push some (x ∷ xs) zero zero h order within is nothing = rw (is h) (kept h [] [] nothing)
-SomeOf-push some (x ∷ xs) zero (suc k) h order within is nothing = left_out x (h ∷ []) (take (suc k) xs) (SomeOf-push [] xs zero k h (omega arith) (omega arith) is nothing)
-SomeOf-push some (x ∷ xs) (suc n) zero h order within is of = absurd (omega arith)
-SomeOf-push some (x ∷ xs) (suc n) (suc k) h order within is of = by_first some of (λ one rest. SomeOf-push one xs n k h (omega arith) (omega arith) is rest)
-  where
-    by_first : (one : List Handle) → SomeOf one (x ∷ take n xs) → ((y : List Handle) → SomeOf y (take n xs) → SomeOf (y ++ h ∷ []) (take (suc k) xs)) → SomeOf (one ++ h ∷ []) (x ∷ take (suc k) xs)
-    by_first one (left_out g other more rest) go = left_out g (other ++ h ∷ []) (take (suc k) xs) (go other rest)
-    by_first one (kept g other more rest) go = kept g (other ++ h ∷ []) (take (suc k) xs) (go other rest)
-
--- some of a list's front are some of it
+-- what is some of a list's front is some of the list
 pub SomeOf-front : (some all : List Handle) (n : ℕ) → SomeOf some (take n all) → SomeOf some all
-SomeOf-front some [] zero of = of
-SomeOf-front some [] (suc n) of = of
-SomeOf-front some (x ∷ xs) zero nothing = SomeOf-none (x ∷ xs)
-SomeOf-front some (x ∷ xs) (suc n) of = by_first some of (λ one rest. SomeOf-front one xs n rest)
+SomeOf-front some all n of = SomeOf-trans some (take n all) all of (front all n)
   where
-    by_first : (one : List Handle) → SomeOf one (x ∷ take n xs) → ((y : List Handle) → SomeOf y (take n xs) → SomeOf y xs) → SomeOf one (x ∷ xs)
-    by_first one (left_out g other more rest) go = left_out g other xs (go other rest)
-    by_first one (kept g other more rest) go = kept g other xs (go other rest)
+    front : (hs : List Handle) (n : ℕ) → SomeOf (take n hs) hs
+    front [] zero = nothing
+    front [] (suc n) = nothing
+    front (h ∷ hs) zero = SomeOf-none (h ∷ hs)
+    front (h ∷ hs) (suc n) = kept h (take n hs) hs (front hs n)
+
+SomeOf-append : (some all other more : List Handle) → SomeOf some all → SomeOf other more → SomeOf (some ++ other) (all ++ more)
+SomeOf-append some all other more nothing of = of
+SomeOf-append some all other more (left_out h one rest first) of = left_out h (one ++ other) (rest ++ more) (SomeOf-append one rest other more first of)
+SomeOf-append some all other more (kept h one rest first) of = kept h (one ++ other) (rest ++ more) (SomeOf-append one rest other more first of)
+
+-- some of a list's front, and one behind it
+pub SomeOf-push : (some all : List Handle) (n k : ℕ) (h : Handle) → n ≤ k → k < length all → get_or all k h ≡ h → SomeOf some (take n all) → SomeOf (some ++ h ∷ []) (take (k + 1) all)
+SomeOf-push some all n k h order within is of =
+    let front = SomeOf-front some (take k all) n (rw (take-take n k all order) of) in
+    rw (take_more all k h within, is) (SomeOf-append some (take k all) (h ∷ []) (h ∷ []) front (kept h [] [] nothing))
 
 -- what holds of all holds of some
 pub All-SomeOf : (P : Handle → Type 0) (some all : List Handle) → SomeOf some all → All P all → All P some

@@ -1,16 +1,15 @@
 -- What a ripple merge has done where it ends.
-use Rattle.std.proofs.Common.{◌≡◌, ◌<◌, ◌≤◌, false, [], ◌++◌, Some, ◌∙◌, inr, arith}
+use Rattle.std.proofs.Common.{◌≡◌, [], ◌++◌, Some, ◌∙◌, inr, arith}
 use Rattle.std.specs.List.{All}
 use Rattle.std.proofs.lemmas.List.Elements.{All-append}
 use Rattle.crack_row.specs.Ranges.{Range}
 use Rattle.crack_row.specs.declared.command.Policy.TheVariants.{Ripple}
 use Rattle.crack_state.specs.State.{State, IsIntact}
-use Rattle.crack_state.specs.Merge.{ReadsOutside, IsCracked, IsSettled, Merges, Tallies, is_touched, outside_of}
-use Rattle.crack_state.proofs.AdvanceLaws.{StillReads-trans}
-use Rattle.crack_state.proofs.FollowLaws.{Follows-trans, IsExact-before, Tallies-trans, length_marks-Follows}
+use Rattle.crack_state.specs.Merge.{ReadsOutside, Merges, Tallies, outside_of}
+use Rattle.crack_state.proofs.AdvanceLaws.{StillReads-trans, keys_still}
+use Rattle.crack_state.proofs.FollowLaws.{Follows-trans}
 use Rattle.crack_state.proofs.GradualLaws.{reads_outside, LeavesOutside-both}
 use Rattle.crack_state.proofs.OutsideLaws.{All-outside}
-use Rattle.crack_state.proofs.MergeLaws.{Merges-untouched}
 use Rattle.crack_state.proofs.SettledLaws.{IsSettled-of}
 use Rattle.crack_merge.specs.Merges.{CarriesAll, CarriesSome, PullsAll, BuriesFew, Stops}
 use Rattle.crack_merge.proofs.Deleting.{TakesInside-PullsOut}
@@ -18,15 +17,7 @@ use Rattle.crack_merge.proofs.Finding.{LacksFirst-missed}
 use Rattle.crack_ripple.specs.Near.{PutsInNear, TakesOutNear, MovesNear}
 use Rattle.crack_ripple.proofs.EdgeLaws.{IsRangeOf, IsRangeOf-follows}
 use Rattle.crack_ripple.proofs.Evicted.{behind_range}
-use Rattle.crack_ripple.proofs.Putting.{PutsNear-CarriesIn, PutsNear-room, PutsInNear-all, Stops-PutsNear, MovesNear-trans}
-
--- as calls require it
-pub is_range : (s : State) (r : Range) → r.low < r.high → s.keys.low ≤ r.low → r.high ≤ s.keys.high → IsCracked s r → IsRangeOf s r
-is_range s r some low high cracked = record { some = some; low = low; high = high; cracked = cracked }
-
--- where no pending row is of it, it is settled already
-pub settled_before : (s : State) (r : Range) → IsRangeOf s r → IsIntact s [] → is_touched s r ≡ false → IsSettled s r
-settled_before s r of intact untouched = (Merges-untouched s r (omega (arith, of.some)) of.low of.high of.cracked untouched intact).settled
+use Rattle.crack_ripple.proofs.Putting.{PutsNear-CarriesIn, PutsNear-room, PutsInNear-all, Stops-PutsNear}
 
 -- all that a call that puts in has to say
 pub record PutIn (s t : State) (r : Range) : Type 0 where
@@ -65,7 +56,7 @@ TakenOut-pulled s t r intact all =
         follows = advances.follows;
         intact = was.intact;
         pending_in = was.takes.pending_in;
-        pending_out = LacksFirst-missed s.cells t.cells r s.pending_out t.pending_out all.from advances.reads was.intact.owned.doomed_reads was.lacks all.none;
+        pending_out = LacksFirst-missed s.cells r s.pending_out t.pending_out all.from was.lacks (rw (keys_still s.cells t.cells t.pending_out advances.reads was.intact.owned.doomed_reads) at all.none);
         reads = advances.reads;
         long = was.long;
       };
@@ -95,10 +86,3 @@ module _ (s m t : State) (r : Range) (of : IsRangeOf s r) (intact : IsIntact s [
           LeavesOutside-both s m t r puts.pending_out puts.reads puts.intact puts.few takes.pending_out,
         );
       }
-
--- what both counted
-pub Tallies-near : (s m t : State) (r : Range) → PutsInNear s m r → Tallies Ripple s m → Tallies Ripple m t → Tallies Ripple s t
-Tallies-near s m t r puts first second = Tallies-trans Ripple s m t (length_marks-Follows s m puts.follows) first second
-
-pub MovesNear-near : (s m t : State) (r : Range) → PutsInNear s m r → Tallies Ripple m t → MovesNear s m r → MovesNear m t r → MovesNear s t r
-MovesNear-near s m t r puts second first_moves second_moves = MovesNear-trans s m t r puts.follows.bounds (IsExact-before Ripple m t second) first_moves second_moves

@@ -13,9 +13,9 @@ use Rattle.crack_state.specs.Merge.{edge}
 use Rattle.crack_state.proofs.Counters.{raised_counter}
 use Rattle.crack_state.proofs.FollowLaws.{Pushes, Pushes-refl, Pushes-pushed_on}
 use Rattle.crack_state.proofs.StepLaws.{met_key}
-use Rattle.crack_ripple.proofs.EdgeLaws.{IsRangeOf, PushesBetween-pushed_on}
+use Rattle.crack_ripple.proofs.EdgeLaws.{IsRangeOf}
 use Rattle.crack_ripple.proofs.Pieces.{pieces_ahead, pieces_ahead-less}
-use Rattle.crack_ripple.proofs.Staying.{StaysOutside, StaysOutside-same, StaysOutside-trans, StaysOutside-pushed_on, row_at_end}
+use Rattle.crack_ripple.proofs.Staying.{StaysOutside, StaysOutside-same, StaysOutside-trans, PushesInside-pushed_on, row_at_end}
 
 -- the hand is the row that stood first behind the range, whose end has moved up
 pub record MetBehind (b c : Carried) (r : Range) : Type 0 where
@@ -66,17 +66,17 @@ passes c ends intact = by_next (next_mark (hand_key c) c.store.marks) refl ends
 pub Ripples-pushed_on : (r : Range) (b c : Carried) → IsRangeOf c.store r → IsIntact c.store (c.hand ∷ []) → hand_key c < r.high → piece_end c.store (hand_key c) < length c.store.column → Ripples r b c → Ripples r b (pushed_on c)
 Ripples-pushed_on r b c of intact below ends was =
     let s = c.store in
-    let between = PushesBetween-pushed_on c r of intact was.above below ends in
+    let pushed = PushesInside-pushed_on c r of intact was.above below ends in
     let past = passes c ends intact in
     let counter = raised_counter s.tally.moved in
     let same = was.same below in
     record {
       pushes = Pushes-pushed_on b c ends intact was.pushes;
-      stays = StaysOutside-trans b.store s (pushed_on c).store r was.stays (StaysOutside-pushed_on c r of intact ends between);
+      stays = StaysOutside-trans b.store s (pushed_on c).store r was.stays pushed.stays;
       above = omega (arith, was.above, past.above, past.below);
-      same = λ less. between.stays less ∙ same;
+      same = λ less. pushed.same less ∙ same;
       met = λ more.
-          let at = between.met more in
+          let at = pushed.met more in
           record {
             within = omega (arith, at.0, ends, same, was.pushes.long);
             up = omega (arith, at.1, same);

@@ -1,7 +1,10 @@
 use Rattle.std.proofs.Common.{◌≡◌, refl, sym}
 use Rattle.std.proofs.lemmas.Bool.{true≢false}
-use Rattle.crack_state.proofs.MergeLaws.{IsCracked-follows}
-use Rattle.crack_ripple.proofs.Merging.{is_range, settled_before, Merges-near, Tallies-near, MovesNear-near}
+use Rattle.crack_row.specs.declared.command.Policy.TheVariants.{Ripple}
+use Rattle.crack_state.proofs.FollowLaws.{IsExact-before, Tallies-trans, length_marks-Follows}
+use Rattle.crack_state.proofs.MergeLaws.{IsCracked-follows, outside-untouched}
+use Rattle.crack_ripple.proofs.Merging.{Merges-near}
+use Rattle.crack_ripple.proofs.Putting.{MovesNear-trans}
 use Rattle.crack_ripple.proofs.ripple.merge_ripple.Goals as goal
 
 pub ripple_out-requires-clause-cracked : goal.ripple_out-requires-clause-cracked
@@ -9,29 +12,28 @@ ripple_out-requires-clause-cracked c = IsCracked-follows c.args.store c.in-Ok.fi
 
 pub returns-in-Ok-ripple_out-clause-merges : goal.returns-in-Ok-ripple_out-clause-merges
 returns-in-Ok-ripple_out-clause-merges c =
-    Merges-near c.args.store c.in-Ok.filled c.in-Ok-ripple_out.merged c.args.range (is_range c.args.store c.args.range c.requires.some c.requires.low c.requires.high c.requires.cracked) c.facts.ensures c.in-Ok.ensures.near c.in-Ok-ripple_out.ensures.near
+    Merges-near c.args.store c.in-Ok.filled c.in-Ok-ripple_out.merged c.args.range (record { some = c.requires.some; low = c.requires.low; high = c.requires.high; cracked = c.requires.cracked }) c.facts.ensures c.in-Ok.ensures.near c.in-Ok-ripple_out.ensures.near
 
 pub returns-in-Ok-ripple_out-clause-near : goal.returns-in-Ok-ripple_out-clause-near
 returns-in-Ok-ripple_out-clause-near c = record { filled = c.in-Ok.filled; puts_in = c.in-Ok.ensures.near; takes_out = c.in-Ok-ripple_out.ensures.near }
 
 pub returns-in-Ok-ripple_out-clause-tallies : goal.returns-in-Ok-ripple_out-clause-tallies
 returns-in-Ok-ripple_out-clause-tallies c =
-    Tallies-near c.args.store c.in-Ok.filled c.in-Ok-ripple_out.merged c.args.range c.in-Ok.ensures.near c.in-Ok.ensures.tallies c.in-Ok-ripple_out.ensures.tallies
+    Tallies-trans Ripple c.args.store c.in-Ok.filled c.in-Ok-ripple_out.merged (length_marks-Follows c.args.store c.in-Ok.filled c.in-Ok.ensures.near.follows) c.in-Ok.ensures.tallies c.in-Ok-ripple_out.ensures.tallies
 
 pub returns-in-Ok-ripple_out-clause-moves : goal.returns-in-Ok-ripple_out-clause-moves
 returns-in-Ok-ripple_out-clause-moves c =
-    MovesNear-near c.args.store c.in-Ok.filled c.in-Ok-ripple_out.merged c.args.range c.in-Ok.ensures.near c.in-Ok-ripple_out.ensures.tallies c.in-Ok.ensures.moves c.in-Ok-ripple_out.ensures.moves
+    MovesNear-trans c.args.store c.in-Ok.filled c.in-Ok-ripple_out.merged c.args.range c.in-Ok.ensures.near.follows.bounds (IsExact-before Ripple c.in-Ok.filled c.in-Ok-ripple_out.merged c.in-Ok-ripple_out.ensures.tallies) c.in-Ok.ensures.moves c.in-Ok-ripple_out.ensures.moves
 
 pub returns-in-Ok-ripple_out-clause-untouched : goal.returns-in-Ok-ripple_out-clause-untouched
 returns-in-Ok-ripple_out-clause-untouched c = λ untouched.
-    let settled = settled_before c.args.store c.args.range (is_range c.args.store c.args.range c.requires.some c.requires.low c.requires.high c.requires.cracked) c.facts.ensures untouched in
-    let filled : c.in-Ok.filled ≡ c.args.store = c.in-Ok.ensures.untouched settled.pending in
-    let merged : c.in-Ok-ripple_out.merged ≡ c.in-Ok.filled = c.in-Ok-ripple_out.ensures.untouched (rw filled settled.doomed) in
+    let outside = outside-untouched c.args.store c.args.range untouched in
+    let filled : c.in-Ok.filled ≡ c.args.store = c.in-Ok.ensures.untouched outside.0 in
+    let merged : c.in-Ok-ripple_out.merged ≡ c.in-Ok.filled = c.in-Ok-ripple_out.ensures.untouched (rw filled outside.1) in
     rw (c.counted_between.ensures, c.tally-before.ensures, c.tally-after.ensures, merged, filled) refl
 
 pub returns-in-Err-clause-untouched : goal.returns-in-Err-clause-untouched
-returns-in-Err-clause-untouched c = λ untouched.
-    absurd (true≢false (sym (c.in-Err.ensures.spare (settled_before c.args.store c.args.range (is_range c.args.store c.args.range c.requires.some c.requires.low c.requires.high c.requires.cracked) c.facts.ensures untouched).pending)))
+returns-in-Err-clause-untouched c = λ untouched. absurd (true≢false (sym (c.in-Err.ensures.spare (outside-untouched c.args.store c.args.range untouched).0)))
 
 pub returns-in-Err-clause-spare : goal.returns-in-Err-clause-spare
 returns-in-Err-clause-spare c = λ outside. absurd (true≢false (sym (c.in-Err.ensures.spare outside)))

@@ -2,18 +2,19 @@ use Rattle.std.proofs.Common.{Some, IfOk, IfErr}
 use Rattle.std.proofs.lemmas.Result.{IfOk-weaker, IfErr-weaker}
 use Rattle.crack_state.proofs.MergeLaws.{IsCracked-follows}
 use Rattle.crack_merge.proofs.RangeLaws.{CarriesAll-outside, carried_spare}
-use Rattle.crack_ripple.proofs.Merging.{PutIn, PutIn-carried, StopsIn, StopsIn-carried, is_range}
+use Rattle.crack_ripple.proofs.EdgeLaws.{IsRangeOf}
+use Rattle.crack_ripple.proofs.Merging.{PutIn, PutIn-carried, StopsIn, StopsIn-carried}
 use Rattle.crack_ripple.proofs.ripple.ripple_in.Goals as goal
 use Rattle.crack_ripple.proofs.ripple.ripple_in.Goals.{After-carry_range}
 
 put : (c : After-carry_range) → IfOk c.carry_range.result (λ t. PutIn c.args.store t c.args.range)
 put c =
-    let of = is_range c.args.store c.args.range c.requires.some c.requires.low c.requires.high c.requires.cracked in
+    let of : IsRangeOf c.args.store c.args.range = record { some = c.requires.some; low = c.requires.low; high = c.requires.high; cracked = c.requires.cracked } in
     IfOk-weaker c.carry_range.result _ _ (λ t all. PutIn-carried c.args.store t c.args.range of c.facts.ensures (rw c.high.ensures.value at all)) c.carry_range.ensures.ok
 
 stopped : (c : After-carry_range) → IfErr c.carry_range.result (λ e. StopsIn c.args.store e.0 c.args.range)
 stopped c =
-    let of = is_range c.args.store c.args.range c.requires.some c.requires.low c.requires.high c.requires.cracked in
+    let of : IsRangeOf c.args.store c.args.range = record { some = c.requires.some; low = c.requires.low; high = c.requires.high; cracked = c.requires.cracked } in
     IfErr-weaker c.carry_range.result _ _ (λ e part. StopsIn-carried c.args.store e.0 c.args.range of c.facts.ensures (rw c.high.ensures.value at part)) c.carry_range.ensures.stops
 
 pub returns-clause-near : goal.returns-clause-near
