@@ -1,8 +1,8 @@
 -- The doomed row that a pull is for, as it comes nearer.
-use Rattle.std.proofs.Common.{◌≡◌, ◌≢◌, ℕ, ◌<◌, Bool, true, false, List, ◌∷◌, [], refl, sym, inl, inr, arith}
-use Rattle.std.specs.Prelude.{◌==◌, ◌&&◌}
+use Rattle.std.proofs.Common.{◌≡◌, ◌≢◌, ℕ, ◌<◌, true, false, List, ◌∷◌, [], refl, sym, inl, inr, arith}
+use Rattle.std.specs.Prelude.{◌==◌}
 use Rattle.std.specs.List.{Contains}
-use Rattle.std.proofs.lemmas.Bool.{true≢false, eqb-true, eq-eqb}
+use Rattle.std.proofs.lemmas.Bool.{and_parts, true≢false, eqb-true, eq-eqb}
 use Rattle.crack_arena.specs.Arena.{Handle, StandsAt, IsAbsent, same_handle}
 use Rattle.crack_state.specs.State.{Carried, IsIntact}
 use Rattle.crack_state.specs.Steps.{hand_key, piece_start, piece_end, IsDoomed}
@@ -20,10 +20,6 @@ hand_absent c doomed intact pending absent = doomed_is_hand c pending.0 doomed i
 pub hand_doomed : (c : Carried) (doomed : Handle) → Contains c.store.pending_out doomed → c.hand ≡ doomed → IsDoomed c
 hand_doomed c doomed pending is = IsDoomed-listed c pending.0 doomed (stands c.store.pending_out doomed pending) is
 
--- it isn't in hand
-pub stands_ahead : (c : Carried) (place : ℕ) (doomed : Handle) → c.hand ≢ doomed → IsAhead c place doomed → StandsAt c.store.column place doomed × (place < piece_end c.store (hand_key c))
-stands_ahead c place doomed other ahead = elim ahead [ inl is ↦ absurd (other is.0) | inr at ↦ at ]
-
 -- it stands before the own piece of the hand
 pub stands_before : (c : Carried) (place : ℕ) (doomed : Handle) → place < piece_start c.store (hand_key c) → IsIntact c.store (c.hand ∷ []) → IsAhead c place doomed → StandsAt c.store.column place doomed × (c.hand ≢ doomed)
 stands_before c place doomed before intact ahead = elim ahead [
@@ -31,15 +27,17 @@ stands_before c place doomed before intact ahead = elim ahead [
   | inr at ↦ (at.0, hand_isnt c place doomed intact at.0)
 ]
 
-both_true : (a b : Bool) → (a && b) ≡ true → (a ≡ true) × (b ≡ true)
-both_true true b e = (refl, e)
-both_true false b e = absurd (true≢false (sym e))
-
 -- what the comparison of two handles says
 pub same_handle-true : (h g : Handle) → same_handle h g ≡ true → h ≡ g
 same_handle-true h g is =
-    let both = both_true (h.slot == g.slot) (h.generation == g.generation) is in
+    let both = and_parts (h.slot == g.slot) (h.generation == g.generation) is in
     handle_same h g (eqb-true h.slot g.slot both.0) (eqb-true h.generation g.generation both.1)
 
-pub same_handle-false : (h g : Handle) → same_handle h g ≡ false → h ≢ g
+same_handle-false : (h g : Handle) → same_handle h g ≡ false → h ≢ g
 same_handle-false h g is = λ e. absurd (true≢false (rw (e, eq-eqb g.slot g.slot refl, eq-eqb g.generation g.generation refl) at is))
+
+-- it isn't in hand
+pub stands_ahead : (c : Carried) (place : ℕ) (doomed : Handle) → same_handle c.hand doomed ≡ false → IsAhead c place doomed → (c.hand ≢ doomed) × StandsAt c.store.column place doomed × (place < piece_end c.store (hand_key c))
+stands_ahead c place doomed differ ahead =
+    let other = same_handle-false c.hand doomed differ in
+    elim ahead [ inl is ↦ absurd (other is.0) | inr at ↦ (other, at.0, at.1) ]

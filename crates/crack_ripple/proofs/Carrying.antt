@@ -5,7 +5,7 @@ use Rattle.std.specs.Option.{unwrap_or}
 use Rattle.std.proofs.lemmas.List.Edits.{length-remove}
 use Rattle.crack_row.specs.Ranges.{Range}
 use Rattle.crack_row.specs.declared.command.Policy.TheVariants.{Ripple}
-use Rattle.crack_arena.specs.Arena.{Handle}
+use Rattle.crack_arena.specs.Arena.{Handle, times, slots}
 use Rattle.crack_index.specs.Marks.{bounds_of}
 use Rattle.crack_state.specs.State.{State, Carried, IsIntact, greatest}
 use Rattle.crack_state.specs.Steps.{hand_key, IsDoomed, lifted, pushed_on, appended, buried, returned}
@@ -19,12 +19,10 @@ use Rattle.crack_state.proofs.PullLaws.{IsIntact-returned, Follows-returned}
 use Rattle.crack_state.proofs.StepLaws.{IsIntact-lifted, IsIntact-pushed_on, IsIntact-appended}
 use Rattle.crack_merge.specs.Loops.{PutsIn}
 use Rattle.crack_merge.specs.Merges.{Carries, buries, evicts, ends, goes_on}
-use Rattle.crack_merge.proofs.RangeLaws.{kept_hand}
 use Rattle.crack_ripple.specs.Near.{pieces_of, MovesNear}
-use Rattle.crack_ripple.proofs.EdgeLaws.{IsRangeOf, IsRangeOf-follows, high_within}
+use Rattle.crack_ripple.proofs.EdgeLaws.{IsRangeOf, IsRangeOf-follows, high_within, StaysOutside, StaysOutside-same, StaysOutside-trans, StaysOutside-appended}
 use Rattle.crack_ripple.proofs.Pieces.{pieces_ahead-few}
 use Rattle.crack_ripple.proofs.Rippling.{Ripples, Ripples-refl, Ripples-pushed_on}
-use Rattle.crack_ripple.proofs.Staying.{StaysOutside, StaysOutside-same, StaysOutside-trans, StaysOutside-appended}
 
 -- the row that stood first behind the range was evicted, and the range's end has moved up
 pub record EvictsOne (s t : State) (r : Range) (i : ℕ) : Type 0 where
@@ -104,6 +102,7 @@ module _ (s : State) (r : Range) (i : ℕ) (of : IsRangeOf s r) (inside : i < le
       let pending_in = ap (λ (x : State). x.pending_in) same in
       let pending_out = ap (λ (x : State). x.pending_out) same in
       let met = ripples.met behind in
+      let none : times c.hand.slot (slots c.store.pending_out) ≡ 0 = omega (arith, kept) in
       let puts : PutsIn Ripple s (returned c) = record {
         advances = record {
           follows = Follows-trans s c.store (returned c) (follows_pushed c ripples) (Follows-returned c);
@@ -113,7 +112,7 @@ module _ (s : State) (r : Range) (i : ℕ) (of : IsRangeOf s r) (inside : i < le
         };
         few = omega (arith, ap length pending_out, ap length pending_in, length-append c.store.pending_in (c.hand ∷ []), length-remove s.pending_in i inside);
       } in
-      CarriesNear-ended c (returned c) ripples puts (IsIntact-returned c (kept_hand c kept) now) (StaysOutside-same c.store (returned c) r refl ripples.stays.within) refl refl (inr (record { evicted = c.hand; pending_in = ap (λ hs. hs ++ c.hand ∷ []) pending_in; within = met.within; up = met.up; is = met.is }))
+      CarriesNear-ended c (returned c) ripples puts (IsIntact-returned c none now) (StaysOutside-same c.store (returned c) r refl ripples.stays.within) refl refl (inr (record { evicted = c.hand; pending_in = ap (λ hs. hs ++ c.hand ∷ []) pending_in; within = met.within; up = met.up; is = met.is }))
 
   -- a carry that goes on from where pushes have led
   carried_from : (c : Carried) (t : State) → Ripples r (lifted i s) c → IsIntact c.store (c.hand ∷ []) → Carries (Some r.high) c t → CarriesNear s t r i

@@ -12,12 +12,11 @@ use Rattle.crack_state.proofs.GradualLaws.{reads_outside, LeavesOutside-both}
 use Rattle.crack_state.proofs.OutsideLaws.{All-outside}
 use Rattle.crack_state.proofs.SettledLaws.{IsSettled-of}
 use Rattle.crack_merge.specs.Merges.{CarriesAll, CarriesSome, PullsAll, BuriesFew, Stops}
-use Rattle.crack_merge.proofs.Deleting.{TakesInside-PullsOut}
+use Rattle.crack_merge.proofs.PullLaws.{TakesInside-PullsOut}
 use Rattle.crack_merge.proofs.Finding.{LacksFirst-missed}
 use Rattle.crack_ripple.specs.Near.{PutsInNear, TakesOutNear, MovesNear}
 use Rattle.crack_ripple.proofs.EdgeLaws.{IsRangeOf, IsRangeOf-follows}
-use Rattle.crack_ripple.proofs.Evicted.{behind_range}
-use Rattle.crack_ripple.proofs.Putting.{PutsNear-CarriesIn, PutsNear-room, PutsInNear-all, Stops-PutsNear}
+use Rattle.crack_ripple.proofs.Putting.{behind_range, PutsNear-CarriesIn, PutsNear-room, PutsInNear-all, Stops-PutsNear}
 
 -- all that a call that puts in has to say
 pub record PutIn (s t : State) (r : Range) : Type 0 where

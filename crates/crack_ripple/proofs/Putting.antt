@@ -1,9 +1,9 @@
 -- What the carries of a range do under ripple.
-use Rattle.std.proofs.Common.{◌≡◌, ℕ, Option, ◌+◌, ◌-◌, ◌<◌, ◌≤◌, List, [], ◌∷◌, ◌++◌, length, get_or, take, drop, Some, None, refl, sym, ap, ◌∙◌, inl, inr, arith, length-append}
-use Rattle.std.specs.List.{remove}
-use Rattle.std.proofs.lemmas.List.{map-append, append-nil, append_assoc, get_or-map, get_or-drop, length-map, length-drop, take-append-drop}
+use Rattle.std.proofs.Common.{◌≡◌, ℕ, zero, suc, ◌+◌, ◌<◌, ◌≤◌, List, [], ◌∷◌, ◌++◌, length, get_or, take, drop, arith, Option, ◌-◌, Some, None, refl, sym, ap, ◌∙◌, inl, inr, length-append}
+use Rattle.std.specs.List.{All, remove}
+use Rattle.std.proofs.lemmas.List.{take-take, take_more, get_or-drop, length-map, length-drop, get_or-map, map-append, append-nil, append_assoc, take-append-drop}
+use Rattle.std.proofs.lemmas.List.Elements.{All-nil, All-cons, All-head, All-tail, All-map}
 use Rattle.std.proofs.lemmas.List.Edits.{remove-append_left}
-use Rattle.std.proofs.lemmas.List.Elements.{All-map}
 use Rattle.crack_row.specs.Ranges.{Range}
 use Rattle.crack_row.specs.declared.command.Policy.TheVariants.{Ripple}
 use Rattle.crack_arena.specs.Arena.{Handle, no_handle}
@@ -11,21 +11,61 @@ use Rattle.crack_arena.specs.Rows.{key_at, keys_at}
 use Rattle.crack_index.specs.Marks.{bounds_of}
 use Rattle.crack_pending.specs.Pending.{Finds}
 use Rattle.crack_state.specs.State.{State, IsIntact}
+use Rattle.crack_state.specs.Merge.{SomeOf, nothing, left_out, kept, edge, IsExact, outside_of}
+use Rattle.crack_state.proofs.OutsideLaws.{SomeOf-none, SomeOf-trans, LacksFirst, LacksFirst-none, length-outside}
 use Rattle.crack_state.specs.Steps.{SameButRoom}
-use Rattle.crack_state.specs.Merge.{IsExact, SomeOf, nothing, edge, outside_of}
 use Rattle.crack_state.proofs.AdvanceLaws.{keys_still}
 use Rattle.crack_state.proofs.FollowLaws.{IsExact-before}
-use Rattle.crack_state.proofs.OutsideLaws.{LacksFirst, LacksFirst-none, length-outside}
 use Rattle.crack_state.proofs.StepLaws.{IsIntact-room}
 use Rattle.crack_merge.specs.Loops.{PutsIn}
 use Rattle.crack_merge.specs.Merges.{CarriesIn, begins, carries, Stops}
 use Rattle.crack_merge.proofs.CarryLaws.{PutsIn-room, PutsIn-trans, Stops-Advances}
 use Rattle.crack_merge.proofs.Finding.{LacksFirst-found, LacksFirst-missed, Finds-front}
+use Rattle.crack_ripple.proofs.EdgeLaws.{IsRangeOf, high_divides, IsRangeOf-follows, high_within, StaysOutside, StaysOutside-same, StaysOutside-trans, row_at_end, length-StaysOutside}
 use Rattle.crack_ripple.specs.Near.{MovesNear, PutsInNear}
 use Rattle.crack_ripple.proofs.Carrying.{CarriesNear, CarriesNear-Carries, EvictsOne}
-use Rattle.crack_ripple.proofs.EdgeLaws.{IsRangeOf, IsRangeOf-follows, high_within}
-use Rattle.crack_ripple.proofs.Evicted.{SomeOf-push, SomeOf-front, length-SomeOf, behind_range}
-use Rattle.crack_ripple.proofs.Staying.{StaysOutside, StaysOutside-same, StaysOutside-trans, row_at_end, length-StaysOutside}
+
+-- what is some of a list's front is some of the list
+pub SomeOf-front : (some all : List Handle) (n : ℕ) → SomeOf some (take n all) → SomeOf some all
+SomeOf-front some all n of = SomeOf-trans some (take n all) all of (front all n)
+  where
+    front : (hs : List Handle) (n : ℕ) → SomeOf (take n hs) hs
+    front [] zero = nothing
+    front [] (suc n) = nothing
+    front (h ∷ hs) zero = SomeOf-none (h ∷ hs)
+    front (h ∷ hs) (suc n) = kept h (take n hs) hs (front hs n)
+
+SomeOf-append : (some all other more : List Handle) → SomeOf some all → SomeOf other more → SomeOf (some ++ other) (all ++ more)
+SomeOf-append some all other more nothing of = of
+SomeOf-append some all other more (left_out h one rest first) of = left_out h (one ++ other) (rest ++ more) (SomeOf-append one rest other more first of)
+SomeOf-append some all other more (kept h one rest first) of = kept h (one ++ other) (rest ++ more) (SomeOf-append one rest other more first of)
+
+-- some of a list's front, and one behind it
+pub SomeOf-push : (some all : List Handle) (n k : ℕ) (h : Handle) → n ≤ k → k < length all → get_or all k h ≡ h → SomeOf some (take n all) → SomeOf (some ++ h ∷ []) (take (k + 1) all)
+SomeOf-push some all n k h order within is of =
+    let front = SomeOf-front some (take k all) n (rw (take-take n k all order) of) in
+    rw (take_more all k h within, is) (SomeOf-append some (take k all) (h ∷ []) (h ∷ []) front (kept h [] [] nothing))
+
+-- what holds of all holds of some
+pub All-SomeOf : (P : Handle → Type 0) (some all : List Handle) → SomeOf some all → All P all → All P some
+All-SomeOf P some all nothing holds = All-nil P
+All-SomeOf P some all (left_out h one more of) holds = All-SomeOf P one more of (All-tail P h more holds)
+All-SomeOf P some all (kept h one more of) holds = All-cons P h one (All-head P h more holds) (All-SomeOf P one more of (All-tail P h more holds))
+
+-- some are no more than all
+pub length-SomeOf : (some all : List Handle) → SomeOf some all → length some ≤ length all
+length-SomeOf some all nothing = omega arith
+length-SomeOf some all (left_out h one more of) = omega (arith, length-SomeOf one more of)
+length-SomeOf some all (kept h one more of) = omega (arith, length-SomeOf one more of)
+
+-- rows behind the place of the range's end have their keys at or above it
+pub behind_range : (s : State) (r : Range) (some : List Handle) → IsRangeOf s r → IsIntact s [] → SomeOf some (drop (edge s r.high) s.column) → All (λ h. r.high ≤ key_at s.cells h) some
+behind_range s r some of intact is =
+    let high = high_divides s [] r of intact in
+    let place = edge s r.high in
+    All-SomeOf (λ h. r.high ≤ key_at s.cells h) some (drop place s.column) is (λ k d within.
+    let there : place + k < length s.column = omega (arith, within, length-drop place s.column) in
+    rw (get_or-drop place s.column k d, ← get_or-map (key_at s.cells) s.column (place + k) d 0 there) (high.above (place + k) (omega arith) (omega (arith, there, length-map s.column (key_at s.cells)))))
 
 -- what two parts of a merge moved
 pub MovesNear-trans : (s t u : State) (r : Range) → bounds_of t.marks ≡ bounds_of s.marks → (IsExact u.tally → IsExact t.tally) → MovesNear s t r → MovesNear t u r → MovesNear s u r

@@ -13,9 +13,8 @@ use Rattle.crack_state.specs.Merge.{edge}
 use Rattle.crack_state.proofs.Counters.{raised_counter}
 use Rattle.crack_state.proofs.FollowLaws.{Pushes, Pushes-refl, Pushes-pushed_on}
 use Rattle.crack_state.proofs.StepLaws.{met_key}
-use Rattle.crack_ripple.proofs.EdgeLaws.{IsRangeOf}
+use Rattle.crack_ripple.proofs.EdgeLaws.{IsRangeOf, StaysOutside, StaysOutside-same, StaysOutside-trans, PushesInside-pushed_on, row_at_end}
 use Rattle.crack_ripple.proofs.Pieces.{pieces_ahead, pieces_ahead-less}
-use Rattle.crack_ripple.proofs.Staying.{StaysOutside, StaysOutside-same, StaysOutside-trans, PushesInside-pushed_on, row_at_end}
 
 -- the hand is the row that stood first behind the range, whose end has moved up
 pub record MetBehind (b c : Carried) (r : Range) : Type 0 where

@@ -2,7 +2,7 @@ use Rattle.std.proofs.Common.{Some, None}
 use Rattle.crack_merge.specs.Loops.{ended}
 use Rattle.crack_merge.specs.Merges.{ceiling_of, begins, carries}
 use Rattle.crack_merge.proofs.Ending.{EndsAlike, EndsAlike-room}
-use Rattle.crack_merge.proofs.Onward.{Arrives, Arrives-ended, IsOnWay-next, left_in-less}
+use Rattle.crack_merge.proofs.Ending.{Arrives, Arrives-ended, IsOnWay-next, left_in-less}
 use Rattle.crack_merge.proofs.carries.carry_range.Goals as goal
 use Rattle.crack_merge.proofs.carries.carry_range.Goals.{After-facts, After-make_room-in-insertions}
 

@@ -1,5 +1,5 @@
 use Rattle.crack_merge.specs.Merges.{ceiling_of}
-use Rattle.crack_merge.proofs.Onward.{IsOnWay, left_in}
+use Rattle.crack_merge.proofs.Ending.{IsOnWay, left_in}
 use Rattle.crack_merge.proofs.carries.carry_range.Given as goal
 
 abbrev pub invariant-insertions : goal.invariant-insertions

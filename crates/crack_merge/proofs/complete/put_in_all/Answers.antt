@@ -4,7 +4,7 @@ use Rattle.crack_row.specs.declared.command.Policy.TheVariants.{Complete}
 use Rattle.crack_merge.specs.Loops.{ended}
 use Rattle.crack_merge.proofs.CarryLaws.{PutsIn-room, Stops-Advances}
 use Rattle.crack_merge.proofs.Ending.{EndsAlike, EndsAlike-room, IsIntact-ended, HasRoom-ended}
-use Rattle.crack_merge.proofs.Inserting.{PutsFirst, PutsFirst-none, PutsFirst-room, IsNext-next}
+use Rattle.crack_merge.proofs.CarryLaws.{PutsFirst, PutsFirst-none, PutsFirst-room, IsNext-next}
 use Rattle.crack_merge.proofs.complete.put_in_all.Goals as goal
 use Rattle.crack_merge.proofs.complete.put_in_all.Goals.{After-end-stopped, After-make_room, After-make_room-in-insertions}
 

@@ -1,4 +1,4 @@
-use Rattle.crack_merge.proofs.Inserting.{IsNext}
+use Rattle.crack_merge.proofs.CarryLaws.{IsNext}
 use Rattle.crack_merge.proofs.complete.put_in_all.Given as goal
 
 abbrev pub invariant-insertions : goal.invariant-insertions

@@ -1,7 +1,7 @@
 use Rattle.std.proofs.Common.{arith}
 use Rattle.crack_row.specs.declared.command.Policy.TheVariants.{Complete}
 use Rattle.crack_state.proofs.DrawLaws.{column_some}
-use Rattle.crack_merge.proofs.Deleting.{TakesOut-none, TakesOut-trans, ahead_of_last}
+use Rattle.crack_merge.proofs.PullLaws.{TakesOut-none, TakesOut-trans, ahead_of_last}
 use Rattle.crack_merge.proofs.PullLaws.{TakesAt, TakesAt-Pulls}
 use Rattle.crack_merge.proofs.complete.take_out_all.Goals as goal
 

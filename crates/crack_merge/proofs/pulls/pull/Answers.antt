@@ -3,7 +3,7 @@ use Rattle.crack_state.specs.Steps.{hand_key, piece_start, exchanged, buried}
 use Rattle.crack_state.proofs.DrawLaws.{IsAhead-pulled_back}
 use Rattle.crack_state.proofs.PullLaws.{IsIntact-pulled_back}
 use Rattle.crack_merge.specs.Merges.{reaches, exchanges, draws}
-use Rattle.crack_merge.proofs.Pulling.{hand_absent, hand_doomed, stands_before, stands_ahead, same_handle-true, same_handle-false}
+use Rattle.crack_merge.proofs.Pulling.{hand_absent, hand_doomed, stands_before, stands_ahead, same_handle-true}
 use Rattle.crack_merge.proofs.PullLaws.{exchanged_hand}
 use Rattle.crack_merge.proofs.pulls.pull.Goals as goal
 
@@ -39,23 +39,18 @@ returns-then-holds c =
 
 -- the doomed row stands in the own piece of the hand
 pub exchange-requires-clause-to : goal.exchange-requires-clause-to
-exchange-requires-clause-to c =
-    let carried = c.pieces.carrying in
-    let other = same_handle-false carried.hand c.args.doomed (sym c.holds.ensures ∙ c.if-holds.false) in
-    (stands_ahead carried c.in-Some.place c.args.doomed other c.pieces.invariant.ahead).1
+exchange-requires-clause-to c = (stands_ahead c.pieces.carrying c.in-Some.place c.args.doomed (sym c.holds.ensures ∙ c.if-holds.false) c.pieces.invariant.ahead).2
 
 pub bury-requires-2 : goal.bury-requires-2
 bury-requires-2 c =
     let carried = c.pieces.carrying in
-    let other = same_handle-false carried.hand c.args.doomed (sym c.holds.ensures ∙ c.if-holds.false) in
-    let at = stands_ahead carried c.in-Some.place c.args.doomed other c.pieces.invariant.ahead in
-    rw c.exchange.ensures.after (hand_doomed (exchanged c.in-Some.place carried) c.args.doomed (rw c.pieces.invariant.same c.requires.pending) (exchanged_hand carried c.in-Some.place c.args.doomed at.0))
+    let at = stands_ahead carried c.in-Some.place c.args.doomed (sym c.holds.ensures ∙ c.if-holds.false) c.pieces.invariant.ahead in
+    rw c.exchange.ensures.after (hand_doomed (exchanged c.in-Some.place carried) c.args.doomed (rw c.pieces.invariant.same c.requires.pending) (exchanged_hand carried c.in-Some.place c.args.doomed at.1))
 
 pub returns : goal.returns
 returns c =
     let carried = c.pieces.carrying in
     let place = c.in-Some.place in
-    let other = same_handle-false carried.hand c.args.doomed (sym c.holds.ensures ∙ c.if-holds.false) in
-    let at = stands_ahead carried place c.args.doomed other c.pieces.invariant.ahead in
+    let at = stands_ahead carried place c.args.doomed (sym c.holds.ensures ∙ c.if-holds.false) c.pieces.invariant.ahead in
     let from : piece_start carried.store (hand_key carried) ≤ place = omega (arith, c.pieces-test.false, c.piece_begins_at.ensures.value) in
-    rw (c.bury-2.ensures.after, c.exchange.ensures.after) (c.pieces.invariant.pulls (buried (exchanged place carried)) (exchanges carried place other at.0 from at.1))
+    rw (c.bury-2.ensures.after, c.exchange.ensures.after) (c.pieces.invariant.pulls (buried (exchanged place carried)) (exchanges carried place at.0 at.1 from at.2))

@@ -1,7 +1,7 @@
 use Rattle.std.proofs.Common.{arith}
 use Rattle.crack_state.proofs.DrawLaws.{column_some}
 use Rattle.crack_merge.specs.Merges.{begins, pulls}
-use Rattle.crack_merge.proofs.Deleting.{ahead_of_last}
+use Rattle.crack_merge.proofs.PullLaws.{ahead_of_last}
 use Rattle.crack_merge.proofs.PullLaws.{TakesAt-Pulls}
 use Rattle.crack_merge.proofs.pulls.pull_range.Goals as goal
 
