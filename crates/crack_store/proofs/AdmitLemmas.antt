@@ -29,15 +29,12 @@ next_within row s (n ∷ ns) is intact = elim (cases_lt n (length s.cells)) [
       absurd (omega (arith, times-places n s.column s.pending_in s.free []))
 ]
 
--- where as many cells are covered as there will be, the row's cell is
+-- where as many cells are covered as there will be, each is
+pub all_covered : (row : Row) (s : State) (cells free covered : ℕ) → cells ≡ length s.cells → free ≡ length s.free → cells + bool_byte (nat_eq free 0) ≤ covered → length (cells_with row s.cells s.free) ≤ covered
+all_covered row s cells free covered cells_is free_is enough = omega (arith, rw (← free_is) at (length_cells_with row s.cells s.free))
+
+-- and so is the row's
 pub is_covered : (row : Row) (s : State) (h : Handle) (cells free covered : ℕ) → h ≡ next_handle s → cells ≡ length s.cells → free ≡ length s.free → cells + bool_byte (nat_eq free 0) ≤ covered → IsIntact s [] → h.slot < covered
 is_covered row s h cells free covered is cells_is free_is enough intact =
-    let more = rw (← free_is) at (length_cells_with row s.cells s.free) in
     let within : h.slot < length (cells_with row s.cells s.free) = rw is (next_within row s s.free refl intact) in
-    omega arith
-
--- and so is every other
-pub all_covered : (row : Row) (s : State) (cells free covered : ℕ) → cells ≡ length s.cells → free ≡ length s.free → cells + bool_byte (nat_eq free 0) ≤ covered → length (cells_with row s.cells s.free) ≤ covered
-all_covered row s cells free covered cells_is free_is enough =
-    let more = rw (← free_is) at (length_cells_with row s.cells s.free) in
-    omega arith
+    omega (arith, within, all_covered row s cells free covered cells_is free_is enough)

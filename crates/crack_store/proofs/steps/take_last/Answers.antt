@@ -7,18 +7,14 @@ use Rattle.crack_store.proofs.RememberLemmas.{KeepsIntact-column}
 use Rattle.crack_store.proofs.steps.take_last.Goals as goal
 
 pub lower_at-requires : goal.lower_at-requires
-lower_at-requires c =
-    let some : 0 < length c.args.inside.now.column.handles = c.requires.some in
-    λ k d h e. omega (arith, some, c.len-len.ensures.value)
+lower_at-requires c = λ k d h e. omega (arith, c.requires.some, c.len-len.ensures.value)
 
 pub aside_key-key-requires-clause-some : goal.aside_key-key-requires-clause-some
 aside_key-key-requires-clause-some c = rw c.pop_aside.ensures (omega arith)
 
 pub aside_key-key-requires-clause-known : goal.aside_key-key-requires-clause-known
 aside_key-key-requires-clause-known c =
-    let column = c.args.inside.now.column in
-    let some : 0 < length column.handles = c.requires.some in
-    rw c.pop_aside.ensures (c.requires.intact.remembers.right (length column.handles - 1) no_handle (omega arith))
+    rw c.pop_aside.ensures (c.requires.intact.remembers.right (length c.args.inside.now.column.handles - 1) no_handle (omega (arith, c.requires.some)))
 
 pub returns-clause-kept : goal.returns-clause-kept
 returns-clause-kept c =

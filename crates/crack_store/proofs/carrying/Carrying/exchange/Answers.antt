@@ -4,8 +4,7 @@ use Rattle.crack_state.specs.Steps.{hand_key, piece_start, piece_end, exchanged}
 use Rattle.crack_state.proofs.PieceLaws.{piece_end-le}
 use Rattle.crack_state.proofs.PullLaws.{IsIntact-exchanged}
 use Rattle.crack_state.proofs.NearLaws.{next-exchanged, last-exchanged}
-use Rattle.crack_store.specs.Inside.{lists_of}
-use Rattle.crack_store.specs.Hand.{hand_of, carried_of}
+use Rattle.crack_store.specs.Hand.{carried_of}
 use Rattle.crack_store.proofs.HandLemmas.{IsMade, exchanged_to}
 use Rattle.crack_store.proofs.NextLemmas.{IsNear-same}
 use Rattle.crack_store.proofs.carrying.Carrying.exchange.Goals as goal

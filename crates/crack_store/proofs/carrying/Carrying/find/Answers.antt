@@ -1,6 +1,5 @@
 use Rattle.std.proofs.Common.{◌≡◌, arith}
 use Rattle.crack_state.specs.State.{Carried}
-use Rattle.crack_store.specs.Inside.{lists_of}
 use Rattle.crack_store.specs.Hand.{carried_of}
 use Rattle.crack_store.proofs.HandLemmas.{hand_absent}
 use Rattle.crack_store.proofs.carrying.Carrying.find.Goals as goal

@@ -1,9 +1,8 @@
-use Rattle.std.proofs.Common.{◌≡◌, ◌-◌, ◌<◌, None, subst, sym, arith}
+use Rattle.std.proofs.Common.{◌-◌, ◌<◌, subst, sym, arith}
 use Rattle.crack_index.specs.Marks.{last_mark}
 use Rattle.crack_state.specs.State.{Carried}
-use Rattle.crack_state.specs.Steps.{hand_key, piece_start, pulled_back, bounds_up_to}
-use Rattle.crack_store.specs.Inside.{lists_of}
-use Rattle.crack_store.specs.Hand.{hand_of, carried_of}
+use Rattle.crack_state.specs.Steps.{hand_key, pulled_back, bounds_up_to}
+use Rattle.crack_store.specs.Hand.{carried_of}
 use Rattle.crack_store.specs.declared.carrying.Near.TheVariants.{Below}
 use Rattle.crack_store.proofs.HandLemmas.{IsMade, exchanged_to}
 use Rattle.crack_store.proofs.NextLemmas.{near_none, IsDown, is_down}

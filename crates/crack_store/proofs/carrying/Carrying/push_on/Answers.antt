@@ -1,9 +1,8 @@
-use Rattle.std.proofs.Common.{◌≡◌, ◌<◌, None, length, subst, sym, arith}
+use Rattle.std.proofs.Common.{◌<◌, length, subst, sym, arith}
 use Rattle.crack_index.specs.Marks.{next_mark}
 use Rattle.crack_state.specs.State.{Carried}
-use Rattle.crack_state.specs.Steps.{hand_key, piece_end, pushed_on, bounds_above}
-use Rattle.crack_store.specs.Inside.{lists_of}
-use Rattle.crack_store.specs.Hand.{hand_of, carried_of}
+use Rattle.crack_state.specs.Steps.{hand_key, pushed_on, bounds_above}
+use Rattle.crack_store.specs.Hand.{carried_of}
 use Rattle.crack_store.specs.declared.carrying.Near.TheVariants.{Above}
 use Rattle.crack_store.proofs.HandLemmas.{IsMade, exchanged_to}
 use Rattle.crack_store.proofs.NextLemmas.{near_none, IsUp, is_up}

@@ -24,9 +24,8 @@ refined : (c : goal.After-crack_at-2) → Refines (lists_of c.self.inside.inside
 refined c =
     let s = lists_of c.self.inside.inside in
     let first_cracked = lists_of c.crack_at.new.inside in
-    let both_cracked = lists_of c.crack_at-2.new.inside in
     let first : RefinesAt s first_cracked c.in_turn.result.0.0 = rw c.in_ok-reserve.ensures.marks at c.crack_at.ensures.refined in
-    Refines-both s first_cracked both_cracked c.args.range c.in_turn.result.0.0 c.in_turn.result.1.0 c.in_turn.ensures first c.crack_at-2.ensures.refined
+    Refines-both s first_cracked (lists_of c.crack_at-2.new.inside) c.args.range c.in_turn.result.0.0 c.in_turn.result.1.0 c.in_turn.ensures first c.crack_at-2.ensures.refined
 
 pub returns-clause-ok : goal.returns-clause-ok
 returns-clause-ok c = rw (← c.self.view_is) (refined c)
