@@ -1,16 +1,15 @@
 -- Where the ends of a range stand in a column that was cracked by it.
-use Rattle.std.proofs.Common.{◌≡◌, ℕ, ◌<◌, ◌≤◌, ◌^◌, ◌-◌, List, length, inl, inr, arith}
+use Rattle.std.proofs.Common.{ℕ, ◌<◌, ◌≤◌, ◌^◌, ◌-◌, List, length, inl, inr, arith}
 use Rattle.std.specs.List.{All}
 use Rattle.std.proofs.lemmas.Bool.{cases_lt, lt-leb, le-leb}
 use Rattle.std.proofs.lemmas.List.{length-map}
 use Rattle.crack_arena.specs.Arena.{Handle}
 use Rattle.crack_index.specs.declared.mark.Mark.{Mark}
-use Rattle.crack_index.specs.Marks.{position_of}
-use Rattle.crack_index.proofs.MarkLaws.{HasBound-contains, place_of-mark, Rising-positions}
+use Rattle.crack_column.proofs.Divisions.{IsDividedAt-order}
 use Rattle.crack_arena.specs.Rows.{key_at}
 use Rattle.crack_state.specs.State.{State, IsIntact, column_keys}
 use Rattle.crack_state.specs.Merge.{Stands, edge}
-use Rattle.crack_state.proofs.PieceLaws.{Divides-listed}
+use Rattle.crack_state.proofs.SettledLaws.{edge-divides}
 use Rattle.crack_state.proofs.LayoutLaws.{cells-intact}
 
 -- every bound stands at a place of the column, or at its end
@@ -26,10 +25,7 @@ edge_within s hand bound intact stands =
       | inr l ↦ rw (le-leb bound s.keys.low l) (omega arith)
       | inl l ↦ elim (cases_lt bound s.keys.high) [
         | inr h ↦ rw (lt-leb bound s.keys.low l, le-leb s.keys.high bound h) (omega arith)
-        | inl h ↦
-            let at = HasBound-contains s.marks bound (stands l h) in
-            let place : position_of bound s.marks ≡ at.0.position = rw at.2 at (place_of-mark s.marks at.0 intact.rising at.1) in
-            rw (lt-leb bound s.keys.low l, lt-leb s.keys.high bound h, place) (omega (arith, (Divides-listed (column_keys s) s.marks at.0 intact.obeyed at.1).within, length-map s.column (key_at s.cells)))
+        | inl h ↦ rw (length-map s.column (key_at s.cells)) at (edge-divides s hand bound intact (omega arith) (omega arith) stands).within
       ]
     ]
 
@@ -40,11 +36,6 @@ edge_order s hand low high intact order low_stands high_stands =
       | inr l ↦ rw (le-leb low s.keys.low l) (omega arith)
       | inl l ↦ elim (cases_lt high s.keys.high) [
         | inr h ↦ rw (lt-leb high s.keys.low (omega arith), le-leb s.keys.high high h) (edge_within s hand low intact low_stands)
-        | inl h ↦
-            let from = HasBound-contains s.marks low (low_stands l (omega arith)) in
-            let to = HasBound-contains s.marks high (high_stands (omega arith) h) in
-            let from_place : position_of low s.marks ≡ from.0.position = rw from.2 at (place_of-mark s.marks from.0 intact.rising from.1) in
-            let to_place : position_of high s.marks ≡ to.0.position = rw to.2 at (place_of-mark s.marks to.0 intact.rising to.1) in
-            rw (lt-leb low s.keys.low l, lt-leb s.keys.high low (omega arith), lt-leb high s.keys.low (omega arith), lt-leb s.keys.high high h, from_place, to_place) (Rising-positions s.marks from.0 to.0 intact.rising from.1 to.1 (omega (arith, from.2, to.2)))
+        | inl h ↦ IsDividedAt-order low high (column_keys s) (edge s low) (edge s high) order (edge-divides s hand low intact (omega arith) (omega arith) low_stands) (edge-divides s hand high intact (omega arith) (omega arith) high_stands)
       ]
     ]

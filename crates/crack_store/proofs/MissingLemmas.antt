@@ -15,9 +15,7 @@ missing_before s u first bound refined missing =
     record {
       low = omega (arith, ap (λ (x : Range). x.low) keys, missing.low);
       high = omega (arith, ap (λ (x : Range). x.high) keys, missing.high);
-      apart = λ there.
-          let at = HasBound-contains s.marks bound there in
-          missing.apart (rw at.2 at (HasBound-mark u.marks at.0 (refined.kept at.0 at.1)));
+      apart = λ there. let at = HasBound-contains s.marks bound there in missing.apart (rw at.2 at (HasBound-mark u.marks at.0 (refined.kept at.0 at.1)));
     }
 
 -- where a place was made for each bound that is missing, the first leaves one for the second

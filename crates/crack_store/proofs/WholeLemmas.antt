@@ -1,5 +1,5 @@
 -- A search over the pending insertions for a range that holds all of the partition's keys.
-use Rattle.std.proofs.Common.{ℕ, ◌<◌, ◌≤◌, List, length, get_or, Some, None, arith}
+use Rattle.std.proofs.Common.{ℕ, ◌<◌, ◌≤◌, List, length, get_or, Some, arith}
 use Rattle.std.proofs.lemmas.List.{length-map, get_or-map}
 use Rattle.crack_row.specs.Ranges.{Range, IsIn}
 use Rattle.crack_arena.specs.Arena.{Handle, no_handle}
@@ -8,18 +8,13 @@ use Rattle.crack_pending.specs.Pending.{Finds}
 use Rattle.crack_state.specs.State.{State, IsIntact}
 use Rattle.crack_state.proofs.CrackLaws.{key_within}
 
-module _ (s : State) (hand : List Handle) (r : Range) (from : ℕ) where
-  -- the row at the place is in it
-  pub Finds-here : r.low ≤ s.keys.low → s.keys.high ≤ r.high → from < length s.pending_in → IsIntact s hand → Finds r (keys_at s.cells s.pending_in) from (Some from)
-  Finds-here low high there intact =
-      let inside : IsIn s.keys (key_at s.cells (get_or s.pending_in from no_handle)) = key_within s.keys s.cells (get_or s.pending_in from no_handle) intact.within (intact.owned.pending_reads from no_handle there) in
-      record {
-        after = omega arith;
-        within = omega (arith, there, length-map s.pending_in (key_at s.cells));
-        holds = rw (get_or-map (key_at s.cells) s.pending_in from no_handle 0 there) (omega (arith, low, inside.0), omega (arith, high, inside.1));
-        before = λ k start stop. absurd (omega arith);
-      }
-
-  -- none is behind the last
-  pub Finds-past : length s.pending_in ≤ from → Finds r (keys_at s.cells s.pending_in) from None
-  Finds-past past = λ k start stop. absurd (omega (arith, past, start, stop, length-map s.pending_in (key_at s.cells)))
+-- the row at the place is in it
+pub Finds-here : (s : State) (hand : List Handle) (r : Range) (from : ℕ) → r.low ≤ s.keys.low → s.keys.high ≤ r.high → from < length s.pending_in → IsIntact s hand → Finds r (keys_at s.cells s.pending_in) from (Some from)
+Finds-here s hand r from low high there intact =
+    let inside : IsIn s.keys (key_at s.cells (get_or s.pending_in from no_handle)) = key_within s.keys s.cells (get_or s.pending_in from no_handle) intact.within (intact.owned.pending_reads from no_handle there) in
+    record {
+      after = omega arith;
+      within = omega (arith, there, length-map s.pending_in (key_at s.cells));
+      holds = rw (get_or-map (key_at s.cells) s.pending_in from no_handle 0 there) (omega (arith, low, inside.0), omega (arith, high, inside.1));
+      before = λ k start stop. absurd (omega arith);
+    }

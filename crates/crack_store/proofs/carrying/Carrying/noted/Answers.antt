@@ -1,5 +1,4 @@
 use Rattle.std.proofs.Common.{◌≡◌, ◌∷◌, [], sym, ◌∙◌}
-use Rattle.crack_arena.specs.Arena.{StandsAt}
 use Rattle.crack_store.specs.Inside.{lists_of}
 use Rattle.crack_store.specs.Hand.{hand_of}
 use Rattle.crack_store.proofs.HandLemmas.{same_handles, once_first, column_once}
@@ -9,5 +8,4 @@ pub returns-then-eq : goal.returns-then-eq
 returns-then-eq c =
     let s = lists_of c.self.inside.inside in
     let same : c.at.result ≡ c.args.handle = same_handles c.at.result c.args.handle (sym c.eq.ensures ∙ c.if-eq.true) in
-    let stands : StandsAt s.column c.get-place.result c.args.handle = rw same at c.at.ensures in
-    rw (← c.self.view_is) (once_first s.column c.args.handle c.get-place.result (column_once s ((hand_of c.self.inside.inside) ∷ []) c.args.handle.slot c.self.invariant.has.kept.intact) stands)
+    rw (← c.self.view_is) (once_first s.column c.args.handle c.get-place.result (column_once s ((hand_of c.self.inside.inside) ∷ []) c.args.handle.slot c.self.invariant.has.kept.intact) (rw same at c.at.ensures))
