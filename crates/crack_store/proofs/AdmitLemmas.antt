@@ -1,5 +1,5 @@
 -- The cell of a row that is admitted.
-use Rattle.std.proofs.Common.{◌≡◌, ℕ, ◌+◌, ◌<◌, ◌≤◌, List, [], ◌∷◌, length, Some, false, refl, sym, ◌∙◌, inl, inr, arith, length-set}
+use Rattle.std.proofs.Common.{◌≡◌, ℕ, ◌+◌, ◌<◌, ◌≤◌, List, [], ◌∷◌, length, Some, refl, sym, ◌∙◌, inl, inr, arith, length-set}
 use Rattle.std.specs.Prelude.{nat_eq}
 use Rattle.std.proofs.lemmas.Bool.{cases_lt, le-ltb, ne_eqb}
 use Rattle.std.proofs.lemmas.List.{length_push}
@@ -15,8 +15,7 @@ use Rattle.crack_state.proofs.OwnedLaws.{times-places}
 length_cells_with : (row : Row) (cells : List (Cell Row)) (free : List ℕ) → length cells + bool_byte (nat_eq (length free) 0) ≡ length (cells_with row cells free)
 length_cells_with row cells [] = sym (length_push cells (record { generation = 0; value = Some row }))
 length_cells_with row cells (n ∷ ns) =
-    let some : nat_eq (length (n ∷ ns)) 0 ≡ false = ne_eqb (length (n ∷ ns)) 0 (λ e. omega arith) in
-    rw some (omega (arith, length-set cells n (record { generation = (cell_at cells n).generation; value = Some row })))
+    rw (ne_eqb (length (n ∷ ns)) 0 (λ e. omega arith)) (omega (arith, length-set cells n (record { generation = (cell_at cells n).generation; value = Some row })))
 
 -- the number of the row's cell is that of one of the cells then
 next_within : (row : Row) (s : State) (free : List ℕ) → s.free ≡ free → IsIntact s [] → (handle_for s.cells free).slot < length (cells_with row s.cells free)

@@ -75,8 +75,7 @@ column_once s hand n intact = omega (arith, once-most s.cells s.free s.column s.
 pub hand_absent : (c : Carried) (h : Handle) → IsIntact c.store (c.hand ∷ []) → c.hand.slot ≡ h.slot → IsAbsent c.store.column h
 hand_absent c h intact same =
     let s = c.store in
-    let apart = hand_apart s.cells s.free s.column s.pending_in s.pending_out c.hand intact.owned in
-    λ place at. apart_from_times s.column h.slot (rw same at apart.off_column) place h at.within (ap (λ (x : Handle). x.slot) (sym at.is))
+    λ place at. apart_from_times s.column h.slot (rw same at (hand_apart s.cells s.free s.column s.pending_in s.pending_out c.hand intact.owned).off_column) place h at.within (ap (λ (x : Handle). x.slot) (sym at.is))
 
 -- what holds where a value was taken, holds where there was one
 pub when_some : (o value : Option Row) (P Q : Type 0) → o ≡ value → IsSome value → MatchOption o P (λ _. Q) → Q

@@ -18,12 +18,9 @@ use Rattle.crack_store.specs.declared.carrying.Near.TheVariants.{Above, Below}
 use Rattle.crack_store.specs.Hand.{IsNear}
 use Rattle.crack_store.proofs.EdgeLemmas.{positions_small}
 
--- the mark that was found
-pub near_found : (found : Option NearBound) (n : NearBound) (o : Option Mark) → near_mark found ≡ o → found ≡ Some n → o ≡ Some n.mark
-near_found found n o value is = sym value ∙ ap near_mark is
-
-pub near_none : (found : Option NearBound) (o : Option Mark) → near_mark found ≡ o → found ≡ None → o ≡ None
-near_none found o value is = sym value ∙ ap near_mark is
+-- the mark that was found, if any was
+pub near_found : (found near : Option NearBound) (o : Option Mark) → near_mark found ≡ o → found ≡ near → o ≡ near_mark near
+near_found found near o value is = sym value ∙ ap near_mark is
 
 -- the bound where the own piece of the hand ends, before the column does, and what becomes of a hand that is put there
 pub record IsUp (c : Carried) (m : Mark) : Type 0 where
@@ -38,7 +35,7 @@ pub record IsUp (c : Carried) (m : Mark) : Type 0 where
 pub is_up : (c : Carried) (found : Option NearBound) (n : NearBound) → near_mark found ≡ next_mark (hand_key c) c.store.marks → found ≡ Some n → piece_end c.store (hand_key c) < length c.store.column → IsIntact c.store (c.hand ∷ []) → IsUp c n.mark
 is_up c found n value is room intact =
     let s = c.store in
-    let at = near_found found n (next_mark (hand_key c) s.marks) value is in
+    let at = near_found found (Some n) (next_mark (hand_key c) s.marks) value is in
     let next = next_mark-is (hand_key c) s.marks n.mark intact.rising at in
     let within : n.mark.position < length s.column = rw at at room in
     record {
@@ -64,7 +61,7 @@ pub record IsDown (c : Carried) (m : Mark) : Type 0 where
 pub is_down : (c : Carried) (found : Option NearBound) (n : NearBound) → near_mark found ≡ last_mark (hand_key c) c.store.marks → found ≡ Some n → 0 < piece_start c.store (hand_key c) → IsIntact c.store (c.hand ∷ []) → IsDown c n.mark
 is_down c found n value is some intact =
     let s = c.store in
-    let at = near_found found n (last_mark (hand_key c) s.marks) value is in
+    let at = near_found found (Some n) (last_mark (hand_key c) s.marks) value is in
     let last = last_mark-is (hand_key c) s.marks n.mark intact.rising at in
     let above : 0 < n.mark.position = rw at at some in
     let place : piece_start s (hand_key c) ≡ n.mark.position = rw at refl in

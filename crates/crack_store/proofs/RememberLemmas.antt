@@ -24,9 +24,7 @@ Remembers-off n cells after hs remembered agree none remembers = record {
 -- a row is admitted
 pub Remembers-admitted : (row : Row) (s : State) (remembered : List Memory) → IsIntact s [] → Remembers s.cells s.column remembered → Remembers (cells_with row s.cells s.free) s.column remembered
 Remembers-admitted row s remembered intact remembers =
-    let fill = filled s row s.free refl intact.owned in
-    let off = unused s s.free refl intact.owned in
-    Remembers-off (next_handle s).slot s.cells (cells_with row s.cells s.free) s.column remembered fill.others off.column remembers
+    Remembers-off (next_handle s).slot s.cells (cells_with row s.cells s.free) s.column remembered (filled s row s.free refl intact.owned).others (unused s s.free refl intact.owned).column remembers
 
 -- where a step leaves the cells and the pending lists alone, what is remembered of these stays right
 pub KeepsIntact-column : (p : Inside) (column : Column) (index : Index) (notes : Notes) (tally : MergeReport) (before after : List Handle) → KeepsIntact p before → IsIntact (lists_of (record p { column = column; index = index; notes = notes; tally = tally })) after → Remembers p.arena.cells column.handles column.remembered → KeepsIntact (record p { column = column; index = index; notes = notes; tally = tally }) after

@@ -30,15 +30,10 @@ cracked c =
 
 pub returns-clause-intact : goal.returns-clause-intact
 returns-clause-intact c =
-    let old = c.args.inside.now in
-    let new = record old { column = c.crack_two-place.new.self; index = c.add.new.self } in
-    KeepsIntact-column old _ _ _ _ [] [] c.requires.intact (IsIntact-cracked (lists_of old) (lists_of new) [] c.args.bound (cracked c) c.requires.intact.intact) c.crack_two-place.ensures.remembered
+    KeepsIntact-column c.args.inside.now _ _ _ _ [] [] c.requires.intact (IsIntact-cracked _ _ [] c.args.bound (cracked c) c.requires.intact.intact) c.crack_two-place.ensures.remembered
 
 pub returns-clause-refined : goal.returns-clause-refined
-returns-clause-refined c =
-    let old = c.args.inside.now in
-    let new = record old { column = c.crack_two-place.new.self; index = c.add.new.self } in
-    RefinesAt-cracked (lists_of old) (lists_of new) [] c.args.bound (cracked c) c.requires.intact.intact
+returns-clause-refined c = RefinesAt-cracked _ _ [] c.args.bound (cracked c) c.requires.intact.intact
 
 pub returns-then-not-is_missing-clause-refined : goal.returns-then-not-is_missing-clause-refined
 returns-then-not-is_missing-clause-refined c =

@@ -1,18 +1,18 @@
-use Rattle.std.proofs.Common.{◌-◌, ◌<◌, subst, sym, arith}
+use Rattle.std.proofs.Common.{◌-◌, ◌<◌, None, subst, sym, arith}
 use Rattle.crack_index.specs.Marks.{last_mark}
 use Rattle.crack_state.specs.State.{Carried}
 use Rattle.crack_state.specs.Steps.{hand_key, pulled_back, bounds_up_to}
 use Rattle.crack_store.specs.Hand.{carried_of}
 use Rattle.crack_store.specs.declared.carrying.Near.TheVariants.{Below}
 use Rattle.crack_store.proofs.HandLemmas.{IsMade, exchanged_to}
-use Rattle.crack_store.proofs.NextLemmas.{near_none, IsDown, is_down}
+use Rattle.crack_store.proofs.NextLemmas.{near_found, IsDown, is_down}
 use Rattle.crack_store.proofs.carrying.Carrying.pull_back.Goals as goal
 use Rattle.crack_store.proofs.carrying.Carrying.pull_back.Goals.{In-Some}
 
 pub unreachable-unreachable : goal.unreachable-unreachable
 unreachable-unreachable c =
     let now = c.args.self.now in
-    let none = near_none c.bound_below.result (last_mark (hand_key now) now.store.marks) c.bound_below.ensures c.in_default.is in
+    let none = near_found c.bound_below.result None (last_mark (hand_key now) now.store.marks) c.bound_below.ensures c.in_default.is in
     let never : 0 < 0 = rw none at c.requires in
     absurd (omega arith)
 

@@ -1,18 +1,18 @@
-use Rattle.std.proofs.Common.{◌<◌, length, subst, sym, arith}
+use Rattle.std.proofs.Common.{◌<◌, length, None, subst, sym, arith}
 use Rattle.crack_index.specs.Marks.{next_mark}
 use Rattle.crack_state.specs.State.{Carried}
 use Rattle.crack_state.specs.Steps.{hand_key, pushed_on, bounds_above}
 use Rattle.crack_store.specs.Hand.{carried_of}
 use Rattle.crack_store.specs.declared.carrying.Near.TheVariants.{Above}
 use Rattle.crack_store.proofs.HandLemmas.{IsMade, exchanged_to}
-use Rattle.crack_store.proofs.NextLemmas.{near_none, IsUp, is_up}
+use Rattle.crack_store.proofs.NextLemmas.{near_found, IsUp, is_up}
 use Rattle.crack_store.proofs.carrying.Carrying.push_on.Goals as goal
 use Rattle.crack_store.proofs.carrying.Carrying.push_on.Goals.{In-Some}
 
 pub unreachable-unreachable : goal.unreachable-unreachable
 unreachable-unreachable c =
     let now = c.args.self.now in
-    let none = near_none c.bound_above.result (next_mark (hand_key now) now.store.marks) c.bound_above.ensures c.in_default.is in
+    let none = near_found c.bound_above.result None (next_mark (hand_key now) now.store.marks) c.bound_above.ensures c.in_default.is in
     let within : length now.store.column < length now.store.column = rw none at c.requires in
     absurd (omega arith)
 
