@@ -24,13 +24,12 @@ exchange-requires-clause-within c = within (goal.at.exchange-requires-clause-wit
 -- the hand is put there
 made : (c : goal.After-self-1) → IsMade (record c.self.inside.inside { column = c.exchange.new.self; notes = c.note_if_doomed.new.notes; tally = record c.self.inside.inside.tally { pulled = c.saturating_add-self-inside.result } }) c.self.inside.near (exchanged c.args.place (carried_of c.self.inside.inside))
 made c =
-    let p = c.self.inside.inside in
-    let carried : Carried = carried_of p in
+    let carried : Carried = carried_of c.self.inside.inside in
     let place = c.args.place in
     let from : piece_start carried.store (hand_key carried) ≤ place = rw (← c.self.view_is) at c.requires.from in
     let to : place < piece_end carried.store (hand_key carried) = rw (← c.self.view_is) at c.requires.to in
     let intact = c.self.invariant.has.kept.intact in
-    exchanged_to p c.exchange.new.self p.index c.note_if_doomed.new.notes _ place _ _ c.self.invariant.has c.exchange.ensures.after (within (goal.at.returns-clause-after c).After-note_if_doomed) (rw c.saturating_add-self-inside.ensures refl) (IsIntact-exchanged place carried from to intact) (IsNear-same carried.store.marks (hand_key carried) (hand_key (exchanged place carried)) c.self.inside.near (next-exchanged place carried from to intact) (last-exchanged place carried from to intact) c.self.invariant.is_near)
+    exchanged_to c.self.inside.inside c.exchange.new.self _ c.note_if_doomed.new.notes _ place _ _ c.self.invariant.has c.exchange.ensures.after (within (goal.at.returns-clause-after c).After-note_if_doomed) (rw c.saturating_add-self-inside.ensures refl) (IsIntact-exchanged place carried from to intact) (IsNear-same carried.store.marks (hand_key carried) (hand_key (exchanged place carried)) c.self.inside.near (next-exchanged place carried from to intact) (last-exchanged place carried from to intact) c.self.invariant.is_near)
 
 pub invariant_of-self : goal.invariant_of-self
 invariant_of-self c = (made c).keeps

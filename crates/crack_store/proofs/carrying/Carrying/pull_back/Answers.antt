@@ -35,9 +35,8 @@ exchange-requires-clause-within c = rw c.position-last.ensures (down (goal.at.ex
 -- the hand is put at the place before it
 made : (c : goal.After-self-2-1) → IsMade (record c.self.inside.inside { column = c.exchange.new.self; index = c.lower_past-next.new.self; notes = c.note_if_doomed.new.notes; tally = record c.self.inside.inside.tally { pulled = c.saturating_add-self-inside.result } }) (Below c.lower_past-next.result) (pulled_back (carried_of c.self.inside.inside))
 made c =
-    let p = c.self.inside.inside in
     let found = down (goal.at.returns-clause-after c).In-Some in
-    exchanged_to p c.exchange.new.self c.lower_past-next.new.self c.note_if_doomed.new.notes _ (c.position-last.result - 1) _ _ c.self.invariant.has c.exchange.ensures.after (rw c.position-last.ensures found.within) (rw (c.position-last.ensures, c.lower_past-next.ensures.marks, c.saturating_add-self-inside.ensures) found.after) found.intact (rw found.next c.lower_past-next.ensures.next)
+    exchanged_to c.self.inside.inside c.exchange.new.self c.lower_past-next.new.self _ _ (c.position-last.result - 1) _ _ c.self.invariant.has c.exchange.ensures.after (rw c.position-last.ensures found.within) (rw (c.position-last.ensures, c.lower_past-next.ensures.marks, c.saturating_add-self-inside.ensures) found.after) found.intact (rw found.next c.lower_past-next.ensures.next)
 
 pub invariant_of-self : goal.invariant_of-self
 invariant_of-self c = (made c).keeps

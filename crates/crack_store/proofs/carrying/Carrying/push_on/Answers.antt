@@ -32,9 +32,8 @@ exchange-requires-clause-within c = rw c.position.ensures (up (goal.at.exchange-
 -- the hand is put there
 made : (c : goal.After-self-2-1) → IsMade (record c.self.inside.inside { column = c.exchange.new.self; index = c.raise_past-next.new.self; tally = record c.self.inside.inside.tally { moved = c.saturating_add-self-inside.result } }) (Above c.raise_past-next.result) (pushed_on (carried_of c.self.inside.inside))
 made c =
-    let p = c.self.inside.inside in
     let found = up (goal.at.returns-clause-after c).In-Some in
-    exchanged_to p c.exchange.new.self c.raise_past-next.new.self p.notes _ c.position.result _ _ c.self.invariant.has c.exchange.ensures.after (rw c.position.ensures found.within) (rw (c.position.ensures, c.raise_past-next.ensures.marks, c.saturating_add-self-inside.ensures) found.after) found.intact (rw found.next c.raise_past-next.ensures.next)
+    exchanged_to c.self.inside.inside c.exchange.new.self c.raise_past-next.new.self _ _ c.position.result _ _ c.self.invariant.has c.exchange.ensures.after (rw c.position.ensures found.within) (rw (c.position.ensures, c.raise_past-next.ensures.marks, c.saturating_add-self-inside.ensures) found.after) found.intact (rw found.next c.raise_past-next.ensures.next)
 
 pub invariant_of-self : goal.invariant_of-self
 invariant_of-self c = (made c).keeps

@@ -5,7 +5,7 @@ use Rattle.indexmap.proofs.CallerLemmas.{insert_entry-new}
 use Rattle.crack_arena.specs.Arena.{cells_with}
 use Rattle.crack_pending.specs.Pending.{Pending}
 use Rattle.crack_state.specs.State.{handle_of}
-use Rattle.crack_state.specs.Steps.{IsAdmissible, SameButRoom, admitted, next_handle}
+use Rattle.crack_state.specs.Steps.{SameButRoom, admitted, next_handle}
 use Rattle.crack_state.proofs.LayoutLaws.{cells-intact}
 use Rattle.crack_state.proofs.StepLaws.{IsIntact-room}
 use Rattle.crack_state.proofs.AdmitLaws.{IsIntact-admitted, live_rows-admitted}
@@ -20,9 +20,7 @@ at_ok (Ok x) P ok h = h
 at_ok (Err e) P ok h = absurd (true≢false (sym ok))
 
 pub reserve-requires : goal.reserve-requires
-reserve-requires c =
-    let intact = c.self.invariant.intact in
-    omega (arith, cells-intact (lists_of c.self.inside.inside) [] intact, intact.few_cells)
+reserve-requires c = omega (arith, cells-intact (lists_of c.self.inside.inside) [] c.self.invariant.intact, c.self.invariant.intact.few_cells)
 
 pub push_keyed-requires-clause-room : goal.push_keyed-requires-clause-room
 push_keyed-requires-clause-room c = omega (arith, c.in_ok-reserve.ensures.room, ap (λ (p : Pending). p.room) c.in_ok-make_places.ensures.same)
@@ -62,18 +60,14 @@ pub invariant_of-self-2 : goal.invariant_of-self-2
 invariant_of-self-2 c =
     let s = lists_of c.self.inside.inside in
     let row = c.args.row in
-    let new = record c.self.inside.inside { arena = c.put_reserved-handle.new.self; pending_in = c.push_keyed.new.self; in_room = 0; serials = c.insert.new.self } in
-    let may : IsAdmissible row s = rw (← c.self.view_is) at c.requires in
     let h = c.put_reserved-handle.result in
     let cells = cells_with row s.cells s.free in
     let plus : Added row s h = added row s c.self.invariant.intact h (handle (goal.at.invariant_of-self-2 c).After-put_reserved-handle) in
-    let kept_in = c.self.inside.inside.pending_in in
-    let kept_out = c.self.inside.inside.pending_out in
     record {
-      intact = IsIntact-room (admitted row s) (lists_of new) [] (after c) (IsIntact-admitted row s may c.self.invariant.intact);
+      intact = IsIntact-room (admitted row s) _ [] (after c) (IsIntact-admitted row s (rw (← c.self.view_is) at c.requires) c.self.invariant.intact);
       remembers = rw (cells_after c) (Remembers-admitted row s c.self.inside.inside.column.remembered c.self.invariant.intact c.self.invariant.remembers);
-      keys_in = rw (cells_after c) (c.push_keyed.ensures.remembered cells plus.key (c.in_ok-make_places.ensures.remembered cells (c.in_ok-reserve.ensures.remembered cells (RemembersKeys-off h.slot s.cells cells kept_in.handles kept_in.keys plus.agree plus.off_in c.self.invariant.keys_in))));
-      keys_out = rw (cells_after c) (RemembersKeys-off h.slot s.cells cells kept_out.handles kept_out.keys plus.agree plus.off_out c.self.invariant.keys_out);
+      keys_in = rw (cells_after c) (c.push_keyed.ensures.remembered cells plus.key (c.in_ok-make_places.ensures.remembered cells (c.in_ok-reserve.ensures.remembered cells (RemembersKeys-off h.slot s.cells cells s.pending_in c.self.inside.inside.pending_in.keys plus.agree plus.off_in c.self.invariant.keys_in))));
+      keys_out = rw (cells_after c) (RemembersKeys-off h.slot s.cells cells s.pending_out c.self.inside.inside.pending_out.keys plus.agree plus.off_out c.self.invariant.keys_out);
       room = omega arith;
       covered = rw (cells_after c, c.push_keyed.ensures.after) (all_covered row s c.cells.result c.free_cells.result c.make_places.new.self.covered (rw (ap (λ a. a.cells) c.in_ok-reserve-2.ensures.same) at c.cells.ensures) (rw (ap (λ a. a.free) c.in_ok-reserve-2.ensures.same) at c.free_cells.ensures) c.in_ok-make_places.ensures.covered);
     }

@@ -1,7 +1,6 @@
-use Rattle.std.proofs.Common.{◌≡◌, ◌+◌, ◌-◌, [], length, refl, ap, arith}
+use Rattle.std.proofs.Common.{◌≡◌, [], length, refl, ap, arith}
 use Rattle.std.specs.List.{sum_by}
 use Rattle.crack_row.specs.Layouts.{AreJoined}
-use Rattle.crack_row.specs.declared.layout.Layout.{Layout}
 use Rattle.crack_row.specs.declared.layout.PieceSize.{PieceSize}
 use Rattle.crack_state.specs.State.{State, IsIntact}
 use Rattle.crack_state.proofs.LayoutLaws.{cells-intact, rows-intact, pending_out-few, IsLayout-intact}
@@ -27,16 +26,7 @@ returns-clause-equations c =
     let again : c.column_len.result ≡ length s.column = rw (← c.self.view_is) at c.column_len.ensures in
     let sizes : sum_by (λ (p : PieceSize). p.size) c.from_vec.result ≡ length now.column = rw (c.column_len.ensures, ← c.from_vec.ensures) at (c.in_ok-pieces.ensures.sizes (rw again (positions_within s [] c.self.invariant.intact))) in
     let joined : AreJoined now.keys.low now.keys.high c.from_vec.result = rw (ap (λ (t : State). t.keys) c.self.view_is, ← c.from_vec.ensures) at (c.in_ok-pieces.ensures.joined (λ k d h. let inside = c.self.invariant.intact.inside k d h in (omega (arith, inside.0), omega (arith, inside.1)))) in
-    let layout : Layout = record {
-      rows = c.column_len-column.result - c.pending_out-pending_out.result + c.pending_in-pending_in.result;
-      column = c.column_len-column.result;
-      pending_out = c.pending_out-pending_out.result;
-      pending_in = c.pending_in-pending_in.result;
-      cells = c.cells.result;
-      free = c.free_cells.result;
-      pieces = c.from_vec.result;
-    } in
-    IsLayout-intact now layout c.column_len-column.ensures c.pending_in-pending_in.ensures c.pending_out-pending_out.ensures c.cells.ensures c.free_cells.ensures refl sizes joined intact
+    IsLayout-intact now _ c.column_len-column.ensures c.pending_in-pending_in.ensures c.pending_out-pending_out.ensures c.cells.ensures c.free_cells.ensures refl sizes joined intact
 
 pub returns-clause-live : goal.returns-clause-live
 returns-clause-live c =
