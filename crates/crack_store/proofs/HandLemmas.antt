@@ -1,5 +1,5 @@
 -- What calls on the inside tell of a step that takes a row back or out.
-use Rattle.std.proofs.Common.{◌≡◌, ℕ, ◌<◌, ◌≤◌, true, false, List, [], ◌∷◌, length, get_or, Option, Some, None, sym, ap, subst, ◌∙◌, arith}
+use Rattle.std.proofs.Common.{◌≡◌, ℕ, ◌<◌, true, false, List, [], ◌∷◌, length, get_or, Option, Some, None, sym, ap, subst, ◌∙◌, arith}
 use Rattle.std.specs.Prelude.{MatchOption, IsSome, is_some}
 use Rattle.std.proofs.lemmas.Bool.{true≢false}
 use Rattle.std.specs.List.{remove}
@@ -7,7 +7,7 @@ use Rattle.std.proofs.lemmas.List.{get_or_default}
 use Rattle.std.proofs.lemmas.List.Edits.{get_or-remove_below, length-remove}
 use Rattle.std.proofs.lemmas.Bool.Decides.{nat_tests}
 use Rattle.crack_row.specs.declared.Row.{Row}
-use Rattle.crack_arena.specs.Arena.{Handle, same_handle, StandsAt, IsFirstAt, IsAbsent, no_handle, times, slots}
+use Rattle.crack_arena.specs.Arena.{Handle, same_handle, StandsAt, IsFirstAt, IsAbsent, no_handle}
 use Rattle.crack_arena.proofs.Times.{times-nil, times_head, times_map_at}
 use Rattle.crack_column.specs.Column.{Column, first_aside, exchanged_aside}
 use Rattle.crack_column.proofs.Remembering.{Remembers-set}
@@ -57,19 +57,17 @@ same_handles h k e =
     let built : ℕ → ℕ → Handle = λ slot generation. record { slot = slot; generation = generation } in
     ap (λ n. built n h.generation) slots_agree ∙ ap (λ n. built k.slot n) generations_agree
 
--- a cell of whose handles one alone is listed, has it at one place alone
-pub once_first : (hs : List Handle) (h : Handle) (place : ℕ) → times h.slot (slots hs) ≤ 1 → StandsAt hs place h → IsFirstAt hs h place
-once_first hs h place once stands = record {
+-- a handle that stands at a place of the column stands at none before it
+pub once_first : (s : State) (hand : List Handle) (h : Handle) (place : ℕ) → IsIntact s hand → StandsAt s.column place h → IsFirstAt s.column h place
+once_first s hand h place intact stands = record {
   here = stands;
   before = λ k less at.
+      let hs = s.column in
       let still : (get_or (remove hs place) k h).slot ≡ h.slot = rw (get_or-remove_below hs place h k less stands.within) (ap (λ (x : Handle). x.slot) (sym at.is)) in
       let again = times_map_at h.slot (λ (x : Handle). x.slot) (remove hs place) k h (omega (arith, less, stands.within, length-remove hs place stands.within)) still in
-      absurd (omega (arith, again, once, times-taken h.slot hs place h stands.within stands.is, times_head h.slot [], times-nil h.slot));
+      let once = once-most s.cells s.free hs s.pending_in s.pending_out hand h.slot intact.owned in
+      absurd (omega (arith, again, once, times-places h.slot hs s.pending_in s.free hand, times-taken h.slot hs place h stands.within stands.is, times_head h.slot [], times-nil h.slot));
 }
-
--- the column has no handle twice
-pub column_once : (s : State) (hand : List Handle) (n : ℕ) → IsIntact s hand → times n (slots s.column) ≤ 1
-column_once s hand n intact = omega (arith, once-most s.cells s.free s.column s.pending_in s.pending_out hand n intact.owned, times-places n s.column s.pending_in s.free hand)
 
 -- the cell in hand stands nowhere in the column
 pub hand_absent : (c : Carried) (h : Handle) → IsIntact c.store (c.hand ∷ []) → c.hand.slot ≡ h.slot → IsAbsent c.store.column h

@@ -38,5 +38,4 @@ returns-clause-refined c = RefinesAt-cracked _ _ [] c.args.bound (cracked c) c.r
 pub returns-then-not-is_missing-clause-refined : goal.returns-then-not-is_missing-clause-refined
 returns-then-not-is_missing-clause-refined c =
     let s = lists_of c.args.inside.now in
-    let stands = c.is_missing.ensures.stands c.if-not-is_missing.true in
-    RefinesBy-refl (λ b. (b ≡ c.args.bound.0) × (s.keys.low < b) × (b < s.keys.high)) s (λ b is. rw is.0 (stands (rw is.0 at is.1) (rw is.0 at is.2)))
+    RefinesBy-refl (λ b. (b ≡ c.args.bound.0) × (s.keys.low < b) × (b < s.keys.high)) s (λ b is. rw is.0 (c.is_missing.ensures.stands c.if-not-is_missing.true (rw is.0 at is.1) (rw is.0 at is.2)))
