@@ -16,8 +16,7 @@ strike-requires c = rw c.aside-hand.ensures c.requires.doomed
 pub free-requires : goal.free-requires
 free-requires c =
     let carried : Carried = carried_of c.args.inside.now in
-    let stands = doomed_stands carried c.requires.doomed c.requires.hand.kept.intact in
-    freed-doomed carried.store (carried.hand ∷ []) (omega (arith, stands.within)) c.requires.hand.kept.intact
+    freed-doomed carried.store (carried.hand ∷ []) (omega (arith, (doomed_stands carried c.requires.doomed c.requires.hand.kept.intact).within)) c.requires.hand.kept.intact
 
 -- the cell of the hand is freed
 freed : (c : goal.After-inside-1) → c.free.new.self ≡ freed_at (hand_of c.args.inside.now) c.args.inside.now.arena

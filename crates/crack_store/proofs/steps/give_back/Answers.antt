@@ -13,8 +13,7 @@ push_keyed-requires-clause-room c = omega (arith, c.requires.room, c.requires.ha
 pub push_keyed-requires-clause-covered : goal.push_keyed-requires-clause-covered
 push_keyed-requires-clause-covered c =
     let s = lists_of c.args.inside.now in
-    let apart = hand_apart s.cells s.free s.column s.pending_in s.pending_out (hand_of c.args.inside.now) c.requires.hand.kept.intact.owned in
-    rw c.aside-hand.ensures (omega (arith, apart.within, c.requires.hand.kept.covered))
+    rw c.aside-hand.ensures (omega (arith, (hand_apart s.cells s.free s.column s.pending_in s.pending_out (hand_of c.args.inside.now) c.requires.hand.kept.intact.owned).within, c.requires.hand.kept.covered))
 
 pub push_keyed-requires-clause-absent : goal.push_keyed-requires-clause-absent
 push_keyed-requires-clause-absent c =

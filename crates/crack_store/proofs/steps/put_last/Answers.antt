@@ -12,15 +12,13 @@ use Rattle.crack_store.proofs.steps.put_last.Goals as goal
 
 pub raise_next-requires-clause-there : goal.raise_next-requires-clause-there
 raise_next-requires-clause-there c =
-    let carried : Carried = carried_of c.args.inside.now in
-    next_listed carried.store (carried.hand ∷ []) (hand_key carried) c.args.above c.requires.hand.kept.intact c.requires.above
+    next_listed (lists_of c.args.inside.now) (hand_of c.args.inside.now ∷ []) (hand_key (carried_of c.args.inside.now)) c.args.above c.requires.hand.kept.intact c.requires.above
 
 pub raise_next-requires-clause-small : goal.raise_next-requires-clause-small
 raise_next-requires-clause-small c = positions_small (lists_of c.args.inside.now) (hand_of c.args.inside.now ∷ []) c.requires.hand.kept.intact
 
 pub returns-clause-intact : goal.returns-clause-intact
 returns-clause-intact c =
-    let s = lists_of c.args.inside.now in
     let carried : Carried = carried_of c.args.inside.now in
-    let marks : c.raise_next.new.index.marks ≡ raise_next (next_mark (hand_key carried) s.marks) s.marks = rw c.requires.above at c.raise_next.ensures.marks in
-    KeepsIntact-column c.args.inside.now _ _ _ _ (carried.hand ∷ []) [] c.requires.hand.kept (rw (c.append_aside.ensures.after, marks) (IsIntact-appended carried c.requires.ends c.requires.hand.kept.intact)) (c.append_aside.ensures.remembered s.cells c.requires.hand.kept.remembers c.requires.hand.agrees)
+    let marks : c.raise_next.new.index.marks ≡ raise_next (next_mark (hand_key carried) carried.store.marks) carried.store.marks = rw c.requires.above at c.raise_next.ensures.marks in
+    KeepsIntact-column c.args.inside.now _ _ _ _ (carried.hand ∷ []) [] c.requires.hand.kept (rw (c.append_aside.ensures.after, marks) (IsIntact-appended carried c.requires.ends c.requires.hand.kept.intact)) (c.append_aside.ensures.remembered carried.store.cells c.requires.hand.kept.remembers c.requires.hand.agrees)

@@ -1,4 +1,4 @@
-use Rattle.std.proofs.Common.{◌≡◌, false, arith, inl, inr}
+use Rattle.std.proofs.Common.{◌≡◌, arith, inl, inr}
 use Rattle.crack_state.specs.Merge.{Stands, RefinesAt, Refines}
 use Rattle.crack_state.proofs.CrackLaws.{Refines-both, IsCracked-refined}
 use Rattle.crack_store.specs.Inside.{lists_of}
@@ -12,11 +12,9 @@ crack_at-requires-2-clause-room c =
     let first_cracked = lists_of c.crack_at.new.inside in
     let refined : RefinesAt s first_cracked c.in_turn.result.0.0 = rw c.in_ok-reserve.ensures.marks at c.crack_at.ensures.refined in
     let kept : Stands s c.in_turn.result.0.0 → c.crack_at.new.inside.index.room ≡ c.reserve.new.self.room = rw c.in_ok-reserve.ensures.marks at c.crack_at.ensures.kept in
-    let low_stands : c.is_missing-low.result ≡ false → Stands s c.args.range.low = λ e. rw c.low.ensures.value at (c.is_missing-low.ensures.stands e) in
-    let high_stands : c.is_missing-high.result ≡ false → Stands s c.args.range.high = λ e. rw c.high.ensures.value at (c.is_missing-high.ensures.stands e) in
     elim c.in_turn.ensures [
-      | inl e ↦ room_left s first_cracked c.in_turn.result.0.0 c.in_turn.result.1.0 c.reserve.new.self.room c.crack_at.new.inside.index.room c.is_missing-low.result c.is_missing-high.result refined (λ f. rw e.0 (low_stands f)) (λ f. rw e.1 (high_stands f)) (omega (arith, c.in_ok-reserve.ensures.ok)) c.crack_at.ensures.room kept
-      | inr e ↦ room_left s first_cracked c.in_turn.result.0.0 c.in_turn.result.1.0 c.reserve.new.self.room c.crack_at.new.inside.index.room c.is_missing-high.result c.is_missing-low.result refined (λ f. rw e.0 (high_stands f)) (λ f. rw e.1 (low_stands f)) (omega (arith, c.in_ok-reserve.ensures.ok)) c.crack_at.ensures.room kept
+      | inl e ↦ room_left s first_cracked c.in_turn.result.0.0 c.in_turn.result.1.0 c.reserve.new.self.room c.crack_at.new.inside.index.room c.is_missing-low.result c.is_missing-high.result refined (λ f. rw (e.0, ← c.low.ensures.value) (c.is_missing-low.ensures.stands f)) (λ f. rw (e.1, ← c.high.ensures.value) (c.is_missing-high.ensures.stands f)) (omega (arith, c.in_ok-reserve.ensures.ok)) c.crack_at.ensures.room kept
+      | inr e ↦ room_left s first_cracked c.in_turn.result.0.0 c.in_turn.result.1.0 c.reserve.new.self.room c.crack_at.new.inside.index.room c.is_missing-high.result c.is_missing-low.result refined (λ f. rw (e.0, ← c.high.ensures.value) (c.is_missing-high.ensures.stands f)) (λ f. rw (e.1, ← c.low.ensures.value) (c.is_missing-low.ensures.stands f)) (omega (arith, c.in_ok-reserve.ensures.ok)) c.crack_at.ensures.room kept
     ]
 
 -- cracked at the one end, and then at the other
