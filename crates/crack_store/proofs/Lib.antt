@@ -5,4 +5,3 @@ mod MissingLemmas
 mod HandLemmas
 mod RememberLemmas
 mod PointLemmas
-mod WholeLemmas
