@@ -11,7 +11,7 @@ use Rattle.crack_state.proofs.StepLaws.{IsIntact-room}
 use Rattle.crack_state.proofs.AdmitLaws.{IsIntact-admitted, live_rows-admitted}
 use Rattle.crack_store.specs.Inside.{lists_of}
 use Rattle.crack_store.proofs.AdmitLemmas.{is_covered, all_covered}
-use Rattle.crack_store.proofs.RememberLemmas.{Remembers-admitted, RemembersKeys-off, Added, added}
+use Rattle.crack_store.proofs.RememberLemmas.{Remembers-admitted, RemembersKeys-off, added}
 use Rattle.crack_store.proofs.store.Store.admit.Goals as goal
 use Rattle.crack_store.proofs.store.Store.admit.Goals.{After-put_reserved-handle}
 
@@ -36,8 +36,7 @@ push_keyed-requires-clause-covered c =
 
 pub push_keyed-requires-clause-absent : goal.push_keyed-requires-clause-absent
 push_keyed-requires-clause-absent c =
-    let next = handle (goal.at.push_keyed-requires-clause-absent c).After-put_reserved-handle in
-    rw (c.in_ok-make_places.ensures.same, c.in_ok-reserve.ensures.same) (added c.args.row (lists_of c.self.inside.inside) c.self.invariant.intact c.put_reserved-handle.result next).off_in
+    rw (c.in_ok-make_places.ensures.same, c.in_ok-reserve.ensures.same) (added c.args.row (lists_of c.self.inside.inside) c.self.invariant.intact c.put_reserved-handle.result (handle (goal.at.push_keyed-requires-clause-absent c).After-put_reserved-handle)).off_in
 
 -- the store is the admitted one, but for room
 after : (c : goal.After-self-1) → SameButRoom (admitted c.args.row (lists_of c.self.inside.inside)) (lists_of (record c.self.inside.inside { arena = c.put_reserved-handle.new.self; pending_in = c.push_keyed.new.self; in_room = 0; serials = c.insert.new.self }))
@@ -62,7 +61,7 @@ invariant_of-self-2 c =
     let row = c.args.row in
     let h = c.put_reserved-handle.result in
     let cells = cells_with row s.cells s.free in
-    let plus : Added row s h = added row s c.self.invariant.intact h (handle (goal.at.invariant_of-self-2 c).After-put_reserved-handle) in
+    let plus = added row s c.self.invariant.intact h (handle (goal.at.invariant_of-self-2 c).After-put_reserved-handle) in
     record {
       intact = IsIntact-room (admitted row s) _ [] (after c) (IsIntact-admitted row s (rw (← c.self.view_is) at c.requires) c.self.invariant.intact);
       remembers = rw (cells_after c) (Remembers-admitted row s c.self.inside.inside.column.remembered c.self.invariant.intact c.self.invariant.remembers);
