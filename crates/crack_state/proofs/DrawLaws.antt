@@ -63,24 +63,15 @@ MetAt-pulled_back c some intact after = by_last (last_mark (hand_key c) c.store.
         let marks : (pulled_back c).store.marks ≡ map (lowered m.bound.0 m.position) s.marks = ap (λ l. lower_last l s.marks) found in
         let hand : (pulled_back c).hand ≡ met = ap (λ n. get_or s.column (n - 1) c.hand) place in
         let key : hand_key (pulled_back c) ≡ key_at s.cells met = ap (key_at s.cells) hand in
-        record {
-          start = omega (
-            arith,
-            place,
-            piece_start-most (pulled_back c).store (hand_key (pulled_back c)) (m.position - 1) after.rising (rw (marks, key) (All-map (λ (n : Mark). n.bound.0 ≤ key_at s.cells met → n.position ≤ m.position - 1) (lowered m.bound.0 m.position) s.marks (λ k d h low.
-                let n = get_or s.marks k d in
-                let order : n.position ≤ m.position = Divides-order (column_keys s) n m (intact.obeyed k d h) divides (omega (arith, low, below)) in
-                grind (arith, nat_tests)))),
-          );
-          end = omega (
-            arith,
-            place,
-            piece_end-least (pulled_back c).store (hand_key (pulled_back c)) (m.position - 1) after.rising (omega (arith, within, length-set s.column (piece_start s (hand_key c) - 1) c.hand)) (rw (marks, key) (All-map (λ (n : Mark). key_at s.cells met < n.bound.0 → m.position - 1 ≤ n.position) (lowered m.bound.0 m.position) s.marks (λ k d h high.
-                let n = get_or s.marks k d in
-                let behind = mark_behind s (c.hand ∷ []) k (m.position - 1) d met intact h within read high in
-                grind (arith, nat_tests)))),
-          );
-        }
+        let start = piece_start-most (pulled_back c).store (hand_key (pulled_back c)) (m.position - 1) after.rising (rw (marks, key) (All-map (λ (n : Mark). n.bound.0 ≤ key_at s.cells met → n.position ≤ m.position - 1) (lowered m.bound.0 m.position) s.marks (λ k d h low.
+        let n = get_or s.marks k d in
+        let order : n.position ≤ m.position = Divides-order (column_keys s) n m (intact.obeyed k d h) divides (omega (arith, low, below)) in
+        grind (arith, nat_tests)))) in
+        let end = piece_end-least (pulled_back c).store (hand_key (pulled_back c)) (m.position - 1) after.rising (omega (arith, within, length-set s.column (piece_start s (hand_key c) - 1) c.hand)) (rw (marks, key) (All-map (λ (n : Mark). key_at s.cells met < n.bound.0 → m.position - 1 ≤ n.position) (lowered m.bound.0 m.position) s.marks (λ k d h high.
+        let n = get_or s.marks k d in
+        let behind = mark_behind s (c.hand ∷ []) k (m.position - 1) d met intact h within read high in
+        grind (arith, nat_tests)))) in
+        record { start = omega (arith, place, start); end = omega (arith, place, end) }
 
 -- the own piece of the column's last row, once it is in hand, ends at the column's end
 pub piece_end-lifted_last : (s : State) → 0 < length s.column → IsIntact s [] → IsIntact (lifted_last s).store ((lifted_last s).hand ∷ []) → length (lifted_last s).store.column ≤ piece_end (lifted_last s).store (hand_key (lifted_last s))

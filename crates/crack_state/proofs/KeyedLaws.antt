@@ -10,6 +10,7 @@ use Rattle.crack_row.specs.declared.Row.{Row}
 use Rattle.crack_arena.specs.Arena.{Cell, Handle, times, read, slots}
 use Rattle.crack_state.specs.State.{State, IsIntact, IsKeyed, IsLiveAt, handle_of, live_at, live_rows}
 use Rattle.crack_state.specs.Points.{Maps}
+use Rattle.crack_state.proofs.PieceLaws.{cases_Option}
 use Rattle.crack_state.proofs.LiveLaws.{none_either, Hides}
 use Rattle.crack_state.proofs.CellLaws.{read-off, reads_some, one_handle, read-value, cell_within}
 
@@ -22,14 +23,10 @@ Contains-live s h r reads kept =
 
 -- a serial above those of all live rows isn't in the map
 pub handle_of-fresh : (s : State) (hand : List Handle) (serial : ℕ) → IsIntact s hand → All (λ (r : Row). r.serial.0 < serial) (live_rows s) → handle_of s.serials serial ≡ None
-handle_of-fresh s hand serial intact below = by_handle (handle_of s.serials serial) refl
-  where
-    by_handle : (o : Option Handle) → handle_of s.serials serial ≡ o → handle_of s.serials serial ≡ None
-    by_handle None is = is
-    by_handle (Some h) is =
-        let live : IsLiveAt s.cells (slots s.pending_out) serial h = intact.keyed.leads serial h is in
-        let less : live.row.serial.0 < serial = All-contains (λ (r : Row). r.serial.0 < serial) (live_rows s) live.row below (Contains-live s h live.row live.reads live.kept) in
-        absurd (omega (arith, live.same))
+handle_of-fresh s hand serial intact below = cases_Option (λ (o : Option Handle). o ≡ None) (handle_of s.serials serial) (λ none. refl) (λ h is.
+    let live : IsLiveAt s.cells (slots s.pending_out) serial h = intact.keyed.leads serial h is in
+    let less : live.row.serial.0 < serial = All-contains (λ (r : Row). r.serial.0 < serial) (live_rows s) live.row below (Contains-live s h live.row live.reads live.kept) in
+    absurd (omega (arith, live.same)))
 
 -- another serial leads to another cell
 apart_handle : (cells : List (Cell Row)) (doomed : List ℕ) (serials : List (ℕ × Handle)) (serial n : ℕ) (h g : Handle) → serial ≢ n → handle_of serials serial ≡ Some h → handle_of serials n ≡ Some g → IsKeyed cells doomed serials → g.slot ≢ h.slot

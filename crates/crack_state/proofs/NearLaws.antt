@@ -1,9 +1,8 @@
 -- The bounds next to the key in hand, from step to step.
-use Rattle.std.proofs.Common.{◌≡◌, ℕ, ◌-◌, ◌<◌, ◌≤◌, List, [], ◌∷◌, length, get_or, ltb, leb, Some, refl, sym, ap, ◌∙◌, inl, inr, arith}
+use Rattle.std.proofs.Common.{◌≡◌, ℕ, suc, ◌-◌, ◌<◌, ◌≤◌, List, [], ◌∷◌, length, get_or, ltb, leb, Some, refl, sym, ap, ◌∙◌, inl, inr, arith}
 use Rattle.std.specs.List.{All}
 use Rattle.std.proofs.lemmas.Bool.{cases_lt, lt-ltb, le-ltb, lt-leb, le-leb}
 use Rattle.std.proofs.lemmas.List.{length-map, get_or-map, get_or_default}
-use Rattle.std.proofs.lemmas.List.Elements.{All-head, All-tail}
 use Rattle.crack_arena.specs.Arena.{Handle}
 use Rattle.crack_arena.specs.Rows.{key_at}
 use Rattle.crack_index.specs.declared.mark.Mark.{Mark}
@@ -43,17 +42,11 @@ last-pulled_back c m found some intact =
 -- two keys on the same side of every bound have the same neighbours
 next_mark-same : (key other : ℕ) (marks : List Mark) → All (λ (m : Mark). ltb key m.bound.0 ≡ ltb other m.bound.0) marks → next_mark key marks ≡ next_mark other marks
 next_mark-same key other [] same = refl
-next_mark-same key other (m ∷ ms) same =
-    let first = All-head (λ (x : Mark). ltb key x.bound.0 ≡ ltb other x.bound.0) m ms same in
-    let rest = next_mark-same key other ms (All-tail (λ (x : Mark). ltb key x.bound.0 ≡ ltb other x.bound.0) m ms same) in
-    rw (first, rest) refl
+next_mark-same key other (m ∷ ms) same = rw (same 0 m (omega arith), next_mark-same key other ms (λ k d h. same (suc k) d (omega (arith, h)))) refl
 
 last_mark-same : (key other : ℕ) (marks : List Mark) → All (λ (m : Mark). leb m.bound.0 key ≡ leb m.bound.0 other) marks → last_mark key marks ≡ last_mark other marks
 last_mark-same key other [] same = refl
-last_mark-same key other (m ∷ ms) same =
-    let first = All-head (λ (x : Mark). leb x.bound.0 key ≡ leb x.bound.0 other) m ms same in
-    let rest = last_mark-same key other ms (All-tail (λ (x : Mark). leb x.bound.0 key ≡ leb x.bound.0 other) m ms same) in
-    rw (first, rest) refl
+last_mark-same key other (m ∷ ms) same = rw (same 0 m (omega arith), last_mark-same key other ms (λ k d h. same (suc k) d (omega (arith, h)))) refl
 
 -- a row of the own piece is on the same side of every bound as the key in hand
 record SameSide (key other bound : ℕ) : Type 0 where

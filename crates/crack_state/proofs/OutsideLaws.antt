@@ -163,6 +163,4 @@ module _ (cells : List (Cell Row)) (r : Range) where
 -- handles that read alike are outside alike
 pub outside_of-reads : (cells after : List (Cell Row)) (r : Range) (hs : List Handle) → All (λ h. read after h ≡ read cells h) hs → outside_of after r hs ≡ outside_of cells r hs
 outside_of-reads cells after r [] same = refl
-outside_of-reads cells after r (h ∷ hs) same =
-    let rest = outside_of-reads cells after r hs (All-tail (λ g. read after g ≡ read cells g) h hs same) in
-    rw (All-head (λ g. read after g ≡ read cells g) h hs same, rest) refl
+outside_of-reads cells after r (h ∷ hs) same = rw (same 0 h (omega arith), outside_of-reads cells after r hs (λ k d i. same (suc k) d (omega (arith, i)))) refl

@@ -18,6 +18,7 @@ use Rattle.crack_arena.proofs.Times.{times-nil, times_other, times_head, times-a
 use Rattle.crack_state.specs.State.{State, places, Reads, IsIntact, IsKeyed, IsLiveAt, AreEmpty, handle_of, freed_of, live_at, live_rows}
 use Rattle.crack_state.specs.Steps.{next_handle}
 use Rattle.crack_state.specs.Points.{pending_by, handle_by, Maps, MayFree, struck, doomed_too, overwritten, renewed, Cancels, Dooms, Renews, Rewrites, IsRenewable, IsRewritable}
+use Rattle.crack_state.proofs.PieceLaws.{cases_Option}
 use Rattle.crack_state.proofs.OwnedLaws.{times-taken, times-places}
 use Rattle.crack_state.proofs.CellLaws.{AgreeOff-set, read-off, keys-off, generation_of_read, reads_some, one_handle, stands_there, read-value, cell_within}
 use Rattle.crack_state.proofs.LiveLaws.{All-live_at, Hides, Hides-emptied, live_rows-less, split_at_member}
@@ -31,16 +32,12 @@ pub record FoundBy (s : State) (serial : ℕ) (pending : Bool) : Type 0 where
   pub test : ltb 0 (times (handle_by s serial).slot (slots s.pending_in)) ≡ pending
 
 pub found_by : (s : State) (serial : ℕ) (pending : Bool) → pending_by s serial ≡ Some pending → FoundBy s serial pending
-found_by s serial pending is = by_handle (handle_of s.serials serial) refl is
-  where
-    test : Handle → Bool
-    test h = ltb 0 (times h.slot (slots s.pending_in))
-
-    by_handle : (o : Option Handle) → handle_of s.serials serial ≡ o → option_map test o ≡ Some pending → FoundBy s serial pending
-    by_handle None found e = absurd (true≢false (sym (ap is_some e)))
-    by_handle (Some h) found e =
-        let same : handle_by s serial ≡ h = ap (λ (o : Option Handle). unwrap_or o no_handle) found in
-        record { leads = found ∙ ap Some (sym same); test = ap test same ∙ ap (λ (o : Option Bool). unwrap_or o false) e }
+found_by s serial pending is =
+    let test : Handle → Bool = λ h. ltb 0 (times h.slot (slots s.pending_in)) in
+    let Found : Option Handle → Type 0 = λ o. option_map test o ≡ Some pending → FoundBy s serial pending in
+    cases_Option Found (handle_of s.serials serial) (λ found e. absurd (true≢false (sym (ap is_some e)))) (λ h found e.
+    let same : handle_by s serial ≡ h = ap (λ (o : Option Handle). unwrap_or o no_handle) found in
+    record { leads = found ∙ ap Some (sym same); test = ap test same ∙ ap (λ (o : Option Bool). unwrap_or o false) e }) is
 
 pub handle_by-is : (s : State) (serial : ℕ) (h : Handle) → handle_of s.serials serial ≡ Some h → handle_by s serial ≡ h
 handle_by-is s serial h found = ap (λ (o : Option Handle). unwrap_or o no_handle) found
