@@ -1,5 +1,5 @@
 -- The own piece of a key, what its bounds are among the marks, and how a step of a carry keeps the bounds obeyed.
-use Rattle.std.proofs.Common.{◌≡◌, ℕ, ◌+◌, ◌<◌, ◌≤◌, List, [], ◌∷◌, ◌++◌, map, length, get_or, set, ap, inl, inr, arith, zero, suc, cond, ltb, leb, Option, Some, None, refl, sym, ◌∙◌}
+use Rattle.std.proofs.Common.{◌≡◌, ℕ, ◌<◌, ◌≤◌, List, [], ◌∷◌, ◌++◌, map, length, get_or, set, ap, inl, inr, arith, zero, suc, cond, ltb, leb, Option, Some, None, refl, sym, ◌∙◌}
 use Rattle.std.specs.List.{All, Contains, sum_by}
 use Rattle.std.proofs.lemmas.Bool.{cases_lt}
 use Rattle.std.proofs.lemmas.Bool.Decides.{nat_tests}
@@ -46,9 +46,7 @@ Divides-push_raised keys x high m at_end divides d least above =
           let last : m.position ≡ length keys = omega arith in
           rw (ap (λ (x : Mark). x.position) up.2, last) (IsDividedAt-append_below m.bound.0 keys x (omega arith) (rw last at d))
       | inr same ↦ rw (ap (λ (x : Mark). x.position) same.0) (elim (cases_lt x m.bound.0) [
-        | inl l ↦
-            let far : high.position ≤ m.position = Divides-order keys high m divides d (least l) in
-            absurd (same.1 (least l) (omega (arith, d.within)))
+        | inl l ↦ absurd (same.1 (least l) (omega (arith, d.within, Divides-order keys high m divides d (least l))))
         | inr l ↦ IsDividedAt-append_above m.bound.0 keys m.position x l d
       ])
     ]

@@ -26,9 +26,7 @@ Divides-lowered keys x low m inside above divides d greatest_below =
     elim (lowered_cases low.bound.0 place m) [
       | inl down ↦ rw (ap (λ (x : Mark). x.position) down.2, ← down.1) (IsDividedAt-lowered m.bound.0 keys m.position x (omega arith) (omega arith) d)
       | inr same ↦ rw (ap (λ (x : Mark). x.position) same.0) (elim (cases_lt x m.bound.0) [
-        | inl l ↦
-            let far : place ≤ m.position = Divides-order keys low m divides d (omega arith) in
-            IsDividedAt-set_below m.bound.0 keys m.position (place - 1) x (omega arith) l d
+        | inl l ↦ IsDividedAt-set_below m.bound.0 keys m.position (place - 1) x (omega (arith, Divides-order keys low m divides d (omega arith))) l d
         | inr l ↦
             let near : m.position < place = let u = Divides-order keys m low d divides (greatest_below l) in let v = same.1 (greatest_below l) in omega arith in
             IsDividedAt-set_above m.bound.0 keys m.position (place - 1) x (omega arith) l d
