@@ -5,12 +5,12 @@ use Rattle.std.proofs.lemmas.List.{get_or_append_left, get_or_push, length_push,
 use Rattle.std.specs.List.{remove, count_by}
 use Rattle.std.proofs.lemmas.List.Sums.{sum_by_push, sum_by-remove}
 use Rattle.crack_row.specs.Ranges.{Range, IsIn, is_in}
-use Rattle.crack_arena.specs.Arena.{Handle, times, slots}
+use Rattle.crack_arena.specs.Arena.{Handle}
 use Rattle.crack_arena.specs.Rows.{key_at, keys_at}
 use Rattle.crack_pending.specs.Pending.{Finds}
 use Rattle.crack_pending.proofs.Searches.{is_in-true, is_in-false}
 use Rattle.crack_state.specs.State.{State, Carried, IsIntact}
-use Rattle.crack_state.specs.Steps.{hand_key, IsDoomed, buried, SameButRoom, lifted}
+use Rattle.crack_state.specs.Steps.{hand_key, buried, SameButRoom, lifted}
 use Rattle.crack_state.proofs.OwnedLaws.{hand_apart}
 use Rattle.crack_state.proofs.CellLaws.{AgreeOff-set, keys-off}
 use Rattle.crack_state.proofs.BuryLaws.{IsIntact-buried}
@@ -20,9 +20,6 @@ use Rattle.crack_merge.specs.declared.carries.CarryEnd.{CarryEnd}
 use Rattle.crack_merge.specs.declared.carries.CarryEnd.TheVariants.{Buries, Evicts, Appends}
 use Rattle.crack_merge.specs.Merges.{IsBelow, IsCeiling, Carries, CarriesIn, carries}
 use Rattle.crack_merge.specs.Loops.{MayEnd, EvictsOver, ended}
-
-pub not_doomed : (c : Carried) → times c.hand.slot (slots c.store.pending_out) ≡ 0 → ¬ IsDoomed c
-not_doomed c kept = λ doomed. absurd (omega (arith, kept, doomed))
 
 pub not_below : (ceiling : Option ℕ) (key bound : ℕ) → ceiling ≡ Some bound → bound ≤ key → ¬ IsBelow ceiling key
 not_below ceiling key bound is above = λ below. absurd (let less : key < bound = rw is at below in omega arith)

@@ -1,26 +1,17 @@
 -- What the carries and pulls of a range do where no pending row is of it: nothing.
 use Rattle.std.proofs.Common.{◌≡◌, ℕ, ◌<◌, length, get_or, Option, Some, List, Result, Ok, Err, IsOk, IfErr, refl, inl, inr, arith}
 use Rattle.std.specs.List.{All}
-use Rattle.std.proofs.lemmas.Bool.{cases_lt}
 use Rattle.std.proofs.lemmas.List.{length-map}
 use Rattle.crack_row.specs.Ranges.{Range, IsIn}
 use Rattle.crack_row.specs.declared.Row.{Row}
 use Rattle.crack_row.specs.declared.refusal.Refusal.{Refusal}
-use Rattle.crack_arena.specs.Arena.{Cell, Handle, no_handle, times, slots}
+use Rattle.crack_arena.specs.Arena.{Cell, Handle, no_handle}
 use Rattle.crack_arena.specs.Rows.{key_at, keys_at}
 use Rattle.crack_pending.specs.Pending.{Finds}
 use Rattle.crack_pending.proofs.Searches.{StandsAt-get_or, keys_at-StandsAt}
-use Rattle.crack_state.specs.State.{State, Carried}
-use Rattle.crack_state.specs.Steps.{IsDoomed}
+use Rattle.crack_state.specs.State.{State}
 use Rattle.crack_state.specs.Merge.{ReadsOutside}
 use Rattle.crack_merge.specs.Merges.{CarriesIn, CarriesAll, CarriesSome, PullsOut, PullsAll, begins, carries, pulls}
-
--- a hand that isn't a pending deletion is named by none
-pub kept_hand : (c : Carried) → ¬ IsDoomed c → times c.hand.slot (slots c.store.pending_out) ≡ 0
-kept_hand c kept = elim (cases_lt 0 (times c.hand.slot (slots c.store.pending_out))) [
-  | inl l ↦ absurd (kept l)
-  | inr l ↦ omega arith
-]
 
 -- a search finds none where every row's key is outside the range
 found_inside : (r : Range) (cells : List (Cell Row)) (hs : List Handle) (from place : ℕ) → Finds r (keys_at cells hs) from (Some place) → All (ReadsOutside cells r) hs → ⊥
