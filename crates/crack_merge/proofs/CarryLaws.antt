@@ -17,7 +17,7 @@ use Rattle.crack_state.proofs.OutsideLaws.{LacksFirst, LacksFirst-none}
 use Rattle.crack_merge.specs.Loops.{PutsIn}
 use Rattle.crack_merge.specs.Merges.{BuriesFew, Carries, LeavesRest, Stops, buries, evicts, ends, goes_on, CarriesIn, begins, carries}
 use Rattle.crack_merge.proofs.Ending.{HasRoom}
-use Rattle.crack_merge.proofs.Finding.{LacksFirst-found}
+use Rattle.crack_merge.proofs.RangeLaws.{LacksFirst-found}
 
 pub PutsIn-room : (policy : Policy) (s t : State) → SameButRoom s t → PutsIn policy s t
 PutsIn-room policy s t room = record {

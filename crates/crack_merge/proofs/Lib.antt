@@ -1,6 +1,4 @@
 mod Ending
-pub mod Finding
-mod Pulling
 pub mod CarryLaws
 pub mod PullLaws
 pub mod RangeLaws

@@ -15,7 +15,7 @@ use Rattle.crack_state.proofs.PullLaws.{IsIntact-lifted_last, IsIntact-pulled_ba
 use Rattle.crack_state.proofs.OutsideLaws.{LacksFirst, LacksFirst-none}
 use Rattle.crack_merge.specs.Loops.{TakesOut}
 use Rattle.crack_merge.specs.Merges.{Pulls, reaches, exchanges, draws, PullsOut, begins, pulls}
-use Rattle.crack_merge.proofs.Finding.{LacksFirst-found}
+use Rattle.crack_merge.proofs.RangeLaws.{LacksFirst-found}
 
 -- the pending deletion at a place was taken out of the column, and no row was put in or moved
 pub record TakesAt (s t : State) (place : ℕ) : Type 0 where

@@ -21,8 +21,7 @@ use Rattle.crack_merge.specs.Loops.{PutsIn}
 use Rattle.crack_merge.specs.Merges.{Carries, buries, evicts, ends, goes_on}
 use Rattle.crack_ripple.specs.Near.{pieces_of, MovesNear}
 use Rattle.crack_ripple.proofs.EdgeLaws.{IsRangeOf, IsRangeOf-follows, high_within, StaysOutside, StaysOutside-same, StaysOutside-trans, StaysOutside-appended}
-use Rattle.crack_ripple.proofs.Pieces.{pieces_ahead-few}
-use Rattle.crack_ripple.proofs.Rippling.{Ripples, Ripples-refl, Ripples-pushed_on}
+use Rattle.crack_ripple.proofs.Rippling.{pieces_ahead-few, Ripples, Ripples-refl, Ripples-pushed_on}
 
 -- the row that stood first behind the range was evicted, and the range's end has moved up
 pub record EvictsOne (s t : State) (r : Range) (i : ℕ) : Type 0 where

@@ -1,6 +1,5 @@
 mod Carrying
 mod EdgeLaws
 mod Merging
-mod Pieces
 mod Putting
 mod Rippling

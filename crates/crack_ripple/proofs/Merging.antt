@@ -13,7 +13,7 @@ use Rattle.crack_state.proofs.OutsideLaws.{All-outside}
 use Rattle.crack_state.proofs.SettledLaws.{IsSettled-of}
 use Rattle.crack_merge.specs.Merges.{CarriesAll, CarriesSome, PullsAll, BuriesFew, Stops}
 use Rattle.crack_merge.proofs.PullLaws.{TakesInside-PullsOut}
-use Rattle.crack_merge.proofs.Finding.{LacksFirst-missed}
+use Rattle.crack_merge.proofs.RangeLaws.{LacksFirst-missed}
 use Rattle.crack_ripple.specs.Near.{PutsInNear, TakesOutNear, MovesNear}
 use Rattle.crack_ripple.proofs.EdgeLaws.{IsRangeOf, IsRangeOf-follows}
 use Rattle.crack_ripple.proofs.Putting.{behind_range, PutsNear-CarriesIn, PutsNear-room, PutsInNear-all, Stops-PutsNear}

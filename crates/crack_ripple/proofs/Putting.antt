@@ -20,7 +20,7 @@ use Rattle.crack_state.proofs.StepLaws.{IsIntact-room}
 use Rattle.crack_merge.specs.Loops.{PutsIn}
 use Rattle.crack_merge.specs.Merges.{CarriesIn, begins, carries, Stops}
 use Rattle.crack_merge.proofs.CarryLaws.{PutsIn-room, PutsIn-trans, Stops-Advances}
-use Rattle.crack_merge.proofs.Finding.{LacksFirst-found, LacksFirst-missed, Finds-front}
+use Rattle.crack_merge.proofs.RangeLaws.{LacksFirst-found, LacksFirst-missed, Finds-front}
 use Rattle.crack_ripple.proofs.EdgeLaws.{IsRangeOf, high_divides, IsRangeOf-follows, high_within, StaysOutside, StaysOutside-same, StaysOutside-trans, row_at_end, length-StaysOutside}
 use Rattle.crack_ripple.specs.Near.{MovesNear, PutsInNear}
 use Rattle.crack_ripple.proofs.Carrying.{CarriesNear, CarriesNear-Carries, EvictsOne}

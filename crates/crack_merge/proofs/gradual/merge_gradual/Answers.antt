@@ -7,12 +7,10 @@ use Rattle.crack_state.proofs.AdvanceLaws.{Advances-trans, keys_still}
 use Rattle.crack_state.proofs.GradualLaws.{Merges-gradual}
 use Rattle.crack_state.proofs.StepLaws.{IsIntact-room}
 use Rattle.crack_merge.specs.Merges.{BuriesFew, Stops}
-use Rattle.crack_merge.proofs.RangeLaws.{CarriesAll-outside, CarriesSome-outside, PullsAll-outside}
+use Rattle.crack_merge.proofs.RangeLaws.{CarriesAll-outside, CarriesSome-outside, PullsAll-outside, LacksFirst-missed}
 use Rattle.crack_merge.proofs.gradual.merge_gradual.Goals.{After-pull_range-merged, In-Err}
-use Rattle.crack_merge.proofs.CarryLaws.{PutsIn-room, PutsIn-trans, Stops-Advances}
+use Rattle.crack_merge.proofs.CarryLaws.{PutsIn-room, PutsIn-trans, Stops-Advances, PutsInside-CarriesIn}
 use Rattle.crack_merge.proofs.PullLaws.{TakesInside-PullsOut}
-use Rattle.crack_merge.proofs.Finding.{LacksFirst-missed}
-use Rattle.crack_merge.proofs.CarryLaws.{PutsInside-CarriesIn}
 use Rattle.crack_merge.proofs.gradual.merge_gradual.Goals as goal
 
 -- the pending insertions of the range were put in, and its pending deletions that were left were taken out
