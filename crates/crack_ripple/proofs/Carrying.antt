@@ -13,7 +13,7 @@ use Rattle.crack_state.specs.Merge.{Follows, Tallies, Counts, IsExact, edge}
 use Rattle.crack_state.proofs.AdvanceLaws.{CarriedIn, CarriedIn-appended, CarriedIn-buried, StillReads-refl}
 use Rattle.crack_state.proofs.BuryLaws.{IsIntact-buried}
 use Rattle.crack_state.proofs.Counters.{raised_counter}
-use Rattle.crack_state.proofs.FollowLaws.{Pushes, Follows-trans, Follows-lifted, Follows-Pushes, Tallies-carried}
+use Rattle.crack_state.proofs.FollowLaws.{Pushes, Follows-trans, Follows-lifted, Follows-Pushes}
 use Rattle.crack_state.proofs.OutsideLaws.{SomeOf-refl}
 use Rattle.crack_state.proofs.PullLaws.{IsIntact-returned, Follows-returned}
 use Rattle.crack_state.proofs.StepLaws.{IsIntact-lifted, IsIntact-pushed_on, IsIntact-appended}
@@ -42,7 +42,7 @@ pub record CarriesNear (s t : State) (r : Range) (i : ℕ) : Type 0 where
 -- a carry that ends at a row to be evicted counts what one counts that ends at the column's end, and that row
 tallies_evicted : (s : State) (i : ℕ) (c : Carried) → i < length s.pending_in → IsIntact s [] → IsIntact c.store (c.hand ∷ []) → Pushes (lifted i s) c → Tallies Ripple s (returned c)
 tallies_evicted s i c inside intact now pushes =
-    let ended = Tallies-carried Ripple s i c inside intact pushes in
+    let ended = ((CarriedIn-appended s i c inside intact pushes).advances Ripple).tallies in
     let counter = raised_counter c.store.tally.evicted in
     let evicted = ap (λ (x : State). x.tally.evicted) pushes.same in
     let gone = length-remove s.pending_in i inside in

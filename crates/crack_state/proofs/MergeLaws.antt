@@ -32,21 +32,26 @@ outside_of_not_in r key none = elim (cases_lt key r.low) [
   ]
 ]
 
--- where none has its key in the range, each has it outside
 outside_all : (cells : List (Cell Row)) (r : Range) (hs : List Handle) → list_any (λ h. is_in r (key_at cells h)) hs ≡ false → All (ReadsOutside cells r) hs
 outside_all cells r [] none = All-nil (ReadsOutside cells r)
 outside_all cells r (h ∷ hs) none =
     let both = or_parts (is_in r (key_at cells h)) (list_any (λ g. is_in r (key_at cells g)) hs) none in
     All-cons (ReadsOutside cells r) h hs (outside_of_not_in r (key_at cells h) both.0) (outside_all cells r hs both.1)
 
+-- where no pending row has its key in the range, each has it outside
+pub outside-untouched : (s : State) (r : Range) → is_touched s r ≡ false → All (ReadsOutside s.cells r) s.pending_in × All (ReadsOutside s.cells r) s.pending_out
+outside-untouched s r untouched =
+    let both = or_parts (list_any (λ h. is_in r (key_at s.cells h)) s.pending_in) (list_any (λ h. is_in r (key_at s.cells h)) s.pending_out) untouched in
+    (outside_all s.cells r s.pending_in both.0, outside_all s.cells r s.pending_out both.1)
+
 -- complete: no pending row is in the range, and nothing was done
 pub Merges-untouched : (s : State) (r : Range) → r.low ≤ r.high → s.keys.low ≤ r.low → r.high ≤ s.keys.high → IsCracked s r → is_touched s r ≡ false → IsIntact s [] → Merges Complete s s r
 Merges-untouched s r order low high cracked untouched intact =
-    let both = or_parts (list_any (λ h. is_in r (key_at s.cells h)) s.pending_in) (list_any (λ h. is_in r (key_at s.cells h)) s.pending_out) untouched in
+    let outside = outside-untouched s r untouched in
     record {
       follows = Follows-refl s;
       intact = intact;
-      settled = IsSettled-of s r order low high cracked (outside_all s.cells r s.pending_in both.0) (outside_all s.cells r s.pending_out both.1) intact;
+      settled = IsSettled-of s r order low high cracked outside.0 outside.1 intact;
       leaves = (rw untouched refl, rw untouched refl);
     }
 
