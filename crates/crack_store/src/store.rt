@@ -84,7 +84,6 @@ impl Store {
 
     /// Keeps a row in a new cell behind the last pending insertion. O(1).
     /// Refused with 8 where it finds no memory; all is then as it was.
-    #[inline(always)]
     pub fn admit(&mut self, row: Row) -> Result<(), Refusal>
         requires { IsAdmissible row self.old }
         ensures ok { OnOk result (SameButRoom (admitted row self.old) self.new) }
