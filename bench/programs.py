@@ -19,9 +19,6 @@ import server  # which starts servers, and holds their totals against what they 
 OUT = TOP / "bench" / "out"
 PEERS = OUT / "peers"
 
-# with which words each program ends soon
-WORDS = {"crackd": ["script"], "crack_bench": ["all", "1", "1", "1"], "crack_bench_workers": ["ask", "1", "1"]}
-
 
 @dataclasses.dataclass(frozen=True)
 class Programs:
@@ -47,9 +44,7 @@ CRACKD, BENCH, WORKERS = OURS.crackd, OURS.bench, OURS.path("crack_bench_workers
 
 def build(names):
     """Builds the programs and the peers."""
-    for name in names:
-        how = {"cwd": TOP / "crates" / name, "stdin": subprocess.DEVNULL, "stdout": subprocess.DEVNULL}
-        subprocess.run(["rt", "run", "--", *WORDS[name]], check=True, **how)
+    subprocess.run([sys.executable, TOP / "tools" / "prove.py", *names], check=True)
     OUT.mkdir(exist_ok=True)
     subprocess.run(["rustc", "--edition", "2024", "-O", TOP / "bench" / "peers" / "main.rs", "-o", PEERS], check=True)
 

@@ -1,6 +1,8 @@
 //! The command line of `crackd`: words in, a request out.
 #![tactic(auto)]
 
+mod help;
+
 use clap::error::ErrorKind;
 use clap::{Arg, ArgAction, ArgMatches, Command, value_parser};
 use crack_row::{Bound, GREATEST_LIMIT, Policy, Refusal};
@@ -76,7 +78,7 @@ fn limit_option<'a>(alloc: Global) -> Arg<'a> {
         .long("limit")
         .value_name("N")
         .value_parser(value_parser!(u64))
-        .help("How many commands a partition keeps, 1 to 1000000 [default: 1000000]")
+        .help("The length of a history, 1 to 1000000 [default: 1000000]")
 }
 
 fn policy_option<'a>(alloc: Global) -> Arg<'a> {
@@ -84,9 +86,8 @@ fn policy_option<'a>(alloc: Global) -> Arg<'a> {
         .long("policy")
         .value_name("NAME")
         .value_parser(POLICIES.as_slice())
-        .help(
-            "Which pending rows a query merges, until a statement says otherwise [default: ripple]",
-        )
+        .hide_possible_values(true)
+        .help("Merges: complete, gradual or ripple [default: ripple]")
 }
 
 fn split_values<'a>(alloc: Global) -> Arg<'a> {
@@ -95,7 +96,7 @@ fn split_values<'a>(alloc: Global) -> Arg<'a> {
         .action(ArgAction::Append)
         .num_args(0..)
         .value_parser(value_parser!(u64))
-        .help("Where the keys are parted, rising, each 1 to 4294967295; 63 at most")
+        .help("Where keys are parted: rising, 1 to 4294967295; 63 at most")
 }
 
 fn workers_option<'a>(alloc: Global) -> Arg<'a> {
@@ -104,7 +105,7 @@ fn workers_option<'a>(alloc: Global) -> Arg<'a> {
         .value_name("W")
         .required(true)
         .value_parser(value_parser!(u64))
-        .help("How many workers there are, each on a thread of its own, 1 to 64")
+        .help("How many workers, each on a thread of its own: 1 to 64")
 }
 
 fn port_option<'a>(alloc: Global) -> Arg<'a> {
@@ -130,9 +131,11 @@ fn opening_command<'a>(
     alloc: Global,
     name: &'a str,
     about: &'a str,
+    behind: &'a str,
 ) -> Result<Command<'a>, AllocError> {
     Command::new(alloc, name)
         .about(about)
+        .after_help(behind)
         .arg(limit_option(alloc))?
         .arg(policy_option(alloc))?
         .arg(split_values(alloc))
@@ -143,6 +146,7 @@ fn script_command<'a>(alloc: Global) -> Result<Command<'a>, AllocError> {
         alloc,
         "script",
         "Answers the statements of standard input on standard output",
+        help::OF_SCRIPT,
     )
 }
 
@@ -150,7 +154,8 @@ fn batch_command<'a>(alloc: Global) -> Result<Command<'a>, AllocError> {
     opening_command(
         alloc,
         "batch",
-        "Divides the numbered lines of standard input among workers, which answer them at the same time",
+        "Answers numbered lines by workers that run at the same time",
+        help::OF_BATCH,
     )?
     .arg(workers_option(alloc))
 }
@@ -159,7 +164,8 @@ fn serve_command<'a>(alloc: Global) -> Result<Command<'a>, AllocError> {
     opening_command(
         alloc,
         "serve",
-        "Answers the statements of each connection to a port, as many at the same time as there are workers",
+        "Answers connections to a port, one for each worker at a time",
+        help::OF_SERVE,
     )?
     .arg(port_option(alloc))?
     .arg(workers_option(alloc))?
@@ -170,7 +176,8 @@ fn csv_command<'a>(alloc: Global) -> Result<Command<'a>, AllocError> {
     opening_command(
         alloc,
         "csv",
-        "Loads the CSV records of standard input, and writes the rows to standard output",
+        "Loads CSV from standard input, writes the rows to standard output",
+        help::OF_CSV,
     )
 }
 
@@ -178,6 +185,7 @@ fn csv_command<'a>(alloc: Global) -> Result<Command<'a>, AllocError> {
 fn command_line<'a>(alloc: Global) -> Result<Command<'a>, AllocError> {
     Command::new(alloc, "crackd")
         .about("An in-memory table that its queries put into order")
+        .after_help(help::OF_PROGRAM)
         .subcommand_required(true)
         .subcommand(script_command(alloc)?)?
         .subcommand(batch_command(alloc)?)?

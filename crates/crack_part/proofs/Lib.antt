@@ -1,4 +1,5 @@
 pub mod CountLemmas
+pub mod IdleLemmas
 pub mod KeepLemmas
 pub mod PointLemmas
 pub mod SoundLemmas

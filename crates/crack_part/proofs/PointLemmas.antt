@@ -1,6 +1,6 @@
 -- What deletes and updates make of the live rows, said of a list of them.
 use Rattle.std.proofs.Common.{◌≡◌, ◌≢◌, ℕ, Bool, true, false, List, [], ◌∷◌, filter, map, Option, Some, None, Result, Ok, Err, refl, sym, ap}
-use Rattle.std.specs.Prelude.{IfSome, IfNone, OnOk, IfOk, OnErr, is_some, nat_lt}
+use Rattle.std.specs.Prelude.{IfSome, IfNone, OnErr, is_some, nat_lt}
 use Rattle.std.specs.List.{All}
 use Rattle.std.specs.List.Sorted.{IsPermutation}
 use Rattle.std.specs.Option.{option_map}
@@ -40,17 +40,9 @@ pub live-nothing_replaced : (s : State) (row : Row) → handle_of s.serials row.
 live-nothing_replaced s row none intact = λ plain same. rw (replaced-same row plain (plain-apart s row.serial.0 plain none intact same)) same
 
 -- what follows of an answer, and of a look-up that finds nothing
-pub on_ok : {T E P Q : Type 0} (r : Result T E) → OnOk r P → (P → Q) → OnOk r Q
-on_ok (Ok x) p f = f p
-on_ok (Err e) p f = tt
-
-pub if_ok : {T E : Type 0} {P Q : T → Type 0} (r : Result T E) → IfOk r P → ((x : T) → P x → Q x) → IfOk r Q
-if_ok (Ok x) p f = f x p
-if_ok (Err e) p f = tt
-
-pub on_err : {T E P Q : Type 0} (r : Result T E) → OnErr r P → (P → Q) → OnErr r Q
-on_err (Ok x) p f = tt
-on_err (Err e) p f = f p
+pub on_err : {T E P : Type 0} (r : Result T E) → P → OnErr r P
+on_err (Ok x) p = tt
+on_err (Err e) p = p
 
 pub if_none : {T P : Type 0} (o : Option T) → false ≡ is_some o → IfNone o P → P
 if_none None none p = p

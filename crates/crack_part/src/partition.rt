@@ -422,6 +422,9 @@ fn settle(
         return Err(refusal);
     }
     store.facts();
+    if store.pending_in() == 0 && store.pending_out() == 0 {
+        return Ok(());
+    }
     let cracked = mem::replace(store, Store::new(alloc, keys));
     match merge(cracked, range, policy) {
         Ok((merged, _)) => {

@@ -1,7 +1,7 @@
 use Rattle.std.proofs.Common.{inl, inr, ◌∙◌}
+use Rattle.std.proofs.lemmas.Result.{on_ok_weaker, on_err_weaker, IfOk-weaker}
 use Rattle.crack_part.proofs.KeepLemmas.{Keeps-prepared, IsIntact-prepared, Spares-prepared}
 use Rattle.crack_part.proofs.SoundLemmas.{IsFaithful-kept}
-use Rattle.crack_part.proofs.PointLemmas.{on_ok, if_ok, on_err}
 use Rattle.crack_part.proofs.partition.answer.Goals as goal
 
 pub carry_out-requires-clause-common : goal.carry_out-requires-clause-common
@@ -18,38 +18,38 @@ carry_out-requires-clause-intact c =
 pub returns-clause-spared : goal.returns-clause-spared
 returns-clause-spared c =
     let prepared = rw c.range.ensures at c.in_ok-common.ensures.prepared in
-    on_err c.carry_out.result c.carry_out.ensures.same (λ same. (Spares-prepared c.args.policy c.args.keys _ c.args.store.now c.prepare.new.store c.carry_out.new.store prepared same.0, same.1))
+    on_err_weaker c.carry_out.result (λ same. (Spares-prepared c.args.policy c.args.keys _ c.args.store.now c.prepare.new.store c.carry_out.new.store prepared same.0, same.1)) c.carry_out.ensures.same
 
 pub returns-clause-served : goal.returns-clause-served
-returns-clause-served c = on_ok c.carry_out.result c.carry_out.ensures.performed (λ performed. record {
+returns-clause-served c = on_ok_weaker c.carry_out.result (λ performed. record {
   ready = c.prepare.new.store;
   prepared = rw c.range.ensures at c.in_ok-common.ensures.prepared;
   performed = performed;
-})
+}) c.carry_out.ensures.performed
 
 pub returns-clause-faithful : goal.returns-clause-faithful
-returns-clause-faithful c = on_ok c.carry_out.result c.carry_out.ensures.faithful (λ faithfully plain faithful.
+returns-clause-faithful c = on_ok_weaker c.carry_out.result (λ faithfully plain faithful.
     let prepared = rw c.range.ensures at c.in_ok-common.ensures.prepared in
     let keeps = Keeps-prepared c.args.policy c.args.keys _ c.args.store.now c.prepare.new.store prepared in
-    faithfully plain (IsFaithful-kept c.args.store.now c.prepare.new.store c.args.next.now plain keeps faithful))
+    faithfully plain (IsFaithful-kept c.args.store.now c.prepare.new.store c.args.next.now plain keeps faithful)) c.carry_out.ensures.faithful
 
 pub returns-clause-replies : goal.returns-clause-replies
-returns-clause-replies c = if_ok c.carry_out.result c.carry_out.ensures.reply (λ reply replied plain numbered faithful.
+returns-clause-replies c = IfOk-weaker c.carry_out.result _ _ (λ reply replied plain numbered faithful.
     let prepared = rw c.range.ensures at c.in_ok-common.ensures.prepared in
     let keeps = Keeps-prepared c.args.policy c.args.keys _ c.args.store.now c.prepare.new.store prepared in
-    replied plain numbered (IsFaithful-kept c.args.store.now c.prepare.new.store c.args.next.now plain keeps faithful))
+    replied plain numbered (IsFaithful-kept c.args.store.now c.prepare.new.store c.args.next.now plain keeps faithful)) c.carry_out.ensures.reply
 
 pub returns-clause-small : goal.returns-clause-small
-returns-clause-small c = if_ok c.carry_out.result c.carry_out.ensures.small (λ reply small plain numbered faithful few.
+returns-clause-small c = IfOk-weaker c.carry_out.result _ _ (λ reply small plain numbered faithful few.
     let prepared = rw c.range.ensures at c.in_ok-common.ensures.prepared in
     let keeps = Keeps-prepared c.args.policy c.args.keys _ c.args.store.now c.prepare.new.store prepared in
-    small plain numbered (IsFaithful-kept c.args.store.now c.prepare.new.store c.args.next.now plain keeps faithful) few)
+    small plain numbered (IsFaithful-kept c.args.store.now c.prepare.new.store c.args.next.now plain keeps faithful) few) c.carry_out.ensures.small
 
 pub returns-clause-lists : goal.returns-clause-lists
-returns-clause-lists c = if_ok c.carry_out.result c.carry_out.ensures.flat (λ reply flat. elim flat [
+returns-clause-lists c = IfOk-weaker c.carry_out.result _ _ (λ reply flat. elim flat [
   | inl none ↦
       let prepared = rw c.range.ensures at c.in_ok-common.ensures.prepared in
       let still = c.carry_out.ensures.none none in
       inl (rw still.0 prepared, still.1)
   | inr flat ↦ inr flat
-])
+]) c.carry_out.ensures.flat

@@ -1,10 +1,7 @@
-use Rattle.std.proofs.Common.{rules, ◌<◌, ◌≤◌, Result, Ok, Err, OnErr}
+use Rattle.std.proofs.Common.{rules, ◌<◌, ◌≤◌}
 use Rattle.crack_part.proofs.KeepLemmas.{ReadsRange-none, ReadsRange-settled}
+use Rattle.crack_part.proofs.PointLemmas.{on_err}
 use Rattle.crack_part.proofs.partition.prepare.Goals as goal
-
-on_err : {T E P : Type 0} (r : Result T E) → P → OnErr r P
-on_err (Ok x) p = tt
-on_err (Err e) p = p
 
 pub returns-then-is_empty-clause-prepared : goal.returns-then-is_empty-clause-prepared
 returns-then-is_empty-clause-prepared c =

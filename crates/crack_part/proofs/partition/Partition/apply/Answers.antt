@@ -1,4 +1,4 @@
-use Rattle.std.proofs.Common.{◌<◌, ◌^◌, length, List, [], ◌∷◌, ◌++◌, Result, Ok, Err, OnErr, arith, ap, sym, subst, refl, ◌∙◌, inl, inr}
+use Rattle.std.proofs.Common.{◌<◌, ◌^◌, length, List, [], ◌∷◌, ◌++◌, arith, ap, sym, subst, refl, ◌∙◌, inl, inr}
 use Rattle.std.proofs.lemmas.Bool.{false≢true}
 use Rattle.crack_row.specs.Commands.{range_of}
 use Rattle.crack_row.specs.declared.command.Entry.{Entry}
@@ -7,11 +7,8 @@ use Rattle.crack_plain.specs.Plain.{replay, IsSmall}
 use Rattle.crack_plain.proofs.Laws.{replay-push, IsNumbered-replay, length_rows-le-accepted}
 use Rattle.crack_part.proofs.KeepLemmas.{Keeps-spared, IsIntact-spared, Keeps-prepared, Spares-prepared}
 use Rattle.crack_part.proofs.SoundLemmas.{next-le-limit, MayPerform-prepared, IsSound-kept, IsSound-served, Spends-served}
+use Rattle.crack_part.proofs.PointLemmas.{on_err}
 use Rattle.crack_part.proofs.partition.Partition.apply.Goals as goal
-
-on_err : {T E P : Type 0} (r : Result T E) → P → OnErr r P
-on_err (Ok x) p = tt
-on_err (Err e) p = p
 
 pub answer-requires-clause-admissible : goal.answer-requires-clause-admissible
 answer-requires-clause-admissible c =

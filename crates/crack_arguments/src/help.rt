@@ -1,0 +1,70 @@
+//! What a help says behind the options: an example, the statements or the form of a record, and the refusals. No line has more than
+//! 80 columns.
+
+/// The refusals by their numbers, behind what a help says before them.
+macro_rules! with_refusals {
+    ($($before:expr),+) => {
+        concat!(
+            $($before,)+
+            "\n\nRefusals, told as `refused N`; one that ends a run gives exit status 1:\n",
+            "   1  no statement            13  the workers aren't 1 to 64\n",
+            "   2  no range                14  the limit isn't 1 to 1000000\n",
+            "   4  a key beyond the split  15  workers are missing at the end\n",
+            "   5  no such partition       16  receipts and histories disagree\n",
+            "   6  the history is full     17  reading failed, or the port\n",
+            "   8  no memory               18  writing failed\n",
+            "  11  splits that don't rise  19  no record of CSV: its number\n",
+            "  12  more than 63 splits"
+        )
+    };
+}
+
+/// The statements and the refusals, behind an example.
+macro_rules! with_statements {
+    ($($example:expr),+) => {
+        with_refusals!(
+            "Example:\n",
+            $($example,)+
+            "\n\nStatements, a line each, and their replies:\n",
+            "  insert KEY PAYLOAD          row P.N, the row's number\n",
+            "  delete P.N                  gone KEY PAYLOAD, or none\n",
+            "  update P.N KEY PAYLOAD      changed, or none\n",
+            "  count LOW HIGH              count N: rows with a key from LOW to below HIGH\n",
+            "  sum LOW HIGH                sum N: their payloads\n",
+            "  select LOW HIGH             rows N, and N lines P.N KEY PAYLOAD\n",
+            "  layout P                    what stands where in partition P\n",
+            "  policy NAME                 policy NAME: complete, gradual or ripple merges\n",
+            "  quit                        bye"
+        )
+    };
+}
+
+/// Behind the help of the program.
+pub const OF_PROGRAM: &str = with_statements!(
+    "  printf 'insert 30 3\\ninsert 10 1\\ncount 0 20\\n' | crackd script"
+);
+
+/// Behind the help of `script`.
+pub const OF_SCRIPT: &str = with_statements!(
+    "  printf 'insert 30 3\\ninsert 150 1\\nsum 0 200\\n' | crackd script 100"
+);
+
+/// Behind the help of `batch`.
+pub const OF_BATCH: &str = with_statements!(
+    "  printf '0 insert 30 3\\n1 count 0 50\\n' | crackd batch --workers 2",
+    "\n  (the number in front of a statement is its worker's)"
+);
+
+/// Behind the help of `serve`.
+pub const OF_SERVE: &str = with_statements!(
+    "  crackd serve --port 4000 --workers 2 --sessions 1 &\n",
+    "  python3 examples/client.py 4000"
+);
+
+/// Behind the help of `csv`.
+pub const OF_CSV: &str = with_refusals!(
+    "Example:\n",
+    "  printf 'key,payload\\n30,3\\n10,1\\n' | crackd csv\n\n",
+    "A record is a key and a payload, two numbers from 0 to 4294967295 with a comma\n",
+    "between; a first record `key,payload` is a header."
+);
