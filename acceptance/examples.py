@@ -11,6 +11,7 @@ import subprocess
 import sys
 
 import server
+import shell_cases
 
 EXAMPLES = pathlib.Path(__file__).resolve().parent.parent / "examples"
 
@@ -31,7 +32,7 @@ def printed(example, given, *interpreter):
 
 def client(program):
     wanted = "rows 0.0 to 0.999\ncount 500\nsum 499500\nselect [('0.10', 10, 20), ('0.11', 11, 22), ('0.12', 12, 24)]\n"
-    with server.serving(program, (1003, 1000, 0, 1000), 1, 1) as port:
+    with server.serving(program, (1004, 1000, 0, 1000), 1, 1) as port:
         server.expect("client.py", wanted, printed("client.py", port, sys.executable))
 
 
@@ -46,7 +47,7 @@ def csv(program):
 
 
 # each with the program that it needs
-CASES = [(client, sys.executable), (session, "nc"), (csv, "sqlite3")]
+CASES = [(client, sys.executable), (session, "nc"), (csv, "sqlite3"), *((it, sys.executable) for it in shell_cases.CASES)]
 
 
 def run(program):

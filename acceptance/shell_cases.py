@@ -1,0 +1,350 @@
+"""Cases of `examples/shell.py`, on a terminal and as a filter.
+
+What it must show is written here from docs/SPECIFICATION.md and from what shell.py says of itself. Times are matched by a pattern.
+"""
+
+import contextlib
+import os
+import pathlib
+import re
+import socket
+import subprocess
+import sys
+import tempfile
+import threading
+import time
+
+import server
+import terminal
+
+SHELL = pathlib.Path(__file__).resolve().parent.parent / "examples" / "shell.py"
+PROMPT = "crackd> "
+HELLO = r"crackd on port \d+; .*\n"
+TIME = r"  \([0-9.]+ m?s\)\n"
+# (on a machine that is slow for a moment)
+PROGRESS = "(?:\r.*)?"
+GOING_AND_FREE = " +pending deletions +{}\n +free cells +0\n"
+LOADED = PROGRESS + "loaded {}" + TIME
+EVERYTHING = f"0 {server.MOST}"
+
+
+@contextlib.contextmanager
+def on_terminal(*words, files=()):
+    """The shell on a terminal, and the folder that it runs in, with these files."""
+    with tempfile.TemporaryDirectory() as room:
+        folder = pathlib.Path(room)
+        for name, text in dict(files).items():
+            (folder / name).write_text(text)
+        with terminal.Terminal([sys.executable, str(SHELL), *words], folder) as shell:
+            yield shell, folder
+
+
+@contextlib.contextmanager
+def talking(*words, files=()):
+    """The same, once it has a server."""
+    with on_terminal(*words, files=files) as (shell, folder):
+        shell.wait_for(f"^{HELLO}")
+        yield shell, folder
+
+
+def ask(shell, line, *wanted):
+    """Types a line at the prompt. These patterns must be shown at once behind it, one behind another."""
+    shell.wait_for(f"^{PROMPT}")
+    shell.type(line + "\n")
+    shell.wait_for(f"^{re.escape(line)}\n" + "".join(wanted))
+
+
+def end(shell, totals):
+    """Ends the session by control-D. The server's last line must have these totals."""
+    shell.wait_for(f"^{PROMPT}")
+    shell.type(terminal.CONTROL_D)
+    shell.wait_for("^\naccepted {} inserted {} deleted {} held {}\n".format(*totals))
+    shell.expect_end(0)
+
+
+def filtered(program, text, *words, files=()):
+    """The status of the shell as a filter, and what it writes, also to standard error."""
+    with tempfile.TemporaryDirectory() as room:
+        for name, it in dict(files).items():
+            (pathlib.Path(room) / name).write_text(it)
+        how = {"input": text, "capture_output": True, "text": True, "timeout": server.SECONDS, "check": False, "cwd": room}
+        ran = subprocess.run([sys.executable, str(SHELL), "--program", program, *words], **how)
+    return ran.returncode, ran.stdout, ran.stderr
+
+
+def statements(program):
+    """Statements are answered with their times, and refusals in words."""
+    with talking("--program", program, "--limit", "4", "100") as (shell, _):
+        ask(shell, "insert 7 70", "row 0.0" + TIME)
+        ask(shell, "select 0 10", "rows 1\n0.0 7 70\n", TIME.strip())
+        ask(shell, "count 10 5", "refused 2: the low end of the range is above its high end, or .*" + TIME)
+        ask(shell, "insert 7", "refused 1: this is no statement; .*" + TIME)
+        ask(shell, "update 0.0 100 9", "refused 4: the key is of another partition, .*" + TIME)
+        ask(shell, "delete 9.0", "refused 5: there is no such partition" + TIME)
+        ask(shell, "")
+        ask(shell, "  count 0 100", "count 1" + TIME)
+        ask(shell, "delete 0.0", "gone 7 70" + TIME)
+        ask(shell, "insert 8 80", "refused 6 4: the history is full: .*" + TIME)
+        end(shell, (4, 1, 1, 0))
+
+
+def control_c_at_the_prompt(program):
+    """A line that was begun is left out, and a new prompt comes."""
+    with talking("--program", program) as (shell, _):
+        shell.wait_for(PROMPT)
+        shell.type("insert 1 ")
+        shell.wait_for("^insert 1 ")
+        shell.type(terminal.CONTROL_C)
+        shell.wait_for("^.*\n")
+        ask(shell, f"count {EVERYTHING}", "count 0" + TIME)
+        end(shell, (1, 0, 0, 0))
+
+
+def load(program):
+    """A load tells how many rows came, merges them all, and leaves the policy as it was."""
+    files = {"rows.csv": 'key,payload\n150,6\n\n"50",5\n007,1\n'}
+    with talking("--program", program, "--policy", "gradual", "100", files=files) as (shell, _):
+        ask(shell, ".load rows.csv", LOADED.format("3 rows"), "warm-up: count 3, all merged; policy gradual as before" + TIME)
+        ask(shell, "layout 0", "layout 0 rows 2 column 2 out 0 in 0 cells 2 free 0 pieces 1\npiece 0 100 2\n", TIME.strip())
+        ask(shell, "select 0 200", "rows 3\n0.0 50 5\n0.1 7 1\n1.0 150 6\n", TIME.strip())
+        # (gradual leaves what a query doesn't need)
+        ask(shell, "insert 20 2", "row 0.2" + TIME)
+        ask(shell, "insert 30 3", "row 0.3" + TIME)
+        ask(shell, "count 20 21", "count 1" + TIME)
+        ask(shell, "layout 0", "layout 0 rows 4 column 3 out 0 in 1 (.|\n)*", TIME.strip())
+        # (five inserts; the warm-up's count and the select ask both partitions, the last count asks one)
+        end(shell, (10, 5, 0, 5))
+
+
+def load_of_a_bad_record(program):
+    """The first bad record is told by its number, a header counted, and the rows before it stay."""
+    files = {"bad.csv": "key,payload\n1,10\n2,20\n3,x\n4,40\n", "great.csv": "4294967296,1\n"}
+    with talking("--program", program, files=files) as (shell, _):
+        bad = "shell: record 4: refused 19: a record isn't two numbers from 0 to 4294967295: '3,x'; 2 rows came before it, and stay\n"
+        ask(shell, ".load bad.csv", PROGRESS + bad, "warm-up: count 2, all merged; policy ripple as before" + TIME)
+        ask(shell, ".load great.csv", "shell: record 1: refused 19: .*: '4294967296,1'; 0 rows came before it, and stay\n")
+        ask(shell, f"sum {EVERYTHING}", "sum 30" + TIME)
+        end(shell, (4, 2, 0, 2))
+
+
+def load_into_a_full_history(program):
+    """A row that is refused is told by its record's number, and so are those behind it that came in elsewhere."""
+    files = {"rows.csv": "1,10\n2,20\n3,30\n150,6\n"}
+    with talking("--program", program, "--limit", "2", "100", files=files) as (shell, _):
+        full = "shell: record 3: refused 6 2: the history is full: .*; 2 rows came before it, and stay, with 1 from behind it that had been sent\n"
+        ask(shell, ".load rows.csv", PROGRESS + full, "shell: the rows aren't merged yet: refused 6 2: .*\n")
+        end(shell, (3, 3, 0, 3))
+
+
+def control_c_in_a_load(program):
+    """A load that is broken off tells how many rows came in, and just these are there."""
+
+    def feed(path):
+        with contextlib.suppress(OSError), open(path, "w") as file:
+            while True:
+                file.write("7,1\n" * 1000)
+                # (so that the history isn't full too soon)
+                time.sleep(0.01)
+
+    with talking("--program", program) as (shell, folder):
+        endless = folder / "endless"
+        os.mkfifo(endless)
+        feeder = threading.Thread(target=feed, args=[endless], daemon=True)
+        feeder.start()
+        ask(shell, ".load endless", r"\r\d+ rows")
+        shell.type(terminal.CONTROL_C)
+        rows = shell.wait_for(r"^.*shell: interrupted: (\d+) rows came in, and stay\n")[1]
+        shell.wait_for(f"^warm-up: count {rows}, .*\n")
+        ask(shell, f"count {EVERYTHING}", f"count {rows}" + TIME)
+        feeder.join(server.SECONDS)
+        end(shell, (int(rows) + 2, rows, 0, rows))
+
+
+def save(program):
+    """Rows are saved partition by partition, and what selects the histories keep is told."""
+    with talking("--program", program, "100") as (shell, folder):
+        ask(shell, "insert 150 6", "row 1.0" + TIME)
+        ask(shell, "insert 50 5", "row 0.0" + TIME)
+        ask(shell, ".save out.csv", r"saved 2 rows to out\.csv; the histories keep the 2 selects that listed them" + TIME)
+        server.expect("out.csv", "key,payload\n50,5\n150,6\n", (folder / "out.csv").read_text())
+        ask(shell, ".save missing/out.csv", "shell: not saved: .*missing/out.csv.part: No such file or directory\n")
+        end(shell, (4, 2, 0, 2))
+
+
+def save_that_is_refused(program):
+    """Where a select is refused, the file stays as it was."""
+    with talking("--program", program, "--limit", "1", files={"out.csv": "as it was\n"}) as (shell, folder):
+        ask(shell, "insert 1 2", "row 0.0" + TIME)
+        ask(shell, ".save out.csv", "shell: not saved: select 0 4294967296: refused 6 1: .*\n")
+        server.expect("files", ["out.csv"], [it.name for it in folder.iterdir()])
+        server.expect("out.csv", "as it was\n", (folder / "out.csv").read_text())
+        end(shell, (1, 1, 0, 1))
+
+
+def layout(program):
+    """The pieces of each partition's column are drawn, and what isn't merged yet."""
+    with talking("--program", program, "100") as (shell, _):
+        for key, serial in [(10, 0), (20, 1), (30, 2)]:
+            ask(shell, f"insert {key} 1", f"row 0.{serial}" + TIME)
+        none = " +0 to 99 +0\n"
+        ask(shell, ".layout 0", "partition 0: keys 0 to 99, 3 rows; .*\n", none, r" +pending insertions +3 \+{40}\n", GOING_AND_FREE.format("0"))
+        ask(shell, "policy complete", "policy complete" + TIME)
+        ask(shell, "count 15 25", "count 1" + TIME)
+        ask(shell, "insert 40 1", "row 0.3" + TIME)
+        ask(shell, "delete 0.1", "gone 20 1" + TIME)
+        pieces = [" +0 to 14 +1 #{40}\n", " +15 to 24 +1 #{40}\n", " +25 to 99 +1 #{40}\n"]
+        waiting = [r" +pending insertions +1 \+{40}\n", GOING_AND_FREE.format("1 -{40}")]
+        other = ["partition 1: keys 100 to 4294967295, 0 rows; .*\n", " +100 to 4294967295 +0\n", " +pending insertions +0\n", GOING_AND_FREE.format("0")]
+        ask(shell, ".layout", "partition 0: keys 0 to 99, 3 rows; .*\n", *pieces, *waiting, *other)
+        ask(shell, ".layout 2", "shell: layout 2: refused 5: there is no such partition\n")
+        end(shell, (6, 4, 1, 3))
+
+
+def read(program):
+    """The lines of a file are answered, its commands too; the first that is refused is told."""
+    files = {"lines": "insert 1 10\r\n\nnonsense\n.read lines\n.load one.csv\ncount 0 10", "one.csv": "2,20\n"}
+    with talking("--program", program, files=files) as (shell, _):
+        answers = ["row 0.0" + TIME, "refused 1: .*" + TIME, "shell: lines: it is being read already\n"]
+        answers += [LOADED.format("1 row"), "warm-up: count 2, .*" + TIME, "count 2" + TIME]
+        ask(shell, ".read lines", *answers, "lines: statements 3, 1 refused, the first in line 3" + TIME)
+        end(shell, (4, 2, 0, 2))
+
+
+def commands_that_are_not_done(program):
+    """A missing file, a command without its file, and one that isn't there: a line for each, and the shell goes on."""
+    with talking("--program", program) as (shell, _):
+        ask(shell, ".read missing", "shell: missing: No such file or directory\n")
+        ask(shell, ".load missing", "shell: missing: No such file or directory\n")
+        ask(shell, ".load", "shell: .load needs a file\n")
+        ask(shell, ".foo", "shell: there is no .foo; .help tells what there is\n")
+        ask(shell, ".help", r"insert K V(.|\n)*\.load FILE(.|\n)* stay\.\n")
+        ask(shell, ".quit", "accepted 0 inserted 0 deleted 0 held 0\n")
+        shell.expect_end(0)
+
+
+@contextlib.contextmanager
+def answered_by_hand():
+    """A port, and a function that waits for the first connection to it, and gives that as a file."""
+    with socket.socket() as it, contextlib.ExitStack() as stack:
+        it.bind(("127.0.0.1", 0))
+        it.listen()
+        it.settimeout(server.SECONDS)
+
+        def accepted():
+            with it.accept()[0] as connection:
+                return stack.enter_context(connection.makefile("rw", encoding="ascii"))
+
+        yield it.getsockname()[1], accepted
+
+
+def control_c_in_a_statement(_):
+    """The reply of a statement that is broken off is read, and left out, and the next statement gets its own."""
+    with answered_by_hand() as (port, accepted), talking("--port", str(port)) as (shell, _):
+        ask(shell, "count 0 10")
+        by_hand = accepted()
+        server.expect("what was sent", "count 0 10\n", by_hand.readline())
+        shell.type(terminal.CONTROL_C)
+        shell.wait_for(r"^\^Cshell: the server hasn't answered yet; control-C again ends the session\n")
+        print("count 5", file=by_hand, flush=True)
+        shell.wait_for("^shell: interrupted: the statement was answered, and its reply is left out\n")
+        ask(shell, "sum 0 10")
+        server.expect("what was sent", "sum 0 10\n", by_hand.readline())
+        print("sum 7", file=by_hand, flush=True)
+        shell.wait_for("^sum 7" + TIME)
+
+
+def control_c_twice(_):
+    """Where the server doesn't answer, a second control-C ends the session."""
+    with answered_by_hand() as (port, accepted), talking("--port", str(port)) as (shell, _):
+        ask(shell, "count 0 10")
+        accepted().readline()
+        shell.type(terminal.CONTROL_C)
+        shell.wait_for("control-C again ends the session\n")
+        shell.type(terminal.CONTROL_C)
+        shell.wait_for(r"^\^Cshell: interrupted: the session is ended\n")
+        shell.expect_end(1)
+
+
+def a_server_that_leaves(program):
+    """Where the server goes, one line says so."""
+    served, port = server.started(program, 1, 1)
+    with contextlib.closing(served.stdout), contextlib.closing(served.stderr), talking("--port", str(port)) as (shell, _):
+        ask(shell, "insert 1 2", "row 0.0" + TIME)
+        served.kill()
+        served.wait()
+        ask(shell, "count 0 10", "shell: the server left\n")
+        shell.expect_end(1)
+
+
+def a_server_that_leaves_in_a_load(_):
+    """Where the server goes during a load, one line says how many rows had been answered."""
+    with answered_by_hand() as (port, accepted), talking("--port", str(port), files={"rows.csv": "1,1\n2,2\n3,3\n"}) as (shell, _):
+        ask(shell, ".load rows.csv")
+        by_hand = accepted()
+        server.expect("what was sent", ["insert 1 1\n", "insert 2 2\n", "insert 3 3\n"], [by_hand.readline() for _ in range(3)])
+        by_hand.write("row 0.0\nrow 0.1\nro")
+        by_hand.close()
+        shell.wait_for(f"^{PROGRESS}shell: the server left: 2 rows had been answered\n")
+        shell.expect_end(1)
+
+
+def no_server(program):
+    """A program that isn't there or is no server, bad splits, and a port without a server: one line each."""
+    none = str(server.free_port())
+    cases = [
+        (["--program", "missing/crackd"], "shell: no server: missing/crackd: No such file or directory\n"),
+        (["--program", "/dev/null"], "shell: no server: /dev/null: Permission denied\n"),
+        (["--program", sys.executable], "shell: no server: .*\n"),
+        (["--program", program, "200", "100"], "shell: no server: refused 11: the splits don't rise, or one isn't 1 to 4294967295\n"),
+        (["--program", program, "x"], "shell: no server: bad arguments\n"),
+        (["--port", none], f"shell: no server on port {none}: Connection refused\n"),
+    ]
+    for words, wanted in cases:
+        with on_terminal(*words) as (shell, _):
+            shell.wait_for(f"^{wanted}")
+            shell.expect_end(1)
+
+
+def no_program(_):
+    """Where nothing is built, and PATH has no crackd, a line says how to get it."""
+    with tempfile.TemporaryDirectory() as room:
+        (pathlib.Path(room) / "examples").mkdir()
+        for it in SHELL.parent.glob("shell*.py"):
+            (pathlib.Path(room) / "examples" / it.name).write_text(it.read_text())
+        command = [sys.executable, "examples/shell.py"]
+        ran = subprocess.run(command, cwd=room, env={"PATH": room}, input="", capture_output=True, text=True, timeout=server.SECONDS, check=False)
+    wanted = r"shell: no server: .*/crates/crackd/out/crackd isn't built, and PATH has no crackd; .*\n"
+    server.expect("status, and whether one line says so", (1, True), (ran.returncode, bool(re.fullmatch(wanted, ran.stderr))))
+
+
+def as_a_filter(program):
+    """Without a terminal there are replies alone."""
+    text = "insert 7 70\n\ncount 10 5\n.load rows.csv\r\nselect 0 10\nlayout 0\nquit\ncount 0 1\n"
+    wanted = "row 0.0\nrefused 2\nloaded 2 rows\nrows 3\n0.0 7 70\n0.1 1 2\n0.2 3 4\n"
+    laid = "layout 0 rows 3 column 3 out 0 in 0 cells 3 free 0 pieces 2\npiece 0 10 3\npiece 10 4294967296 0\nbye\n"
+    server.expect("all", (0, wanted + laid, ""), filtered(program, text, files={"rows.csv": "1,2\n3,4"}))
+    server.expect("no quit", (0, "count 0\n", ""), filtered(program, "count 0 1"))
+    complaint = "shell: missing: No such file or directory\n"
+    server.expect("a missing file", (1, "count 0\n", complaint), filtered(program, ".load missing\ncount 0 1\n"))
+
+
+CASES = [
+    statements,
+    control_c_at_the_prompt,
+    load,
+    load_of_a_bad_record,
+    load_into_a_full_history,
+    control_c_in_a_load,
+    save,
+    save_that_is_refused,
+    layout,
+    read,
+    commands_that_are_not_done,
+    control_c_in_a_statement,
+    control_c_twice,
+    a_server_that_leaves,
+    a_server_that_leaves_in_a_load,
+    no_server,
+    no_program,
+    as_a_filter,
+]

@@ -1,0 +1,360 @@
+#!/usr/bin/env python3
+"""A shell over `crackd serve`, for a person or as a filter: shell.py [--program PATH] [--limit N] [--policy NAME] [SPLIT ..], or shell.py --port N
+
+Without a port it starts a server of its own, which ends with it. On a terminal it prompts, says what a refusal means, and how long each statement
+took; `.help` tells what can be said. Where its input or output is no terminal it answers line by line and says nothing else. The status is 0; 1 where no
+server can be had, or it left, or a command of a filter wasn't done; 2 where the command line was refused.
+"""
+
+import argparse
+import contextlib
+import os
+import pathlib
+import shutil
+import signal
+import sys
+import time
+
+from shell_server import Channel, Interrupts, Server
+from shell_session import POLICIES, POLICY_OF_A_SERVER, Records, Session
+from shell_texts import HELP, Ended, Fault, Interrupted, Left, complain, fault_text, in_words, rows_text, time_text
+
+BUILT = pathlib.Path(__file__).resolve().parent.parent / "crates" / "crackd" / "out" / "crackd"
+PROMPT = "crackd> "
+MOST_LINE_BYTES = 200
+GREATEST_PORT = 65535
+SECONDS_OF_A_PROGRESS = 0.1
+
+
+@contextlib.contextmanager
+def of_file(path):
+    """What is done with a file. What goes wrong with it is told by its path."""
+    try:
+        yield
+    except (OSError, ValueError) as error:
+        raise Fault(fault_text(path, error)) from error
+
+
+@contextlib.contextmanager
+def replacing(path):
+    """A file that takes the place of another once all is written; until then that one stays as it is."""
+    target = os.path.realpath(path)
+    if os.path.exists(target) and not os.path.isfile(target):
+        with open(target, "w", encoding="ascii") as file:
+            yield file
+        return
+    part = target + ".part"
+    file = open(part, "x", encoding="ascii")
+    try:
+        with file:
+            yield file
+        os.replace(part, target)
+    except BaseException:
+        os.unlink(part)
+        raise
+
+
+class Progress:
+    """A line of a terminal that tells how far something is."""
+
+    def __init__(self, is_shown):
+        self.is_shown, self.width, self.next = is_shown, 0, time.monotonic() + SECONDS_OF_A_PROGRESS
+
+    def show(self, text):
+        if self.is_shown and time.monotonic() >= self.next:
+            self.next = time.monotonic() + SECONDS_OF_A_PROGRESS
+            self.width = max(self.width, len(text))
+            print(f"\r{text:<{self.width}}", end="", flush=True)
+
+    def clear(self):
+        if self.width:
+            print(f"\r{'':<{self.width}}\r", end="", flush=True)
+
+
+class Shell:
+    """Does what lines say, and shows the answers."""
+
+    def __init__(self, session, interrupts, is_terminal):
+        self.session, self.interrupts, self.is_terminal = session, interrupts, is_terminal
+        self.answered = self.refused = 0
+        self.has_ended = self.has_failed = False
+        # (those whose lines are being obeyed)
+        self.files = []
+        self.of_files = {".load": self.load, ".save": self.save, ".read": self.read}
+        self.others = {".layout": self.layout, ".help": self.help, ".quit": self.quit}
+
+    def run(self, lines):
+        """Obeys lines until one ends the session, or there are no more."""
+        for line in lines:
+            self.interrupts.forget()
+            try:
+                self.obey(line)
+            except Interrupted as it:
+                complain(f"interrupted: {it}")
+            sys.stdout.flush()
+            if self.interrupts.noted and not self.is_terminal:
+                self.has_failed = True
+                return
+            if self.has_ended:
+                return
+        self.quit()
+
+    def obey(self, line):
+        """Does what a line says."""
+        text = line[:-1] if line.endswith(b"\r") else line
+        name, _, argument = text.strip(b" ").partition(b" ")
+        if name.startswith(b"."):
+            self.command(os.fsdecode(name), os.fsdecode(argument.strip(b" ")))
+        elif name or len(text) > MOST_LINE_BYTES:
+            # (the server answers nothing to a blank line)
+            self.statement(line)
+
+    def command(self, name, argument):
+        """Does what a command says. What goes wrong is told, and the shell goes on."""
+        try:
+            if name in self.of_files and argument:
+                self.of_files[name](os.path.expanduser(argument))
+            elif name in self.others:
+                self.others[name](argument)
+            else:
+                raise Fault(f"{name} needs a file" if name in self.of_files else f"there is no {name}; .help tells what there is")
+        except Fault as fault:
+            self.fail(fault)
+
+    def fail(self, text):
+        self.has_failed = True
+        complain(text)
+
+    def statement(self, statement):
+        reply = self.session.ask(statement)
+        self.answered += 1
+        self.refused += reply.is_refusal
+        self.has_ended = reply.lines == ["bye"]
+        self.interrupts.check("the statement was answered, and its reply is left out")
+        self.show(reply)
+
+    def show(self, reply):
+        """Shows a reply. On a terminal it says what a refusal means, and the time: behind a reply of one line, below others."""
+        if not self.is_terminal:
+            print("\n".join(reply.lines))
+        elif len(reply.lines) == 1:
+            self.say(in_words(reply.lines[0]), reply.seconds)
+        else:
+            for line in reply.lines:
+                self.interrupts.check("the rest is left out")
+                print(line)
+            print(time_text(reply.seconds))
+
+    def say(self, text, seconds):
+        """Says what was done, with the time where a person is told."""
+        print(f"{text}  {time_text(seconds)}" if self.is_terminal else text)
+
+    @contextlib.contextmanager
+    def waiting_for(self, path):
+        """A file is opened or read, which may wait for another program. A control-C ends that."""
+        try:
+            with of_file(path), self.interrupts.breaking_in():
+                yield
+        except KeyboardInterrupt:
+            self.interrupts.noted = 1
+            raise Interrupted(f"{path} isn't read") from None
+
+    def load(self, path):
+        """Inserts the rows of a CSV file, and merges them."""
+        with self.waiting_for(path):
+            file = open(path, encoding="utf-8-sig", errors="surrogateescape", newline="")
+        begun = time.perf_counter()
+        with file:
+            records = Records(file)
+            loaded = self.session.load(records, Progress(self.is_terminal))
+        seconds = time.perf_counter() - begun
+        ended = loaded.end_text(records, self.interrupts.noted)
+        if ended:
+            self.fail(ended)
+        else:
+            self.say(f"loaded {rows_text(loaded.placed)}", seconds)
+        if loaded.placed:
+            self.warm_up()
+
+    def warm_up(self):
+        """Merges the rows of a load, so that each query after it is quick."""
+        is_known = self.session.policy is not None
+        reply = self.session.warm_up()
+        if reply.is_refusal:
+            complain(f"the rows aren't merged yet: {in_words(reply.lines[0])}")
+        elif self.is_terminal:
+            policy = f"policy {self.session.policy} {'as before' if is_known else 'from now on'}"
+            self.say(f"warm-up: {reply.lines[0]}, all merged; {policy}", reply.seconds)
+
+    def save(self, path):
+        """Writes all rows to a CSV file."""
+        begun = time.perf_counter()
+        try:
+            with of_file(path), replacing(path) as file:
+                rows, selects = self.session.save(file)
+        except Fault as fault:
+            raise Fault(f"not saved: {fault}") from fault
+        kept = "the select that listed them" if selects == 1 else f"the {selects} selects that listed them"
+        self.say(f"saved {rows_text(rows)} to {path}; the histories keep {kept}", time.perf_counter() - begun)
+
+    def read(self, path):
+        """Obeys the lines of a file."""
+        if os.path.realpath(path) in self.files:
+            raise Fault(f"{path}: it is being read already")
+        with self.waiting_for(path), open(path, "rb") as file:
+            lines = file.read().split(b"\n")
+        begun, answered, refused, first = time.perf_counter(), self.answered, self.refused, 0
+        with self.within(path):
+            for number, line in enumerate(lines, 1):
+                try:
+                    self.obey(line)
+                    self.interrupts.check("")
+                except Interrupted:
+                    raise Interrupted(f"{path} was read up to its line {number}") from None
+                first = first or (number if self.refused > refused else 0)
+                if self.has_ended:
+                    return
+        if self.is_terminal:
+            told = f", {self.refused - refused} refused, the first in line {first}" if first else ""
+            self.say(f"{path}: statements {self.answered - answered}{told}", time.perf_counter() - begun)
+
+    @contextlib.contextmanager
+    def within(self, path):
+        """While the lines of a file are obeyed."""
+        self.files.append(os.path.realpath(path))
+        try:
+            yield
+        finally:
+            self.files.pop()
+
+    def layout(self, partition):
+        """Draws the column of one partition, or of all."""
+        one = [self.session.layout(partition)] if partition else []
+        if None in one:
+            raise Fault(f"layout {partition}: {in_words('refused 5')}")
+        for it in one or self.session.layouts():
+            self.interrupts.check("the rest is left out")
+            print("\n".join(it.drawn()))
+
+    def help(self, _):
+        print(HELP)
+
+    def quit(self, _=""):
+        """Ends the session."""
+        self.session.ask("quit")
+        self.has_ended = True
+
+
+def typed_lines(interrupts):
+    """The lines that a person types, until control-D. A control-C leaves out the one that was begun."""
+    # (line editing and history, where there are any)
+    with contextlib.suppress(ImportError):
+        import readline  # noqa: F401
+    sys.stdin.reconfigure(errors="surrogateescape")
+    while True:
+        try:
+            with interrupts.breaking_in():
+                text = input(PROMPT)
+        except KeyboardInterrupt:
+            print()
+            continue
+        except (EOFError, OSError):
+            print()
+            return
+        # (what is pasted may have several lines)
+        yield from os.fsencode(text).split(b"\n")
+
+
+def given_lines(interrupts):
+    """The lines of standard input."""
+    while True:
+        with interrupts.breaking_in():
+            line = sys.stdin.buffer.readline()
+        if not line:
+            return
+        yield line[:-1] if line.endswith(b"\n") else line
+
+
+def is_with_a_person():
+    """Whether a person types the lines and sees the answers."""
+    return sys.stdin.isatty() and sys.stdout.isatty()
+
+
+def talk(port, policy, is_known, interrupts):
+    """A session with the server of a port, in which a policy is known to hold or is asked for first. Whether all was done."""
+    channel, is_terminal = Channel(port, interrupts), is_with_a_person()
+    session = Session(channel, interrupts, policy if is_known else None)
+    if policy and not is_known:
+        session.demand(f"policy {policy}")
+    if is_terminal:
+        print(f"crackd on port {port}; .help tells what can be said, control-D ends")
+    shell = Shell(session, interrupts, is_terminal)
+    shell.run(typed_lines(interrupts) if is_terminal else given_lines(interrupts))
+    channel.close()
+    return is_terminal or not shell.has_failed
+
+
+def program_of(path):
+    """The program that is given, or the one that is built beside this script, or else that of PATH."""
+    found = path or (str(BUILT) if BUILT.exists() else shutil.which("crackd"))
+    if found is None:
+        raise Ended(f"no server: {BUILT} isn't built, and PATH has no crackd; `make run` builds it, and --program says where it is")
+    return found
+
+
+def talk_to_own(options, interrupts):
+    """A session with a server of its own. Whether all was done."""
+    limit = ["--limit", options.limit] if options.limit else []
+    policy = ["--policy", options.policy] if options.policy else []
+    with interrupts.breaking_in():
+        server = Server(program_of(options.program), [*limit, *policy, *options.splits])
+    try:
+        is_done = talk(server.port, options.policy or POLICY_OF_A_SERVER, True, interrupts)
+        totals = server.totals()
+        if is_with_a_person():
+            print(totals)
+        return is_done
+    except Left as left:
+        raise Left("; ".join(filter(None, [str(left), server.why()]))) from left
+    finally:
+        server.end()
+
+
+def options_of(words):
+    """What the command line says."""
+    parser = argparse.ArgumentParser(description="A shell over `crackd serve`. Without a port it starts a server of its own.")
+    parser.add_argument("--program", metavar="PATH", help="the program crackd [default: the one that is built beside this script, else that of PATH]")
+    parser.add_argument("--port", metavar="N", type=int, help="the port of a server on this machine")
+    parser.add_argument("--limit", metavar="N", help="how many commands a partition answers, 1 to 1000000")
+    parser.add_argument("--policy", metavar="NAME", choices=POLICIES, help="how rows that came or went are merged: complete, gradual or ripple")
+    parser.add_argument("splits", metavar="SPLIT", nargs="*", help="where the keys are parted, rising, each 1 to 4294967295")
+    options = parser.parse_args(words)
+    if options.port is not None and not 1 <= options.port <= GREATEST_PORT:
+        parser.error(f"a port is 1 to {GREATEST_PORT}")
+    if options.port is not None and (options.program or options.limit or options.splits):
+        parser.error("program, limit and splits are for a server that is started, and a port is of one that is there")
+    return options
+
+
+def main(words):
+    options, interrupts = options_of(words), Interrupts()
+    sys.stdout.reconfigure(errors="backslashreplace")
+    try:
+        is_done = talk_to_own(options, interrupts) if options.port is None else talk(options.port, options.policy, False, interrupts)
+        sys.stdout.flush()
+        return 0 if is_done else 1
+    except Left as left:
+        complain("the server left" + (f": {left}" if str(left) else ""))
+    except (Ended, Fault) as fault:
+        complain(fault)
+    except KeyboardInterrupt:
+        signal.signal(signal.SIGINT, signal.SIG_IGN)
+        complain("interrupted: the session is ended")
+    except BrokenPipeError:
+        # (nobody reads the replies any more)
+        os.dup2(os.open(os.devnull, os.O_WRONLY), sys.stdout.fileno())
+    return 1
+
+
+if __name__ == "__main__":
+    sys.exit(main(sys.argv[1:]))

@@ -1,0 +1,174 @@
+"""How `shell.py` reaches a server: one of its own or one that is there, lines out and in, and what a control-C does meanwhile."""
+
+import collections
+import contextlib
+import select
+import signal
+import socket
+import subprocess
+
+from shell_texts import Ended, Interrupted, Left, complain, fault_text, in_words
+
+TRIES = 5
+BYTES_AT_ONCE = 2**18
+SECONDS_OF_A_STEP = 0.2
+SECONDS_OF_AN_END = 60
+
+
+class Interrupts:
+    """Notes a control-C while something is at work, which then ends in order. A second one breaks in, and ends the shell."""
+
+    def __init__(self):
+        self.noted, self.is_told = 0, False
+        signal.signal(signal.SIGINT, self.note)
+
+    def note(self, *_):
+        self.noted += 1
+        if self.noted > 1:
+            raise KeyboardInterrupt
+
+    def forget(self):
+        self.noted, self.is_told = 0, False
+
+    def check(self, left_undone):
+        """Breaks off at a place where all is in order."""
+        if self.noted:
+            raise Interrupted(left_undone)
+
+    @contextlib.contextmanager
+    def breaking_in(self):
+        """While a person, a file or a program is waited for, the first one breaks in."""
+        try:
+            signal.signal(signal.SIGINT, signal.default_int_handler)
+            yield
+        finally:
+            signal.signal(signal.SIGINT, self.note)
+
+    def tell_once(self):
+        """Says that an answer is still waited for."""
+        if self.noted and not self.is_told:
+            self.is_told = True
+            complain("the server hasn't answered yet; control-C again ends the session")
+
+
+def free_port():
+    with socket.socket() as it:
+        it.bind(("127.0.0.1", 0))
+        return it.getsockname()[1]
+
+
+class Server:
+    """A server of the shell's own, for one session. It isn't of the terminal's processes, so that no control-C reaches it."""
+
+    def __init__(self, program, words):
+        self.program = program
+        for _ in range(TRIES):
+            self.port = free_port()
+            self.process = self.started(words)
+            if self.has_begun():
+                return
+            complaint = self.process.communicate()[1].strip()
+            # (another program may have taken the port in the meantime)
+            if complaint != "crackd: refused 17":
+                raise Ended(f"no server: {self.end_text(complaint)}")
+        raise Ended("no server: no port was free")
+
+    def started(self, words):
+        """The process of a server, as it begins."""
+        command = [self.program, "serve", "--port", str(self.port), "--workers", "1", "--sessions", "1", *words]
+        pipe = subprocess.PIPE
+        try:
+            return subprocess.Popen(command, stdin=subprocess.DEVNULL, stdout=pipe, stderr=pipe, text=True, errors="replace", start_new_session=True)
+        except (OSError, ValueError) as error:
+            raise Ended(f"no server: {fault_text(self.program, error)}") from error
+
+    def has_begun(self):
+        """Whether the process listens; waits until it says so, or ends."""
+        try:
+            return self.process.stdout.readline() == f"listening {self.port}\n"
+        except BaseException:
+            self.end()
+            raise
+
+    def end_text(self, complaint):
+        """What the program said as it ended, in words, or else how it ended."""
+        status = self.process.returncode
+        if complaint:
+            return in_words(complaint.splitlines()[-1].replace("crackd: ", "", 1))
+        return f"{self.program} was ended by signal {-status}" if status < 0 else f"{self.program} ended with status {status}"
+
+    def totals(self):
+        """The server's last line, once it has ended."""
+        try:
+            wrote, complaint = self.process.communicate(timeout=SECONDS_OF_AN_END)
+        except subprocess.TimeoutExpired as error:
+            raise Ended("the server didn't end behind its session") from error
+        if self.process.returncode:
+            raise Ended(self.end_text(complaint))
+        return wrote.rstrip("\n")
+
+    def why(self):
+        """Why it left."""
+        try:
+            return self.end_text(self.process.communicate(timeout=1)[1])
+        except subprocess.TimeoutExpired:
+            return "it cut the session off"
+
+    def end(self):
+        """Ends the server where it has not ended by itself."""
+        if self.process.poll() is None:
+            self.process.kill()
+        self.process.communicate()
+
+
+class Channel:
+    """A connection with a server. It takes lines in while it sends, so that neither side waits for ever."""
+
+    def __init__(self, port, interrupts):
+        self.interrupts = interrupts
+        try:
+            self.socket = socket.create_connection(("127.0.0.1", port))
+        except OSError as error:
+            raise Ended(f"no server on port {port}: {error.strerror or error}") from error
+        self.socket.setsockopt(socket.IPPROTO_TCP, socket.TCP_NODELAY, 1)
+        self.socket.setblocking(False)
+        self.unsent, self.begun, self.lines = b"", "", collections.deque()
+
+    def send(self, text):
+        self.unsent += text
+
+    def step(self):
+        """Waits a moment for the server, keeps what it gives, and sends what it takes."""
+        waiting = [self.socket] if self.unsent else []
+        gives, takes, _ = select.select([self.socket], waiting, [], SECONDS_OF_A_STEP)
+        try:
+            if gives:
+                self.keep(self.socket.recv(BYTES_AT_ONCE))
+            if takes:
+                self.unsent = self.unsent[self.socket.send(self.unsent) :]
+        except BlockingIOError:
+            pass
+        except OSError as error:
+            raise Left from error
+        if not gives and not takes:
+            self.interrupts.tell_once()
+
+    def keep(self, given):
+        if not given:
+            raise Left
+        *lines, self.begun = (self.begun + given.decode("ascii", "backslashreplace")).split("\n")
+        self.lines.extend(lines)
+
+    def line(self):
+        """The next line that the server gives."""
+        while not self.lines:
+            self.step()
+        return self.lines.popleft()
+
+    def all_lines(self):
+        """The lines that were given and not yet taken."""
+        lines, self.lines = self.lines, collections.deque()
+        return lines
+
+    def close(self):
+        self.socket.close()

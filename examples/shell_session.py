@@ -1,0 +1,198 @@
+"""What `shell.py` asks of a server: a statement and its reply, a load of CSV, a layout, all rows as CSV."""
+
+import csv
+import dataclasses
+import itertools
+import os
+import re
+import time
+
+from shell_layout import Layout
+from shell_texts import EVERYTHING, GREATEST, Fault, Left, in_words, rows_text
+
+POLICIES = ["complete", "gradual", "ripple"]
+POLICY_OF_A_SERVER = "ripple"
+HEADER = ["key", "payload"]
+MOST_DIGITS = 20
+NUMBER = re.compile(f"[0-9]{{1,{MOST_DIGITS}}}")
+# the first lines of replies that have more, and how many more
+LISTED = re.compile("(?:rows|layout .* pieces) ([0-9]+)")
+# a load sends so many rows at once, and goes on while no more than these are unanswered
+ROWS_AT_ONCE = 2000
+ROWS_UNANSWERED = 20_000
+
+
+@dataclasses.dataclass
+class Reply:
+    """The lines of a reply, and how long they took."""
+
+    lines: list
+    seconds: float
+
+    @property
+    def is_refusal(self):
+        return self.lines[0].startswith("refused")
+
+
+def is_number(text):
+    return NUMBER.fullmatch(text) is not None and int(text) <= GREATEST
+
+
+def is_row(record):
+    """Whether a record is a key and a payload."""
+    return len(record) == 2 and is_number(record[0]) and is_number(record[1])
+
+
+def are_rows(records):
+    """Whether all records are rows, if there are any: the same as of each, in less time."""
+    fields = list(itertools.chain.from_iterable(records))
+    digits = "".join(fields)
+    are_pairs = set(map(len, records)) == {2} and all(fields)
+    return are_pairs and digits.isascii() and digits.isdigit() and max(map(len, fields)) <= MOST_DIGITS and max(map(int, fields)) <= GREATEST
+
+
+class Records:
+    """The records of a CSV file, up to the first that is no row. `fault` then says which that is, and why."""
+
+    def __init__(self, file):
+        # (blank lines are no records)
+        self.records = filter(None, csv.reader(file))
+        self.number, self.has_header, self.fault = 0, False, ""
+
+    def next_rows(self, interrupts):
+        """The next records that are rows. Where another program gives them, a control-C ends the waiting."""
+        records, fault = [], ""
+        try:
+            with interrupts.breaking_in():
+                records.extend(itertools.islice(self.records, ROWS_AT_ONCE))
+        except KeyboardInterrupt:
+            interrupts.noted = 1
+        except csv.Error as error:
+            fault = f"{in_words('refused 19')}: {error}"
+        except OSError as error:
+            fault = f"{in_words('refused 17')}: {error.strerror}"
+        if not self.number and records[:1] == [HEADER]:
+            self.has_header, self.number = True, 1
+            del records[0]
+        rows = records if are_rows(records) else list(itertools.takewhile(is_row, records))
+        self.number += len(rows)
+        if len(rows) < len(records):
+            fault = f"{in_words('refused 19')}: {','.join(records[len(rows)])[:40]!r}"
+        self.fault = fault and f"record {self.number + 1}: {fault}"
+        return rows
+
+
+@dataclasses.dataclass
+class Loaded:
+    """How far a load is: how many rows were sent, answered and placed; the first refusal, and how many rows had been placed before it."""
+
+    sent: int = 0
+    answered: int = 0
+    placed: int = 0
+    refusal: str = ""
+    before: int = 0
+
+    def take(self, lines):
+        for line in lines:
+            if line.startswith("row "):
+                self.placed += 1
+            elif not self.refusal:
+                self.refusal, self.before = line, self.placed
+        self.answered += len(lines)
+
+    def end_text(self, records, is_interrupted):
+        """What ended the load before its end, and which rows stay; nothing where it came to its end."""
+        if self.refusal:
+            behind = self.placed - self.before
+            also = f", with {behind} from behind it that had been sent" if behind else ""
+            return f"record {self.before + 1 + records.has_header}: {in_words(self.refusal)}; {rows_text(self.before)} came before it, and stay{also}"
+        if is_interrupted:
+            return f"interrupted: {rows_text(self.placed)} came in, and stay"
+        return f"{records.fault}; {rows_text(self.placed)} came before it, and stay" if records.fault else ""
+
+
+class Session:
+    """A session with a server, over a channel."""
+
+    def __init__(self, channel, interrupts, policy):
+        # (the policy of a server that was there already isn't known, and is None)
+        self.channel, self.interrupts, self.policy = channel, interrupts, policy
+
+    def ask(self, statement):
+        """Sends a statement, and waits for all lines of its reply."""
+        begun = time.perf_counter()
+        self.channel.send(os.fsencode(statement) + b"\n")
+        lines = [self.channel.line()]
+        listed = LISTED.fullmatch(lines[0])
+        while listed and len(lines) <= int(listed[1]):
+            lines.append(self.channel.line())
+        words = lines[0].split(" ")
+        if words[0] == "policy":
+            self.policy = words[-1]
+        return Reply(lines, time.perf_counter() - begun)
+
+    def demand(self, statement):
+        """The reply to a statement that must not be refused."""
+        reply = self.ask(statement)
+        if reply.is_refusal:
+            raise Fault(f"{statement}: {in_words(reply.lines[0])}")
+        return reply
+
+    def load(self, records, progress):
+        """Sends an insert for each row of the records, and counts what is answered. A control-C ends it; what was sent is still answered."""
+        loaded = Loaded()
+        try:
+            while not (loaded.refusal or records.fault or self.interrupts.noted):
+                rows = records.next_rows(self.interrupts)
+                if not rows:
+                    break
+                self.channel.send(("insert %s %s\n" * len(rows) % tuple(itertools.chain.from_iterable(rows))).encode("ascii"))
+                loaded.sent += len(rows)
+                self.settle(loaded, ROWS_UNANSWERED)
+                progress.show(rows_text(loaded.placed))
+            self.settle(loaded, 0)
+        except Left as left:
+            raise Left(f"{rows_text(loaded.placed)} had been answered") from left
+        finally:
+            progress.clear()
+        return loaded
+
+    def settle(self, loaded, most):
+        """Waits until all is sent, and no more rows than these are unanswered."""
+        while self.channel.unsent or loaded.sent - loaded.answered > most:
+            self.channel.step()
+            loaded.take(self.channel.all_lines())
+
+    def warm_up(self):
+        """Merges all pending rows by one count of everything, and goes back to the policy as it was. Under ripple alone each count would put its rows into
+        a column that was never filled, and put them back, again and again."""
+        policy = self.policy or POLICY_OF_A_SERVER
+        self.ask("policy complete")
+        reply = self.ask(f"count {EVERYTHING}")
+        self.ask(f"policy {policy}")
+        return reply
+
+    def layout(self, partition):
+        """How a partition is laid out, or None where there is no such partition."""
+        reply = self.ask(f"layout {partition}")
+        if reply.lines[0] == "refused 5":
+            return None
+        if reply.is_refusal:
+            raise Fault(f"layout {partition}: {in_words(reply.lines[0])}")
+        return Layout.read(reply.lines)
+
+    def layouts(self):
+        """How each partition is laid out."""
+        return itertools.takewhile(lambda it: it is not None, map(self.layout, itertools.count()))
+
+    def save(self, file):
+        """Writes all rows as CSV, partition by partition. How many there were, and how many selects listed them."""
+        ends = [it.ends for it in self.layouts()]
+        rows = 0
+        file.write(",".join(HEADER) + "\n")
+        for low, high in ends:
+            lines = self.demand(f"select {low} {high}").lines[1:]
+            self.interrupts.check("nothing is saved")
+            file.writelines("{1},{2}\n".format(*line.split(" ")) for line in lines)
+            rows += len(lines)
+        return rows, len(ends)

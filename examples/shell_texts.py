@@ -1,0 +1,88 @@
+"""What `shell.py` says: the meanings of refusals, the help, times, and what it complains of."""
+
+import re
+import sys
+
+GREATEST = 4294967295
+EVERYTHING = f"0 {GREATEST + 1}"
+REFUSED = re.compile("refused ([0-9]+)")
+
+MEANINGS = {
+    "1": "this is no statement; .help tells which there are",
+    "2": "the low end of the range is above its high end, or that is above 4294967296",
+    "4": "the key is of another partition, and a row never leaves its own",
+    "5": "there is no such partition",
+    "6": "the history is full: it has as many entries as the limit says, and no further command is answered",
+    "7": "a gate said no a thousand times",
+    "8": "no memory was found; no row has changed",
+    "11": "the splits don't rise, or one isn't 1 to 4294967295",
+    "12": "there are more than 63 splits",
+    "13": "the workers aren't 1 to 64",
+    "14": "the limit isn't 1 to 1000000",
+    "15": "a worker's receipts are missing",
+    "16": "receipts and histories don't agree",
+    "17": "reading failed, or the port can't be listened on",
+    "18": "writing failed",
+    "19": "a record isn't two numbers from 0 to 4294967295",
+}
+
+HELP = """\
+insert K V        a row of key K and payload V; the reply is its row number P.S
+delete P.S        that row goes
+update P.S K V    that row gets another key and payload
+count LO HI       how many rows have keys from LO up to and without HI; 0 4294967296 is everything
+sum LO HI         the sum of their payloads
+select LO HI      these rows, a line P.S K V for each
+layout P          what stands where in partition P, as numbers
+policy NAME       how rows that came or went are merged: complete, gradual or ripple
+quit              ends the session
+
+.load FILE        inserts the rows of CSV, with or without the header key,payload, and merges them by one count
+.save FILE        writes all rows as CSV; the histories keep the selects that list them
+.read FILE        answers the lines of a file
+.layout [P]       draws the columns of all partitions, or of one
+.help             this
+.quit             ends the session, as control-D does
+
+Control-C ends what is at work; rows that were answered stay."""
+
+
+class Fault(Exception):
+    """Why something isn't done, in words. The shell goes on."""
+
+
+class Interrupted(Exception):
+    """What a control-C left undone, in words. The shell goes on, but a filter ends."""
+
+
+class Ended(Exception):
+    """Why the shell ends, in words."""
+
+
+class Left(Exception):
+    """The server closed the connection. What had been done then, in words, where there is something to say."""
+
+
+def complain(text):
+    """Tells what is wrong, in a line of its own."""
+    sys.stdout.flush()
+    print(f"shell: {text}", file=sys.stderr, flush=True)
+
+
+def in_words(line):
+    """A reply, and behind a refusal what it means."""
+    refused = REFUSED.match(line)
+    return f"{line}: {MEANINGS[refused[1]]}" if refused and refused[1] in MEANINGS else line
+
+
+def fault_text(path, error):
+    """What went wrong with a file or a program."""
+    return f"{getattr(error, 'filename', None) or path}: {getattr(error, 'strerror', None) or error}"
+
+
+def time_text(seconds):
+    return f"({seconds:.2f} s)" if seconds >= 1 else f"({seconds * 1000:.3f} ms)"
+
+
+def rows_text(count):
+    return "1 row" if count == 1 else f"{count} rows"
