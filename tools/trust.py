@@ -11,6 +11,7 @@ The status is 1 where a definition of specs/ is reached by no clause of any crat
 keeps to itself or of tests, and its module doesn't say so in its first line; or where its module says so and public clauses reach it.
 """
 
+import signal
 import sys
 
 import crates
@@ -111,4 +112,5 @@ def main(words):
 
 
 if __name__ == "__main__":
+    signal.signal(signal.SIGPIPE, signal.SIG_DFL)
     sys.exit(main(sys.argv[1:]))
