@@ -6,7 +6,7 @@ help:
 	@echo 'make try     the same without a proof, in half a minute; it reads all of its input before it answers'
 	@echo 'make test    proves everything from nothing, runs the tests, the programs and the acceptance cases: 26 minutes on 4'
 	@echo 'make edits   tries that the prover refuses the wrong bodies; OF="NAME .." those of these crates alone: behind .ci/run 26 minutes on 4'
-	@echo 'make trust   counts what a reader has to read to know what is proved'
+	@echo 'make trust   prints what a reader has to read to know what is promised, and counts it; OF=--count: the numbers alone'
 
 run:
 	@python3 tools/prove.py crackd -- script
@@ -21,4 +21,4 @@ edits:
 	@python3 tools/edits.py $(OF)
 
 trust:
-	@python3 tools/trust.py
+	@python3 tools/trust.py $(OF)

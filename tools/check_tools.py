@@ -1,16 +1,20 @@
-"""Cases of the tools by which crates are proved and edits tried: which function a place lies in, which edits go together, what a change touches."""
+"""Cases of the tools: which function a place lies in, which edits are tried together, what a change touches, and what is read for a promise."""
 
 import pathlib
 import sys
+import tempfile
 import unittest
 
 sys.path.insert(0, str(pathlib.Path(__file__).resolve().parent))
 
 import crates
+import definitions
 import due
 import edits
 import functions
 import lanes
+import reading
+import trust
 
 SOURCE = """use crate::low;
 
@@ -53,6 +57,83 @@ size (x ∷ xs) = suc (size xs)
 size-nil : size [] ≡ 0
 size-nil = refl
 """
+
+SHELF = {
+    "src/lib.rt": """ghost use Rattle.a.specs.Sizes.{size, IsFull as IsLaden};
+ghost use Rattle.a.specs.Other.{size as other_size};
+
+mod inside;
+
+pub use inside::Shelf;
+
+/// How many places it has.
+pub const PLACES: u64 = 8;
+
+/// Puts one more on a shelf.
+pub fn put(shelf: &mut Shelf, size: u64)
+    requires { size < PLACES }
+    ensures size { shelf.new.size ≡ size }
+    // and it is told
+    ensures laden { IsLaden shelf.new.items }
+{
+    shelf.put(size)
+}
+
+fn first(shelf: &Shelf) -> u64
+    ensures { result ≡ other_size shelf.now.items }
+{
+    0
+}
+""",
+    "src/inside.rt": """/// What stands on it.
+pub struct Shelf {
+    things: Vec<Thing>,
+    hint: Hint,
+}
+
+impl Model for Shelf {
+    ghost use Rattle.std.specs.Prelude.{List};
+
+    ghost Value = { List ℕ };
+
+    ghost view = { λ s. s.things.items };
+}
+
+struct Thing(u64);
+
+struct Hint(u64);
+""",
+    "specs/Sizes.antt": """-- How much stands on a shelf.
+use Rattle.std.specs.Prelude.{ℕ, List, [], ◌∷◌}
+use Rattle.a.specs.declared.TheConstants.{PLACES}
+
+-- how many there are
+abbrev pub size : List ℕ → ℕ
+size [] = 0
+size (x ∷ xs) = suc (size xs)
+
+-- none more has place
+pub record IsFull (items : List ℕ) : Type 0 where
+  pub size : PLACES ≤ count items
+  pub each : (k : ℕ) → IsThing k
+
+pub data IsThing : ℕ → Type 0 where
+  -- any is
+  thing : (size : ℕ) → IsThing size
+
+abbrev pub count : List ℕ → ℕ
+count size = fold suc 0 size
+
+abbrev pub stray : ℕ
+stray = 0
+""",
+    "specs/Other.antt": """-- What private clauses alone cite.
+use Rattle.a.specs.Sizes.{count}
+
+abbrev pub size : List ℕ → ℕ
+size xs = count xs
+""",
+}
 
 
 def function(text):
@@ -120,6 +201,51 @@ class Due(unittest.TestCase):
     def test_what_cites_a_changed_name_has_changed(self):
         now = {"twice": "twice n = size n", "thrice": "thrice n = twice n", "other": "other n = n"}
         self.assertEqual(due.changed_names(now, now, {"size"}), {"twice", "thrice"})
+
+
+class Reading(unittest.TestCase):
+    def setUp(self):
+        folder = tempfile.TemporaryDirectory()
+        self.addCleanup(folder.cleanup)
+        crate = pathlib.Path(folder.name) / "a"
+        for path, text in SHELF.items():
+            (crate / path).parent.mkdir(parents=True, exist_ok=True)
+            (crate / path).write_text(text)
+        self.shelf = reading.Reading(reading.all_items([crate]), ["a"])
+
+    def test_what_a_text_binds_is_not_cited(self):
+        scope = {it: f"a.M.{it}" for it in ["size", "count", "kept"]}
+        text = "(size : ℕ) → (λ (kept : ℕ) x. kept ≡ count x) -- size\n"
+        self.assertEqual(definitions.cited(text, scope, definitions.bound_in(text)), {"a.M.count"})
+        self.assertEqual(definitions.cited("s.size ≡ count s.kept", scope, set()), {"a.M.count"})
+
+    def test_a_call_is_read_behind_what_its_clauses_cite(self):
+        names = [it.name for it in self.shelf.read_for({"a::put": frozenset()})]
+        definitions_first = ["a.Sizes.IsThing", "a.Sizes.count", "a::PLACES", "a.Sizes.IsFull"]
+        of_shelf = ["a::inside::Thing", "a::inside::Shelf", "a::inside::Shelf as Model::Value", "a::inside::Shelf as Model::view"]
+        self.assertEqual(names, [*definitions_first, *of_shelf, "a::put"])
+
+    def test_of_a_call_those_clauses_are_read_that_are_asked_for(self):
+        read = {it.name: [line.strip() for _, line in it.lines] for it in self.shelf.read_for({"a::put": frozenset({"size"})})}
+        self.assertEqual(read["a::put"], ["requires { size < PLACES }", "ensures size { shelf.new.size ≡ size }"])
+        self.assertNotIn("a.Sizes.IsFull", read)
+
+    def test_what_no_clause_and_what_private_ones_alone_reach(self):
+        found = [[it.name for it in items] for items in trust.misplaced(self.shelf).values()]
+        self.assertEqual(found, [["a.Sizes.size", "a.Sizes.stray"], [], []])
+        path = self.shelf.items["a.Other.size"].path
+        path.write_text(path.read_text().replace(trust.PRIVATE, "-- Other sizes."))
+        self.assertEqual([it.name for it in list(trust.misplaced(self.shelf).values())[1]], ["a.Other.size"])
+
+    def test_each_promise_names_its_calls(self):
+        promises = reading.roots_in((crates.TOP / "docs" / "PROOFS.md").read_text())
+        whole = reading.whole()
+        self.assertIn(reading.HEADLINE, promises)
+        for roots in promises.values():
+            items = whole.read_for(roots)
+            place = {it.name: at for at, it in enumerate(items)}
+            behind = [it for it in items for name in it.cites if place.get(name, 0) > place[it.name] and not name.startswith(f"{it.name} as ")]
+            self.assertEqual((len(place), behind), (len(items), []))
 
 
 class Lanes(unittest.TestCase):

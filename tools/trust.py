@@ -1,80 +1,116 @@
 #!/usr/bin/env python3
-"""Counts what a reader has to read to know what is proved: trust.py [--each]
+"""Prints and counts what a reader has to read to know what is promised: trust.py [--count] [--each] [--all] [PROMISE ..]
 
-For each crate the lines of specs/ (definitions that contracts cite), and those of the clauses of public items: `requires`, `ensures` and
-`ghost` in src/. Beside them, as a measure, the lines of proofs/, which nobody has to read. Blank lines are left out; comments count. The
-crates of tests and of measurements have no promises, and are left out.
+For the promises of docs/PROOFS.md and the sentence above them (PROMISE: their names, or `headline`; else all) it prints the clauses of their calls
+and the definitions, types and ghost members that these cite, in turn, each behind what it cites, with its file and line. The lines of all these are
+counted. Comments and the first lines of functions are printed and not counted; the names that a file brings from others, and what stands in a
+library, are neither. --count leaves the text out, --each adds the numbers of each crate, and --all those of all that stands in specs/, comments and
+`use` lines too, and in public clauses, with the ghost members of public types.
+
+The status is 1 where a definition of specs/ is reached by no clause of any crate; where private clauses alone reach it, of functions that a crate
+keeps to itself or of tests, and its module doesn't say so in its first line; or where its module says so and public clauses reach it.
 """
 
-import pathlib
-import re
+import signal
 import sys
 
-TOP = pathlib.Path(__file__).resolve().parent.parent
-LEFT_OUT = {"crack_tests", "crack_session_tests", "crack_bench", "crack_bench_workers"}
-ITEM = re.compile(r"^(\s*)(pub(?:\([a-z]+\))? )?(?:const )?fn (\w+)")
-BLOCK = re.compile(r"^(?:pub )?(?:trait (?P<trait>\w+)|impl(?:<.*?>)? (?:(?P<of>[\w:<>, ]+?) for )?(?P<type>\w+))")
-CLAUSE = re.compile(r"^\s*(requires|ensures|ghost)\b")
+import crates
+import reading
+
+OPTIONS = ("--count", "--each", "--all")
+PRIVATE = "-- What private clauses alone cite."
+KINDS = {"definitions": ("definition",), "types": ("type", "constant"), "ghost members": ("model", "trait", "ghost"), "clauses": ("call",)}
 
 
-def lines_of(folder):
-    """How many lines that aren't blank the files of a folder have."""
-    files = folder.rglob("*.antt") if folder.is_dir() else []
-    return sum(1 for file in files for line in file.read_text().splitlines() if line.strip())
+def count(items, kinds=None):
+    """How many lines of items are counted, or of those of some kinds."""
+    return sum(len(it.lines) for it in items if kinds is None or it.kind in kinds)
 
 
-def open_names(text):
-    """The public modules that a root file declares, and the names that it hands on."""
-    modules = set(re.findall(r"^pub mod (\w+);", text, re.M))
-    used = re.findall(r"^pub use ([^;]+);", text, re.M)
-    return modules, {name for path in used for name in re.findall(r"\w+", path.rpartition("::")[2])}
+def text_of(items):
+    """The text of items, each below its file and line, crate by crate."""
+    said, crate = [], ""
+    for it in items:
+        if it.crate != crate:
+            crate = it.crate
+            said.append(f"# {crate}\n")
+        lines = "\n".join(line for _, line in sorted({*it.lines, *it.beside}))
+        said.append(f"{place_of(it)}\n{lines}\n")
+    return "\n".join(said)
 
 
-def clauses_in(text, is_open, names):
-    """How many lines the clauses of a file's public items have. In a module that isn't public only the items of these names are."""
-    count, block, item = 0, None, None
-    for line in text.splitlines():
-        found = BLOCK.match(line)
-        if found:
-            block = found
-        elif line.startswith("}"):
-            block = item = None
-        found = ITEM.match(line)
-        if found:
-            owner = block and (block["trait"] or block["type"])
-            by_trait = bool(block and (block["trait"] or block["of"]))
-            is_public = by_trait or found[2] == "pub "
-            item = {"indent": found[1], "counts": is_public and (is_open or (owner or found[3]) in names), "begun": False}
-        elif item and line.rstrip() in (item["indent"] + "{", item["indent"] + "}"):
-            item = None
-        elif item:
-            item["begun"] = item["begun"] or bool(CLAUSE.match(line))
-            count += bool(item["begun"] and item["counts"] and line.strip())
-        elif block and CLAUSE.match(line) and not line.lstrip().startswith("ghost use"):
-            count += is_open or (block["trait"] or block["type"]) in names
-    return count
+def place_of(item):
+    """The file and the line of an item."""
+    return f"{item.path.relative_to(crates.TOP)}:{item.first}"
 
 
-def clauses_of(crate):
-    """How many lines the clauses of a crate's public items have."""
-    root = next((file for file in (crate / "src" / "lib.rt", crate / "src" / "main.rt") if file.exists()))
-    modules, names = open_names(root.read_text())
-    return sum(
-        clauses_in(file.read_text(), file == root or file.stem in modules, names) for file in sorted((crate / "src").glob("*.rt"))
-    )
+def row(name, items):
+    """A line of a table: how many lines of items are counted, and of each kind."""
+    return "".join([f"{name:20}", f"{count(items):8}", *(f"{count(items, kinds):15}" for kinds in KINDS.values())])
+
+
+def table(whole, promises, chosen, with_crates):
+    """How many lines are to be read for each of these promises, for all of them, and of these in each crate."""
+    items = whole.read_for(reading.joined([promises[name] for name in chosen]))
+    said = ["".join([f"{'to read for':20}", f"{'lines':>8}", *(f"{name:>15}" for name in KINDS)])]
+    said += [row(name, whole.read_for(promises[name])) for name in chosen]
+    said += [row("all of these", items)] if len(chosen) > 1 else []
+    for crate in dict.fromkeys(it.crate for it in items) if with_crates else ():
+        said.append(row(f"  {crate}", [it for it in items if it.crate == crate]))
+    return said
+
+
+def is_public(item):
+    """Whether an item is what a crate promises to others."""
+    return item.is_public and item.crate not in reading.LEFT_OUT
+
+
+def all_lines(whole):
+    """How many lines there are of all of specs/ and of public clauses, whoever reaches them."""
+    files = sorted(crates.TOP.glob("crates/*/specs/**/*.antt"))
+    lines = {path: sum(1 for line in path.read_text().splitlines() if line.strip()) for path in files}
+    private = sum(number for path, number in lines.items() if is_for_private(path))
+    specs, clauses = sum(lines.values()), count(it for it in whole.items.values() if is_public(it) and it.kind not in ("type", "constant"))
+    return f"all there is: {specs + clauses} lines, {specs} of specs/ ({private} in modules for private clauses) and {clauses} of public clauses"
+
+
+def is_for_private(path):
+    """Whether a module of definitions says by its first line that private clauses alone cite it."""
+    return path.read_text().startswith(PRIVATE + "\n")
+
+
+def misplaced(whole):
+    """The definitions that don't stand where they should: what is wrong with each sort, and the definitions."""
+    citing = [it for it in whole.items.values() if it.kind in ("call", "trait", "ghost", "model")]
+    every, public = whole.reached(citing), whole.reached(it for it in citing if is_public(it))
+    found = [it for it in whole.items.values() if it.kind == "definition"]
+    marked = {path for path in {it.path for it in found} if is_for_private(path)}
+    return {
+        "are reached by no clause": [it for it in found if it.name not in every],
+        "are reached by private clauses alone, in a module that doesn't say so": [
+            it for it in found if it.name in every - public and it.path not in marked
+        ],
+        "are reached by public clauses, in a module that is for private ones": [it for it in found if it.name in public and it.path in marked],
+    }
 
 
 def main(words):
-    crates = sorted(it for it in (TOP / "crates").iterdir() if (it / "src").is_dir() and it.name not in LEFT_OUT)
-    rows = [(crate.name, lines_of(crate / "specs"), clauses_of(crate), lines_of(crate / "proofs")) for crate in crates]
-    specs, clauses, proofs = (sum(row[at] for row in rows) for at in (1, 2, 3))
-    if "--each" in words:
-        print(f"{'crate':20}{'specs':>8}{'clauses':>9}{'proofs':>8}")
-        for name, *counts in rows:
-            print(f"{name:20}{counts[0]:8}{counts[1]:9}{counts[2]:8}")
-    print(f"to read: {specs + clauses} lines, {specs} of definitions and {clauses} of public clauses; nobody has to read {proofs} lines of proofs")
-    return 0
+    whole = reading.whole()
+    promises = reading.roots_in((crates.TOP / "docs" / "PROOFS.md").read_text())
+    chosen = [it for it in words if it not in OPTIONS] or list(promises)
+    unknown = [it for it in chosen if it not in promises]
+    if unknown:
+        sys.exit(f"{unknown[0]} is none of {', '.join([*OPTIONS, *promises])}")
+    if "--count" not in words:
+        print(text_of(whole.read_for(reading.joined([promises[name] for name in chosen]))))
+    print("\n".join([*table(whole, promises, chosen, "--each" in words), *([all_lines(whole)] if "--all" in words else [])]))
+    found = {fault: items for fault, items in misplaced(whole).items() if items}
+    for fault, items in found.items():
+        print(f"\n{len(items)} definitions, {count(items)} lines, {fault}:")
+        print("\n".join(f"  {place_of(it)} {it.name.rpartition('.')[2]}, {len(it.lines)} lines" for it in items))
+    return 1 if found else 0
 
 
 if __name__ == "__main__":
+    signal.signal(signal.SIGPIPE, signal.SIG_DFL)
     sys.exit(main(sys.argv[1:]))

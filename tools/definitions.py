@@ -1,0 +1,147 @@
+"""The definitions of specs/ as items, with what each of them cites, and the names that a text cites.
+
+What the crates say is read into items: definitions here, and types, ghost members and calls in contracts.py. Each has a name:
+`crack_part.Parts.IsSound` is a definition, `crack_part::partition::Partition` a type. Names are told apart by the file's own definitions and its `use`
+lines; what a text binds itself, and fields behind a full stop, are none. What is of no crate of the repository is no item.
+"""
+
+import dataclasses
+import pathlib
+import re
+
+NAME = r"[^\s(){}\[\];,.]+"
+WORD = re.compile(rf"(\.?)({NAME})")
+USE = re.compile(r"^\s*(?:ghost )?use Rattle\.([\w.]+?)(?:\.\{([^}]*)\})?(?: as (\S+?))?;?\s*$")
+KEYWORD = r"(?:abbrev|unfoldable|opaque|pub|record|data)\s+"
+HEAD = re.compile(rf"^(?:(?={KEYWORD})(?:{KEYWORD})*({NAME})|({NAME}) : )")
+NO_DEFINITION = re.compile(r"^(?:use|pub mod|module)\s")
+CONSTRUCTOR = re.compile(rf"^  ({NAME}) : ")
+FIELD = re.compile(rf"(?m)^\s+(?:pub )?({NAME}) : ")
+BINDERS = re.compile(r"λ\s*((?:[^().]|\([^()]*\))*?)\.(?=\s|$)")
+TYPED = re.compile(r"[({]([^(){}:≡=]+?) : ")
+LET = re.compile(rf"\blet ({NAME}) ")
+ASSIGNED = re.compile(r"(?m)(?:[{;]|^)\s*(\w+) =(?=\s)")
+
+
+@dataclasses.dataclass(frozen=True, eq=False)
+class Item:
+    """What stands in a crate's texts under one name. Its lines, each with its number, are those that count; beside them stand comments, and the first
+    lines of a function. It cites other items by their names."""
+
+    name: str
+    kind: str
+    crate: str
+    path: pathlib.Path
+    lines: tuple
+    beside: tuple = ()
+    cites: frozenset = frozenset()
+    is_public: bool = False
+
+    @property
+    def first(self):
+        """The number of the first line that isn't a comment."""
+        return min(number for number, line in (*self.lines, *self.beside) if not line.lstrip().startswith(("--", "//")))
+
+
+def named_by(crate, module, name=""):
+    """The item that a name of a module of definitions is. A module below `declared` is that of a type or of constants of src/."""
+    first, *parts = module.split(".")
+    if first != "declared":
+        return f"{crate}.{module}.{name}"
+    parts = [name if it == "TheConstants" else it for it in parts if it != "TheVariants"]
+    return "::".join([crate, *parts])
+
+
+def used(line):
+    """The names that a `use` line brings, each with the item that it is, or, with a full stop behind it, with the module."""
+    found = USE.match(line)
+    if not found:
+        return {}
+    crate, _, module = found[1].partition(".specs")
+    module = module.lstrip(".")
+    if found[2] is None:
+        return {found[3] or module.rpartition(".")[2]: named_by(crate, module)}
+    parted = [re.split(r"\s+as\s+", it.strip()) for it in found[2].split(",")]
+    return {it[-1]: named_by(crate, module, it[0]) for it in parted}
+
+
+def plain(text):
+    """A text without comments and without what stands in quotes."""
+    return re.sub(r'"[^"\n]*"', '""', re.sub(r"(?m)(?:--|//).*$", "", text))
+
+
+def bound_in(text):
+    """The names that a text binds: variables of λ, of `let` and with a type, fields of a record, and fields that it gives values."""
+    names = {*FIELD.findall(text), *LET.findall(text), *ASSIGNED.findall(text)}
+    for binders in BINDERS.findall(text):
+        names.update(re.sub(r"\(([^():]*)(?::[^()]*)?\)", r"\1", binders).split())
+    for binders in TYPED.findall(text):
+        names.update(binders.split())
+    return names
+
+
+def arguments_of(name, lines):
+    """The names of a definition's arguments in its equations; what begins with a capital letter is a constructor."""
+    heads = [line.partition(" = ")[0] for _, line in lines if line.startswith(name + " ")]
+    words = {it for head in heads if " : " not in head for it in re.findall(r"[^\s(){}∷,]+", head)[1:]}
+    return {it for it in words if not it[0].isupper()}
+
+
+def cited(text, scope, bound):
+    """The items that a text cites: what a scope says of its words, but for those that are bound."""
+    found, module = set(), ""
+    for dot, word in WORD.findall(plain(text)):
+        item = module + word if dot and module else "" if dot or word in bound else scope.get(word, "")
+        module = item if item.endswith(".") else ""
+        if item and not module:
+            found.add(item)
+    return frozenset(found)
+
+
+def pieces(text):
+    """The definitions of a text in their order: the name of each, its lines, and the comments above and in it."""
+    found, above, is_inside = [], [], False
+    for number, line in enumerate(text.splitlines(), 1):
+        is_inside = line.startswith("module ") or (is_inside and line[:1] in ("", " "))
+        line = line.removeprefix("  ") if is_inside else line
+        head = HEAD.match(line)
+        name = head and (head[1] or head[2])
+        if not line.strip() or NO_DEFINITION.match(line):
+            above = []
+        elif line.startswith("--"):
+            above.append((number, line))
+        elif name and not (found and found[-1][0] == name):
+            found.append((name, [(number, line)], above))
+            above = []
+        elif found:
+            found[-1][2 if line.lstrip().startswith("--") else 1].append((number, line))
+        else:
+            raise ValueError(f"line {number} is of no definition: {line}")
+    return found
+
+
+def constructors_of(lines):
+    """The names of the constructors of a data type."""
+    is_data = re.match(r"(?:pub )?data ", lines[0][1])
+    return [found[1] for _, line in lines[1:] if is_data and (found := CONSTRUCTOR.match(line))]
+
+
+def definitions_in(path, crate, module):
+    """The definitions of a file of specs/."""
+    text = path.read_text()
+    own = pieces(text)
+    scope = {name: item for line in text.splitlines() for name, item in used(line).items()}
+    scope.update({it: f"{crate}.{module}.{name}" for name, lines, _ in own for it in (name, *constructors_of(lines))})
+    found = []
+    for name, lines, comments in own:
+        said = "\n".join(line for _, line in lines)
+        cites = cited(said, scope, bound_in(said) | arguments_of(name, lines)) - {scope[name]}
+        found.append(Item(f"{crate}.{module}.{name}", "definition", crate, path, tuple(lines), tuple(comments), cites))
+    return found
+
+
+def definitions_of(folder):
+    """The definitions of a crate."""
+    specs = folder / "specs"
+    files = [it for it in sorted(specs.rglob("*.antt")) if it.name != "Lib.antt"]
+    return [it for path in files for it in definitions_in(path, folder.name, ".".join(path.relative_to(specs).with_suffix("").parts))]

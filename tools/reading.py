@@ -1,0 +1,141 @@
+"""What has to be read to know what a promise says: the clauses of the calls that docs/PROOFS.md names for it, and what these cite, in turn.
+
+A table there whose last column is headed `Its calls` names calls in it by their paths, row by row; in brackets behind one stand the names of
+those of its clauses that carry the promise, where not all do. What callers have to see to is read in any case. A type is read with the value, the
+view and the invariant of its model, and with the types of the fields that these read; a trait's ghost members with those that each type has of it.
+"""
+
+import collections
+import dataclasses
+import re
+import sys
+
+import contracts
+import crates
+import definitions
+import sources
+
+# the crates of tests and of measurements, which promise nothing
+LEFT_OUT = {"crack_tests", "crack_session_tests", "crack_table_tests", "crack_server_tests", "crack_bench", "crack_bench_workers"}
+HEADLINE = "headline"
+CALLS = re.compile(r"`([\w:]+)::(\w+|\{[\w, ]+\})`(?: \(((?:`\w+`(?:, )?)+)\))?")
+
+
+class Reading:
+    """All items of the crates by name, and what each of them leads a reader to. The crates are given in their order, the lowest first."""
+
+    def __init__(self, items, order):
+        self.items = {it.name: it for it in items}
+        self.rank = {crate: at for at, crate in enumerate(order)}
+        self.had = collections.defaultdict(set)
+        traits = {it.name for it in items if it.kind == "trait"}
+        for it in items:
+            if it.kind == "ghost" and it.crate not in LEFT_OUT:
+                for trait in it.cites & traits:
+                    self.had[trait].add(it.name)
+
+    def cited(self, item):
+        """The names of the items that one leads to."""
+        return {it for it in item.cites if it in self.items} | self.had[item.name]
+
+    def reached(self, items):
+        """The names of the items that these lead to, in turn."""
+        found, left = set(), [name for it in items for name in self.cited(it)]
+        while left:
+            name = left.pop()
+            if name not in found:
+                found.add(name)
+                left += self.cited(self.items[name])
+        return found
+
+    def place(self, item):
+        """Where an item stands: its crate, the lowest first, its file and its line."""
+        return self.rank[item.crate], item.path.as_posix(), item.first
+
+    def ordered(self, items):
+        """These items crate by crate, the lowest first, each behind those that it cites, and a model's members right behind its type."""
+        chosen = {it.name: it for it in items}
+        met, found = set(), []
+
+        def cited(item):
+            return sorted((chosen[it] for it in item.cites if it in chosen), key=self.place)
+
+        def put(item):
+            if item.name in met:
+                return
+            members = [it for it in cited(item) if it.name.startswith(f"{item.name} as ")]
+            these = [item, *members]
+            met.update(it.name for it in these)
+            for it in (below for one in these for below in cited(one)):
+                put(it)
+            found.extend(these)
+
+        for it in sorted(chosen.values(), key=self.place):
+            put(it)
+        return found
+
+    def call(self, path):
+        """The call of a path, which has the modules left out or not."""
+        crate, *rest = path.split("::")
+        found = [it for it in self.items.values() if it.kind == "call" and it.crate == crate and it.is_called(rest)]
+        if len(found) != 1:
+            sys.exit(f"docs/PROOFS.md: {path} is the path of {len(found)} calls with clauses")
+        return found[0]
+
+    def read_for(self, roots):
+        """What has to be read for calls, each with the names of the clauses that are asked for or nothing, in the order in which it's read."""
+        calls = [narrowed(self.call(path), names) for path, names in roots.items()]
+        named = {it.name for it in calls}
+        return self.ordered([*calls, *(self.items[it] for it in self.reached(calls) - named)])
+
+
+def narrowed(call, names):
+    """A call with those alone of its clauses that have these names or that callers have to see to; with all of them where no name is given."""
+    kept = tuple(it for it in call.clauses if not names or it.is_required or it.name in names)
+    missing = set(names) - {it.name for it in kept}
+    if missing:
+        sys.exit(f"docs/PROOFS.md: {call.name} has no clause {sorted(missing)[0]}")
+    lines = tuple(line for it in kept for line in it.lines)
+    return dataclasses.replace(call, lines=lines, cites=call.signature.union(*(it.cites for it in kept)), clauses=kept)
+
+
+def roots_in(text):
+    """The calls of each promise that a text's tables name, the headline's under a name of its own: each with the names of clauses, none for all."""
+    promises, first = {}, ""
+    for line in text.splitlines():
+        cells = [it.strip() for it in line.strip().strip("|").split("|")] if line.startswith("|") else []
+        if not cells:
+            first = ""
+        elif cells[-1] == "Its calls":
+            first = cells[0]
+        elif first:
+            name = cells[0] if first == "Promise" else HEADLINE
+            for path, calls, clauses in CALLS.findall(cells[-1]):
+                more = {f"{path}::{call}": frozenset(re.findall(r"\w+", clauses)) for call in re.findall(r"\w+", calls)}
+                promises[name] = joined([promises.get(name, {}), more])
+    return promises
+
+
+def joined(many):
+    """The calls of several promises. One of which each asks for some clauses is asked for all of these; where one asks for the whole, for that."""
+    found = {}
+    for calls in many:
+        for path, names in calls.items():
+            before = found.get(path, names)
+            found[path] = before | names if before and names else frozenset()
+    return found
+
+
+def all_items(folders):
+    """The items of the crates in these folders."""
+    names = sources.Names()
+    files = [it for folder in folders for it in sources.read(folder, names)]
+    for source in files:
+        sources.fill_scope(source, names)
+    return [*(it for folder in folders for it in definitions.definitions_of(folder)), *contracts.items_of(files, names)]
+
+
+def whole():
+    """The reading of all crates."""
+    listed = crates.listed()
+    return Reading(all_items([it.folder for it in listed.values()]), listed)
