@@ -12,9 +12,9 @@ returns-in-Err-clause-stopped c = inl c.in-Err.ensures.same
 pub returns-then-pending_out-eq0-clause-settled : goal.returns-then-pending_out-eq0-clause-settled
 returns-then-pending_out-eq0-clause-settled c =
     CracksAndMerges-idle c.args.policy c.args.store.now c.crack.new.self c.args.range (omega (arith, c.requires.filled)) c.requires.low c.requires.high
-      c.in_default.ensures.ok c.in_default.ensures.cracked c.facts.ensures
-      (nil_from_length _ (sym c.pending_in.ensures ∙ c.if-pending_in-eq0.true))
-      (nil_from_length _ (sym c.pending_out.ensures ∙ c.if-pending_out-eq0.true))
+    c.in_default.ensures.ok c.in_default.ensures.cracked c.facts.ensures
+    (nil_from_length _ (sym c.pending_in.ensures ∙ c.if-pending_in-eq0.true))
+    (nil_from_length _ (sym c.pending_out.ensures ∙ c.if-pending_out-eq0.true))
 
 pub returns-in-Ok-clause-settled : goal.returns-in-Ok-clause-settled
 returns-in-Ok-clause-settled c = record {
