@@ -30,6 +30,14 @@ def printed(example, given, *interpreter):
     return ran.stdout
 
 
+def first(program):
+    layout = "layout 0 rows 4 column 4 out 0 in 0 cells 4 free 0 pieces 3\npiece 0 15 1\npiece 15 35 2\npiece 35 4294967296 1\n"
+    wanted = f"row 0.0\nrow 0.1\nrow 0.2\nrow 0.3\npolicy complete\ncount 4\npolicy ripple\nsum 5\n{layout}bye\n"
+    with (EXAMPLES / "first.txt").open() as given:
+        ran = subprocess.run([program, "script"], stdin=given, capture_output=True, text=True, timeout=server.SECONDS, check=False)
+    server.expect("first.txt: status, output and standard error", (0, wanted, ""), (ran.returncode, ran.stdout, ran.stderr))
+
+
 def client(program):
     wanted = "rows 0.0 to 0.999\ncount 500\nsum 499500\nselect [('0.10', 10, 20), ('0.11', 11, 22), ('0.12', 12, 24)]\n"
     with server.serving(program, (1004, 1000, 0, 1000), 1, 1) as port:
@@ -47,7 +55,7 @@ def csv(program):
 
 
 # each with the program that it needs
-CASES = [(client, sys.executable), (session, "nc"), (csv, "sqlite3"), *((it, sys.executable) for it in shell_cases.CASES)]
+CASES = [(first, sys.executable), (client, sys.executable), (session, "nc"), (csv, "sqlite3"), *((it, sys.executable) for it in shell_cases.CASES)]
 
 
 def run(program):

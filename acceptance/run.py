@@ -6,6 +6,7 @@ With WORD only the cases whose name has it. A case is a folder of cases/, whose 
     args        the words of the command line, one a line
     stdin       what the program reads; or stdin-from: the path that it reads from
     stdout      what it must write; or stdout-has: words, each line of which must stand in it; or stdout-to: the path that it writes to
+    stdout-fits the most lines that it may write, and the most columns of each
     stderr      what it must write on standard error
     status      the exit status that it must end with, where that isn't 0
 
@@ -21,7 +22,7 @@ import sys
 import tempfile
 
 CASES = pathlib.Path(__file__).resolve().parent / "cases"
-FILES = {"args", "stdin", "stdin-from", "stdout", "stdout-has", "stdout-to", "stderr", "status"}
+FILES = {"args", "stdin", "stdin-from", "stdout", "stdout-has", "stdout-to", "stdout-fits", "stderr", "status"}
 ONE_OF = [["stdin", "stdin-from"], ["stdout", "stdout-has", "stdout-to"]]
 SECONDS = 20
 
@@ -71,6 +72,14 @@ def misfits(case):
     ]
 
 
+def excess(case, wrote):
+    """What of standard output goes beyond the lines and the columns that a case allows, a line each."""
+    most, width = (int(it) for it in words_of(case, "stdout-fits"))
+    lines = wrote.decode().splitlines()
+    wide = [f"stdout: more than {width} columns: {it!r}" for it in lines if len(it) > width]
+    return [f"stdout: {len(lines)} lines, and at most {most} are allowed"] * (len(lines) > most) + wide
+
+
 def faults(program, case):
     """What is wrong with a case, a line each."""
     wrong = misfits(case)
@@ -90,6 +99,8 @@ def faults(program, case):
         found += [f"stdout: lacks {it!r}" for it in words_of(case, "stdout-has") if it not in wrote.decode()]
     elif wrote is not None and wrote != read(case, "stdout"):
         found.append(f"stdout: wanted {read(case, 'stdout')!r}, got {wrote!r}")
+    if (case / "stdout-fits").exists():
+        found += excess(case, wrote)
     if complained != read(case, "stderr"):
         found.append(f"stderr: wanted {read(case, 'stderr')!r}, got {complained!r}")
     return found

@@ -7,7 +7,7 @@ import sys
 import of_bench
 import report
 import sizes
-from inputs import random_insert_lines, script
+from inputs import random_counts, random_insert_lines, script
 from of_crackd import bytes_a_row, csv_and_script
 from of_workers import worker_times
 from programs import BENCH, CRACKD, PEERS, answers, compare, middle_of, middles, over_tcp
@@ -20,6 +20,17 @@ def loading(runs):
     totals = (sizes.PART_ROWS + 1, sizes.PART_ROWS, 0, sizes.PART_ROWS)
     by_tcp = statistics.median(over_tcp(CRACKD, "client", listed[1], totals) for _ in range(runs))
     return {"script": by_script, "csv": by_csv, "one client over TCP": by_tcp}
+
+
+def counts_behind_a_load(runs):
+    """How long the load takes, the warm-up behind it, and each count at once and behind the warm-up, in seconds."""
+    lines, counts = random_insert_lines(sizes.PART_ROWS), random_counts(sizes.RANGES)
+    warm_up = ["policy complete", f"count {sizes.EVERYTHING}", "policy ripple"]
+    given = {"load": [], "cold": counts, "warmed": warm_up, "warm": [*warm_up, *counts], "again": [*warm_up, *counts, *counts]}
+    pairs = [([CRACKD, "script"], script(f"behind-a-load-{name}", [*lines, *more])) for name, more in given.items()]
+    load, cold, warmed, warm, again = middles(pairs, runs)
+    each = {"cold": cold - load, "warm": warm - warmed, "again": again - warm}
+    return {"load": load, "warm-up": warmed - load, **{name: seconds / sizes.RANGES for name, seconds in each.items()}}
 
 
 def worker_rates(runs):
@@ -107,5 +118,5 @@ def rivals(runs):
 def write_report(folder, runs):
     """Measures what the page tells, and writes it with its plots into the folder."""
     contests = [*count_contests(runs), *([lookup_contest(runs)] if report.sqlite3 else [])]
-    told = (bytes_a_row(CRACKD), loading(runs), worker_rates(runs), contests, rivals(runs))
+    told = (bytes_a_row(CRACKD), loading(runs), counts_behind_a_load(runs), worker_rates(runs), contests, rivals(runs))
     report.write(folder, BENCH, PEERS, report.Measured(sizes.PART_ROWS, sizes.RANGES, runs, *told))

@@ -28,6 +28,13 @@ def random_insert_lines(lines):
     return random_inserts(lines).read_text().splitlines()
 
 
+def random_counts(count):
+    """As many counts of a hundredth of the keys, each at a random place."""
+    width, numbers = 2**32 // 100, random.Random(13)
+    lows = (numbers.randrange(2**32 - width) for _ in range(count))
+    return [f"count {low} {low + width}" for low in lows]
+
+
 def deletes(count, behind):
     """A file of inserts, of these lines behind them, and of as many deletes of the rows in random order, which end with these lines too."""
     order = list(range(sizes.PART_ROWS))

@@ -78,14 +78,15 @@ class Rivals:
 
 @dataclasses.dataclass
 class Measured:
-    """What stands in the report besides the queries: bytes a row by name, seconds by the way of loading, statements a second by the sharing,
-    contests, and what is fast in its own way."""
+    """What stands in the report besides the queries: bytes a row by name, seconds by the way of loading, those of counts behind a load,
+    statements a second by the sharing, contests, and what is fast in its own way."""
 
     rows: int
     ranges: int
     runs: int
     memory: dict
     loading: dict
+    counts: dict
     workers: dict
     contests: list
     rivals: Rivals
@@ -252,6 +253,18 @@ def loading_table(measured):
     return "\n".join(lines)
 
 
+def count_table(counts):
+    """What counts take behind a load, by what was said before them."""
+    lines = [
+        ("loading by `insert`", counts["load"]),
+        ("each count at once, under `ripple`, the policy of the start", counts["cold"]),
+        ("`policy complete`, a count of everything, and `policy ripple`", counts["warm-up"]),
+        ("each count behind that", counts["warm"]),
+        ("the same counts again", counts["again"]),
+    ]
+    return "\n".join(["| What | time |", "|---|---|", *(f"| {what} | {shown(seconds)} |" for what, seconds in lines)])
+
+
 def worker_table(workers):
     lines = ["| Workers | where | crackd, statements a second | gain | plain Rust | gain |", "|---|---|---|---|---|---|"]
     for where, rates in workers.items():
@@ -334,6 +347,14 @@ meanwhile.
 ![rows a second](ways.svg)
 
 {loading_table(measured)}
+
+## Counts behind a load
+
+Where rows were only inserted all of them are pending, and the column is empty. Under `ripple` a count puts its rows into it and the next one, of another
+range, puts these back among the pending rows: so each looks through all pending rows, again and again. One count of everything under
+`complete` ends that. {measured.ranges} counts of a hundredth of the keys, each at a random place, by `crackd script`:
+
+{count_table(measured.counts)}
 
 ## Workers
 
