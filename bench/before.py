@@ -164,7 +164,7 @@ def earlier(folder):
     programs = Programs(pathlib.Path(folder).resolve())
     missing = [str(programs.path(name)) for name in NAMES if not programs.path(name).is_file()]
     if missing:
-        how = "run `rt run` in crates/crackd and in crates/crack_bench there"
+        how = "run `python3 tools/prove.py crackd crack_bench` there"
         sys.exit(f"--before {folder}: its programs aren't built ({how}): {', '.join(missing)} missing")
     return programs
 

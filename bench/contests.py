@@ -26,10 +26,10 @@ def counts_behind_a_load(runs):
     """How long the load takes, the warm-up behind it, and each count at once and behind the warm-up, in seconds."""
     lines, counts = random_insert_lines(sizes.PART_ROWS), random_counts(sizes.RANGES)
     warm_up = ["policy complete", f"count {sizes.EVERYTHING}", "policy ripple"]
-    given = {"load": [], "cold": counts, "warmed": warm_up, "warm": [*warm_up, *counts], "again": [*warm_up, *counts, *counts]}
+    given = {"load": [], "cold": counts, "warmed": warm_up, "warm": [*warm_up, *counts], "again": [*warm_up, *counts, *(counts * sizes.REPEATS)]}
     pairs = [([CRACKD, "script"], script(f"behind-a-load-{name}", [*lines, *more])) for name, more in given.items()]
     load, cold, warmed, warm, again = middles(pairs, runs)
-    each = {"cold": cold - load, "warm": warm - warmed, "again": again - warm}
+    each = {"cold": cold - load, "warm": warm - warmed, "again": (again - warm) / sizes.REPEATS}
     return {"load": load, "warm-up": warmed - load, **{name: seconds / sizes.RANGES for name, seconds in each.items()}}
 
 
