@@ -7,6 +7,7 @@ import sys
 import of_bench
 import report
 import sizes
+import sorted_set
 from inputs import random_counts, random_insert_lines, script
 from of_crackd import bytes_a_row, csv_and_script
 from of_workers import worker_times
@@ -115,8 +116,24 @@ def rivals(runs):
     return report.Rivals(queries, merges, list(step_rivalries(runs)))
 
 
+def set_contests(runs):
+    """What is asked over TCP of `crackd serve` and of a Redis sorted set; nothing where there is no Redis."""
+    names = {
+        "load": (f"{sizes.PART_ROWS} inserts", 1),
+        "cold": ("each count at once, all rows pending, under `ripple`", sizes.RANGES),
+        "warm-up": ("`policy complete`, a count of everything, and `policy ripple`", 1),
+        "warm": ("each count behind that", sizes.RANGES),
+        "again": ("each of the same counts again", sizes.RANGES * sizes.SET_REPEATS),
+        "turns": ("a round trip of one of them", sizes.TURNS),
+        "updates": (f"{sorted_set.BATCH} inserts, {sorted_set.BATCH} deletes and a count", sizes.RANGES),
+    }
+    times = sorted_set.measured(runs)
+    both = ((what, [it / many for it in times[name]]) for name, (what, many) in names.items() if times)
+    return [report.Contest(what, ours, "a Redis sorted set", theirs) for what, (ours, theirs) in both]
+
+
 def write_report(folder, runs):
     """Measures what the page tells, and writes it with its plots into the folder."""
     contests = [*count_contests(runs), *([lookup_contest(runs)] if report.sqlite3 else [])]
-    told = (bytes_a_row(CRACKD), loading(runs), counts_behind_a_load(runs), worker_rates(runs), contests, rivals(runs))
+    told = (bytes_a_row(CRACKD), loading(runs), counts_behind_a_load(runs), worker_rates(runs), contests, rivals(runs), set_contests(runs))
     report.write(folder, BENCH, PEERS, report.Measured(sizes.PART_ROWS, sizes.RANGES, runs, *told))

@@ -79,7 +79,7 @@ class Rivals:
 @dataclasses.dataclass
 class Measured:
     """What stands in the report besides the queries: bytes a row by name, seconds by the way of loading, those of counts behind a load,
-    statements a second by the sharing, contests, and what is fast in its own way."""
+    statements a second by the sharing, contests, what is fast in its own way, and what a Redis sorted set takes, if there is one."""
 
     rows: int
     ranges: int
@@ -90,6 +90,7 @@ class Measured:
     workers: dict
     contests: list
     rivals: Rivals
+    sets: list
 
 
 class Series:
@@ -265,6 +266,22 @@ def count_table(counts):
     return "\n".join(["| What | time |", "|---|---|", *(f"| {what} | {shown(seconds)} |" for what, seconds in lines)])
 
 
+def set_text(measured):
+    """What the same takes over TCP by a Redis sorted set."""
+    if not measured.sets:
+        return "`redis-server` wasn't installed where this was written: nothing was compared."
+    lines = ["| What | crackd | Redis | times as fast as Redis |", "|---|---|---|---|"]
+    for it in measured.sets:
+        theirs = f"{shown(it.theirs)} | {it.theirs / it.ours:,.2f}" if it.theirs else "| "
+        lines.append(f"| {it.what} | {shown(it.ours)} | {theirs} |")
+    return f"""One client in Python asks both for the same over one connection, and each answers a line for a line. It sends without waiting and
+reads meanwhile, but for the round trips. There a row's number is the member of a sorted set, and its key the score (`ZADD`, `ZCOUNT` and `ZREM`); it keeps no
+payloads, and nothing on disk. It puts each row in its place as it comes, and needs no warm-up: its counts are the same in the lines above and
+below that of the warm-up. The counts are of a hundredth of the keys, {measured.ranges} of them.
+
+{chr(10).join(lines)}"""
+
+
 def worker_table(workers):
     lines = ["| Workers | where | crackd, statements a second | gain | plain Rust | gain |", "|---|---|---|---|---|---|"]
     for where, rates in workers.items():
@@ -293,7 +310,8 @@ def write(folder, bench, peers, measured):
 
 
 def page(series, measured):
-    contests = [*query_contests(series), *measured.contests]
+    over_tcp = [dataclasses.replace(it, what=f"over TCP: {it.what}") for it in measured.sets if it.theirs]
+    contests = [*query_contests(series), *measured.contests, *over_tcp]
     return f"""# Benchmarks
 
 Written by `python3 bench/run.py --report`: {measured.rows} rows of random keys, a count of everything, and then {measured.ranges} sums, each of a
@@ -355,6 +373,10 @@ range, puts these back among the pending rows: so each looks through all pending
 `complete` ends that. {measured.ranges} counts of a hundredth of the keys, each at a random place, by `crackd script`:
 
 {count_table(measured.counts)}
+
+## Beside a Redis sorted set, over TCP
+
+{set_text(measured)}
 
 ## Workers
 

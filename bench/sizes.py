@@ -5,8 +5,8 @@ ROWS = 1_000_000
 LINES = 200_000
 DELETES = 100_000
 PART_ROWS, RANGES = 500_000, 1000
-# how often the same ranges are counted again
-REPEATS = 100
+# how often the same ranges are counted again, by a script and over TCP
+REPEATS, SET_REPEATS = 100, 10
 POLICIES = ["complete", "gradual", "ripple"]
 # how many sums, and how many deletes and inserts before each
 BATCHES = [(1000, 10), (100, 1000)]
