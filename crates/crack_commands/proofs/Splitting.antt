@@ -3,7 +3,8 @@ use Rattle.std.proofs.Common.{◌≡◌, ℕ, ◌+◌, ◌<◌, ◌≤◌, true,
 use Rattle.std.proofs.lemmas.Bool.{or_parts, false≢true, ne_eqb, cases_lt}
 use Rattle.std.proofs.lemmas.List.{take_more, at_drop_more, take-append-drop, drop_all, drop_more, take_all}
 use Rattle.std.proofs.Math.Seq.{drop-nil}
-use Rattle.crack_commands.specs.Grammar.{between_spaces, words, is_word, has_space, before_stop, behind_stop, named, statement_of, IsFirstWord}
+use Rattle.crack_commands.specs.Grammar.{between_spaces, words, is_word, before_stop, behind_stop, named, statement_of}
+use Rattle.crack_commands.specs.FirstWords.{has_space, IsFirstWord}
 
 -- a space more at the front
 pub words_space : (xs : List ℕ) (i : ℕ) → i < length xs → get_or xs i 0 ≡ 32 → words (drop i xs) ≡ words xs → words (drop (i + 1) xs) ≡ words xs

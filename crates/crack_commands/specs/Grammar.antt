@@ -1,5 +1,5 @@
 -- The statements.
-use Rattle.std.specs.Prelude.{◌≡◌, ℕ, ◌+◌, ◌-◌, ◌*◌, Bool, true, false, List, [], ◌∷◌, length, filter, Option, None, Some, Result, Ok, Err, ◌==◌, ◌&&◌, ◌||◌, nat_lt, nat_le, if◌then◌else◌, codes, option_and_then}
+use Rattle.std.specs.Prelude.{ℕ, ◌+◌, ◌-◌, ◌*◌, Bool, true, false, List, [], ◌∷◌, length, filter, Option, None, Some, Result, Ok, Err, ◌==◌, ◌&&◌, nat_lt, nat_le, if◌then◌else◌, codes, option_and_then}
 use Rattle.std.specs.Str.{bytes_eq}
 use Rattle.std.specs.List.{list_all}
 use Rattle.crack_row.specs.Ranges.{Range}
@@ -36,16 +36,6 @@ is_word (b ∷ bs) = true
 abbrev pub words : List ℕ → List (List ℕ)
 words line = filter is_word (between_spaces line)
 
--- whether there is a space
-abbrev pub has_space : List ℕ → Bool
-has_space [] = false
-has_space (b ∷ bs) = b == 32 || has_space bs
-
--- the first of the words, and what stands behind it: no word where there is none
-pub record IsFirstWord (bytes word rest : List ℕ) : Type 0 where
-  pub some : is_word word ≡ true → words bytes ≡ word ∷ words rest
-  pub none : is_word word ≡ false → (words bytes ≡ []) × (words rest ≡ [])
-
 -- whether the byte is a decimal digit
 abbrev pub is_digit : ℕ → Bool
 is_digit b = nat_le 48 b && nat_lt b 58
@@ -58,10 +48,6 @@ value_on n (b ∷ bs) = value_on (n * 10 + (b - 48)) bs
 -- a NUMBER: 1 to MOST_DIGITS decimal digits, leading zeros too
 abbrev pub number_of : List ℕ → Option ℕ
 number_of word = if is_word word && nat_le (length word) MOST_DIGITS && list_all is_digit word then Some (value_on 0 word) else None
-
--- the number that the first of the words is, if it is one, and what stands behind that word
-abbrev pub IsFirstNumber : List ℕ → Option ℕ → List ℕ → Type 0
-IsFirstNumber bytes number rest = (word : List ℕ) × IsFirstWord bytes word rest × (number ≡ number_of word)
 
 -- two numbers, if both are there
 abbrev pub both : Option ℕ → Option ℕ → Option (ℕ × ℕ)

@@ -1,7 +1,8 @@
 //! Words and numbers among bytes.
 ghost use Rattle.std.specs.Prelude.{◌≡◌, ◌+◌, ◌^◌, ◌<◌, ◌≤◌, ◌≢◌, ◌↔◌, true, false, length, IsTrue, Some, take, drop, IfSome, slice_index};
 ghost use Rattle.std.specs.List.{list_all};
-ghost use Rattle.crack_commands.specs.Grammar.{words, number_of, number_up_to, two_numbers, only_word, row_number_of, before_stop, behind_stop, value_on, is_digit, has_space, IsFirstWord, IsFirstNumber};
+ghost use Rattle.crack_commands.specs.Grammar.{words, number_of, number_up_to, two_numbers, only_word, row_number_of, before_stop, behind_stop, value_on, is_digit};
+ghost use Rattle.crack_commands.specs.FirstWords.{has_space, IsFirstWord, IsFirstNumber};
 
 use crack_row::{RowNo, Serial};
 

@@ -19,7 +19,8 @@ use Rattle.crack_core.specs.Steps.{expected, expected_at, IsOutcome, tables_afte
 use Rattle.crack_session.specs.Queries.{listed}
 use Rattle.crack_commands.specs.Texts.{AppendsFront}
 use Rattle.crack_commands.proofs.Sending.{Appends-then, front_first, front_then}
-use Rattle.crack_csv.specs.Exports.{header_text, record_text, rows_at, rows_from, asked, lines_of, IsUnsent, AreUnsent, RefusesList, IsUnlisted, IsUnwritten, IsPartCut, IsExportCut}
+use Rattle.crack_csv.specs.Exports.{header_text, record_text, rows_at, rows_from, asked, lines_of, AreUnsent, RefusesList, IsExportCut}
+use Rattle.crack_csv.specs.Inside.{IsUnsent, IsUnlisted, IsUnwritten, IsPartCut}
 use Rattle.crack_csv.proofs.Exporting.{Exporting, batch_more, keeps_appends, kept_written, replied_rows, index_there, next_is, next_is_there, next_asked, next_rows}
 
 concat_map : {X : Type 0} (f : X → List ℕ) (xs : List X) → concat (map f xs) ≡ flat_map f xs

@@ -10,8 +10,9 @@ use Rattle.crack_row.specs.declared.refusal.Refusal.{Refusal}
 use Rattle.crack_row.specs.declared.refusal.Refusal.TheVariants.{ReadFault, OutOfMemory}
 use Rattle.crack_plain.specs.Plain.{PlainView}
 use Rattle.crack_csv.specs.declared.record.NewRow.{NewRow}
-use Rattle.crack_csv.specs.Records.{Fields, is_header, is_header_behind, without_header, new_row_of, IsBehind, AreAllOf}
-use Rattle.crack_csv.specs.Loads.{with_row, with_rows, BringsRow, AreInserted, IsLoaded, IsCause, IsCutShort}
+use Rattle.crack_csv.specs.Records.{Fields, is_header, is_header_behind, without_header, new_row_of, AreAllOf}
+use Rattle.crack_csv.specs.Inside.{IsBehind, BringsRow}
+use Rattle.crack_csv.specs.Loads.{with_row, with_rows, AreInserted, IsLoaded, IsCause, IsCutShort}
 
 without_header-more : (header : Bool) (first : Fields) (records : List Fields) (fields : Fields) → cond header (records ++ fields ∷ []) (first ∷ (records ++ fields ∷ [])) ≡ cond header records (first ∷ records) ++ fields ∷ []
 without_header-more true first records fields = refl

@@ -27,10 +27,6 @@ abbrev pub with_rows : List Bound → List PlainView → List NewRow → List Pl
 with_rows splits tables [] = tables
 with_rows splits tables (row ∷ rows) = with_rows splits (with_row splits tables row) rows
 
--- a record brings a row, which is inserted
-abbrev pub BringsRow : List Bound → List PlainView → Fields → Option (List PlainView) → Type 0
-BringsRow splits tables fields left = (row : NewRow) × (new_row_of fields ≡ Some row) × (left ≡ Some (with_row splits tables row))
-
 -- why the record of this number isn't inserted: it brings no row, or else as the partition of its key answers
 abbrev pub Refuses : ℕ → List Bound → List PlainView → ℕ → Option NewRow → Refusal → Type 0
 Refuses limit splits tables number None e = e ≡ BadRecord number

@@ -6,7 +6,8 @@ ghost use Rattle.crack_row.specs.Devices.{device, has_failed};
 ghost use Rattle.crack_plain.specs.Plain.{PlainView};
 ghost use Rattle.crack_core.specs.Steps.{tables_of};
 ghost use Rattle.crack_session.specs.Queries.{listed};
-ghost use Rattle.crack_csv.specs.Exports.{header_text, record_text, rows_from, all_rows, IsExported, IsPartExported, IsUnsent, AreUnsent, IsPartCut, IsExportCut};
+ghost use Rattle.crack_csv.specs.Exports.{header_text, record_text, rows_from, all_rows, IsExported, AreUnsent, IsExportCut};
+ghost use Rattle.crack_csv.specs.Inside.{IsPartExported, IsUnsent, IsPartCut};
 
 use crate::text::{header_text, rows_text};
 use crack_commands::send;

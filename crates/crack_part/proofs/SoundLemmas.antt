@@ -32,7 +32,8 @@ use Rattle.crack_state.proofs.AdmitLaws.{live_rows-admitted, freed-admitted, cel
 use Rattle.crack_state.proofs.PointLaws.{Spends, Spends-cancels, Spends-dooms, Spends-rewrites, found_by}
 use Rattle.crack_state.proofs.LookUpLaws.{row_by-find, row_by-pending}
 use Rattle.crack_store.specs.Inside.{no_cells}
-use Rattle.crack_part.specs.Parts.{Part, IsLimit, IsSound, IsFaithful, Serves, Prepares, Performs, Replaces, MayPerform, state_of, placed}
+use Rattle.crack_part.specs.Parts.{Part, IsLimit, IsSound, IsFaithful, Serves, Prepares, Performs, Replaces, state_of, placed}
+use Rattle.crack_part.specs.Inside.{MayPerform}
 use Rattle.crack_part.proofs.KeepLemmas.{Keeps, Keeps-room, Keeps-prepared, IsIntact-prepared}
 
 -- the next serial stays far below the greatest number

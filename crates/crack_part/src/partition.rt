@@ -13,7 +13,8 @@ ghost use Rattle.crack_state.specs.Points.{pending_by, MayFree, IsRenewable, Rem
 ghost use Rattle.crack_state.specs.Merge.{IsCracked, IsSettled, Merges, Tallies};
 ghost use Rattle.crack_merge.specs.Merges.{Stops};
 ghost use Rattle.crack_store.specs.Inside.{no_cells, IsLayoutOf};
-ghost use Rattle.crack_part.specs.Parts.{state_of, IsLimit, IsSound, IsFaithful, IsCommon, AreCommon, LeavesNear, CracksAndMerges, StopsRead, Serves, Spares, Prepares, MayPerform, Performs, Replaces, placed};
+ghost use Rattle.crack_part.specs.Parts.{state_of, IsLimit, IsSound, IsFaithful, LeavesNear, CracksAndMerges, StopsRead, Serves, Spares, Prepares, Performs, Replaces, placed};
+ghost use Rattle.crack_part.specs.Inside.{IsCommon, AreCommon, MayPerform};
 
 use crack_merge::{merge_complete, merge_gradual};
 use crack_ripple::merge_ripple;
