@@ -1,3 +1,3 @@
-pub mod FirstWords
+pub mod Inside
 pub mod Grammar
 pub mod Texts

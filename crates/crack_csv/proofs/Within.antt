@@ -12,7 +12,8 @@ use Rattle.crack_row.specs.declared.Row.{Row}
 use Rattle.crack_row.specs.declared.command.Command.{Command}
 use Rattle.crack_row.specs.declared.command.Command.TheVariants.{Insert, Delete, Update, Count, Sum, Select}
 use Rattle.crack_row.specs.declared.command.Entry.{Entry}
-use Rattle.crack_plain.specs.Plain.{PlainState, after, replay_from, no_rows, IsWithin, BringWithin}
+use Rattle.crack_plain.specs.Plain.{PlainState, after, no_rows, IsWithin, BringWithin}
+use Rattle.crack_plain.proofs.Laws.{replay_from}
 use Rattle.crack_part.specs.Parts.{Part, IsSound}
 use Rattle.crack_core.specs.Routes.{keys_of_part}
 use Rattle.crack_core.specs.Steps.{tables_of}

@@ -20,7 +20,8 @@ use Rattle.crack_row.specs.declared.command.Command.TheVariants.{Insert, Delete,
 use Rattle.crack_row.specs.declared.command.Policy.{Policy}
 use Rattle.crack_row.specs.declared.command.Reply.{Reply}
 use Rattle.crack_row.specs.declared.command.Entry.{Entry}
-use Rattle.crack_plain.specs.Plain.{PlainState, changed, after, reply_to, row_in, gone, rewritten, IsWithin}
+use Rattle.crack_plain.specs.Plain.{PlainState, changed, after, reply_to, row_in, IsWithin}
+use Rattle.crack_plain.specs.Inside.{gone, rewritten}
 use Rattle.crack_plain.specs.Totals.{is_placed, is_gone, is_changed}
 use Rattle.crack_plain.proofs.Laws.{IsLegal-push, replay-push, next-le-accepted, IsNumbered-replay}
 use Rattle.crack_plain.proofs.TotalLaws.{inserted-push, deleted-push, updated-push, inserted-le-accepted, deleted-le-accepted, updated-le-accepted}

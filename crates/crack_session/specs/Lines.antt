@@ -1,6 +1,5 @@
 -- The lines of a session's bytes.
 use Rattle.std.specs.Prelude.{ℕ, ◌-◌, Bool, false, List, [], ◌∷◌, length, take, slice_index, ◌==◌, ◌||◌, if◌then◌else◌}
-use Rattle.crack_commands.specs.Grammar.{onto_first}
 
 -- a line ends at a line feed, or at the end where bytes are left
 abbrev pub lines : List ℕ → List (List ℕ)
