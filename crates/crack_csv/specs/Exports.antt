@@ -1,5 +1,5 @@
 -- What `export_csv` leaves.
-use Rattle.std.specs.Prelude.{◌≡◌, ℕ, ◌+◌, ◌<◌, ◌⊎◌, List, [], ◌∷◌, ◌++◌, length, map, take, Option, Some, Err, codes, decimal, Bool, true}
+use Rattle.std.specs.Prelude.{◌≡◌, ℕ, ◌+◌, ◌<◌, ◌⊎◌, List, [], ◌∷◌, ◌++◌, length, map, take, slice_get, Option, Some, Err, codes, decimal, Bool, true}
 use Rattle.std.specs.List.{concat, flat_map}
 use Rattle.std.specs.Io.KnownBytes.{Appends}
 use Rattle.csv.specs.Writing.{default_writer, row_text}
@@ -30,11 +30,6 @@ abbrev pub rows_from : List Bound → ℕ → List PlainView → List Row
 rows_from splits part [] = []
 rows_from splits part (table ∷ tables) = rows_at splits part table ++ rows_from splits (part + 1) tables
 
--- all rows of these partitions: those of each in turn
-abbrev pub all_rows : List PlainView → List Row
-all_rows [] = []
-all_rows (table ∷ tables) = table.state.rows ++ all_rows tables
-
 -- a partition that was asked for its rows: these are as they were, and its history has one entry more
 abbrev pub asked : PlainView → PlainView
 asked table = record { state = table.state; accepted = table.accepted + 1 }
@@ -54,16 +49,11 @@ abbrev pub AreUnsent : List (List ℕ) → Refusal → Bool → Bool → Option 
 AreUnsent texts e failed failed' out out' = ((e ≡ OutOfMemory) × (failed' ≡ failed) × (count : ℕ) × (count < length texts) × Appends out out' (concat (take count texts)))
     ⊎ ((e ≡ WriteFault) × (failed' ≡ true) × AppendsFront out out' (concat texts))
 
--- why the partition of this number, if it is there, doesn't list its rows: as it is to answer
-abbrev pub RefusesList : ℕ → List Bound → ℕ → List PlainView → Refusal → Type 0
-RefusesList limit splits part [] e = ⊥
-RefusesList limit splits part (table ∷ rest) e = IsOutcome (expected limit (keys_of_part splits part) (Some table) (Select (keys_of_part splits part))) (Err e)
-
 -- why an export stops behind these partitions, before the rest: the lines aren't all written; or they are, and the next partition refuses the
 -- list of its rows; or there is no other, and what is written can't be handed on
 abbrev pub IsStopped : ℕ → List Bound → List PlainView → List PlainView → Refusal → Bool → Bool → Option (List ℕ) → Option (List ℕ) → Type 0
 IsStopped limit splits done rest e failed failed' out out' = AreUnsent (lines_of splits done) e failed failed' out out'
-    ⊎ (RefusesList limit splits (length done) rest e × (failed' ≡ failed) × Appends out out' (concat (lines_of splits done)))
+    ⊎ ((table : PlainView) × (slice_get rest 0 ≡ Some table) × IsOutcome (expected limit (keys_of_part splits (length done)) (Some table) (Select (keys_of_part splits (length done)))) (Err e) × (failed' ≡ failed) × Appends out out' (concat (lines_of splits done)))
     ⊎ ((e ≡ WriteFault) × (failed' ≡ true) × (rest ≡ []) × Appends out out' (concat (lines_of splits done)))
 
 -- An export that is refused: the first partitions are asked, and their rows are as they were; the rest is untouched.

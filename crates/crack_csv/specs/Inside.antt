@@ -1,5 +1,5 @@
 -- What private clauses alone cite.
-use Rattle.std.specs.Prelude.{◌≡◌, ℕ, ◌+◌, ◌⊎◌, List, [], ◌∷◌, length, map, Option, Some, Bool, true, false, slice_get, slice_set, None}
+use Rattle.std.specs.Prelude.{fold, Err, ◌≡◌, ℕ, ◌+◌, ◌⊎◌, List, [], ◌∷◌, length, map, Option, Some, Bool, true, false, slice_get, slice_set, None}
 use Rattle.std.specs.List.{flat_map}
 use Rattle.std.specs.Io.KnownBytes.{Appends, Keeps}
 use Rattle.csv.specs.Writing.{default_writer, fields_written, has_written, writer_setup}
@@ -9,16 +9,46 @@ use Rattle.crack_row.specs.declared.refusal.Refusal.{Refusal}
 use Rattle.crack_row.specs.declared.refusal.Refusal.TheVariants.{OutOfMemory, WriteFault, ReadFault}
 use Rattle.crack_plain.specs.Plain.{PlainView}
 use Rattle.crack_commands.specs.Texts.{AppendsFront}
-use Rattle.crack_csv.specs.Exports.{record_text, rows_at, asked, AreUnsent, RefusesList}
-use Rattle.crack_csv.specs.declared.record.NewRow.{NewRow}
-use Rattle.crack_csv.specs.Records.{Fields, new_row_of}
+use Rattle.crack_csv.specs.Exports.{record_text, rows_at, asked, AreUnsent}
+use Rattle.crack_csv.specs.Records.{is_header, new_row_of}
 use Rattle.crack_csv.specs.Loads.{with_row}
+use Rattle.crack_row.specs.declared.command.Command.{Command}
+use Rattle.crack_row.specs.declared.command.Command.TheVariants.{Insert, Select}
+use Rattle.crack_core.specs.Routes.{keys_of_part}
+use Rattle.crack_core.specs.Steps.{expected, IsOutcome}
+use Rattle.crack_csv.specs.declared.record.NewRow.{NewRow}
 use Rattle.csv.specs.declared.error.ErrorKind.{ErrorKind}
 use Rattle.csv.specs.declared.error.ErrorKind.TheVariants as kind
-use Rattle.csv.specs.Reading.{default_config, Ready, Reached, reader_config, reader_trim, reader_state, is_flexible, source_of}
+use Rattle.csv.specs.Reading.{AreRecords, default_config, Ready, Reached, reader_config, reader_trim, reader_state, is_flexible, source_of}
 use Rattle.csv.specs.declared.parser.State.TheVariants as st
 use Rattle.csv.specs.declared.reader.Reader.{Reader}
 use Rattle.csv.specs.declared.reader.Trim.TheVariants as trim
+
+-- the fields of a record
+abbrev pub Fields : Type 0
+Fields = List (List ℕ)
+
+-- whether a record is a header, behind these others
+abbrev pub is_header_behind : List Fields → Fields → Bool
+is_header_behind [] fields = is_header fields
+is_header_behind (first ∷ records) fields = false
+
+-- these are all records of a text
+abbrev pub AreAllOf : List ℕ → List Fields → Type 0
+AreAllOf text records = AreRecords default_config st.StartRecord text records
+
+-- the command that inserts a row
+abbrev pub insertion : NewRow → Command
+insertion row = Insert row.key row.payload
+
+-- the partitions after these rows are inserted, in order
+abbrev pub with_rows : List Bound → List PlainView → List NewRow → List PlainView
+with_rows splits tables rows = fold (with_row splits) tables rows
+
+-- why the partition of this number, if it is there, doesn't list its rows: as it is to answer
+abbrev pub RefusesList : ℕ → List Bound → ℕ → List PlainView → Refusal → Type 0
+RefusesList limit splits part [] e = ⊥
+RefusesList limit splits part (table ∷ rest) e = IsOutcome (expected limit (keys_of_part splits part) (Some table) (Select (keys_of_part splits part))) (Err e)
 
 -- a writer of CSV writes by default, and stands before a record
 pub record IsFresh {W : Type 0} (writer : Writer W) : Type 0 where

@@ -3,8 +3,8 @@ ghost use Rattle.std.specs.Prelude.{◌≡◌, ◌≢◌, ◌⊎◌, ◌++◌, �
 ghost use Rattle.csv.specs.Reading.{AreRecords};
 ghost use Rattle.csv.specs.Records.{fields_of};
 ghost use Rattle.csv.specs.declared.parser.State.TheVariants as st;
-ghost use Rattle.crack_csv.specs.Records.{Fields, is_header, new_row_of, AreAllOf};
-ghost use Rattle.crack_csv.specs.Inside.{unread_by, IsReady, IsBehind};
+ghost use Rattle.crack_csv.specs.Inside.{Fields, AreAllOf, unread_by, IsReady, IsBehind};
+ghost use Rattle.crack_csv.specs.Records.{is_header, new_row_of};
 
 use crack_commands::read_number_up_to;
 use crack_row::{GREATEST_KEY, GREATEST_PAYLOAD, Key, Payload, Refusal};
@@ -19,6 +19,7 @@ pub struct NewRow {
 }
 
 /// The row that a record brings: it has just two fields, a key and a payload, both numbers in range.
+#[tactic(auto, using(crate::proofs::Rows::brings_row, crate::proofs::Rows::no_key, crate::proofs::Rows::no_payload, crate::proofs::Rows::no_row))]
 pub fn new_row(fields: &ByteRecord) -> Option<NewRow>
     ensures { result ≡ new_row_of (fields_of fields.now) }
 {

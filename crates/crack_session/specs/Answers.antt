@@ -1,4 +1,5 @@
 -- What a session answers to a statement, and how it tells that.
+use Rattle.std.specs.List.{flat_map}
 use Rattle.std.specs.Prelude.{◌≡◌, ℕ, Bool, true, false, List, [], ◌∷◌, ◌++◌, ◌⊎◌, Result, Ok, Err, codes, slice_get}
 use Rattle.crack_row.specs.Ranges.{Range}
 use Rattle.crack_row.specs.declared.Bound.{Bound}
@@ -10,7 +11,7 @@ use Rattle.crack_row.specs.declared.refusal.Refusal.{Refusal}
 use Rattle.crack_row.specs.declared.refusal.Refusal.TheVariants.{HistoryFull, OutOfMemory}
 use Rattle.crack_plain.specs.Plain.{PlainView}
 use Rattle.crack_commands.specs.Grammar.{Reading}
-use Rattle.crack_commands.specs.Texts.{reply_text, count_text, sum_text, layout_text, policy_text, refusal_text}
+use Rattle.crack_commands.specs.Texts.{reply_text, head_text, row_text, count_text, sum_text, layout_text, policy_text, refusal_text}
 use Rattle.crack_commands.specs.declared.statement.Statement.{Statement}
 use Rattle.crack_commands.specs.declared.statement.Statement.TheVariants.{Insert, Delete, Update, Count, Sum, Select, Layout, Policy, Quit}
 use Rattle.crack_session.specs.declared.answer.Answer.{Answer}
@@ -18,20 +19,20 @@ use Rattle.crack_session.specs.declared.answer.Answer.TheVariants.{Replied, Coun
 use Rattle.crack_session.specs.declared.query.PartReply.{PartReply}
 use Rattle.crack_session.specs.declared.query.Query.{Query}
 use Rattle.crack_session.specs.declared.query.Query.TheVariants.{Count as AsksCount, Sum as AsksSum, Select as AsksSelect}
-use Rattle.crack_session.specs.Queries.{asking, joined_or, lists_text}
+use Rattle.crack_session.specs.Queries.{asking, joined, listed}
 use Rattle.crack_core.specs.Routes.{keys_of_part, route, parts_of}
 use Rattle.crack_core.specs.Steps.{expected_at, IsOutcome, IsLayoutOutcome, tables_after}
 
--- what a partition replied, or why it didn't
-abbrev pub answered : ℕ → Result Reply Refusal → Answer
-answered part (Ok reply) = Replied part reply
-answered part (Err e) = Refused e
+-- what is answered where something comes out, or why nothing did
+abbrev pub told : {X : Type 0} → (X → Answer) → Result X Refusal → Answer
+told answer (Ok x) = answer x
+told answer (Err e) = Refused e
 
 -- One partition is asked: the answer is what comes out of it, and the partitions are new afterwards.
 pub record IsAsked (limit : ℕ) (splits : List Bound) (tables : List PlainView) (part : ℕ) (command : Command) (answer : Answer) (new : List PlainView) : Type 0 where
   pub outcome : Result Reply Refusal
   pub comes_out : IsOutcome (expected_at limit splits tables part command) outcome
-  pub answer_is : answer ≡ answered part outcome
+  pub answer_is : answer ≡ told (Replied part) outcome
   pub new_is : new ≡ tables_after tables part command outcome
 
 -- Several partitions are asked in turn, each for its part of a range: their replies, or the first refusal, and the partitions afterwards.
@@ -53,27 +54,18 @@ pub data AsksInTurn (limit : ℕ) (splits : List Bound) (query : Query) (tables 
 pub record IsJoined (limit : ℕ) (splits : List Bound) (tables : List PlainView) (query : Query) (parts : List (ℕ × Range)) (answer : Answer) (new : List PlainView) : Type 0 where
   pub outcome : Result (List PartReply) Refusal
   pub asked : AsksInTurn limit splits query tables parts outcome new
-  pub answer_is : answer ≡ joined_or query outcome
+  pub answer_is : answer ≡ told (joined query) outcome
 
--- Several partitions are asked: in turn, or none of them, where no memory is found for their replies.
-abbrev pub AsksSeveral : ℕ → List Bound → List PlainView → Query → List (ℕ × Range) → Answer → List PlainView → Type 0
-AsksSeveral limit splits tables query parts answer new = IsJoined limit splits tables query parts answer new ⊎ ((answer ≡ Refused OutOfMemory) × (new ≡ tables))
-
--- These parts of a range are asked: one alone as by any command.
+-- These parts of a range are asked: one alone as by any command; several in turn, or none of them, where no memory is found for their replies.
 abbrev pub AsksParts : ℕ → List Bound → List PlainView → Query → List (ℕ × Range) → Answer → List PlainView → Type 0
 AsksParts limit splits tables query (part ∷ []) answer new = IsAsked limit splits tables part.0 (asking query part.1) answer new
-AsksParts limit splits tables query parts answer new = AsksSeveral limit splits tables query parts answer new
-
--- how a partition was laid out, or why it wasn't
-abbrev pub laid : ℕ → Result PartLayout Refusal → Answer
-laid part (Ok layout) = Laid part layout
-laid part (Err e) = Refused e
+AsksParts limit splits tables query parts answer new = IsJoined limit splits tables query parts answer new ⊎ ((answer ≡ Refused OutOfMemory) × (new ≡ tables))
 
 -- One partition is laid out: the answer is any layout that it may have.
 pub record IsLaidOut (splits : List Bound) (tables : List PlainView) (part : ℕ) (answer : Answer) : Type 0 where
   pub outcome : Result PartLayout Refusal
   pub comes_out : IsLayoutOutcome (keys_of_part splits part) (slice_get tables part) outcome
-  pub answer_is : answer ≡ laid part outcome
+  pub answer_is : answer ≡ told (Laid part) outcome
 
 -- an answer to a statement, and the partitions afterwards: the partition that holds a row's key or that its number names is asked, and for
 -- a range those that hold a part of it
@@ -109,7 +101,7 @@ unfoldable pub answer_text : Answer → List ℕ
 answer_text (Replied part reply) = reply_text part reply
 answer_text (Counted total) = count_text total
 answer_text (Summed total) = sum_text total
-answer_text (Listed total lists) = lists_text total lists
+answer_text (Listed total lists) = head_text total ++ flat_map (λ (r : PartReply). flat_map (row_text r.part) (listed r.reply)) lists
 answer_text (Laid part layout) = layout_text part layout
 answer_text (Set policy) = policy_text policy
 answer_text (Refused e) = refusal_text e

@@ -2,7 +2,11 @@
 use Rattle.std.specs.Prelude.{◌≡◌, ℕ, ◌+◌, ◌*◌, ◌<◌, ◌≤◌, Bool, true, false, List, [], ◌∷◌, ◌++◌, length, take, Option, Some, ◌==◌, if◌then◌else◌}
 use Rattle.std.specs.Io.KnownBytes.{prepend_known}
 use Rattle.crack_session.specs.declared.input.TheConstants.{READ_BYTES, KEPT_BYTES}
-use Rattle.crack_session.specs.Lines.{has_feed}
+use Rattle.std.specs.List.{list_any}
+
+-- whether there is a line feed
+abbrev pub has_feed : List ℕ → Bool
+has_feed bytes = list_any (λ b. b == 10) bytes
 
 -- the bytes before the first line feed
 abbrev pub first_line : List ℕ → List ℕ

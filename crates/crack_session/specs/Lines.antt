@@ -1,4 +1,5 @@
 -- The lines of a session's bytes.
+use Rattle.std.specs.List.{onto_first}
 use Rattle.std.specs.Prelude.{ℕ, ◌-◌, Bool, false, List, [], ◌∷◌, length, take, slice_index, ◌==◌, ◌||◌, if◌then◌else◌}
 
 -- a line ends at a line feed, or at the end where bytes are left
@@ -10,7 +11,3 @@ lines (b ∷ bs) = if b == 10 then [] ∷ lines bs else onto_first b (lines bs)
 abbrev pub without_return : List ℕ → List ℕ
 without_return line = if slice_index line (length line - 1) == 13 then take (length line - 1) line else line
 
--- whether there is a line feed
-abbrev pub has_feed : List ℕ → Bool
-has_feed [] = false
-has_feed (b ∷ bs) = b == 10 || has_feed bs

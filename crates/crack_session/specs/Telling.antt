@@ -1,5 +1,6 @@
 -- What private clauses alone cite.
-use Rattle.std.specs.Prelude.{◌≡◌, ℕ, ◌+◌, Bool, true, false, List, Option, None, Some, Result, is_ok, OnOk, IfErr, if◌then◌else◌}
+use Rattle.std.specs.List.{flat_map}
+use Rattle.std.specs.Prelude.{◌≡◌, ℕ, ◌+◌, ◌⊎◌, ◌++◌, sum_by, Bool, true, false, List, Option, None, Some, Result, is_ok, OnOk, IfErr, if◌then◌else◌}
 use Rattle.std.specs.Io.KnownBytes.{Appends}
 use Rattle.crack_row.specs.Devices.{device, has_failed}
 use Rattle.crack_row.specs.declared.Bound.{Bound}
@@ -11,9 +12,17 @@ use Rattle.crack_plain.specs.Plain.{PlainView}
 use Rattle.crack_commands.specs.Grammar.{Reading}
 use Rattle.crack_commands.specs.Texts.{AppendsFront}
 use Rattle.crack_session.specs.declared.answer.Answer.{Answer}
-use Rattle.crack_session.specs.declared.answer.Answer.TheVariants.{Set}
 use Rattle.crack_session.specs.declared.session.Progress.{Progress}
-use Rattle.crack_session.specs.Answers.{IsAnswer, is_short_answer, answer_text}
+use Rattle.crack_row.specs.Ranges.{Range}
+use Rattle.crack_row.specs.declared.command.Reply.{Reply}
+use Rattle.crack_row.specs.declared.layout.Layout.{Layout as PartLayout}
+use Rattle.crack_row.specs.declared.refusal.Refusal.TheVariants.{OutOfMemory}
+use Rattle.crack_commands.specs.Texts.{head_text, row_text}
+use Rattle.crack_session.specs.declared.answer.Answer.TheVariants.{Replied, Laid, Set, Refused}
+use Rattle.crack_session.specs.declared.query.PartReply.{PartReply}
+use Rattle.crack_session.specs.declared.query.Query.{Query}
+use Rattle.crack_session.specs.Queries.{counted, summed, joined, listed}
+use Rattle.crack_session.specs.Answers.{told, IsJoined, IsAnswer, is_short_answer, answer_text}
 
 -- A desk is asked: its tables, where they are known, change as they may by its limit and splits, and these stay.
 pub record AsksDesk {D : Type 0} (limit : D → ℕ) (splits : D → List Bound) (tables : D → Option (List PlainView)) (IsChange : ℕ → List Bound → List PlainView → List PlainView → Type 0) (old new : D) : Type 0 where
@@ -51,3 +60,35 @@ pub record Responds {D W : Type 0} (limit : D → ℕ) (splits : D → List Boun
   pub answer : Answer
   pub asks : AsksDesk limit splits tables (λ limit splits tables. IsAnswer limit splits tables reading answer) desk desk'
   pub tells : Tells contents answer old new result writer writer'
+
+-- how many rows these count or list, all together
+abbrev pub rows_told : List PartReply → ℕ
+rows_told replies = sum_by (λ (r : PartReply). counted r.reply) replies
+
+-- their sums, added
+abbrev pub sum_told : List PartReply → ℕ
+sum_told replies = sum_by (λ (r : PartReply). summed r.reply) replies
+
+-- what several partitions reply together, or why one of them refused
+abbrev pub joined_or : Query → Result (List PartReply) Refusal → Answer
+joined_or query outcome = told (joined query) outcome
+
+-- the rows that a partition listed
+abbrev pub list_text : PartReply → List ℕ
+list_text r = flat_map (row_text r.part) (listed r.reply)
+
+-- the lists of several partitions: how many rows there are in all, and then each row
+abbrev pub lists_text : ℕ → List PartReply → List ℕ
+lists_text total replies = head_text total ++ flat_map list_text replies
+
+-- what a partition replied, or why it didn't
+abbrev pub answered : ℕ → Result Reply Refusal → Answer
+answered part outcome = told (Replied part) outcome
+
+-- how a partition was laid out, or why it wasn't
+abbrev pub laid : ℕ → Result PartLayout Refusal → Answer
+laid part outcome = told (Laid part) outcome
+
+-- Several partitions are asked: in turn, or none of them, where no memory is found for their replies.
+abbrev pub AsksSeveral : ℕ → List Bound → List PlainView → Query → List (ℕ × Range) → Answer → List PlainView → Type 0
+AsksSeveral limit splits tables query parts answer new = IsJoined limit splits tables query parts answer new ⊎ ((answer ≡ Refused OutOfMemory) × (new ≡ tables))
