@@ -1,5 +1,5 @@
 -- How a load goes on, one record after another.
-use Rattle.std.proofs.Common.{◌≡◌, ℕ, ◌+◌, ◌<◌, ◌==◌, ◌&&◌, ◌⊎◌, Bool, true, false, cond, Option, Some, List, [], ◌∷◌, ◌++◌, length, map, refl, sym, ap, ◌∙◌, inl, inr, arith, length-append}
+use Rattle.std.proofs.Common.{◌≡◌, ℕ, ◌+◌, ◌<◌, ◌==◌, ◌&&◌, ◌⊎◌, Bool, true, false, cond, fold, Option, Some, List, [], ◌∷◌, ◌++◌, length, map, refl, sym, ap, ◌∙◌, inl, inr, arith, length-append}
 use Rattle.std.proofs.lemmas.List.{map-append}
 use Rattle.std.proofs.lemmas.Bool.{ne_eqb}
 use Rattle.csv.specs.Reading.{Reached, source_of, strip_bom, reader_state}
@@ -10,10 +10,19 @@ use Rattle.crack_row.specs.declared.refusal.Refusal.{Refusal}
 use Rattle.crack_row.specs.declared.refusal.Refusal.TheVariants.{ReadFault, OutOfMemory}
 use Rattle.crack_plain.specs.Plain.{PlainView}
 use Rattle.crack_csv.specs.declared.record.NewRow.{NewRow}
-use Rattle.crack_csv.specs.Inside.{Fields, is_header_behind, AreAllOf, IsBehind, BringsRow, with_rows}
+use Rattle.crack_csv.specs.Inside.{Fields, AreAllOf, IsBehind, BringsRow}
 use Rattle.crack_csv.specs.Records.{is_header, without_header, new_row_of}
 use Rattle.crack_csv.specs.Loads.{with_row, Refuses, AreInserted, IsLoaded, IsCutShort}
 use Rattle.crack_csv.specs.declared.TheConstants.{MOST_RECORDS}
+
+-- whether a record is a header, behind these others
+abbrev is_header_behind : List Fields → Fields → Bool
+is_header_behind [] fields = is_header fields
+is_header_behind (first ∷ records) fields = false
+
+-- the partitions after these rows are inserted, in order
+abbrev with_rows : List Bound → List PlainView → List NewRow → List PlainView
+with_rows splits tables rows = fold (with_row splits) tables rows
 
 without_header-more : (header : Bool) (first : Fields) (records : List Fields) (fields : Fields) → cond header (records ++ fields ∷ []) (first ∷ (records ++ fields ∷ [])) ≡ cond header records (first ∷ records) ++ fields ∷ []
 without_header-more true first records fields = refl

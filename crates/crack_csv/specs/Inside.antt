@@ -1,5 +1,5 @@
 -- What private clauses alone cite.
-use Rattle.std.specs.Prelude.{fold, Err, ◌≡◌, ℕ, ◌+◌, ◌⊎◌, List, [], ◌∷◌, length, map, Option, Some, Bool, true, false, slice_get, slice_set, None}
+use Rattle.std.specs.Prelude.{Err, ◌≡◌, ℕ, ◌+◌, ◌⊎◌, List, [], ◌∷◌, length, map, Option, Some, Bool, true, false, slice_get, slice_set, None}
 use Rattle.std.specs.List.{flat_map}
 use Rattle.std.specs.Io.KnownBytes.{Appends, Keeps}
 use Rattle.csv.specs.Writing.{default_writer, fields_written, has_written, writer_setup}
@@ -10,7 +10,7 @@ use Rattle.crack_row.specs.declared.refusal.Refusal.TheVariants.{OutOfMemory, Wr
 use Rattle.crack_plain.specs.Plain.{PlainView}
 use Rattle.crack_commands.specs.Texts.{AppendsFront}
 use Rattle.crack_csv.specs.Exports.{record_text, rows_at, asked, AreUnsent}
-use Rattle.crack_csv.specs.Records.{is_header, new_row_of}
+use Rattle.crack_csv.specs.Records.{new_row_of}
 use Rattle.crack_csv.specs.Loads.{with_row}
 use Rattle.crack_row.specs.declared.command.Command.{Command}
 use Rattle.crack_row.specs.declared.command.Command.TheVariants.{Insert, Select}
@@ -28,11 +28,6 @@ use Rattle.csv.specs.declared.reader.Trim.TheVariants as trim
 abbrev pub Fields : Type 0
 Fields = List (List ℕ)
 
--- whether a record is a header, behind these others
-abbrev pub is_header_behind : List Fields → Fields → Bool
-is_header_behind [] fields = is_header fields
-is_header_behind (first ∷ records) fields = false
-
 -- these are all records of a text
 abbrev pub AreAllOf : List ℕ → List Fields → Type 0
 AreAllOf text records = AreRecords default_config st.StartRecord text records
@@ -40,10 +35,6 @@ AreAllOf text records = AreRecords default_config st.StartRecord text records
 -- the command that inserts a row
 abbrev pub insertion : NewRow → Command
 insertion row = Insert row.key row.payload
-
--- the partitions after these rows are inserted, in order
-abbrev pub with_rows : List Bound → List PlainView → List NewRow → List PlainView
-with_rows splits tables rows = fold (with_row splits) tables rows
 
 -- why the partition of this number, if it is there, doesn't list its rows: as it is to answer
 abbrev pub RefusesList : ℕ → List Bound → ℕ → List PlainView → Refusal → Type 0

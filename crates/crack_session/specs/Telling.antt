@@ -14,15 +14,13 @@ use Rattle.crack_commands.specs.Texts.{AppendsFront}
 use Rattle.crack_session.specs.declared.answer.Answer.{Answer}
 use Rattle.crack_session.specs.declared.session.Progress.{Progress}
 use Rattle.crack_row.specs.Ranges.{Range}
-use Rattle.crack_row.specs.declared.command.Reply.{Reply}
-use Rattle.crack_row.specs.declared.layout.Layout.{Layout as PartLayout}
 use Rattle.crack_row.specs.declared.refusal.Refusal.TheVariants.{OutOfMemory}
 use Rattle.crack_commands.specs.Texts.{head_text, row_text}
-use Rattle.crack_session.specs.declared.answer.Answer.TheVariants.{Replied, Laid, Set, Refused}
+use Rattle.crack_session.specs.declared.answer.Answer.TheVariants.{Set, Refused}
 use Rattle.crack_session.specs.declared.query.PartReply.{PartReply}
 use Rattle.crack_session.specs.declared.query.Query.{Query}
-use Rattle.crack_session.specs.Queries.{counted, summed, joined, listed}
-use Rattle.crack_session.specs.Answers.{told, IsJoined, IsAnswer, is_short_answer, answer_text}
+use Rattle.crack_session.specs.Queries.{counted, summed, listed}
+use Rattle.crack_session.specs.Answers.{IsJoined, IsAnswer, is_short_answer, answer_text}
 
 -- A desk is asked: its tables, where they are known, change as they may by its limit and splits, and these stay.
 pub record AsksDesk {D : Type 0} (limit : D → ℕ) (splits : D → List Bound) (tables : D → Option (List PlainView)) (IsChange : ℕ → List Bound → List PlainView → List PlainView → Type 0) (old new : D) : Type 0 where
@@ -69,10 +67,6 @@ rows_told replies = sum_by (λ (r : PartReply). counted r.reply) replies
 abbrev pub sum_told : List PartReply → ℕ
 sum_told replies = sum_by (λ (r : PartReply). summed r.reply) replies
 
--- what several partitions reply together, or why one of them refused
-abbrev pub joined_or : Query → Result (List PartReply) Refusal → Answer
-joined_or query outcome = told (joined query) outcome
-
 -- the rows that a partition listed
 abbrev pub list_text : PartReply → List ℕ
 list_text r = flat_map (row_text r.part) (listed r.reply)
@@ -80,14 +74,6 @@ list_text r = flat_map (row_text r.part) (listed r.reply)
 -- the lists of several partitions: how many rows there are in all, and then each row
 abbrev pub lists_text : ℕ → List PartReply → List ℕ
 lists_text total replies = head_text total ++ flat_map list_text replies
-
--- what a partition replied, or why it didn't
-abbrev pub answered : ℕ → Result Reply Refusal → Answer
-answered part outcome = told (Replied part) outcome
-
--- how a partition was laid out, or why it wasn't
-abbrev pub laid : ℕ → Result PartLayout Refusal → Answer
-laid part outcome = told (Laid part) outcome
 
 -- Several partitions are asked: in turn, or none of them, where no memory is found for their replies.
 abbrev pub AsksSeveral : ℕ → List Bound → List PlainView → Query → List (ℕ × Range) → Answer → List PlainView → Type 0

@@ -36,7 +36,7 @@ pub struct LineReader {
 
 impl Model for LineReader {
     ghost use Rattle.std.specs.Prelude.{◌≤◌, ◌==◌, slice_range};
-    ghost use Rattle.crack_session.specs.Lines.{Input};
+    ghost use Rattle.crack_session.specs.Input.{Input};
     ghost use Rattle.crack_session.specs.declared.input.TheConstants.{ROOM_BYTES};
 
     ghost Value = { Input };
