@@ -1,5 +1,4 @@
-#!/usr/bin/env python3
-"""Gives the program CSV of all kinds, cut anywhere, and compares what it exports: csv_input.py PROGRAM [SEED ..]
+"""Gives the program CSV of all kinds, cut anywhere, and compares what it exports.
 
 Records are read here as docs/SPECIFICATION.md and RFC 4180 have them: fields between commas, a field that begins with a quote goes on to the next quote
 that isn't doubled, and what stands behind that quote belongs to the field; a line feed or a carriage return ends a record; a line without anything is none.

@@ -1,5 +1,4 @@
-#!/usr/bin/env python3
-"""Runs the program over devices that fail: devices.py PROGRAM [SEED ..]
+"""Runs the program over devices that fail.
 
 What was written when a device failed must be a front of what would have been written: where reading failed, whole replies alone; where writing failed, as
 much as the device took. The program then ends with 17 or 18, or by the signal that the system sends it.
@@ -20,7 +19,6 @@ import termios
 import threading
 import time
 
-import lines
 import memory
 import plain_session
 import random_script

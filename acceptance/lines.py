@@ -1,5 +1,4 @@
-#!/usr/bin/env python3
-"""Gives the program lines of all kinds, cut into pieces anywhere, and compares what it answers: lines.py PROGRAM [SEED ..]
+"""Gives the program lines of all kinds, cut into pieces anywhere, and compares what it answers.
 
 A line is made of the grammar's words, numbers at their limits, spaces, carriage returns and bytes 0 to 255, or is a statement in which a byte or a word
 was changed, put in, or taken out. Its answer is that of plain_session.py, which reads it by the rules alone. A session is written in pieces, whose size is the
@@ -158,6 +157,18 @@ def fault(program, seed):
     return wrong and f"lines, seed {seed}, in pieces of {piece}: {wrong}"
 
 
+def each_line_on_a_fresh_table(program):
+    """Each of these lines, which are at the limits of the rules, is the whole input."""
+    given = [
+        b"insert 1\n", b"insert 1 2 3\n", b"INSERT 1 2\n", b"insert 1 -2\n", b"insert 1\t2\n", b"quit now\n", b"delete 0 .1\n", b"delete 4294967296.0\n",
+        b"delete 0.18446744073709551616\n", b"count 000000000000000000000 5\n", b"insert 1 1\r\r\n", b" " * 201 + b"\n", b"count 18446744073709551616 0\n",
+        b"count 0 99999999999999999999\n", b"delete 1.0\n", b"layout 4294967295\n", b"delete 0.18446744073709551615\n", b"  insert   007   08  \n",
+        b"insert 1 1".ljust(200) + b"\n", b"insert 1 1".ljust(200) + b"\r\n", b"\r\n", b"\r",
+    ]  # fmt: skip
+    found = ((it, fault_of_session(program, it)) for it in given)
+    return next((f"{it!r}: {wrong}" for it, wrong in found if wrong), None)
+
+
 def cut_anywhere(program):
     """Statements are cut after each byte, each cut a session of its own that breaks off there, or that ends by a carriage return; and all a line each."""
     cuts = [it[:size] for it in STATEMENTS for size in range(len(it) + 1)]
@@ -188,4 +199,4 @@ def a_line_of_64_megabytes(program):
     return None
 
 
-CASES = [cut_anywhere, each_byte_anywhere, a_line_of_64_megabytes]
+CASES = [each_line_on_a_fresh_table, cut_anywhere, each_byte_anywhere, a_line_of_64_megabytes]

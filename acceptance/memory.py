@@ -1,13 +1,12 @@
-#!/usr/bin/env python3
-"""Refuses memory to the program, call by call: memory.py PROGRAM [SEED ..]
+"""Refuses memory to the program, call by call.
 
 Each call for memory of a run is refused in turn, from the first on until a run meets none that is refused: alone; with the three behind it; with all
 behind it; and each by chance, one in fifty. What is answered must be what the lists of plain_session.py answer that never saw the statements which were
 refused with 8, and no more statements may be refused than calls were. A run may also end with 8 where the program opens.
-A small library, refusing.c, refuses the calls. It is compiled here; where there is no C compiler nothing is run, and that is said.
+A small library, refusing.c, refuses the calls. It is compiled here; where there is no C compiler nothing is refused, and hostile.py says so.
 """
 
-import contextlib
+import atexit
 import functools
 import os
 import pathlib
@@ -15,7 +14,6 @@ import random
 import shutil
 import struct
 import subprocess
-import sys
 import tempfile
 
 import compare
@@ -48,6 +46,7 @@ SCRIPTS = {
 def library():
     """The library that refuses, compiled; None where that can't be done."""
     room = tempfile.mkdtemp(prefix="crackd-refusing-")
+    atexit.register(shutil.rmtree, room, ignore_errors=True)
     made = pathlib.Path(room) / "refusing.so"
     for compiler in COMPILERS:
         command = [compiler, "-O2", "-shared", "-fPIC", "-o", str(made), str(SOURCE), "-ldl"]
@@ -172,3 +171,15 @@ def fault_of_random(program, seed, way):
     """Sweeps one way over the random script of a seed. What is wrong, or None, and how many runs there were."""
     words, given, splits, limit = random_session(seed)
     return sweep_script(program, words, given, way, splits, limit)
+
+
+def is_there():
+    """Whether memory can be refused here."""
+    return library() is not None
+
+
+def fault(program, seed):
+    """What is wrong with a sweep over the random script of a seed, which draws the way, too; or None."""
+    way = list(WAYS)[seed % len(WAYS)]
+    wrong, _ = fault_of_random(program, seed, way)
+    return wrong and f"memory, script of seed {seed}, {wrong}"

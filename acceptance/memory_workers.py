@@ -213,3 +213,10 @@ def fault_of_test(built, name):
             return f"alone {number}: status {ran.returncode}, {(ran.stdout + ran.stderr)[-300:]!r}", number
         if not refused:
             return None, number
+
+
+def fault(program, seed):
+    """What is wrong with a sweep over the batch or the server of a seed, which draws the way, too; or None."""
+    case, way = [fault_of_batch, fault_of_server][seed % 2], ["alone", "all", "chance"][seed // 2 % 3]
+    wrong, _ = case(program, seed, way)
+    return wrong and f"memory, {case.__name__.removeprefix('fault_of_')} of seed {seed}, {wrong}"
