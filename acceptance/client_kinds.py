@@ -298,5 +298,6 @@ KINDS = [
     (floods, 1, 4),
     (pipelines, 1, 4),
 ]
+TAKE_LONG = {silent, slow, pipelines, floods}
 # those that may be gone before a worker has come to them
 ABRUPT = {closes, resets, half_a_line, random_bytes}

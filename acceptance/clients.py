@@ -18,11 +18,12 @@ import threading
 import time
 
 import check_clients
-from client_kinds import ABRUPT, KINDS, Connection, Guest, honest
+from client_kinds import ABRUPT, KINDS, TAKE_LONG, Connection, Guest, honest, silent
 from client_rows import Account, Own, check_totals, come_to, most_bytes
 from server import MOST, MOST_WORKERS, SECONDS, Wrong, expect, started
 
 SEED, SESSIONS, SLOW_SECONDS = 1, 400, 8
+MOST_SESSIONS, MOST_SECONDS = 3000, 40
 # how many keys each client has, how many splits there are, and how many connections may wait for a worker
 WIDTH, SPLITS, WAITING = 1_000_000, 7, 64
 BACKLOG = 16
@@ -71,25 +72,23 @@ def wait_for_a_place(port):
         time.sleep(0.005)
 
 
-def planned(numbers, sessions):
-    """The kinds of a run, each with its number of sessions: those that take long first."""
+def planned(numbers, sessions, workers):
+    """The kinds of a run, each with its number of sessions: those that take long first. Fewer than half of the workers are left to silent clients."""
     kinds, left = [], sessions
     for kind, share, most in KINDS[1:]:
         count = max(1, round(sessions * share / 100))
         count = count if most is None else min(count, most)
+        count = min(count, (workers - 1) // 2) if kind is silent else count
         kinds += [(kind, 1)] * count
         left -= count
     while left > 0:
         visits = min(left, numbers.randrange(1, 4))
         kinds.append((honest, visits))
         left -= visits
-    first = [it for it in kinds if it[0].__name__ in FIRST]
-    rest = [it for it in kinds if it[0].__name__ not in FIRST]
+    first = [it for it in kinds if it[0] in TAKE_LONG]
+    rest = [it for it in kinds if it[0] not in TAKE_LONG]
     numbers.shuffle(rest)
     return first + rest
-
-
-FIRST = ["silent", "slow", "pipelines", "floods"]
 
 
 def visit(guest, kind):
@@ -109,7 +108,7 @@ class Storm:
     def __init__(self, program, seed, sessions, workers, seconds):
         self.program, self.workers, self.sessions, self.seconds = program, workers, sessions, seconds
         numbers = random.Random(seed)
-        self.plan = planned(numbers, sessions - workers)
+        self.plan = planned(numbers, sessions - workers, workers)
         places = numbers.sample(range(1, len(self.plan)), min(SPLITS, len(self.plan) - 1))
         # (some clients have a split amid their keys)
         self.splits = sorted(it * WIDTH + numbers.choice([0, WIDTH // 2]) for it in places)
@@ -146,8 +145,8 @@ class Storm:
                 own = Own(self.splits, number * WIDTH, (number + 1) * WIDTH)
                 guest = Guest(port, own, self.seed + number, times, self.seconds, others_gone)
                 self.clients.append(own)
-                visits.append((kind.__name__, pool.submit(visit, guest, kind)))
-            concurrent.futures.wait([it for name, it in visits if name != "silent"])
+                visits.append((kind, pool.submit(visit, guest, kind)))
+            concurrent.futures.wait([it for kind, it in visits if kind is not silent])
             others_gone.set()
             faults = [it.result() for _, it in visits if it.result()]
         if faults:
@@ -195,6 +194,27 @@ def storm(program, seed=SEED, sessions=SESSIONS, workers=MOST_WORKERS, seconds=S
     """Runs a server among the clients of a seed: what they come to. Of the sessions one for each worker is kept for a last look; the slow clients send
     `seconds` bytes, one a second."""
     return Storm(program, seed, sessions, workers, seconds).run()
+
+
+def fault(program, seed):
+    """What is wrong with a run of a size that the seed draws, or None."""
+    numbers = random.Random(seed)
+    workers = numbers.choice([2, 8, 32, MOST_WORKERS])
+    return fault_of(program, seed, workers + numbers.randrange(60, 500), workers, numbers.randrange(1, 20))
+
+
+def whole_fault(program, seed):
+    """What is wrong with a run of many sessions, or None."""
+    return fault_of(program, seed, MOST_SESSIONS, MOST_WORKERS, MOST_SECONDS)
+
+
+def fault_of(program, *given):
+    """What is wrong with a run, or None."""
+    try:
+        storm(program, *given)
+    except (Wrong, OSError) as error:
+        return f"seed, sessions, workers and seconds {given}: {error}"
+    return None
 
 
 def among_all_kinds(program):

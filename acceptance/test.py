@@ -1,6 +1,6 @@
 #!/usr/bin/env python3
-"""Runs the gate without the must-fail edits, and then the acceptance cases, the random scripts, the cases of many clients and of hostile input on the
-program that it built, the examples, and the cases of the tools.
+"""Runs the gate without the must-fail edits, and then the acceptance cases, the random scripts, the cases of many clients, of bad ones and of hostile
+input on the program that it built, the examples, and the cases of the tools.
 
 The gate, `rt ci`, proves every crate from nothing, runs the tests, and runs each program as both compilers build it. It has no switch for the edits, so
 it runs on a copy of this checkout that has none, and what it built is brought back: `make run` and `make edits` prove nothing again that it has proved.
@@ -22,6 +22,7 @@ sys.path.insert(0, str(TOP / "tools"))
 
 import check_hostile
 import check_tools
+import clients
 import crates
 import examples
 import hostile
@@ -126,7 +127,7 @@ def test_all():
     passed, failed, times = gate()
     if PROGRAM.exists():
         more = [check_tools.run_all(), check_hostile.run_all(), run.run_all(PROGRAM), random_script.run(PROGRAM)]
-        more += [server.run(PROGRAM), hostile.run(PROGRAM), examples.run(PROGRAM)]
+        more += [server.run(PROGRAM), clients.run(PROGRAM), hostile.run(PROGRAM), examples.run(PROGRAM)]
         more_passed, more_failed = (sum(it) for it in zip(*more))
     else:
         print("acceptance: the gate left no program, so no case was run")
