@@ -31,6 +31,8 @@ PROGRAM = TOP / "crates" / "crackd" / "out" / "crackd"
 FAILURES = TOP / "soak-failures"
 SEEDS = 2**32
 TOLD_EVERY = 60
+# a kind that has failed so often isn't run any more
+MOST_FAILURES = 10
 
 
 class Kind:
@@ -77,7 +79,7 @@ def run_case(name, program, seed):
 def next_kind(of):
     """The kind that has had the least time, of those that may run now. The whole run of clients is the first."""
     alone = any(it.running for it in of if it.alone)
-    free = [it for it in of if not (it.alone and alone) and not (it.name == "clients-whole" and it.passed + it.failed)]
+    free = [it for it in of if it.failed < MOST_FAILURES and not (it.alone and alone) and not (it.name == "clients-whole" and it.passed + it.failed)]
     return min(free, key=lambda it: (it.seconds + it.running, it.name)) if free else None
 
 
@@ -98,6 +100,8 @@ def soak(seconds, program, of, first, folder):
                 seed = seeds.randrange(SEEDS)
                 running[pool.submit(run_case, kind.name, program, seed)] = kind, seed
                 kind.running += 1
+            if not running:
+                return
             done, _ = concurrent.futures.wait(running, timeout=1, return_when=concurrent.futures.FIRST_COMPLETED)
             for it in done:
                 kind, seed = running.pop(it)
