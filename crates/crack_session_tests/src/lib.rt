@@ -14,6 +14,8 @@ mod lines;
 #[cfg(test)]
 mod log;
 #[cfg(test)]
+mod memory;
+#[cfg(test)]
 mod one_core;
 #[cfg(test)]
 mod part;

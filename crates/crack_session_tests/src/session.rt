@@ -1,6 +1,6 @@
 //! Sessions over memory, however their bytes are cut.
 use crack_core::Core;
-use crack_failing::{ONE_BYTE, Refusing, Source, Starved};
+use crack_failing::{ONE_BYTE, Refusing, Source};
 use crack_plain::PlainTable;
 use crack_row::{
     Command, GREATEST_BOUND, GREATEST_KEY, GREATEST_LIMIT, Key, KeyRange, Payload, Policy, Refusal,
@@ -192,24 +192,6 @@ fn a_want_of_room_stops_nothing(rt: HostRuntime) -> Result<(), Fail> {
             how: How::Quit,
             statements: 5,
             first_short: Some(2),
-        },
-    )
-}
-
-/// A desk that finds no memory once answers as ever behind that, with the row that was refused not there.
-#[test]
-fn a_want_of_memory_stops_nothing(rt: HostRuntime) -> Result<(), Fail> {
-    let desk = Starved::new(PlainTable::new(rt.alloc()), 1);
-    assert_run(
-        &rt,
-        rt.alloc(),
-        desk,
-        b"insert 1 1\ncount 0 9\ninsert 2 2\nquit\n",
-        b"refused 8\ncount 0\nrow 0.0\nbye\n",
-        End {
-            how: How::Quit,
-            statements: 4,
-            first_short: Some(1),
         },
     )
 }
