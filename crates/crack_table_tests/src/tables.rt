@@ -1,9 +1,10 @@
 //! Tables and workers, on one thread.
 use crate::values::{SPLITS, ask, ask_by, count, insert, totals};
-use crack_failing::{Counting, Shut};
-use crack_row::{Bound, Layout, Refusal};
-use crack_table::{GatherRefused, Table, gather};
+use crack_failing::{Counting, Shut, ShutAt};
+use crack_row::{Bound, Command, KeyRange, Layout, Refusal, Reply};
+use crack_table::{GatherRefused, Table, Worker, gather};
 use std::alloc::Global;
+use std::sync::Wait;
 use std::test::Fail;
 
 #[test]
@@ -30,6 +31,41 @@ fn a_shut_gate_is_asked_at_a_thousand_turns_in_order(rt: HostRuntime) -> Result<
     assert!(rt; gate.is_orderly());
     workers.push(worker)?;
     assert_eq!(rt; totals(alloc, table, workers), Ok([0, 0, 0, 0]));
+    Ok(())
+}
+
+/// Four partitions.
+static FOUR: [Bound; 3] = [Bound(100), Bound(200), Bound(300)];
+
+/// Whether a worker that asks each of four partitions for a count is refused 7 by the one at which the gate says no, and answered by the others.
+fn is_kept_out_there<R: Wait>(rt: &R, worker: &mut Worker, table: &Table, shut: u32) -> bool {
+    let gate = ShutAt { part: shut };
+    let mut fine = true;
+    'parts: for part in 0..4u32 {
+        let counting = Command::Count(KeyRange::all());
+        let expected = match ask_by(rt, worker, table, &gate, part, counting) {
+            Ok(Reply::Counted(0)) => part != shut,
+            Err(Refusal::GateGaveUp) => part == shut,
+            _ => false,
+        };
+        fine = expected && fine;
+    }
+    fine
+}
+
+/// Each partition's gate is its own: one that says no at one partition keeps no worker out of another.
+#[test]
+fn a_gate_shut_at_one_partition_refuses_it_alone(rt: HostRuntime) -> Result<(), Fail> {
+    let alloc: Global = rt.alloc();
+    let (table, mut workers) = Table::open(alloc, &FOUR, 100, 1)?;
+    let mut worker = workers.pop().ok_or("worker")?;
+    let mut fine = true;
+    'rounds: for shut in 0..4u32 {
+        fine = is_kept_out_there(&rt, &mut worker, &table, shut) && fine;
+    }
+    assert!(rt; fine);
+    workers.push(worker)?;
+    assert_eq!(rt; totals(alloc, table, workers), Ok([12, 0, 0, 0]));
     Ok(())
 }
 

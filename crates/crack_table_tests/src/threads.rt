@@ -1,7 +1,7 @@
 //! Workers on threads of their own.
 use crate::values::{SPLITS, ask, ask_by, count, insert, totals};
 use crack_failing::{Alone, Meeting};
-use crack_row::{Command, Layout, Reply};
+use crack_row::{Command, KeyRange, Layout, Refusal, Reply};
 use crack_table::{Table, Worker};
 use std::alloc::Global;
 use std::sync::Wait;
@@ -72,6 +72,42 @@ fn one_partition_lets_one_inside(rt: HostRuntime) -> Result<(), Fail> {
     workers.push(second)?;
     workers.push(first)?;
     assert_eq!(rt; totals(alloc, table, workers), Ok([2, 2, 0, 2]));
+    Ok(())
+}
+
+/// Ten counts of one worker: how many were answered, and how many were refused since the history has ten entries.
+fn count_ten_times<R: Wait>(rt: &R, mut worker: Worker, table: &Table) -> (Worker, [u32; 2]) {
+    let [mut answered, mut refused] = [0u32, 0u32];
+    'counts: for _ in 0..10u32 {
+        match ask(rt, &mut worker, table, 0, Command::Count(KeyRange::all())) {
+            Ok(Reply::Counted(0)) => answered = answered.wrapping_add(1),
+            Err(Refusal::HistoryFull { length: 10 }) => refused = refused.wrapping_add(1),
+            _ => {}
+        }
+    }
+    (worker, [answered, refused])
+}
+
+/// Were a room in the history found before the lock is got, more would be answered than it has room for.
+#[test]
+fn four_workers_fill_one_history(rt: HostRuntime) -> Result<(), Fail> {
+    let alloc: Global = rt.alloc();
+    let (table, workers) = Table::open(alloc, &[], 10, 4)?;
+    let (shared, runtime) = (&table, &rt);
+    let done = thread::map_vec(
+        &rt,
+        workers,
+        &|worker| { count_ten_times(runtime, worker, shared) },
+    )?;
+    let mut back = Vec::new(alloc);
+    let [mut answered, mut refused] = [0u32, 0u32];
+    'done: for (worker, [one, two]) in done {
+        answered = answered.wrapping_add(one);
+        refused = refused.wrapping_add(two);
+        back.push(worker)?;
+    }
+    assert_eq!(rt; [answered, refused], [10, 30]);
+    assert_eq!(rt; totals(alloc, table, back), Ok([10, 0, 0, 0]));
     Ok(())
 }
 
