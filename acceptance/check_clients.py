@@ -1,9 +1,14 @@
 #!/usr/bin/env python3
-"""Cases of what holds clients' replies against their rows: right outputs pass, and each doctored one is refused."""
+"""Cases of what holds clients' replies against their rows: right outputs pass, and each doctored one is refused. And of the soak: that it tells what fails."""
 
+import contextlib
+import io
+import pathlib
 import sys
+import tempfile
 import unittest
 
+import soak
 from client_rows import Account, Own, check_totals, come_to, most_bytes
 from server import Wrong
 
@@ -179,6 +184,34 @@ class Totals(unittest.TestCase):
 
     def test_memory(self):
         self.assertEqual(most_bytes(1000, 100, 3), 270 * 1000 + 40 * 100 + 3 * 100_000)
+
+
+def wrong_where_odd(_, seed):
+    return f"{seed} is odd" if seed % 2 else None
+
+
+class Soak(unittest.TestCase):
+    def test_a_case_that_fails_is_told_and_written(self):
+        kind = soak.Kind("odd", wrong_where_odd)
+        with tempfile.TemporaryDirectory() as room, contextlib.redirect_stdout(io.StringIO()) as told:
+            failures = pathlib.Path(room) / "failures"
+            for seed in range(4):
+                kind.running += 1
+                soak.take_result(kind, seed, kind.fault("", seed), 0.5, failures)
+            written = {it.name: it.read_text() for it in failures.iterdir()}
+        self.assertEqual(kind.told(), "soak: odd 2 passed, 2 failed, 2 seconds")
+        self.assertEqual(written["odd-3.txt"], "python3 acceptance/soak.py --again odd 3\n\n3 is odd\n")
+        self.assertIn("odd 1 FAILED", told.getvalue())
+        self.assertEqual(len(written), 2)
+
+    def test_the_kind_that_had_the_least_time_is_next(self):
+        first, second, other = soak.Kind("a", None, alone=True), soak.Kind("b", None, alone=True), soak.Kind("c", None)
+        first.seconds, second.seconds, other.seconds = 3, 2, 5
+        self.assertIs(soak.next_kind([first, second, other]), second)
+        first.running = 1
+        self.assertIs(soak.next_kind([first, second, other]), other)
+        other.failed = soak.MOST_FAILURES
+        self.assertIsNone(soak.next_kind([first, second, other]))
 
 
 def run_all():

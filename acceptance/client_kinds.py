@@ -268,8 +268,8 @@ def floods(guest):
 def pipelines(guest):
     """Sends 200,000 statements at once. It reads while it writes, and gets each reply in order; or it resets the connection behind some of them."""
     statements = [guest.insert() for _ in range(PIPELINED)]
-    for number in range(PIPELINED // 4, PIPELINED, PIPELINED // 4):
-        statements[number] = guest.all_own(guest.numbers.choice(["count", "sum"]))
+    statements[PIPELINED // 10] = guest.all_own()
+    statements[PIPELINED // 5] = guest.all_own("sum")
     statements[-1] = "quit"
     read = PIPELINED if guest.numbers.random() < 0.7 else guest.numbers.randrange(PIPELINED)
     text = "".join(f"{one}\n" for one in statements)

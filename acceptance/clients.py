@@ -17,7 +17,6 @@ import sys
 import threading
 import time
 
-import check_clients
 from client_kinds import ABRUPT, KINDS, TAKE_LONG, Connection, Guest, honest, silent
 from client_rows import Account, Own, check_totals, come_to, most_bytes
 from server import MOST, MOST_WORKERS, SECONDS, Wrong, expect, started
@@ -109,6 +108,8 @@ class Storm:
         self.program, self.workers, self.sessions, self.seconds = program, workers, sessions, seconds
         numbers = random.Random(seed)
         self.plan = planned(numbers, sessions - workers, workers)
+        # where the keys of each client begin
+        self.lows = [it * WIDTH for it in numbers.sample(range(len(self.plan)), len(self.plan))]
         places = numbers.sample(range(1, len(self.plan)), min(SPLITS, len(self.plan) - 1))
         # (some clients have a split amid their keys)
         self.splits = sorted(it * WIDTH + numbers.choice([0, WIDTH // 2]) for it in places)
@@ -142,7 +143,7 @@ class Storm:
         with concurrent.futures.ThreadPoolExecutor(self.workers + BACKLOG) as pool:
             visits = []
             for number, (kind, times) in enumerate(self.plan):
-                own = Own(self.splits, number * WIDTH, (number + 1) * WIDTH)
+                own = Own(self.splits, self.lows[number], self.lows[number] + WIDTH)
                 guest = Guest(port, own, self.seed + number, times, self.seconds, others_gone)
                 self.clients.append(own)
                 visits.append((kind, pool.submit(visit, guest, kind)))
@@ -255,18 +256,17 @@ CASES = [all_but_one_are_silent, among_all_kinds]
 
 
 def run(program):
-    """Runs the cases of the checker, and those of a server. How many passed, and how many failed."""
+    """Runs all cases. How many passed, and how many failed."""
     program = str(pathlib.Path(program).resolve())
-    passed, failed = check_clients.run_all()
+    failed = 0
     for case in CASES:
         try:
             case(program)
-            passed += 1
         except (Wrong, OSError, subprocess.TimeoutExpired) as error:
             failed += 1
             print(f"clients: {case.__name__} FAILED\n    {error}")
-    print(f"clients: {passed} passed, {failed} failed", flush=True)
-    return passed, failed
+    print(f"clients: {len(CASES) - failed} passed, {failed} failed", flush=True)
+    return len(CASES) - failed, failed
 
 
 def main(words):

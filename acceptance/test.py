@@ -20,6 +20,7 @@ import tempfile
 TOP = pathlib.Path(__file__).resolve().parent.parent
 sys.path.insert(0, str(TOP / "tools"))
 
+import check_clients
 import check_hostile
 import check_tools
 import clients
@@ -126,7 +127,7 @@ def test_all():
     """Runs everything. How many passed, and how many failed."""
     passed, failed, times = gate()
     if PROGRAM.exists():
-        more = [check_tools.run_all(), check_hostile.run_all(), run.run_all(PROGRAM), random_script.run(PROGRAM)]
+        more = [check_tools.run_all(), check_hostile.run_all(), check_clients.run_all(), run.run_all(PROGRAM), random_script.run(PROGRAM)]
         more += [server.run(PROGRAM), clients.run(PROGRAM), hostile.run(PROGRAM), examples.run(PROGRAM)]
         more_passed, more_failed = (sum(it) for it in zip(*more))
     else:
