@@ -13,6 +13,8 @@ import time
 from client_rows import part_of
 from server import MOST, SECONDS, Client, Wrong, expect
 
+# how long a client waits for a worker and its reply
+PATIENT_SECONDS = 2 * SECONDS
 PIPELINED = 200_000
 FLOODED, CHUNK = 64 * 2**20, 2**20
 # a client that reads nothing: how many rows it lists, how often, how many bytes its system takes for it, and how long it waits
@@ -29,7 +31,7 @@ class Connection(Client):
         self.socket = socket.socket()
         if room:
             self.socket.setsockopt(socket.SOL_SOCKET, socket.SO_RCVBUF, room)
-        self.socket.settimeout(SECONDS)
+        self.socket.settimeout(PATIENT_SECONDS)
         self.socket.connect(("127.0.0.1", port))
         self.lines = self.socket.makefile("r", encoding="ascii", newline="\n")
 
@@ -298,6 +300,6 @@ KINDS = [
     (floods, 1, 4),
     (pipelines, 1, 4),
 ]
-TAKE_LONG = {silent, slow, pipelines, floods}
+TAKE_LONG = {silent, slow, reads_nothing, pipelines, floods}
 # those that may be gone before a worker has come to them
 ABRUPT = {closes, resets, half_a_line, random_bytes}

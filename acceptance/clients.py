@@ -72,12 +72,12 @@ def wait_for_a_place(port):
 
 
 def planned(numbers, sessions, workers):
-    """The kinds of a run, each with its number of sessions: those that take long first. Fewer than half of the workers are left to silent clients."""
+    """The kinds of a run, each with its number of sessions: those that take long first, of each fewer than half as many as there are workers."""
     kinds, left = [], sessions
     for kind, share, most in KINDS[1:]:
         count = max(1, round(sessions * share / 100))
         count = count if most is None else min(count, most)
-        count = min(count, (workers - 1) // 2) if kind is silent else count
+        count = min(count, (workers - 1) // 2) if kind in TAKE_LONG else count
         kinds += [(kind, 1)] * count
         left -= count
     while left > 0:
@@ -140,7 +140,7 @@ class Storm:
     def visit_all(self, port):
         """Has all clients come, as many at a time as there are workers and some more, and the silent ones speak once the others have gone."""
         others_gone = threading.Event()
-        with concurrent.futures.ThreadPoolExecutor(self.workers + BACKLOG) as pool:
+        with concurrent.futures.ThreadPoolExecutor(self.workers + min(self.workers, BACKLOG)) as pool:
             visits = []
             for number, (kind, times) in enumerate(self.plan):
                 own = Own(self.splits, self.lows[number], self.lows[number] + WIDTH)
@@ -200,7 +200,7 @@ def storm(program, seed=SEED, sessions=SESSIONS, workers=MOST_WORKERS, seconds=S
 def fault(program, seed):
     """What is wrong with a run of a size that the seed draws, or None."""
     numbers = random.Random(seed)
-    workers = numbers.choice([2, 8, 32, MOST_WORKERS])
+    workers = numbers.choice([4, 8, 32, MOST_WORKERS])
     return fault_of(program, seed, workers + numbers.randrange(60, 500), workers, numbers.randrange(1, 20))
 
 
