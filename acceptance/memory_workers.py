@@ -115,7 +115,7 @@ def fault_of_batch(program, seed, way):
 def exchanged(port, given):
     """What a server answers to a session's bytes, up to its end; what came until then, where it breaks off."""
     got = b""
-    with contextlib.suppress(ConnectionError), socket.create_connection(("127.0.0.1", port), memory.SECONDS) as it:
+    with contextlib.suppress(OSError), socket.create_connection(("127.0.0.1", port), memory.SECONDS) as it:
         it.sendall(given)
         it.shutdown(socket.SHUT_WR)
         while more := it.recv(65536):
