@@ -2,7 +2,8 @@
 
 Each call for memory of a run is refused in turn, from the first on until a run meets none that is refused: alone; with the three behind it; with all
 behind it; and each by chance, one in fifty. What is answered must be what the lists of plain_session.py answer that never saw the statements which were
-refused with 8, and no more statements may be refused than calls were. A run may also end with 8 where the program opens.
+refused with 8, and no more statements may be refused than calls were. A run may also end with 8 where the program opens; one of CSV wherever it is, behind a
+front of its text.
 A small library, refusing.c, refuses the calls. It is compiled here; where there is no C compiler nothing is refused, and hostile.py says so.
 """
 
@@ -36,9 +37,14 @@ SCRIPTS = {
     "a row is evicted and comes back": [*FOUR, "insert 17 0", "count 15 25", f"count 25 {random_script.MOST}", "count 15 25"],
     "a doomed row is in the way": [*THREE, "delete 0.2", "insert 17 0", "count 15 25", "insert 99 1"],
     "a pull goes through two bounds": [*THREE, "delete 0.0", "count 0 15"],
-    "a pull carries a doomed row on": [*THREE, "delete 0.2", "delete 0.0", "count 0 15"],
+    "a pull carries a doomed row on": [*THREE, "delete 0.0", "delete 0.2", "count 0 15"],
     "rows are updated": ["insert 5 50", "update 0.0 6 60", ALL, "update 0.0 8 80", f"select 0 {random_script.MOST}"],
     "rows wait near the range and far off": [*FOUR, "insert 17 0", "insert 90 0", "count 15 25"],
+}
+# runs that write one text: their words, and what they are given
+TEXTS = {
+    "csv": (["csv", "100", "200"], b"key,payload\n" + b"".join(b'%d,"%d"\n' % (key, key % 7) for key in range(0, 400, 9))),
+    "help": (["script", "--help"], b""),
 }
 
 
@@ -94,8 +100,13 @@ def numbers_of(way):
     return range(1, CHANCES + 1) if way == "chance" else range(1, FOR_EVER)
 
 
-def fault_of_run(program, words, given, check, which):
-    """Runs the program once. What is wrong, or None; and how many calls were refused."""
+def is_front(left, text):
+    """Whether what was left of a text is a front of it, of whole lines."""
+    return text.startswith(left) and left[-1:] in (b"", b"\n")
+
+
+def fault_of_run(program, words, given, check, which, text=b""):
+    """Runs the program once. Where it ends with 8 a front of the text may have been written. What is wrong, or None; and how many calls were refused."""
     with Refusing(**which) as refusing:
         ran = subprocess.run(
             [program, *words], input=given, capture_output=True, env=refusing.environment(), timeout=SECONDS, check=False, close_fds=False
@@ -104,18 +115,18 @@ def fault_of_run(program, words, given, check, which):
     if not calls:
         return "no call for memory was seen", 0
     if ran.returncode == 1 and refused and ran.stderr == REFUSED:
-        return (None if not ran.stdout else f"it ended with 8, and wrote {ran.stdout[-80:]!r}"), refused
+        return (None if is_front(ran.stdout, text) else f"it ended with 8, and wrote {ran.stdout[-80:]!r}"), refused
     if ran.returncode or ran.stderr:
         return f"status {ran.returncode}, standard error {ran.stderr!r}", refused
     return check(ran.stdout, refused), refused
 
 
-def fault_of_sweep(program, words, given, check, way):
+def fault_of_sweep(program, words, given, check, way, text=b""):
     """Refuses calls one way, number by number, until a run meets none that is refused. What is wrong first, or None, and how many runs there were."""
     for runs, number in enumerate(numbers_of(way), 1):
         which = WAYS[way](number)
         try:
-            wrong, refused = fault_of_run(program, words, given, check, which)
+            wrong, refused = fault_of_run(program, words, given, check, which, text)
         except subprocess.TimeoutExpired:
             wrong, refused = f"it had not ended after {SECONDS} seconds", 0
         if wrong:
@@ -142,12 +153,23 @@ def text_of(statements, with_layouts):
 
 
 def fault_of_named(program, name, policy, way):
-    """Sweeps one way over a script of `SCRIPTS` under a policy, with layouts and without. What is wrong, or None, and how many runs there were."""
+    """Sweeps one way over a script of `SCRIPTS` under a policy, without layouts and with, which find no memory either where it never comes again. What is
+    wrong, or None, and how many runs there were."""
     found, runs = None, 0
-    for with_layouts in [False, True]:
+    for with_layouts in [False] if way == "all" else [False, True]:
         wrong, more = sweep_script(program, ["script", "--policy", policy], text_of(SCRIPTS[name], with_layouts), way)
         found, runs = found or wrong, runs + more
     return found, runs
+
+
+def fault_of_text(program, words, given, way):
+    """Sweeps one way over a run that writes one text, or a front of it where it ends with 8. What is wrong, or None, and how many runs there were."""
+    text = subprocess.run([program, *words], input=given, capture_output=True, timeout=SECONDS, check=True).stdout
+
+    def check(wrote, _):
+        return None if wrote == text else f"wanted {text[:200]!r}, got {wrote[:200]!r}"
+
+    return fault_of_sweep(program, words, given, check, way, text)
 
 
 def random_text(numbers, splits, limit, most, statements=STATEMENTS):

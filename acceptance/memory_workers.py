@@ -115,7 +115,7 @@ def fault_of_batch(program, seed, way):
 def exchanged(port, given):
     """What a server answers to a session's bytes, up to its end; what came until then, where it breaks off."""
     got = b""
-    with contextlib.suppress(ConnectionError), socket.create_connection(("127.0.0.1", port), memory.SECONDS) as it:
+    with contextlib.suppress(OSError), socket.create_connection(("127.0.0.1", port), memory.SECONDS) as it:
         it.sendall(given)
         it.shutdown(socket.SHUT_WR)
         while more := it.recv(65536):
@@ -173,17 +173,23 @@ def fault_of_served(texts, served, refused):
     return fault_of_totals(served.wrote.decode("ascii", "replace").removesuffix("\n"), seen)
 
 
+def served_once(program, words, texts, which):
+    """What came of a server, and how many calls were refused. Where another program took the port in the meantime, it is tried again."""
+    for _ in range(server.TRIES):
+        with memory.Refusing(**which) as refusing:
+            served = Served(program, words, texts, refusing.environment())
+            refused = refusing.told()[1]
+        if served.complained != b"crackd: refused 17\n":
+            break
+    return served, refused
+
+
 def fault_of_server(program, seed, way):
     """Sweeps one way over the server of a seed, which must always end by itself. What is wrong, or None, and how many runs there were."""
     texts = session_texts(seed)
     words = ["--workers", "2", "--sessions", str(SESSIONS), "--policy", random_script.POLICIES[seed % 3], *map(str, SPLITS)]
     for runs, number in enumerate(memory.numbers_of(way), 1):
-        with memory.Refusing(**memory.WAYS[way](number)) as refusing:
-            served = Served(program, words, texts, refusing.environment())
-            # (another program may have taken the port in the meantime)
-            while served.complained == b"crackd: refused 17\n":
-                served = Served(program, words, texts, refusing.environment())
-            _, refused = refusing.told()
+        served, refused = served_once(program, words, texts, memory.WAYS[way](number))
         wrong = fault_of_served(texts, served, refused)
         if wrong:
             return f"{way} {number}: {wrong}", runs
