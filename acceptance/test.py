@@ -1,6 +1,6 @@
 #!/usr/bin/env python3
-"""Runs the gate without the must-fail edits, and then the acceptance cases, the random scripts and the cases of many clients on the program that
-it built, the examples, and the cases of the tools.
+"""Runs the gate without the must-fail edits, and then the acceptance cases, the random scripts, the cases of many clients, of bad ones and of hostile
+input on the program that it built, the examples, and the cases of the tools.
 
 The gate, `rt ci`, proves every crate from nothing, runs the tests, and runs each program as both compilers build it. It has no switch for the edits, so
 it runs on a copy of this checkout that has none, and what it built is brought back: `make run` and `make edits` prove nothing again that it has proved.
@@ -20,9 +20,13 @@ import tempfile
 TOP = pathlib.Path(__file__).resolve().parent.parent
 sys.path.insert(0, str(TOP / "tools"))
 
+import check_clients
+import check_hostile
 import check_tools
+import clients
 import crates
 import examples
+import hostile
 import processor
 import prove
 import random_script
@@ -83,6 +87,16 @@ def bring_back(top, unchanged):
         os.close(it)
 
 
+def bring_tests_back(top):
+    """Brings the test programs that were built in a copy back, in place of those that lie here."""
+    for old in TOP.glob("crates/*/out/*_tests"):
+        old.unlink()
+    for made in top.glob("crates/*/out/*_tests"):
+        target = TOP / made.relative_to(top)
+        target.parent.mkdir(parents=True, exist_ok=True)
+        shutil.move(str(made), str(target))
+
+
 def gate():
     """Runs the gate on a copy. How many passed, and how many failed; a gate that fails and counts nothing as failed is one failure."""
     before = sums()
@@ -104,6 +118,7 @@ def gate():
         sampler.stop()
         status = started.wait()
         bring_back(top, unchanged)
+        bring_tests_back(top)
     passed, failed = (int(it) for it in last.groups()) if last else (0, 1)
     return passed, failed if failed or status == 0 else 1, sampler.lines()
 
@@ -112,7 +127,8 @@ def test_all():
     """Runs everything. How many passed, and how many failed."""
     passed, failed, times = gate()
     if PROGRAM.exists():
-        more = [check_tools.run_all(), run.run_all(PROGRAM), random_script.run(PROGRAM), server.run(PROGRAM), examples.run(PROGRAM)]
+        more = [check_tools.run_all(), check_hostile.run_all(), check_clients.run_all(), run.run_all(PROGRAM), random_script.run(PROGRAM)]
+        more += [server.run(PROGRAM), clients.run(PROGRAM), hostile.run(PROGRAM), examples.run(PROGRAM)]
         more_passed, more_failed = (sum(it) for it in zip(*more))
     else:
         print("acceptance: the gate left no program, so no case was run")

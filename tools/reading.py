@@ -16,7 +16,10 @@ import definitions
 import sources
 
 # the crates of tests and of measurements, which promise nothing
-LEFT_OUT = {"crack_tests", "crack_session_tests", "crack_table_tests", "crack_server_tests", "crack_bench", "crack_bench_workers"}
+LEFT_OUT = {
+    *("crack_tests", "crack_session_tests", "crack_table_tests", "crack_server_tests", "crack_failing"),
+    *("crack_bench", "crack_bench_workers"),
+}
 HEADLINE = "headline"
 CALLS = re.compile(r"`([\w:]+)::(\w+|\{[\w, ]+\})`(?: \(((?:`\w+`(?:, )?)+)\))?")
 

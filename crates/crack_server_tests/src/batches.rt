@@ -1,37 +1,11 @@
 //! Batches over memory.
+use crack_failing::Meeting;
 use crack_row::{Bound, Policy, Refusal};
 use crack_server::run_batch;
 use crack_table::{Gate, OpenGate};
 use std::alloc::Global;
 use std::sync::Wait;
-use std::sync::atomic::{AtomicBool, Ordering};
-use std::thread;
 use std::thread::Threads;
-
-/// A gate that says no to each of two partitions until the other has been inside. Before each no it gives way, long enough for the other
-/// thread to arrive.
-#[derive(Drop)]
-struct Meeting {
-    arrived: [AtomicBool; 2],
-}
-
-impl Gate for Meeting {
-    ghost may_refuse = { λ gate part turn. Unit {0} };
-
-    fn inside(&self, part: u32, _turn: u32) -> bool {
-        if part > 1 {
-            return true;
-        }
-        self.arrived[part as usize].store(true, Ordering::SeqCst);
-        if self.arrived[1 - part as usize].load(Ordering::SeqCst) {
-            return true;
-        }
-        'turns: for _ in 0..1000u32 {
-            thread::yield_now();
-        }
-        false
-    }
-}
 
 /// How a batch of two workers over the partitions below and from 100 ends, and what it writes.
 fn batch<H: Threads + Wait + Sync, G: Gate + Sync>(
@@ -76,9 +50,7 @@ fn a_line_without_a_number_refuses_the_batch(rt: HostRuntime) {
 /// Workers that run one after the other, or under one lock, never meet: they are answered 7.
 #[test]
 fn two_workers_are_at_two_partitions_at_once(rt: HostRuntime) {
-    let gate = Meeting {
-        arrived: [AtomicBool::new(false), AtomicBool::new(false)],
-    };
+    let gate = Meeting::new();
     let input = b"0 insert 50 1\n1 insert 150 1\n";
     let (ended, output) = batch(&rt, rt.alloc(), &gate, input);
     assert_eq!(rt; ended, Ok(()));

@@ -4,20 +4,22 @@ use crack_server::run_server;
 use crack_table::{OpenGate, Table};
 use std::alloc::Global;
 use std::io::{Read, Write};
-use std::net::{Net, TcpListener, TcpStream};
+use std::net::{Net, Shutdown, TcpListener, TcpStream};
 use std::sync::Wait;
 use std::test::Fail;
 use std::thread::Threads;
 use std::time::Duration;
 use std::{io, thread};
 
-/// What a server of one worker and two sessions writes.
+/// What a server of so many workers and sessions writes.
 fn server<H: Threads + Wait + Sync>(
     rt: &H,
     alloc: Global,
     listener: &TcpListener,
+    workers: u64,
+    sessions: u64,
 ) -> Result<Vec<u8>, Refusal> {
-    let (table, workers) = Table::open(alloc, &[], 10, 1)?;
+    let (table, workers) = Table::open(alloc, &[], 10, workers)?;
     let mut output = Vec::new(alloc);
     match run_server(
         rt,
@@ -26,7 +28,7 @@ fn server<H: Threads + Wait + Sync>(
         table,
         workers,
         Policy::Ripple,
-        2,
+        sessions,
         &OpenGate,
         &mut output,
     ) {
@@ -35,19 +37,33 @@ fn server<H: Threads + Wait + Sync>(
     }
 }
 
-/// What a client that sends these bytes is answered. It fails where nothing comes for ten seconds, as from a server that accepts no connection.
+/// A client that sent these bytes. A read of it fails where nothing comes for ten seconds, as from a server that accepts no connection.
+fn sender<N: Net<Listener = TcpListener, Stream = TcpStream>>(
+    rt: &N,
+    port: u16,
+    bytes: &[u8],
+) -> io::Result<TcpStream> {
+    let mut stream = TcpStream::connect(rt, ("127.0.0.1", port))?;
+    stream.set_read_timeout(Some(Duration::from_secs(10)))?;
+    stream.write_all(bytes)?;
+    Ok(stream)
+}
+
+/// What a client is answered until the server ends its session.
+fn answers_of(alloc: Global, mut stream: TcpStream) -> io::Result<Vec<u8>> {
+    let mut answers = Vec::new(alloc);
+    stream.read_to_end(&mut answers)?;
+    Ok(answers)
+}
+
+/// What a client that sends these bytes is answered.
 fn client<N: Net<Listener = TcpListener, Stream = TcpStream>>(
     rt: &N,
     alloc: Global,
     port: u16,
     bytes: &[u8],
 ) -> io::Result<Vec<u8>> {
-    let mut stream = TcpStream::connect(rt, ("127.0.0.1", port))?;
-    stream.set_read_timeout(Some(Duration::from_secs(10)))?;
-    stream.write_all(bytes)?;
-    let mut answers = Vec::new(alloc);
-    stream.read_to_end(&mut answers)?;
-    Ok(answers)
+    answers_of(alloc, sender(rt, port, bytes)?)
 }
 
 /// What two clients are answered, one after the other.
@@ -68,13 +84,59 @@ fn one_worker_serves_two_sessions(rt: HostRuntime) -> Result<(), Fail> {
     let port = listener.local_addr()?.port();
     let (written, answered) = thread::join(
         &rt,
-        || server(&rt, alloc, &listener),
+        || server(&rt, alloc, &listener, 1, 2),
         || two_clients(&rt, alloc, port),
     );
     let written = written?;
     let (first, second) = answered?;
     assert_eq!(rt; first.as_slice(), b"row 0.0\nbye\n".as_slice());
     assert_eq!(rt; second.as_slice(), b"count 1\nbye\n".as_slice());
+    assert_eq!(rt;
+        written.as_slice(),
+        b"accepted 2 inserted 1 deleted 0 held 1\n".as_slice()
+    );
+    Ok(())
+}
+
+/// A client that sends these bytes, and ends its writing there.
+fn ended<N: Net<Listener = TcpListener, Stream = TcpStream>>(
+    rt: &N,
+    port: u16,
+    bytes: &[u8],
+) -> io::Result<TcpStream> {
+    let stream = sender(rt, port, bytes)?;
+    stream.shutdown(Shutdown::Write)?;
+    Ok(stream)
+}
+
+/// What a client is answered that breaks off in a line, and one that ends without a line feed; between them one comes that says nothing, and goes.
+fn clients_who_break_off<N: Net<Listener = TcpListener, Stream = TcpStream>>(
+    rt: &N,
+    alloc: Global,
+    port: u16,
+) -> io::Result<(Vec<u8>, Vec<u8>)> {
+    let first = ended(rt, port, b"insert 1 1\ninsert 2")?;
+    drop(sender(rt, port, b"")?);
+    let last = ended(rt, port, b"count 0 5")?;
+    let first = answers_of(alloc, first)?;
+    let last = answers_of(alloc, last)?;
+    Ok((first, last))
+}
+
+#[test]
+fn clients_who_break_off_harm_nobody(rt: HostRuntime) -> Result<(), Fail> {
+    let alloc: Global = rt.alloc();
+    let listener = TcpListener::bind(&rt, "127.0.0.1:0")?;
+    let port = listener.local_addr()?.port();
+    let (written, answered) = thread::join(
+        &rt,
+        || server(&rt, alloc, &listener, 2, 3),
+        || clients_who_break_off(&rt, alloc, port),
+    );
+    let written = written?;
+    let (first, last) = answered?;
+    assert_eq!(rt; first.as_slice(), b"row 0.0\nrefused 1\n".as_slice());
+    assert!(rt; last.as_slice() == b"count 0\n" || last.as_slice() == b"count 1\n");
     assert_eq!(rt;
         written.as_slice(),
         b"accepted 2 inserted 1 deleted 0 held 1\n".as_slice()

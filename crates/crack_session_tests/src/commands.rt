@@ -1,6 +1,6 @@
 //! The texts of the greatest numbers, a layout's among them, and writers that fail within one.
-use crate::devices::Failing;
 use crack_commands::{write_head, write_layout, write_reply, write_row};
+use crack_failing::Sink;
 use crack_row::{
     Bound, GREATEST_BOUND, GREATEST_KEY, GREATEST_PAYLOAD, Key, Layout, Payload, PieceList,
     PieceSize, Refusal, Reply, Row, Serial, Watched,
@@ -69,15 +69,11 @@ fn layout_until(
     layout: &Layout,
     fails_at: u64,
 ) -> Result<Vec<u8>, Fail> {
-    let mut writer = Watched::new(Failing {
-        calls: 0,
-        fails_at,
-        bytes: Vec::new(alloc),
-    });
+    let mut writer = Watched::new(Sink::new(Vec::new(alloc)).failing_at(fails_at));
     let result = write_layout(u32::MAX, layout, &mut writer);
     assert_eq!(rt; result.err(), Some(Refusal::WriteFault));
     assert!(rt; writer.failed());
-    Ok(writer.into_inner().bytes)
+    Ok(writer.into_inner().into_bytes())
 }
 
 /// The whole text of a layout.
@@ -117,7 +113,7 @@ fn assert_front(
 fn assert_layout_texts(rt: &impl Abort, alloc: Global, layout: &Layout) -> Result<(), Fail> {
     let whole = whole_text(alloc, layout)?;
     assert_greatest(rt, alloc, whole.as_slice())?;
-    for fails_at in 0..5 {
+    for fails_at in 1..6 {
         assert_front(rt, alloc, layout, whole.as_slice(), fails_at)?;
     }
     Ok(())

@@ -8,9 +8,13 @@ mod changes;
 #[cfg(test)]
 mod commands;
 #[cfg(test)]
-mod desks;
+mod faults;
 #[cfg(test)]
-mod devices;
+mod lines;
+#[cfg(test)]
+mod log;
+#[cfg(test)]
+mod memory;
 #[cfg(test)]
 mod one_core;
 #[cfg(test)]
@@ -25,3 +29,5 @@ mod records;
 mod session;
 #[cfg(test)]
 mod splits;
+#[cfg(test)]
+mod writes;

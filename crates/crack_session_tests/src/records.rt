@@ -1,7 +1,7 @@
 //! Loads and exports of CSV: the forms of records, texts that are cut off, and devices that fail.
-use crate::devices::{Clogged, Failing, Log, Source};
 use crack_core::Core;
 use crack_csv::{LoadFault, export_csv, load_csv};
+use crack_failing::{ONE_BYTE, Sink, Source};
 use crack_row::{Bound, GREATEST_LIMIT, Policy, Refusal, Watched};
 use std::alloc::Global;
 use std::io::{Read, Write};
@@ -31,18 +31,29 @@ fn bad_record(number: u64, loaded: u64) -> Result<u64, LoadFault> {
     Err(LoadFault { refusal, loaded })
 }
 
-/// A load of bytes into one partition, which is to end so.
+/// A load of what a reader gives into one partition, which is to end so.
 fn assert_load(
     rt: &impl Abort,
     alloc: Global,
-    bytes: &[u8],
+    source: Source<'_>,
     end: Result<u64, LoadFault>,
 ) -> Result<(), Fail> {
     let mut core = Core::open(alloc, &[], GREATEST_LIMIT)?;
-    let result = load(alloc, &mut core, bytes);
+    let result = load(alloc, &mut core, source);
     drop(core);
     assert_eq!(rt; result, end);
     Ok(())
+}
+
+/// A load that is to be refused for the record of this number, behind so many rows.
+fn assert_bad(
+    rt: &impl Abort,
+    alloc: Global,
+    bytes: &[u8],
+    number: u64,
+    loaded: u64,
+) -> Result<(), Fail> {
+    assert_load(rt, alloc, Source::new(bytes), bad_record(number, loaded))
 }
 
 /// An export of a core that is to write this text, and lets the core go.
@@ -98,7 +109,22 @@ fn end_of_cut(bytes: usize) -> Result<u64, LoadFault> {
 #[test]
 fn a_text_is_cut_off_anywhere(rt: HostRuntime) -> Result<(), Fail> {
     'cuts: for bytes in 0..TEXT.len() + 1 {
-        assert_load(&rt, rt.alloc(), &TEXT[..bytes], end_of_cut(bytes))?;
+        let source = Source::new(&TEXT[..bytes]);
+        assert_load(&rt, rt.alloc(), source, end_of_cut(bytes))?;
+        let dripping = Source::new(&TEXT[..bytes]).cut(ONE_BYTE);
+        assert_load(&rt, rt.alloc(), dripping, end_of_cut(bytes))?;
+    }
+    Ok(())
+}
+
+/// The rows whose records end with a line feed before the reader fails are inserted.
+#[test]
+fn a_reader_fails_behind_each_byte(rt: HostRuntime) -> Result<(), Fail> {
+    'cuts: for given in 0..24u64 {
+        let loaded = u64::from(given >= 18) + u64::from(given >= 23);
+        let source = Source::new(TEXT).cut(ONE_BYTE).failing_at(given + 1);
+        let refusal = Refusal::ReadFault;
+        assert_load(&rt, rt.alloc(), source, Err(LoadFault { refusal, loaded }))?;
     }
     Ok(())
 }
@@ -125,43 +151,28 @@ fn records_have_many_forms(rt: HostRuntime) -> Result<(), Fail> {
 
 #[test]
 fn a_header_is_the_first_record_alone(rt: HostRuntime) -> Result<(), Fail> {
-    assert_load(&rt, rt.alloc(), b"1,2\nkey,payload\n", bad_record(2, 1))?;
-    assert_load(
-        &rt,
-        rt.alloc(),
-        b"key,payload\nkey,payload\n",
-        bad_record(2, 0),
-    )
+    assert_bad(&rt, rt.alloc(), b"1,2\nkey,payload\n", 2, 1)?;
+    assert_bad(&rt, rt.alloc(), b"key,payload\nkey,payload\n", 2, 0)
 }
 
 #[test]
 fn fields_are_numbers_in_range(rt: HostRuntime) -> Result<(), Fail> {
-    assert_load(&rt, rt.alloc(), b"5,+6\n", bad_record(1, 0))?;
-    assert_load(&rt, rt.alloc(), b"5, 6\n", bad_record(1, 0))?;
-    assert_load(&rt, rt.alloc(), b"4294967296,6\n", bad_record(1, 0))?;
-    assert_load(
-        &rt,
-        rt.alloc(),
-        b"000000000000000000005,6\n",
-        bad_record(1, 0),
-    )
+    assert_bad(&rt, rt.alloc(), b"5,+6\n", 1, 0)?;
+    assert_bad(&rt, rt.alloc(), b"5, 6\n", 1, 0)?;
+    assert_bad(&rt, rt.alloc(), b"4294967296,6\n", 1, 0)?;
+    assert_bad(&rt, rt.alloc(), b"000000000000000000005,6\n", 1, 0)
 }
 
 #[test]
 fn a_record_has_two_fields(rt: HostRuntime) -> Result<(), Fail> {
-    assert_load(&rt, rt.alloc(), b"5\n", bad_record(1, 0))?;
-    assert_load(&rt, rt.alloc(), b"5,6\n7,8,9\n", bad_record(2, 1))
+    assert_bad(&rt, rt.alloc(), b"5\n", 1, 0)?;
+    assert_bad(&rt, rt.alloc(), b"5,6\n7,8,9\n", 2, 1)
 }
 
 #[test]
 fn a_reader_fails_behind_two_records(rt: HostRuntime) -> Result<(), Fail> {
-    let log = Log::new();
-    let reader = Source {
-        bytes: TEXT,
-        most: 5,
-        fails: true,
-        log: &log,
-    };
+    // Its first byte is read by itself.
+    let reader = Source::new(TEXT).cut(&[5]).failing_at(7);
     let mut core = Core::open(rt.alloc(), &[], GREATEST_LIMIT)?;
     let result = load(rt.alloc(), &mut core, reader);
     let refusal = Refusal::ReadFault;
@@ -190,18 +201,15 @@ fn a_writer_fails_behind_the_header(rt: HostRuntime) -> Result<(), Fail> {
     let mut core = Core::open(rt.alloc(), &[], GREATEST_LIMIT)?;
     let result = load(rt.alloc(), &mut core, TEXT);
     assert_eq!(rt; result, Ok(2));
-    let writer = Failing {
-        calls: 0,
-        fails_at: 1,
-        bytes: Vec::new(rt.alloc()),
-    };
+    let writer = Sink::new(Vec::new(rt.alloc())).failing_at(2);
     assert_refused(&rt, rt.alloc(), core, writer, Refusal::WriteFault)
 }
 
 #[test]
 fn a_writer_can_not_hand_on(rt: HostRuntime) -> Result<(), Fail> {
     let core = Core::open(rt.alloc(), &[], GREATEST_LIMIT)?;
-    assert_refused(&rt, rt.alloc(), core, Clogged, Refusal::WriteFault)
+    let writer = Sink::new(Vec::new(rt.alloc())).failing_at(2);
+    assert_refused(&rt, rt.alloc(), core, writer, Refusal::WriteFault)
 }
 
 #[test]

@@ -1,7 +1,6 @@
-//! Sessions over memory, and over devices that fail, drip or count.
-use crate::desks::{Refusing, Starved};
-use crate::devices::{Clogged, Failing, Log, Sink, Source};
+//! Sessions over memory, however their bytes are cut.
 use crack_core::Core;
+use crack_failing::{ONE_BYTE, Refusing, Source};
 use crack_plain::PlainTable;
 use crack_row::{
     Command, GREATEST_BOUND, GREATEST_KEY, GREATEST_LIMIT, Key, KeyRange, Payload, Policy, Refusal,
@@ -9,12 +8,12 @@ use crack_row::{
 };
 use crack_session::{Desk, End, Fault, How, LINE_BYTES, serve};
 use std::alloc::Global;
-use std::io::{BufWriter, Read, Write};
+use std::io::{Read, Write};
 use std::process::Abort;
 use std::test::Fail;
 
 /// How a session ends. It promises nothing, so that no test carries all that `serve` promises.
-fn session<D: Desk, R: Read, W: Write>(
+pub fn session<D: Desk, R: Read, W: Write>(
     alloc: Global,
     desk: &mut D,
     reader: &mut Watched<R>,
@@ -49,7 +48,7 @@ pub fn ends(how: How, statements: u64) -> End {
 }
 
 /// A session that is to write these replies and end so.
-fn assert_told<D: Desk + Drop, R: Read + Drop>(
+pub fn assert_told<D: Desk + Drop, R: Read + Drop>(
     rt: &impl Abort,
     alloc: Global,
     desk: D,
@@ -85,13 +84,7 @@ fn assert_dripped<D: Desk + Drop>(
     replies: &[u8],
     end: End,
 ) -> Result<(), Fail> {
-    let log = Log::new();
-    let reader = Source {
-        bytes: input,
-        most: 1,
-        fails: false,
-        log: &log,
-    };
+    let reader = Source::new(input).cut(ONE_BYTE);
     assert_told(rt, alloc, desk, reader, replies, end)
 }
 
@@ -203,27 +196,6 @@ fn a_want_of_room_stops_nothing(rt: HostRuntime) -> Result<(), Fail> {
     )
 }
 
-/// A desk that finds no memory once answers as ever behind that, with the row that was refused not there.
-#[test]
-fn a_want_of_memory_stops_nothing(rt: HostRuntime) -> Result<(), Fail> {
-    let desk = Starved {
-        table: PlainTable::new(rt.alloc()),
-        is_fed: false,
-    };
-    assert_run(
-        &rt,
-        rt.alloc(),
-        desk,
-        b"insert 1 1\ncount 0 9\ninsert 2 2\nquit\n",
-        b"refused 8\ncount 0\nrow 0.0\nbye\n",
-        End {
-            how: How::Quit,
-            statements: 4,
-            first_short: Some(1),
-        },
-    )
-}
-
 #[test]
 fn spaces_and_zeros_are_passed_over(rt: HostRuntime) -> Result<(), Fail> {
     assert_alike(
@@ -249,77 +221,6 @@ none\npolicy gradual\npolicy complete\ncount 1\nrefused 5\nrefused 5\nrefused 5\
 none\nrows 1\n0.0 8 80\nbye\n",
         ends(How::Quit, 19),
     )
-}
-
-/// Lines that are no statements, each with its refusal.
-fn assert_refused(
-    rt: &impl Abort,
-    alloc: Global,
-    lines: &[&[u8]],
-    text: &[u8],
-) -> Result<(), Fail> {
-    for line in lines {
-        let table = PlainTable::new(alloc);
-        assert_run(rt, alloc, table, line, text, ends(How::InputEnded, 1))?;
-    }
-    Ok(())
-}
-
-#[test]
-fn bad_lines_are_refused(rt: HostRuntime) -> Result<(), Fail> {
-    let lines: [&[u8]; 42] = [
-        b"insert",
-        b"insert 1",
-        b"insert 1 2 3",
-        b"INSERT 1 2",
-        b"insert 1 -2",
-        b"insert 1\t2",
-        b"insert 4294967296 1",
-        b"insert 1 4294967296",
-        b"insert 1 1\r\r\n",
-        b"inserts 1 1",
-        b"quit now",
-        b"delete",
-        b"delete 0",
-        b"delete 0.",
-        b"delete .0",
-        b"delete 0 .1",
-        b"delete 0. 1",
-        b"delete 0.0.0",
-        b"delete 0.0 1",
-        b"delete 4294967296.0",
-        b"delete 0.18446744073709551616",
-        b"delete 0.000000000000000000001",
-        b"update 0.0 1",
-        b"update 0.0 1 2 3",
-        b"update 0 1 2",
-        b"update 0.0 4294967296 1",
-        b"update 0.0 1 4294967296",
-        b"count 1",
-        b"count 000000000000000000000 1",
-        b"sum 1",
-        b"sum 1 2 3",
-        b"select",
-        b"select 1 x",
-        b"layout",
-        b"layout 0 0",
-        b"layout 0.0",
-        b"layout 4294967296",
-        b"policy",
-        b"policy ripples",
-        b"policy Gradual",
-        b"policy gradual complete",
-        b"x",
-    ];
-    assert_refused(&rt, rt.alloc(), lines.as_slice(), b"refused 1\n")?;
-    let ranges: [&[u8]; 5] = [
-        b"count 18446744073709551616 0",
-        b"count 0 99999999999999999999",
-        b"sum 2 1",
-        b"sum 0 4294967297",
-        b"select 6 5",
-    ];
-    assert_refused(&rt, rt.alloc(), ranges.as_slice(), b"refused 2\n")
 }
 
 /// A session whose first line names this policy, and whose last one gets this layout.
@@ -380,224 +281,6 @@ fn layouts_of_other_desks(rt: HostRuntime) -> Result<(), Fail> {
         b"policy gradual\nrefused 8\n",
         end,
     )
-}
-
-/// A session that a device is to cut short so, once so many statements were answered.
-fn assert_fault<D: Desk + Drop, R: Read, W: Write>(
-    rt: &impl Abort,
-    alloc: Global,
-    mut desk: D,
-    reader: &mut Watched<R>,
-    writer: &mut Watched<W>,
-    fault: Fault,
-) {
-    let result = session(alloc, &mut desk, reader, writer);
-    drop(desk);
-    assert_eq!(rt; result.err(), Some(fault));
-}
-
-/// A session whose writer fails in the third reply, and what is written before.
-fn fail_the_third_reply<D: Desk + Drop>(
-    rt: &impl Abort,
-    alloc: Global,
-    desk: D,
-    replies: &[u8],
-    first_short: Option<u64>,
-) {
-    let mut reader = Watched::new(b"insert 1 1\ninsert 2 2\nfoo\nquit\n".as_slice());
-    let mut writer = Watched::new(Failing {
-        calls: 0,
-        fails_at: 2,
-        bytes: Vec::new(alloc),
-    });
-    let fault = Fault {
-        refusal: Refusal::WriteFault,
-        done: 2,
-        first_short,
-    };
-    assert_fault(rt, alloc, desk, &mut reader, &mut writer, fault);
-    assert!(rt; writer.failed());
-    let told = writer.into_inner();
-    assert_eq!(rt; told.bytes.as_slice(), replies);
-    drop(told);
-}
-
-#[test]
-fn writer_fails_in_the_third_reply(rt: HostRuntime) -> Result<(), Fail> {
-    let desk = Core::open(rt.alloc(), &[], GREATEST_LIMIT)?;
-    fail_the_third_reply(&rt, rt.alloc(), desk, b"row 0.0\nrow 0.1\n", None);
-    Ok(())
-}
-
-#[test]
-fn writer_fails_behind_a_want_of_room(rt: HostRuntime) -> Result<(), Fail> {
-    let desk = Core::open(rt.alloc(), &[], 1)?;
-    fail_the_third_reply(&rt, rt.alloc(), desk, b"row 0.0\nrefused 6 1\n", Some(2));
-    Ok(())
-}
-
-/// A session whose writer takes bytes and can't hand them on.
-fn fail_the_flush<D: Desk + Drop>(rt: &impl Abort, alloc: Global, desk: D) {
-    let mut reader = Watched::new(b"".as_slice());
-    let mut writer = Watched::new(Clogged);
-    let fault = Fault {
-        refusal: Refusal::WriteFault,
-        done: 0,
-        first_short: None,
-    };
-    assert_fault(rt, alloc, desk, &mut reader, &mut writer, fault);
-    assert!(rt; writer.failed());
-}
-
-#[test]
-fn writer_fails_when_flushed(rt: HostRuntime) -> Result<(), Fail> {
-    let desk = Core::open(rt.alloc(), &[], GREATEST_LIMIT)?;
-    fail_the_flush(&rt, rt.alloc(), desk);
-    Ok(())
-}
-
-/// A session whose reader fails in a line that was begun.
-fn fail_the_reader<D: Desk + Drop>(rt: &impl Abort, alloc: Global, desk: D) {
-    let log = Log::new();
-    let mut reader = Watched::new(Source {
-        bytes: b"insert 1 1\ncount 0 9",
-        most: 16,
-        fails: true,
-        log: &log,
-    });
-    let mut writer = Watched::new(Vec::new(alloc));
-    let fault = Fault {
-        refusal: Refusal::ReadFault,
-        done: 1,
-        first_short: None,
-    };
-    assert_fault(rt, alloc, desk, &mut reader, &mut writer, fault);
-    assert!(rt; reader.failed());
-    let told = writer.into_inner();
-    assert_eq!(rt; told.as_slice(), b"row 0.0\n".as_slice());
-    drop(told);
-}
-
-#[test]
-fn reader_fails_in_a_line(rt: HostRuntime) -> Result<(), Fail> {
-    let desk = Core::open(rt.alloc(), &[], GREATEST_LIMIT)?;
-    fail_the_reader(&rt, rt.alloc(), desk);
-    Ok(())
-}
-
-/// A thousand inserts, and a count.
-fn insert_often(alloc: Global) -> Result<Vec<u8>, Fail> {
-    let mut input = Vec::new(alloc);
-    for _ in 0..1000 {
-        input.extend_from_slice(b"insert 1 1\n")?;
-    }
-    input.extend_from_slice(b"count 0 9")?;
-    Ok(input)
-}
-
-/// Asserts that there are several writes, no more of them than reads and one, a flush before each read and at the end,
-/// and nothing behind the last flush.
-fn assert_few_writes(rt: &impl Abort, log: &Log) {
-    let most = log.reads.get().saturating_add(1);
-    let writes = log.writes.get();
-    assert!(rt; 1 < writes && writes <= most);
-    assert_eq!(rt; [log.flushes.get(), log.left.get() as u64], [most, 0]);
-}
-
-/// Asserts that each read asked for 4,096 bytes, and once each whole line was answered; each line of so many is in the end.
-fn assert_orderly(rt: &impl Abort, log: &Log, lines: usize) {
-    assert!(rt; log.is_orderly.get());
-    assert_eq!(rt; log.answered.get(), lines);
-}
-
-/// A session of a desk and a writer whose reader gives so many bytes at a time, and which is to end.
-fn log_reads<D: Desk, W: Write>(
-    rt: &impl Abort,
-    alloc: Global,
-    desk: &mut D,
-    writer: &mut Watched<W>,
-    input: &[u8],
-    most: usize,
-    log: &Log,
-) {
-    let mut reader = Watched::new(Source {
-        bytes: input,
-        most,
-        fails: false,
-        log,
-    });
-    let result = session(alloc, desk, &mut reader, writer);
-    assert!(rt; result.is_ok());
-}
-
-/// A session whose reader gives so many bytes at a time, and whose writer keeps so many before it writes.
-fn log_it(rt: &impl Abort, alloc: Global, input: &[u8], most: usize, room: usize, log: &Log) {
-    let mut desk = Core::open(alloc, &[], GREATEST_LIMIT).expect(rt, "a desk");
-    let buffered = BufWriter::with_capacity(alloc, room, Sink { log });
-    let mut writer = Watched::new(buffered.expect(rt, "a buffer"));
-    log_reads(rt, alloc, &mut desk, &mut writer, input, most, log);
-    drop(writer);
-    drop(desk);
-}
-
-/// What is written is handed on before each read and at the end, and so is buffered to at most a write for each read.
-#[test]
-fn writes_are_as_few_as_reads(rt: HostRuntime) -> Result<(), Fail> {
-    let input = insert_often(rt.alloc())?;
-    let log = Log::new();
-    log_it(&rt, rt.alloc(), input.as_slice(), 4096, 8192, &log);
-    assert_few_writes(&rt, &log);
-    assert_orderly(&rt, &log, 1001);
-    Ok(())
-}
-
-/// So it is where each two bytes get ten, if the writer keeps the replies to a whole read.
-#[test]
-fn short_lines_get_few_writes(rt: HostRuntime) -> Result<(), Fail> {
-    let mut input = Vec::new(rt.alloc());
-    for _ in 0..8192 {
-        input.extend_from_slice(b"x\n")?;
-    }
-    let log = Log::new();
-    log_it(&rt, rt.alloc(), input.as_slice(), 4096, 24576, &log);
-    assert_few_writes(&rt, &log);
-    assert_orderly(&rt, &log, 8192);
-    Ok(())
-}
-
-/// A session that ends by its `quit`, though its reader fails once its bytes are read.
-fn quit_it(rt: &impl Abort, alloc: Global, log: &Log) {
-    let mut desk = Core::open(alloc, &[], GREATEST_LIMIT).expect(rt, "a desk");
-    let mut reader = Watched::new(Source {
-        bytes: b"insert 1 1\nquit\n",
-        most: 4096,
-        fails: true,
-        log,
-    });
-    let mut writer = Watched::new(Sink { log });
-    let result = session(alloc, &mut desk, &mut reader, &mut writer);
-    drop(desk);
-    assert_eq!(rt; result.ok(), Some(ends(How::Quit, 2)));
-    assert!(rt; !reader.failed());
-}
-
-/// Behind `quit` nothing is read, and what is written is handed on: there is one read, with a flush before it and one at the end.
-#[test]
-fn quit_reads_no_more_and_hands_on(rt: HostRuntime) {
-    let log = Log::new();
-    quit_it(&rt, rt.alloc(), &log);
-    let told = [log.reads.get(), log.flushes.get(), log.left.get() as u64];
-    assert_eq!(rt; told, [1, 2, 0]);
-}
-
-/// Each whole line is answered before the next read, wherever the reads cut the lines.
-#[test]
-fn lines_are_answered_before_the_next_read(rt: HostRuntime) -> Result<(), Fail> {
-    let input = insert_often(rt.alloc())?;
-    let log = Log::new();
-    log_it(&rt, rt.alloc(), input.as_slice(), 29, 8, &log);
-    assert_orderly(&rt, &log, 1001);
-    Ok(())
 }
 
 /// A refusal's text as it is printed, which is that of its reply.

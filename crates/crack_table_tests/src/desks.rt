@@ -1,8 +1,8 @@
 //! Sessions over a worker's desk, and over a core.
-use crate::tables::ShutGate;
 use crate::values::totals;
 use crack_commands::write_refusal;
 use crack_core::Core;
+use crack_failing::Shut;
 use crack_row::{Bound, GREATEST_LIMIT, Policy, Refusal, Watched};
 use crack_session::{Desk, End, How, serve};
 use crack_table::{OpenGate, Table};
@@ -144,7 +144,7 @@ fn a_shut_gate_refuses_each_command_of_a_session(rt: HostRuntime) -> Result<(), 
     let alloc: Global = rt.alloc();
     let (table, mut workers) = Table::open(alloc, &HUNDRED, GREATEST_LIMIT, 1)?;
     let worker = workers.pop().ok_or("worker")?;
-    let mut desk = WorkerDesk::new(&rt, &table, &ShutGate, worker);
+    let mut desk = WorkerDesk::new(&rt, &table, &Shut, worker);
     assert_session(
         &rt,
         alloc,

@@ -6,6 +6,10 @@ mod covers;
 #[cfg(test)]
 mod desks;
 #[cfg(test)]
+mod loads;
+#[cfg(test)]
+mod memory;
+#[cfg(test)]
 mod tables;
 #[cfg(test)]
 mod threads;

@@ -1,52 +1,22 @@
 //! Tables and workers, on one thread.
 use crate::values::{SPLITS, ask, ask_by, count, insert, totals};
-use crack_row::{Bound, Layout, Refusal};
-use crack_table::{Gate, GatherRefused, Table, gather};
+use crack_failing::{Counting, Shut, ShutAt};
+use crack_row::{Bound, Command, KeyRange, Layout, Refusal, Reply};
+use crack_table::{GatherRefused, Table, Worker, gather};
 use std::alloc::Global;
-use std::sync::atomic::{AtomicBool, AtomicU32, Ordering};
+use std::sync::Wait;
 use std::test::Fail;
-
-/// A gate that always says no.
-#[derive(Drop)]
-pub(crate) struct ShutGate;
-
-impl Gate for ShutGate {
-    ghost may_refuse = { λ gate part turn. Unit {0} };
-
-    fn inside(&self, _part: u32, _turn: u32) -> bool {
-        false
-    }
-}
 
 #[test]
 fn a_shut_gate_keeps_a_worker_out(rt: HostRuntime) -> Result<(), Fail> {
     let alloc: Global = rt.alloc();
     let (table, mut workers) = Table::open(alloc, &[], 10, 1)?;
     let mut worker = workers.pop().ok_or("worker")?;
-    let answer = ask_by(&rt, &mut worker, &table, &ShutGate, 0, count(7)?);
+    let answer = ask_by(&rt, &mut worker, &table, &Shut, 0, count(7)?);
     assert!(rt; matches!(answer, Err(Refusal::GateGaveUp)));
     workers.push(worker)?;
     assert_eq!(rt; totals(alloc, table, workers), Ok([0, 0, 0, 0]));
     Ok(())
-}
-
-/// A gate that says no and counts how often it was asked, and notes whether that was with the turns of one call, in order.
-#[derive(Drop)]
-struct CountingGate {
-    asked: AtomicU32,
-    in_order: AtomicBool,
-}
-
-impl Gate for CountingGate {
-    ghost may_refuse = { λ gate part turn. Unit {0} };
-
-    fn inside(&self, part: u32, turn: u32) -> bool {
-        let asked = self.asked.fetch_add(1, Ordering::SeqCst);
-        if part != 1 || turn != asked {
-            self.in_order.store(false, Ordering::SeqCst);
-        }
-        false
-    }
 }
 
 #[test]
@@ -54,16 +24,48 @@ fn a_shut_gate_is_asked_at_a_thousand_turns_in_order(rt: HostRuntime) -> Result<
     let alloc: Global = rt.alloc();
     let (table, mut workers) = Table::open(alloc, &SPLITS, 10, 1)?;
     let mut worker = workers.pop().ok_or("worker")?;
-    let gate = CountingGate {
-        asked: AtomicU32::new(0),
-        in_order: AtomicBool::new(true),
-    };
+    let gate = Counting::new(1, u32::MAX);
     let answer = ask_by(&rt, &mut worker, &table, &gate, 1, insert(1000007));
     assert!(rt; matches!(answer, Err(Refusal::GateGaveUp)));
-    assert_eq!(rt; gate.asked.load(Ordering::SeqCst), 1000);
-    assert!(rt; gate.in_order.load(Ordering::SeqCst));
+    assert_eq!(rt; gate.asked(), 1000);
+    assert!(rt; gate.is_orderly());
     workers.push(worker)?;
     assert_eq!(rt; totals(alloc, table, workers), Ok([0, 0, 0, 0]));
+    Ok(())
+}
+
+/// Four partitions.
+static FOUR: [Bound; 3] = [Bound(100), Bound(200), Bound(300)];
+
+/// Whether a worker that asks each of four partitions for a count is refused 7 by the one at which the gate says no, and answered by the others.
+fn is_kept_out_there<R: Wait>(rt: &R, worker: &mut Worker, table: &Table, shut: u32) -> bool {
+    let gate = ShutAt { part: shut };
+    let mut fine = true;
+    'parts: for part in 0..4u32 {
+        let counting = Command::Count(KeyRange::all());
+        let expected = match ask_by(rt, worker, table, &gate, part, counting) {
+            Ok(Reply::Counted(0)) => part != shut,
+            Err(Refusal::GateGaveUp) => part == shut,
+            _ => false,
+        };
+        fine = expected && fine;
+    }
+    fine
+}
+
+/// Each partition's gate is its own: one that says no at one partition keeps no worker out of another.
+#[test]
+fn a_gate_shut_at_one_partition_refuses_it_alone(rt: HostRuntime) -> Result<(), Fail> {
+    let alloc: Global = rt.alloc();
+    let (table, mut workers) = Table::open(alloc, &FOUR, 100, 1)?;
+    let mut worker = workers.pop().ok_or("worker")?;
+    let mut fine = true;
+    'rounds: for shut in 0..4u32 {
+        fine = is_kept_out_there(&rt, &mut worker, &table, shut) && fine;
+    }
+    assert!(rt; fine);
+    workers.push(worker)?;
+    assert_eq!(rt; totals(alloc, table, workers), Ok([12, 0, 0, 0]));
     Ok(())
 }
 

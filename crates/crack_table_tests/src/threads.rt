@@ -1,37 +1,12 @@
 //! Workers on threads of their own.
 use crate::values::{SPLITS, ask, ask_by, count, insert, totals};
-use crack_row::{Command, Layout, Reply};
-use crack_table::{Gate, Table, Worker};
+use crack_failing::{Alone, Meeting};
+use crack_row::{Command, KeyRange, Layout, Refusal, Reply};
+use crack_table::{Table, Worker};
 use std::alloc::Global;
 use std::sync::Wait;
-use std::sync::atomic::{AtomicBool, Ordering};
 use std::test::Fail;
 use std::thread;
-
-/// A gate that says no to each of two partitions until the other has been inside. Before each no it gives way, long enough for the other
-/// thread to arrive.
-#[derive(Drop)]
-struct Meeting {
-    arrived: [AtomicBool; 2],
-}
-
-impl Gate for Meeting {
-    ghost may_refuse = { λ gate part turn. Unit {0} };
-
-    fn inside(&self, part: u32, _turn: u32) -> bool {
-        if part > 1 {
-            return true;
-        }
-        self.arrived[part as usize].store(true, Ordering::SeqCst);
-        if self.arrived[1 - part as usize].load(Ordering::SeqCst) {
-            return true;
-        }
-        for _ in 0..1000u32 {
-            thread::yield_now();
-        }
-        false
-    }
-}
 
 /// Inserts a key behind the gate, and tells whether it was placed first.
 fn meet<R: Wait>(
@@ -52,9 +27,7 @@ fn meet<R: Wait>(
 fn two_partitions_at_once(rt: HostRuntime) -> Result<(), Fail> {
     let alloc: Global = rt.alloc();
     let (table, mut workers) = Table::open(alloc, &SPLITS, 10, 2)?;
-    let gate = Meeting {
-        arrived: [AtomicBool::new(false), AtomicBool::new(false)],
-    };
+    let gate = Meeting::new();
     let second = workers.pop().ok_or("second")?;
     let first = workers.pop().ok_or("first")?;
     let ((first, one), (second, two)) = thread::join(
@@ -67,29 +40,6 @@ fn two_partitions_at_once(rt: HostRuntime) -> Result<(), Fail> {
     workers.push(first)?;
     assert_eq!(rt; totals(alloc, table, workers), Ok([2, 2, 0, 2]));
     Ok(())
-}
-
-/// A gate that notes whether it is asked while someone else is inside. It says no twenty times, and gives way before each answer, long enough
-/// for the other thread to arrive.
-#[derive(Drop)]
-struct Alone {
-    inside: AtomicBool,
-    met: AtomicBool,
-}
-
-impl Gate for Alone {
-    ghost may_refuse = { λ gate part turn. Unit {0} };
-
-    fn inside(&self, _part: u32, turn: u32) -> bool {
-        if self.inside.swap(true, Ordering::SeqCst) {
-            self.met.store(true, Ordering::SeqCst);
-        }
-        for _ in 0..1000u32 {
-            thread::yield_now();
-        }
-        self.inside.store(false, Ordering::SeqCst);
-        turn >= 20
-    }
 }
 
 /// Inserts a key into partition 0 behind the gate, and tells whether it was placed.
@@ -109,10 +59,7 @@ fn enter<R: Wait>(
 fn one_partition_lets_one_inside(rt: HostRuntime) -> Result<(), Fail> {
     let alloc: Global = rt.alloc();
     let (table, mut workers) = Table::open(alloc, &[], 10, 2)?;
-    let gate = Alone {
-        inside: AtomicBool::new(false),
-        met: AtomicBool::new(false),
-    };
+    let gate = Alone::new();
     let second = workers.pop().ok_or("second")?;
     let first = workers.pop().ok_or("first")?;
     let ((first, one), (second, two)) = thread::join(
@@ -121,10 +68,46 @@ fn one_partition_lets_one_inside(rt: HostRuntime) -> Result<(), Fail> {
         || enter(&rt, second, &table, &gate, 60),
     );
     assert!(rt; one && two);
-    assert!(rt; !gate.met.load(Ordering::SeqCst));
+    assert!(rt; !gate.met());
     workers.push(second)?;
     workers.push(first)?;
     assert_eq!(rt; totals(alloc, table, workers), Ok([2, 2, 0, 2]));
+    Ok(())
+}
+
+/// Ten counts of one worker: how many were answered, and how many were refused since the history has ten entries.
+fn count_ten_times<R: Wait>(rt: &R, mut worker: Worker, table: &Table) -> (Worker, [u32; 2]) {
+    let [mut answered, mut refused] = [0u32, 0u32];
+    'counts: for _ in 0..10u32 {
+        match ask(rt, &mut worker, table, 0, Command::Count(KeyRange::all())) {
+            Ok(Reply::Counted(0)) => answered = answered.wrapping_add(1),
+            Err(Refusal::HistoryFull { length: 10 }) => refused = refused.wrapping_add(1),
+            _ => {}
+        }
+    }
+    (worker, [answered, refused])
+}
+
+/// Were a room in the history found before the lock is got, more would be answered than it has room for.
+#[test]
+fn four_workers_fill_one_history(rt: HostRuntime) -> Result<(), Fail> {
+    let alloc: Global = rt.alloc();
+    let (table, workers) = Table::open(alloc, &[], 10, 4)?;
+    let (shared, runtime) = (&table, &rt);
+    let done = thread::map_vec(
+        &rt,
+        workers,
+        &|worker| { count_ten_times(runtime, worker, shared) },
+    )?;
+    let mut back = Vec::new(alloc);
+    let [mut answered, mut refused] = [0u32, 0u32];
+    'done: for (worker, [one, two]) in done {
+        answered = answered.wrapping_add(one);
+        refused = refused.wrapping_add(two);
+        back.push(worker)?;
+    }
+    assert_eq!(rt; [answered, refused], [10, 30]);
+    assert_eq!(rt; totals(alloc, table, back), Ok([10, 0, 0, 0]));
     Ok(())
 }
 

@@ -1,13 +1,27 @@
-//! Desks that refuse.
+//! Desks that refuse. The desk beside which they are held is the plain table, which `crack_session` has as one.
 use crack_plain::PlainTable;
 use crack_row::{Bound, Command, Layout, Policy, Refusal, Reply};
 use crack_session::Desk;
 
-/// A plain table that finds no memory for what it is asked first.
+/// A plain table that finds no memory for one of the commands that it is asked.
 #[derive(Drop)]
 pub struct Starved {
-    pub table: PlainTable,
-    pub is_fed: bool,
+    table: PlainTable,
+    asked: u64,
+    refuses: u64,
+}
+
+impl Starved {
+    /// A desk that answers as a plain table does, but its k-th command, from 1, with 8.
+    pub fn new(table: PlainTable, k: u64) -> Starved
+        ensures { result ≡ record { table = table; asked = 0; refuses = k } }
+    {
+        Starved {
+            table,
+            asked: 0,
+            refuses: k,
+        }
+    }
 }
 
 impl Desk for Starved {
@@ -22,8 +36,8 @@ impl Desk for Starved {
     ghost receipts = { λ d. d.table.accepted };
 
     fn ask(&mut self, part: u32, command: Command, policy: Policy) -> Result<Reply, Refusal> {
-        if !self.is_fed {
-            self.is_fed = true;
+        self.asked = self.asked.saturating_add(1);
+        if self.asked == self.refuses {
             return Err(Refusal::OutOfMemory);
         }
         self.table.ask(part, command, policy)
@@ -42,7 +56,7 @@ impl Desk for Starved {
     }
 }
 
-/// A desk that answers nothing but one refusal.
+/// A desk of one partition that answers nothing but one refusal.
 #[derive(Drop)]
 pub struct Refusing {
     pub refusal: Refusal,

@@ -1,46 +1,7 @@
-//! Readers and writers that fail, drip or keep a log.
+//! Devices that keep a log of what they are asked.
 use std::cell::Cell;
 use std::io;
 use std::io::{Read, Write};
-
-/// A writer that fails from some call on.
-#[derive(Drop)]
-pub struct Failing {
-    pub calls: u64,
-    pub fails_at: u64,
-    pub bytes: Vec<u8>,
-}
-
-impl Write for Failing {
-    fn write(&mut self, buf: &[u8]) -> io::Result<usize> {
-        if self.calls >= self.fails_at {
-            return Err(io::Error::from(io::ErrorKind::BrokenPipe));
-        }
-        self.calls += 1;
-        if self.bytes.extend_from_slice(buf).is_err() {
-            return Err(io::Error::from(io::ErrorKind::OutOfMemory));
-        }
-        Ok(buf.len())
-    }
-
-    fn flush(&mut self) -> io::Result<()> {
-        Ok(())
-    }
-}
-
-/// A writer that fails when it is flushed.
-#[derive(Drop)]
-pub struct Clogged;
-
-impl Write for Clogged {
-    fn write(&mut self, buf: &[u8]) -> io::Result<usize> {
-        Ok(buf.len())
-    }
-
-    fn flush(&mut self) -> io::Result<()> {
-        Err(io::Error::from(io::ErrorKind::BrokenPipe))
-    }
-}
 
 /// What a reader and a writer were asked, in one log.
 #[derive(Drop)]
@@ -80,12 +41,24 @@ impl Log {
         }
     }
 
+    /// Notes that these bytes were given.
+    fn note_given(&self, bytes: &[u8]) {
+        self.asked
+            .set(self.asked.get().saturating_add(count_feeds(bytes)));
+    }
+
     /// Notes a write of these bytes.
     fn note_write(&self, bytes: &[u8]) {
         self.writes.set(self.writes.get().saturating_add(1));
         self.left.set(self.left.get().saturating_add(bytes.len()));
         self.answered
             .set(self.answered.get().saturating_add(count_feeds(bytes)));
+    }
+
+    /// Notes a flush.
+    fn note_flush(&self) {
+        self.flushes.set(self.flushes.get().saturating_add(1));
+        self.left.set(0);
     }
 }
 
@@ -94,50 +67,30 @@ fn count_feeds(bytes: &[u8]) -> usize {
     bytes.iter().filter(|b| **b == b'\n').count()
 }
 
-/// A reader that gives so many bytes at a time, at most; where its bytes end it fails, or its input ends.
+/// A device that notes in a log what it is asked.
 #[derive(Drop)]
-pub struct Source<'a> {
-    pub bytes: &'a [u8],
-    pub most: usize,
-    pub fails: bool,
+pub struct Logged<'a, D> {
+    pub device: D,
     pub log: &'a Log,
 }
 
-impl Read for Source<'_> {
+impl<R: Read> Read for Logged<'_, R> {
     fn read(&mut self, buf: &mut [u8]) -> io::Result<usize> {
         self.log.note_read(buf.len());
-        if self.fails && self.bytes.is_empty() {
-            return Err(io::Error::from(io::ErrorKind::BrokenPipe));
-        }
-        let room = buf.len().min(self.most);
-        let count = self.bytes.read(&mut buf[..room])?;
-        let asked = self
-            .log
-            .asked
-            .get()
-            .saturating_add(count_feeds(&buf[..count]));
-        self.log.asked.set(asked);
+        let count = self.device.read(buf)?;
+        self.log.note_given(&buf[..count]);
         Ok(count)
     }
 }
 
-/// A writer that keeps nothing but the log.
-#[derive(Drop)]
-pub struct Sink<'a> {
-    pub log: &'a Log,
-}
-
-impl Write for Sink<'_> {
+impl<W: Write> Write for Logged<'_, W> {
     fn write(&mut self, buf: &[u8]) -> io::Result<usize> {
         self.log.note_write(buf);
-        Ok(buf.len())
+        self.device.write(buf)
     }
 
     fn flush(&mut self) -> io::Result<()> {
-        self.log
-            .flushes
-            .set(self.log.flushes.get().saturating_add(1));
-        self.log.left.set(0);
-        Ok(())
+        self.log.note_flush();
+        self.device.flush()
     }
 }

@@ -1,0 +1,173 @@
+#!/usr/bin/env python3
+"""Cases of the cases of hostile input: that they let right answers pass, and find a reply that is dropped, doubled or changed, a refusal that has no cause,
+and totals that aren't those of the replies."""
+
+import pathlib
+import random
+import sys
+import tempfile
+import unittest
+
+import compare
+import csv_input
+import devices
+import lines
+import memory
+import memory_workers
+import plain_session
+import random_script
+import stand_in
+
+STAND_IN = pathlib.Path(stand_in.__file__).resolve()
+FAULTS = ["drop", "double", "change", "short"]
+
+
+def seen_of(given, wrote, short=0, limit=random_script.MOST_ENTRIES, splits=()):
+    return compare.compare(plain_session.statements(given), wrote, plain_session.Session(splits, limit), short)
+
+
+class Grammar(unittest.TestCase):
+    def test_lines_are_read_as_the_rules_say(self):
+        refused = [b"insert 1", b"insert 1 2 3", b"INSERT 1 2", b"insert 1 -2", b"insert 1\t2", b"quit now", b"delete 0 .1", b"insert 1 1\r", b" " * 201]
+        refused += [b"delete 4294967296.0", b"delete 0.18446744073709551616", b"count 000000000000000000001 5", b"insert 4294967296 1", b"layout 4294967296"]
+        for line in refused:
+            self.assertEqual(plain_session.read_line(line), "refused 1", line)
+        for line in [b"count 18446744073709551616 0", b"count 0 99999999999999999999", b"sum 0 4294967297"]:
+            self.assertEqual(plain_session.read_line(line), "refused 2", line)
+        self.assertEqual(plain_session.read_line(b"  insert   007   08  "), ("insert", [7, 8]))
+        self.assertEqual(plain_session.read_line(b"insert 1 1".ljust(200)), ("insert", [1, 1]))
+        self.assertEqual(plain_session.read_line(b"delete 0.18446744073709551615"), ("delete", [0, 2**64 - 1]))
+        self.assertEqual([plain_session.read_line(it) for it in [b"", b" " * 200]], [plain_session.BLANK] * 2)
+
+    def test_lines_end_as_the_rules_say(self):
+        self.assertEqual(plain_session.lines(b"a\r\n\r\nb\r\r\nc\r"), [b"a", b"", b"b\r", b"c"])
+        self.assertEqual((plain_session.lines(b""), plain_session.lines(b"\n"), plain_session.lines(b"\r")), ([], [b""], [b""]))
+        self.assertEqual(plain_session.statements(b"quit\nquit\n"), [("quit", [])])
+
+
+class Comparison(unittest.TestCase):
+    GIVEN = b"insert 1 10\ninsert 2 20\ndelete 0.7\nselect 0 5\nlayout 0\nnonsense\ndelete 0.0\nsum 0 5\nlayout 0\nquit\n"
+
+    def setUp(self):
+        self.lines = stand_in.session_text(self.GIVEN, plain_session.Session(), [0, 0, 0]).splitlines(keepends=True)
+
+    def wrong(self, lines, short=0):
+        return seen_of(self.GIVEN, b"".join(lines), short).wrong
+
+    def test_the_right_replies_pass(self):
+        seen = seen_of(self.GIVEN, b"".join(self.lines))
+        self.assertEqual((seen.wrong, seen.short), (None, 0))
+        self.assertEqual((seen.accepted, seen.accepted_most, seen.inserted, seen.deleted), (6, 6, 2, 1))
+
+    def test_each_line_that_is_dropped_doubled_or_changed_is_found(self):
+        for at, line in enumerate(self.lines):
+            for put in [[], [line, line], [line[:-2] + b"x\n"], [line[:-1]], [b"refused 1\n", line], [b"\n", line], [b" " + line], [b"refused 8\n"]]:
+                if put != [line]:
+                    self.assertIsNotNone(self.wrong([*self.lines[:at], *put, *self.lines[at + 1 :]]), (at, put))
+
+    def test_each_number_of_a_layout_counts(self):
+        at = next(at for at, line in enumerate(self.lines) if line.startswith(b"layout"))
+        for place, words in [(place, self.lines[at + more].split()) for more in range(2) for place in range(1, len(self.lines[at + more].split()))]:
+            if words[place].isdigit():
+                words[place] = b"%d" % (int(words[place]) + 1)
+                more = 0 if words[0] == b"layout" else 1
+                self.assertIsNotNone(self.wrong([*self.lines[: at + more], b" ".join(words) + b"\n", *self.lines[at + more + 1 :]]), words)
+
+    def test_a_statement_that_was_refused_for_want_of_memory_is_none_to_the_list(self):
+        given = b"insert 1 10\ninsert 2 20\nselect 0 5\n"
+        self.assertIsNone(seen_of(given, b"refused 8\nrow 0.0\nrows 1\n0.0 2 20\n", 1).wrong)
+        self.assertIsNotNone(seen_of(given, b"refused 8\nrow 0.1\nrows 1\n0.1 2 20\n", 1).wrong)
+        self.assertIsNotNone(seen_of(given, b"refused 8\nrow 0.0\nrows 2\n0.0 1 10\n0.1 2 20\n", 1).wrong)
+
+    def test_no_more_statements_are_refused_than_calls_and_none_that_asks_nothing(self):
+        given = b"insert 1 10\npolicy ripple\nnonsense\ncount 5 1\nlayout 9\nupdate 0.0 200 1\n"
+        right = [b"row 0.0\n", b"policy ripple\n", b"refused 1\n", b"refused 2\n", b"refused 5\n", b"refused 4\n"]
+        self.assertIsNone(seen_of(given, b"".join(right), splits=[100]).wrong)
+        for at in range(len(right)):
+            wrong = seen_of(given, b"".join([*right[:at], b"refused 8\n", *right[at + 1 :]]), 1, splits=[100]).wrong
+            self.assertEqual(wrong is None, at == 0, at)
+        self.assertIsNotNone(seen_of(b"insert 1 1\n" * 2, b"refused 8\n" * 2, 1).wrong)
+        self.assertIsNotNone(seen_of(b"count 0 5\n" * 2, b"count 0\nrefused 8\n", 1, limit=1).wrong)
+
+
+class Batches(unittest.TestCase):
+    def setUp(self):
+        self.texts = memory_workers.worker_texts(1)
+        given = memory_workers.batch_text(self.texts)
+        self.wrote = stand_in.batch_text(given, memory_workers.SPLITS, memory_workers.WORKERS)
+
+    def test_the_right_output_passes_and_each_other_is_found(self):
+        self.assertIsNone(memory_workers.fault_of_batch_output(self.texts, self.wrote, 0))
+        lines = self.wrote.splitlines(keepends=True)
+        for at, line in enumerate(lines):
+            for put in [[], [line, line], [line[:-2] + b"x\n"]]:
+                wrong = memory_workers.fault_of_batch_output(self.texts, b"".join([*lines[:at], *put, *lines[at + 1 :]]), 0)
+                self.assertIsNotNone(wrong, (at, put))
+
+    def test_each_total_counts(self):
+        *rest, last = self.wrote.splitlines(keepends=True)
+        for at in [1, 3, 5, 7]:
+            words = last.split()
+            words[at] = b"%d" % (int(words[at]) + 1)
+            self.assertIsNotNone(memory_workers.fault_of_batch_output(self.texts, b"".join([*rest, b" ".join(words) + b"\n"]), 0), words)
+
+
+class Records(unittest.TestCase):
+    def test_records_are_read_as_the_rules_say(self):
+        self.assertEqual(csv_input.records(b'1,"2""3"4\r\n\r\n"a\nb",\r5'), [[b"1", b'2"34'], [b"a\nb", b""], [b"5"]])
+        self.assertEqual(csv_input.records(csv_input.MARK + b"1,2"), [[b"1", b"2"]])
+        self.assertEqual(csv_input.exported(csv_input.SMALL, [100]), (0, b"key,payload\n50,5\n150,6\n", b""))
+        self.assertEqual(csv_input.exported(b"1,2\n3,4\n", [], 2), (1, b"key,payload\n", b"crackd: refused 6 2\n"))
+        self.assertEqual(csv_input.exported(b"1,2\n3,4\n", [], 1), (1, b"", b"crackd: refused 6 1\n"))
+
+
+class StandIns(unittest.TestCase):
+    """The cases themselves, over a program that is right and over programs that aren't."""
+
+    def setUp(self):
+        self.room = tempfile.TemporaryDirectory()
+        self.addCleanup(self.room.cleanup)
+
+    def program(self, fault):
+        path = pathlib.Path(self.room.name) / fault
+        path.write_text(f'#!/bin/sh\nexec "{sys.executable}" "{STAND_IN}" {fault} "$@"\n')
+        path.chmod(0o755)
+        return str(path)
+
+    def assert_finds(self, case, *given):
+        self.assertIsNone(case(self.program("none"), *given))
+        for fault in FAULTS:
+            self.assertIsNotNone(case(self.program(fault), *given), fault)
+
+    def test_lines(self):
+        given = lines.random_input(random.Random(1), 200)
+        self.assert_finds(lambda program: lines.fault_of_session(program, given, [100], piece=7))
+
+    def test_csv(self):
+        self.assert_finds(csv_input.fault_of_input, csv_input.SMALL, [100])
+
+    def test_devices(self):
+        words, given, wanted = devices.SUBCOMMANDS[0]
+        self.assert_finds(devices.fault_of_file, words, given, wanted, len(wanted))
+        for size in [0, 5, len(wanted) - 1]:
+            self.assertIsNone(devices.fault_of_file(self.program("none"), words, given, wanted, size))
+            self.assertEqual(devices.fault_of_file(self.program("ahead"), words, given, wanted, size) is None, size == 0)
+
+    @unittest.skipUnless(memory.library(), "no C compiler works here")
+    def test_memory(self):
+        given = memory.text_of(memory.SCRIPTS["rows are updated"], True)
+        check = lambda wrote, refused: compare.compare(plain_session.statements(given), wrote, short=refused).wrong
+        # (no call that the stand-in makes has so high a number)
+        which = {"from": memory.FOR_EVER, "to": memory.FOR_EVER}
+        self.assert_finds(lambda program: memory.fault_of_run(program, ["script"], given, check, which)[0])
+
+
+def run_all():
+    """Runs the cases. How many passed, and how many failed."""
+    ran = unittest.TextTestRunner(stream=sys.stdout, verbosity=0).run(unittest.defaultTestLoader.loadTestsFromModule(sys.modules[__name__]))
+    failed = len(ran.failures) + len(ran.errors)
+    return ran.testsRun - failed, failed
+
+
+if __name__ == "__main__":
+    sys.exit(1 if run_all()[1] else 0)

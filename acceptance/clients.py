@@ -1,0 +1,291 @@
+#!/usr/bin/env python3
+"""Runs a server among clients of all kinds, most of them bad ones: clients.py PROGRAM [--seed N] [--sessions N] [--workers N] [--seconds N]
+
+Some connect and close, reset the connection, send half a line, one byte a second, random bytes, 64 MB without a line feed or 200,000 statements at once, say
+nothing, or have large lists written to them and read none. In between are honest ones. Each has keys of its own: every reply that is read is held against a
+list of the client's own rows, and when all have gone the rows that stand, the totals and the memory that the server took are held against what all of them
+were answered (client_rows.py). The server has to end by itself once its sessions are served. A seed gives the same clients again; in which order a server
+comes to them it doesn't say. Without options it runs the cases of `make test`, and prints 'clients: N passed, M failed' at its end.
+"""
+
+import argparse
+import concurrent.futures
+import pathlib
+import random
+import subprocess
+import sys
+import threading
+import time
+
+from client_kinds import ABRUPT, KINDS, TAKE_LONG, Connection, Guest, honest, silent
+from client_rows import Account, Own, check_totals, come_to, most_bytes
+from server import MOST, MOST_WORKERS, SECONDS, Wrong, expect, started
+
+SEED, SESSIONS, SLOW_SECONDS = 1, 400, 8
+MOST_SESSIONS, MOST_SECONDS = 3000, 40
+# how many keys each client has, how many splits there are, and how many connections may wait for a worker
+WIDTH, SPLITS, WAITING = 1_000_000, 7, 64
+BACKLOG = 16
+
+
+class Peak(threading.Thread):
+    """Looks again and again at the most memory that a process has taken, until it ends."""
+
+    def __init__(self, number):
+        super().__init__(daemon=True)
+        self.status = pathlib.Path(f"/proc/{number}/status")
+        self.first = self.bytes = self.of("VmRSS")
+        self.often = threading.Event()
+
+    def of(self, name):
+        """The bytes that the process's status has under this name; 0 once it has ended."""
+        try:
+            text = self.status.read_text()
+        except (FileNotFoundError, ProcessLookupError):
+            return 0
+        told = [line.split() for line in text.splitlines() if line.startswith(f"{name}:")]
+        return int(told[0][1]) * 1024 if told else 0
+
+    def run(self):
+        while it := self.of("VmHWM"):
+            self.bytes = max(self.bytes, it)
+            time.sleep(0.002 if self.often.is_set() else 0.05)
+
+
+def waiting(port):
+    """How many connections wait for a worker that accepts them."""
+    for line in pathlib.Path("/proc/net/tcp").read_text().splitlines()[1:]:
+        words = line.split()
+        # (the port in hexadecimal digits, the state of a listener, and the lengths of its two queues)
+        if words[1].endswith(f":{port:04X}") and words[3] == "0A":
+            return int(words[4].split(":")[1], 16)
+    return 0
+
+
+def wait_for_a_place(port):
+    """Waits until few connections wait. One that goes before a worker came to it may be lost where too many do, and the server has a session less."""
+    end = time.monotonic() + SECONDS
+    while waiting(port) > WAITING:
+        if time.monotonic() > end:
+            raise Wrong("the server accepts no connection")
+        time.sleep(0.005)
+
+
+def planned(numbers, sessions, workers):
+    """The kinds of a run, each with its number of sessions: those that take long first, of each fewer than half as many as there are workers."""
+    kinds, left = [], sessions
+    for kind, share, most in KINDS[1:]:
+        count = max(1, round(sessions * share / 100))
+        count = count if most is None else min(count, most)
+        count = min(count, (workers - 1) // 2) if kind in TAKE_LONG else count
+        kinds += [(kind, 1)] * count
+        left -= count
+    while left > 0:
+        visits = min(left, numbers.randrange(1, 4))
+        kinds.append((honest, visits))
+        left -= visits
+    first = [it for it in kinds if it[0] in TAKE_LONG]
+    rest = [it for it in kinds if it[0] not in TAKE_LONG]
+    numbers.shuffle(rest)
+    return first + rest
+
+
+def visit(guest, kind):
+    """Runs a client. What is wrong, or None."""
+    try:
+        if kind in ABRUPT:
+            wait_for_a_place(guest.port)
+        kind(guest)
+    except (Wrong, OSError, ValueError, IndexError) as error:
+        return f"{kind.__name__} at the keys from {guest.own.low}: {type(error).__name__}: {error}"
+    return None
+
+
+class Storm:
+    """A server, and clients of all kinds that a seed gives."""
+
+    def __init__(self, program, seed, sessions, workers, seconds):
+        self.program, self.workers, self.sessions, self.seconds = program, workers, sessions, seconds
+        numbers = random.Random(seed)
+        self.plan = planned(numbers, sessions - workers, workers)
+        # where the keys of each client begin
+        self.lows = [it * WIDTH for it in numbers.sample(range(len(self.plan)), len(self.plan))]
+        places = numbers.sample(range(1, len(self.plan)), min(SPLITS, len(self.plan) - 1))
+        # (some clients have a split amid their keys)
+        self.splits = sorted(it * WIDTH + numbers.choice([0, WIDTH // 2]) for it in places)
+        self.seed = numbers.randrange(MOST)
+        self.policy = numbers.choice(["complete", "gradual", "ripple"])
+        self.clients = []
+
+    def run(self):
+        """Runs it. What it came to, as numbers by their names."""
+        before = time.monotonic()
+        words = ["--policy", self.policy, *map(str, self.splits)]
+        server, port = started(self.program, self.workers, self.sessions, *words)
+        try:
+            peak = Peak(server.pid)
+            peak.start()
+            self.visit_all(port)
+            account = self.look(port, peak)
+            wrote, complained = server.communicate(timeout=SECONDS)
+            expect("status and standard error", (0, ""), (server.returncode, complained))
+        except subprocess.TimeoutExpired as error:
+            raise Wrong("the server didn't end") from error
+        finally:
+            server.kill()
+            server.communicate()
+        peak.join()
+        return self.hold(account, wrote, peak) | {"seconds": round(time.monotonic() - before, 1)}
+
+    def visit_all(self, port):
+        """Has all clients come, as many at a time as there are workers and some more, and the silent ones speak once the others have gone."""
+        others_gone = threading.Event()
+        with concurrent.futures.ThreadPoolExecutor(self.workers + min(self.workers, BACKLOG)) as pool:
+            visits = []
+            for number, (kind, times) in enumerate(self.plan):
+                own = Own(self.splits, self.lows[number], self.lows[number] + WIDTH)
+                guest = Guest(port, own, self.seed + number, times, self.seconds, others_gone)
+                self.clients.append(own)
+                visits.append((kind, pool.submit(visit, guest, kind)))
+            concurrent.futures.wait([it for kind, it in visits if kind is not silent])
+            others_gone.set()
+            faults = [it.result() for _, it in visits if it.result()]
+        if faults:
+            raise Wrong("\n    ".join(faults[:5]))
+
+    def look(self, port, peak):
+        """What stands once all have gone. So many connections as there are workers are served at once, so no worker is at an earlier one; one of them
+        reads all rows, and then learns by an insert into each partition how many that was given."""
+        account = Account(self.splits)
+        last = [Connection(port) for _ in range(self.workers)]
+        for it in last:
+            it.send("nonsense\n")
+        for it in last:
+            expect("of one worker each", ["refused 1"], it.reply())
+        last[0].send(f"select 0 {MOST}\n")
+        account.read_rows(last[0].reply())
+        for part, key in enumerate([0, *self.splits]):
+            last[0].send(f"insert {key} 0\n")
+            (line,) = last[0].reply()
+            account.given[part] = int(line.removeprefix(f"row {part}."))
+        peak.often.set()
+        for it in last:
+            it.send("quit\n")
+            expect("quit", ["bye"], it.reply())
+            it.is_at_end()
+            it.lines.close()
+            it.socket.close()
+        return account
+
+    def hold(self, account, wrote, peak):
+        """Holds rows, totals and memory against what the clients were answered."""
+        counts = come_to(account, self.clients)
+        parts = len(account.given)
+        # (the last select asked each partition, and each was given one row more)
+        own = {"least": 2 * parts, "most": 2 * parts, "inserted": parts, "deleted": 0, "listed": len(account.rows)}
+        counts = {name: it + own[name] for name, it in counts.items()}
+        accepted = check_totals(wrote, counts)
+        took, most = peak.bytes - peak.first, most_bytes(accepted, counts["listed"], self.workers)
+        if took > most:
+            raise Wrong(f"memory: at most {most} bytes were wanted, and {took} taken")
+        return {"sessions": self.sessions, "accepted": accepted, "listed": counts["listed"], "bytes": took, "most": most}
+
+
+def storm(program, seed=SEED, sessions=SESSIONS, workers=MOST_WORKERS, seconds=SLOW_SECONDS):
+    """Runs a server among the clients of a seed: what they come to. Of the sessions one for each worker is kept for a last look; the slow clients send
+    `seconds` bytes, one a second."""
+    return Storm(program, seed, sessions, workers, seconds).run()
+
+
+def fault(program, seed):
+    """What is wrong with a run of a size that the seed draws, or None."""
+    numbers = random.Random(seed)
+    workers = numbers.choice([4, 8, 32, MOST_WORKERS])
+    return fault_of(program, seed, workers + numbers.randrange(60, 500), workers, numbers.randrange(1, 20))
+
+
+def whole_fault(program, seed):
+    """What is wrong with a run of many sessions, or None."""
+    return fault_of(program, seed, MOST_SESSIONS, MOST_WORKERS, MOST_SECONDS)
+
+
+def fault_of(program, *given):
+    """What is wrong with a run, or None."""
+    try:
+        storm(program, *given)
+    except (Wrong, OSError) as error:
+        return f"seed, sessions, workers and seconds {given}: {error}"
+    return None
+
+
+def among_all_kinds(program):
+    """A server among clients of all kinds."""
+    print(told(storm(program)), flush=True)
+
+
+def all_but_one_are_silent(program):
+    """Silent clients hold their own workers alone: with one worker left, a hundred clients are served one behind the other."""
+    splits, served, others_gone = [], 100, threading.Event()
+    guests = [Own(splits, number * WIDTH, (number + 1) * WIDTH) for number in range(served + MOST_WORKERS - 1)]
+    server, port = started(program, MOST_WORKERS, len(guests))
+    quiet = [Connection(port) for _ in guests[served:]]
+    try:
+        for number, own in enumerate(guests[:served]):
+            honest(Guest(port, own, number, 1, 0, others_gone))
+        for it in quiet:
+            it.send(f"count 0 {MOST}\nquit\n")
+        held = sum(len(it.rows) for it in guests)
+        for it in quiet:
+            expect("a silent client", [f"count {held}"], it.reply())
+            expect("a silent client", ["bye"], it.reply())
+        wrote, complained = server.communicate(timeout=SECONDS)
+    finally:
+        server.kill()
+        server.communicate()
+    accepted = sum(it.accepted for it in guests) + len(quiet)
+    inserted, deleted = sum(it.inserted for it in guests), sum(it.deleted for it in guests)
+    totals = f"accepted {accepted} inserted {inserted} deleted {deleted} held {held}\n"
+    expect("status, output and standard error", (0, totals, ""), (server.returncode, wrote, complained))
+
+
+def told(figures):
+    return "clients: " + ", ".join(f"{name} {it}" for name, it in figures.items())
+
+
+CASES = [all_but_one_are_silent, among_all_kinds]
+
+
+def run(program):
+    """Runs all cases. How many passed, and how many failed."""
+    program = str(pathlib.Path(program).resolve())
+    failed = 0
+    for case in CASES:
+        try:
+            case(program)
+        except (Wrong, OSError, subprocess.TimeoutExpired) as error:
+            failed += 1
+            print(f"clients: {case.__name__} FAILED\n    {error}")
+    print(f"clients: {len(CASES) - failed} passed, {failed} failed", flush=True)
+    return len(CASES) - failed, failed
+
+
+def main(words):
+    parser = argparse.ArgumentParser(description="Runs a server among clients of all kinds.")
+    parser.add_argument("program")
+    parser.add_argument("--seed", type=int)
+    parser.add_argument("--sessions", type=int, default=SESSIONS)
+    parser.add_argument("--workers", type=int, default=MOST_WORKERS)
+    parser.add_argument("--seconds", type=int, default=SLOW_SECONDS)
+    it = parser.parse_args(words)
+    if it.seed is None:
+        return 1 if run(it.program)[1] else 0
+    try:
+        print(told(storm(str(pathlib.Path(it.program).resolve()), it.seed, it.sessions, it.workers, it.seconds)))
+    except (Wrong, OSError) as error:
+        print(f"clients: FAILED\n    {error}")
+        return 1
+    return 0
+
+
+if __name__ == "__main__":
+    sys.exit(main(sys.argv[1:]))

@@ -1,0 +1,207 @@
+"""Refuses memory to the program, call by call.
+
+Each call for memory of a run is refused in turn, from the first on until a run meets none that is refused: alone; with the three behind it; with all
+behind it; and each by chance, one in fifty. What is answered must be what the lists of plain_session.py answer that never saw the statements which were
+refused with 8, and no more statements may be refused than calls were. A run may also end with 8 where the program opens; one of CSV wherever it is, behind a
+front of its text.
+A small library, refusing.c, refuses the calls. It is compiled here; where there is no C compiler nothing is refused, and hostile.py says so.
+"""
+
+import atexit
+import functools
+import os
+import pathlib
+import random
+import shutil
+import struct
+import subprocess
+import tempfile
+
+import compare
+import plain_session
+import random_script
+
+SOURCE = pathlib.Path(__file__).resolve().parent / "refusing.c"
+COMPILERS = ["cc", "gcc", "clang", "tcc"]
+SECONDS = 20
+FOR_EVER = 2**63
+STATEMENTS = 200
+CHANCES, ONE_IN = 40, 50
+REFUSED = b"crackd: refused 8\n"
+
+ALL = f"count 0 {random_script.MOST}"
+FOUR = ["insert 10 10", "insert 20 20", "insert 30 30", "insert 40 40", ALL, "count 15 25"]
+THREE = [*FOUR[:3], ALL, "count 15 25"]
+# what merges do in all their ways: evictions, a doomed row in the way, pulls, updates in place and by a new cell, and all pending rows at once
+SCRIPTS = {
+    "a row is evicted and comes back": [*FOUR, "insert 17 0", "count 15 25", f"count 25 {random_script.MOST}", "count 15 25"],
+    "a doomed row is in the way": [*THREE, "delete 0.2", "insert 17 0", "count 15 25", "insert 99 1"],
+    "a pull goes through two bounds": [*THREE, "delete 0.0", "count 0 15"],
+    "a pull carries a doomed row on": [*THREE, "delete 0.0", "delete 0.2", "count 0 15"],
+    "rows are updated": ["insert 5 50", "update 0.0 6 60", ALL, "update 0.0 8 80", f"select 0 {random_script.MOST}"],
+    "rows wait near the range and far off": [*FOUR, "insert 17 0", "insert 90 0", "count 15 25"],
+}
+# runs that write one text: their words, and what they are given
+TEXTS = {
+    "csv": (["csv", "100", "200"], b"key,payload\n" + b"".join(b'%d,"%d"\n' % (key, key % 7) for key in range(0, 400, 9))),
+    "help": (["script", "--help"], b""),
+}
+
+
+@functools.cache
+def library():
+    """The library that refuses, compiled; None where that can't be done."""
+    room = tempfile.mkdtemp(prefix="crackd-refusing-")
+    atexit.register(shutil.rmtree, room, ignore_errors=True)
+    made = pathlib.Path(room) / "refusing.so"
+    for compiler in COMPILERS:
+        command = [compiler, "-O2", "-shared", "-fPIC", "-o", str(made), str(SOURCE), "-ldl"]
+        if shutil.which(compiler) and subprocess.run(command, capture_output=True, check=False).returncode == 0:
+            return str(made)
+    return None
+
+
+class Refusing:
+    """Which calls for memory are refused to a program, and what came of it."""
+
+    def __init__(self, **which):
+        self.which = {f"REFUSE_{name.upper()}": str(it) for name, it in which.items()}
+        self.file = None
+
+    def __enter__(self):
+        self.file = tempfile.NamedTemporaryFile(prefix="crackd-refused-")
+        self.file.truncate(16)
+        return self
+
+    def __exit__(self, *_):
+        self.file.close()
+
+    def environment(self):
+        """The environment of a program whose calls are to be refused so."""
+        return {**os.environ, **self.which, "REFUSE_TELLS": self.file.name, "LD_PRELOAD": library()}
+
+    def told(self):
+        """How many calls there were, and how many were refused."""
+        self.file.seek(0)
+        return struct.unpack("QQ", self.file.read(16))
+
+
+# which calls are refused in the run of a number
+WAYS = {
+    "alone": lambda number: {"from": number, "to": number},
+    "four": lambda number: {"from": number, "to": number + 3},
+    "all": lambda number: {"from": number, "to": FOR_EVER},
+    "chance": lambda number: {"one_in": ONE_IN, "seed": number},
+}
+
+
+def numbers_of(way):
+    """The numbers of the runs of a way; for all but chance they go on until none was refused."""
+    return range(1, CHANCES + 1) if way == "chance" else range(1, FOR_EVER)
+
+
+def is_front(left, text):
+    """Whether what was left of a text is a front of it, of whole lines."""
+    return text.startswith(left) and left[-1:] in (b"", b"\n")
+
+
+def fault_of_run(program, words, given, check, which, text=b""):
+    """Runs the program once. Where it ends with 8 a front of the text may have been written. What is wrong, or None; and how many calls were refused."""
+    with Refusing(**which) as refusing:
+        ran = subprocess.run(
+            [program, *words], input=given, capture_output=True, env=refusing.environment(), timeout=SECONDS, check=False, close_fds=False
+        )
+        calls, refused = refusing.told()
+    if not calls:
+        return "no call for memory was seen", 0
+    if ran.returncode == 1 and refused and ran.stderr == REFUSED:
+        return (None if is_front(ran.stdout, text) else f"it ended with 8, and wrote {ran.stdout[-80:]!r}"), refused
+    if ran.returncode or ran.stderr:
+        return f"status {ran.returncode}, standard error {ran.stderr!r}", refused
+    return check(ran.stdout, refused), refused
+
+
+def fault_of_sweep(program, words, given, check, way, text=b""):
+    """Refuses calls one way, number by number, until a run meets none that is refused. What is wrong first, or None, and how many runs there were."""
+    for runs, number in enumerate(numbers_of(way), 1):
+        which = WAYS[way](number)
+        try:
+            wrong, refused = fault_of_run(program, words, given, check, which, text)
+        except subprocess.TimeoutExpired:
+            wrong, refused = f"it had not ended after {SECONDS} seconds", 0
+        if wrong:
+            return f"{way} {number}: {wrong}", runs
+        if not refused and way != "chance":
+            return None, runs
+    return None, runs
+
+
+def sweep_script(program, words, given, way, splits=(), limit=random_script.MOST_ENTRIES):
+    """Sweeps one way over a session."""
+    said = plain_session.statements(given)
+
+    def check(wrote, refused):
+        return compare.compare(said, wrote, plain_session.Session(splits, limit), refused).wrong
+
+    return fault_of_sweep(program, words, given, check, way)
+
+
+def text_of(statements, with_layouts):
+    """The bytes of statements, with a layout behind each if that is wanted."""
+    behind = "layout 0\n" if with_layouts else ""
+    return "".join(f"{it}\n{behind}" for it in statements).encode("ascii")
+
+
+def fault_of_named(program, name, policy, way):
+    """Sweeps one way over a script of `SCRIPTS` under a policy, without layouts and with, which find no memory either where it never comes again. What is
+    wrong, or None, and how many runs there were."""
+    found, runs = None, 0
+    for with_layouts in [False] if way == "all" else [False, True]:
+        wrong, more = sweep_script(program, ["script", "--policy", policy], text_of(SCRIPTS[name], with_layouts), way)
+        found, runs = found or wrong, runs + more
+    return found, runs
+
+
+def fault_of_text(program, words, given, way):
+    """Sweeps one way over a run that writes one text, or a front of it where it ends with 8. What is wrong, or None, and how many runs there were."""
+    text = subprocess.run([program, *words], input=given, capture_output=True, timeout=SECONDS, check=True).stdout
+
+    def check(wrote, _):
+        return None if wrote == text else f"wanted {text[:200]!r}, got {wrote[:200]!r}"
+
+    return fault_of_sweep(program, words, given, check, way, text)
+
+
+def random_text(numbers, splits, limit, most, statements=STATEMENTS):
+    """A random session of so many statements over these splits."""
+    table = random_script.Table(splits, limit)
+    return "".join(f"{random_script.random_statement(numbers, table, most)[0]}\n" for _ in range(statements)).encode("ascii")
+
+
+def random_session(seed):
+    """The words of the command line, the bytes of a session, its splits and its limit, drawn by a seed. Where histories get full there is one
+    partition: of a range over several that is refused with 8 nobody is told which have kept their part."""
+    numbers = random.Random(seed)
+    most = numbers.choice(random_script.KEYS)
+    splits = sorted(numbers.sample(range(1, min(most, random_script.MOST - 2) + 1), numbers.choice([0, 1, 3, 8, 15])))
+    limit = numbers.choice([STATEMENTS // 2, random_script.MOST_ENTRIES]) if not splits else random_script.MOST_ENTRIES
+    words = ["script", "--policy", numbers.choice(random_script.POLICIES), "--limit", str(limit), *map(str, splits)]
+    return words, random_text(numbers, splits, limit, most), splits, limit
+
+
+def fault_of_random(program, seed, way):
+    """Sweeps one way over the random script of a seed. What is wrong, or None, and how many runs there were."""
+    words, given, splits, limit = random_session(seed)
+    return sweep_script(program, words, given, way, splits, limit)
+
+
+def is_there():
+    """Whether memory can be refused here."""
+    return library() is not None
+
+
+def fault(program, seed):
+    """What is wrong with a sweep over the random script of a seed, which draws the way, too; or None."""
+    way = list(WAYS)[seed % len(WAYS)]
+    wrong, _ = fault_of_random(program, seed, way)
+    return wrong and f"memory, script of seed {seed}, {wrong}"

@@ -1,0 +1,163 @@
+"""What a session is to be answered: its bytes, read by the grammar of docs/SPECIFICATION.md, and its statements, answered by the lists of rows of
+random_script.py. Written from the rules alone, and slowly.
+"""
+
+import random_script
+
+LINE_BYTES = 200
+GREATEST = 2**32 - 1
+GREATEST_SERIAL = 2**64 - 1
+DIGITS = b"0123456789"
+BLANK = "blank"
+COUNTS_OF_NUMBERS = {b"insert": 2, b"count": 2, b"sum": 2, b"select": 2, b"layout": 1}
+
+
+def lines(given):
+    """The lines of a session's input, without what ends them."""
+    cut = given.split(b"\n")
+    if not cut[-1]:
+        cut.pop()
+    return [it[:-1] if it.endswith(b"\r") else it for it in cut]
+
+
+def number(word, most=None):
+    """The number that a word is, of at most `most`; None where it is none."""
+    if not 1 <= len(word) <= 20 or any(it not in DIGITS for it in word):
+        return None
+    # (int() would take spaces, signs and underscores, too)
+    value = int(word.decode("ascii"))
+    return value if most is None or value <= most else None
+
+
+def row_number(word):
+    """The partition and the serial of a row number; None where a word is none."""
+    halves = word.split(b".")
+    if len(halves) != 2:
+        return None
+    both = number(halves[0], GREATEST), number(halves[1], GREATEST_SERIAL)
+    return None if None in both else both
+
+
+def numbers(words, *greatest):
+    """The numbers that words are, each of at most its greatest; None where one is none, or there are more or fewer words."""
+    if len(words) != len(greatest):
+        return None
+    found = [number(word, most) for word, most in zip(words, greatest)]
+    return None if None in found else found
+
+
+def read_range(words):
+    """The ends of a range, or what is refused."""
+    ends = numbers(words, None, None)
+    if ends is None:
+        return None
+    return ends if ends[0] <= ends[1] <= random_script.MOST else "refused 2"
+
+
+def read_row(words, *greatest):
+    """A row number and the numbers behind it; None where that isn't what the words are."""
+    row = row_number(words[0]) if words else None
+    others = numbers(words[1:], *greatest)
+    return None if row is None or others is None else [*row, *others]
+
+
+def read_words(words):
+    """What the words of a line say: a kind and its numbers; or a refusal's text."""
+    kind, rest = words[0], words[1:]
+    match kind:
+        case b"insert":
+            found = numbers(rest, GREATEST, GREATEST)
+        case b"delete":
+            found = read_row(rest)
+        case b"update":
+            found = read_row(rest, GREATEST, GREATEST)
+        case b"count" | b"sum" | b"select":
+            found = read_range(rest)
+        case b"layout":
+            found = numbers(rest, GREATEST)
+        case b"policy":
+            found = rest if len(rest) == 1 and rest[0].decode("latin-1") in random_script.POLICIES else None
+        case b"quit":
+            found = None if rest else []
+        case _:
+            found = None
+    if found is None:
+        return "refused 1"
+    return found if isinstance(found, str) else (kind.decode("ascii"), found)
+
+
+def read_line(line):
+    """What a line says: `BLANK`, a refusal's text, or a kind and its numbers."""
+    if len(line) > LINE_BYTES:
+        return "refused 1"
+    words = [it for it in line.split(b" ") if it]
+    return read_words(words) if words else BLANK
+
+
+def statements(given):
+    """What the lines of a session's input say, up to a `quit`, without those that are blank."""
+    found = []
+    for line in lines(given):
+        said = read_line(line)
+        if said != BLANK:
+            found.append(said)
+        if said == ("quit", []):
+            break
+    return found
+
+
+class Layout:
+    """What a layout is to tell: the partition that it is of, and how many rows that has."""
+
+    def __init__(self, part):
+        self.part, self.rows = part, len(part.rows)
+
+
+class Session:
+    """The partitions of a session's table, and what its statements are answered."""
+
+    def __init__(self, splits=(), limit=random_script.MOST_ENTRIES):
+        self.table = random_script.Table(list(splits), limit)
+
+    def parts_asked(self, said):
+        """How many partitions what was said asks."""
+        if isinstance(said, str) or said[0] in ("policy", "quit"):
+            return 0
+        kind, told = said
+        if kind in ("delete", "update", "layout"):
+            return int(told[0] < len(self.table.parts))
+        if kind == "insert" or told[0] == told[1]:
+            return 1
+        return sum(part.low < told[1] and told[0] < part.high for part in self.table.parts)
+
+    def answer(self, said):
+        """The lines that what was said is answered, or the layout that is to be told."""
+        if isinstance(said, str):
+            return [said]
+        kind, told = said
+        match kind:
+            case "policy":
+                return [f"policy {told[0].decode('ascii')}"]
+            case "quit":
+                return ["bye"]
+            case "layout":
+                there = told[0] < len(self.table.parts)
+                return Layout(self.table.parts[told[0]]) if there else ["refused 5"]
+            case _:
+                return self.table.answer(kind, told)
+
+    def is_refused_without_memory(self, said):
+        """Whether what was said is refused for a cause that goes before want of memory, in the one partition that it asks."""
+        if isinstance(said, str) or said[0] == "layout" or self.parts_asked(said) != 1:
+            return False
+        kind, told = said
+        part = self.table.parts[told[0]] if kind in ("delete", "update") else self.table.part_of(told[0])
+        is_outside = kind == "update" and not part.low <= told[2] < part.high
+        return is_outside or part.kept == part.limit
+
+
+def replies(given, splits=(), limit=random_script.MOST_ENTRIES):
+    """The text of the replies to a session without layouts."""
+    session = Session(splits, limit)
+    found = [session.answer(said) for said in statements(given)]
+    return "".join(f"{line}\n" for answer in found for line in answer).encode("ascii")

@@ -1,0 +1,185 @@
+#!/usr/bin/env python3
+"""Runs cases of hostile use with new seeds, side by side, until the time is over: soak.py SECONDS [--built FOLDER] [--seed N] [--only KIND ..]
+[--failures FOLDER]; or one case again: soak.py --again KIND SEED
+
+The kinds are histories of threads, clients of a server, lines, CSV, devices, memory that is refused, and random scripts. Each has about the same share of
+the time, and there are as many cases at once as there are processors; one run of clients is that of 3,000 sessions and 64 workers. Each case has a seed of
+its own; a soak's first one is drawn anew, and printed. A case that fails is written to FOLDER, soak-failures/ where none is given: what is wrong, and the
+command that repeats it, as far as the schedule of threads allows. FOLDER of --built has the programs where the crates' own out/ haven't. Cases that were
+begun are ended once the time is over. Prints counts by kind, and last 'N passed, M failed'.
+"""
+
+import argparse
+import concurrent.futures
+import os
+import pathlib
+import random
+import sys
+import time
+
+import clients
+import csv_input
+import devices
+import histories
+import lines
+import memory
+import memory_workers
+import random_script
+
+TOP = pathlib.Path(__file__).resolve().parent.parent
+FAILURES = TOP / "soak-failures"
+SEEDS = 2**32
+# how many statements each worker of a history has
+STATEMENTS = 10_000
+TOLD_EVERY = 60
+# a kind that has failed so often isn't run any more
+MOST_FAILURES = 10
+
+
+class Kind:
+    """A kind of cases: its name, the function of a program and a seed that runs one and says what is wrong, the program, and what was seen of it."""
+
+    def __init__(self, name, fault, program="crackd", alone=False):
+        self.name, self.fault, self.program, self.alone = name, fault, program, alone
+        self.passed = self.failed = self.running = 0
+        self.seconds = 0.0
+
+    def told(self):
+        return f"soak: {self.name} {self.passed} passed, {self.failed} failed, {self.seconds:.0f} seconds"
+
+
+def fault_of_histories(program, seed):
+    """What is wrong with long histories of a seed under each policy, or None."""
+    return histories.fault(program, seed, STATEMENTS)
+
+
+def kinds():
+    """All kinds by their names. Of those that take several processors only one case runs at a time."""
+    all_kinds = [
+        Kind("clients-whole", clients.whole_fault, alone=True),
+        Kind("clients", clients.fault, alone=True),
+        Kind("threads", fault_of_histories, "crack_histories"),
+        Kind("lines", lines.fault),
+        Kind("csv", csv_input.fault),
+        Kind("devices", devices.fault),
+        Kind("memory", memory.fault),
+        Kind("memory-workers", memory_workers.fault),
+        Kind("scripts", random_script.fault),
+    ]
+    return {it.name: it for it in all_kinds}
+
+
+def built(folder, name):
+    """The path of a program that is built."""
+    return str((folder / name if folder else TOP / "crates" / name / "out" / name).resolve())
+
+
+def chosen(folder, only):
+    """The kinds that are wanted and can be run. It prints which can't."""
+    can = []
+    for kind in kinds().values():
+        if only and kind.name not in only:
+            continue
+        if not pathlib.Path(built(folder, kind.program)).exists():
+            print(f"soak: {kind.name} skipped, since {kind.program} isn't built", flush=True)
+        elif kind.name.startswith("memory") and not memory.is_there():
+            print(f"soak: {kind.name} skipped, since no C compiler works here", flush=True)
+        else:
+            can.append(kind)
+    return can
+
+
+def run_case(name, folder, seed):
+    """Runs one case. What is wrong, or None, and how many seconds it took."""
+    began, kind = time.monotonic(), kinds()[name]
+    try:
+        wrong = kind.fault(built(folder, kind.program), seed)
+    # (whatever ends a case is told, so that the others go on)
+    except Exception as error:  # noqa: BLE001
+        wrong = f"{type(error).__name__}: {error}"
+    return wrong, time.monotonic() - began
+
+
+def next_kind(of):
+    """The kind that has had the least time, of those that may run now. The whole run of clients is the first."""
+    alone = any(it.running for it in of if it.alone)
+    free = [it for it in of if it.failed < MOST_FAILURES and not (it.alone and alone) and not (it.name == "clients-whole" and it.passed + it.failed)]
+    return min(free, key=lambda it: (it.seconds + it.running, it.name)) if free else None
+
+
+def write_failure(failures, kind, seed, wrong):
+    """Writes what is wrong with a case, and how it is repeated."""
+    failures.mkdir(parents=True, exist_ok=True)
+    command = f"python3 acceptance/soak.py --again {kind.name} {seed}"
+    (failures / f"{kind.name}-{seed}.txt").write_text(f"{command}\n\n{wrong}\n")
+
+
+def soak(seconds, folder, of, first, failures):
+    """Runs cases until the time is over."""
+    end, tell, running = time.monotonic() + seconds, time.monotonic() + TOLD_EVERY, {}
+    seeds = random.Random(first)
+    with concurrent.futures.ProcessPoolExecutor(os.cpu_count()) as pool:
+        while running or time.monotonic() < end:
+            while time.monotonic() < end and len(running) < os.cpu_count() and (kind := next_kind(of)):
+                seed = seeds.randrange(SEEDS)
+                running[pool.submit(run_case, kind.name, folder, seed)] = kind, seed
+                kind.running += 1
+            if not running:
+                return
+            done, _ = concurrent.futures.wait(running, timeout=1, return_when=concurrent.futures.FIRST_COMPLETED)
+            for it in done:
+                kind, seed = running.pop(it)
+                take_result(kind, seed, *it.result(), failures)
+            if time.monotonic() > tell:
+                tell += TOLD_EVERY
+                print(f"soak: {sum(it.passed for it in of)} passed, {sum(it.failed for it in of)} failed so far", flush=True)
+
+
+def take_result(kind, seed, wrong, seconds, failures):
+    """Counts a case that has ended."""
+    kind.running -= 1
+    kind.seconds += seconds
+    if wrong is None:
+        kind.passed += 1
+        return
+    kind.failed += 1
+    write_failure(failures, kind, seed, wrong)
+    print(f"soak: {kind.name} {seed} FAILED\n    {wrong}", flush=True)
+
+
+def repeat(name, seed, folder):
+    """Runs one case again. The exit status."""
+    wrong, seconds = run_case(name, folder, seed)
+    print(f"soak: {name} {seed} {'passed' if wrong is None else 'FAILED'}, {seconds:.1f} seconds" + (f"\n    {wrong}" if wrong else ""))
+    return 1 if wrong else 0
+
+
+def options(words):
+    parser = argparse.ArgumentParser(description=__doc__, formatter_class=argparse.RawDescriptionHelpFormatter)
+    parser.add_argument("seconds", type=float, nargs="?")
+    parser.add_argument("--built", type=pathlib.Path, metavar="FOLDER")
+    parser.add_argument("--seed", type=int, default=random.SystemRandom().randrange(SEEDS))
+    parser.add_argument("--only", nargs="+", choices=kinds(), metavar="KIND")
+    parser.add_argument("--failures", type=pathlib.Path, default=FAILURES, metavar="FOLDER")
+    parser.add_argument("--again", nargs=2, metavar=("KIND", "SEED"))
+    return parser.parse_args(words)
+
+
+def main(words):
+    it = options(words)
+    if it.again:
+        return repeat(it.again[0], int(it.again[1]), it.built)
+    if it.seconds is None:
+        sys.exit(__doc__)
+    of = chosen(it.built, it.only)
+    print(f"soak: {it.seconds:.0f} seconds from the seed {it.seed}", flush=True)
+    soak(it.seconds, it.built, of, it.seed, it.failures)
+    for kind in of:
+        print(kind.told())
+    passed, failed = sum(kind.passed for kind in of), sum(kind.failed for kind in of)
+    print(f"{passed} passed, {failed} failed", flush=True)
+    return 1 if failed or not passed else 0
+
+
+if __name__ == "__main__":
+    sys.exit(main(sys.argv[1:]))

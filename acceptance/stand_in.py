@@ -1,0 +1,101 @@
+#!/usr/bin/env python3
+"""A program in the program's place, right or with a fault, for the cases of check_hostile.py: stand_in.py FAULT SUBCOMMAND ..
+
+It answers `script`, `batch` and `csv` by plain_session.py and csv_input.py, and has one fault: none; drop, double, change (of the last line but one);
+short (the last statement is refused with 8, though memory is there); ahead (where writing fails it has written other bytes than it should have).
+"""
+
+import os
+import sys
+
+import csv_input
+import memory_workers
+import plain_session
+
+
+def doctored(text, fault):
+    """A text of lines with a fault."""
+    lines = text.splitlines(keepends=True)
+    if len(lines) < 2:
+        return text
+    at = len(lines) - 2
+    match fault:
+        case "drop":
+            return b"".join(lines[:at] + lines[at + 1 :])
+        case "double":
+            return b"".join(lines[: at + 1] + lines[at:])
+        case "change":
+            return b"".join([*lines[:at], lines[at][:-2] + b"x\n", *lines[at + 1 :]])
+        case "short":
+            return b"".join([*lines[:-1], b"refused 8\n"])
+        case _:
+            return text
+
+
+def text_of(answer):
+    """The text of an answer; a layout is of one piece."""
+    if isinstance(answer, plain_session.Layout):
+        part, rows = answer.part, answer.rows
+        head = f"layout {part.number} rows {rows} column {rows} out 0 in 0 cells {rows} free 0 pieces 1"
+        answer = [head, f"piece {part.low} {part.high} {rows}"]
+    return "".join(f"{line}\n" for line in answer).encode("ascii")
+
+
+def session_text(given, session, totals):
+    """The text of a session's replies, which raises the totals."""
+    text = b""
+    for said in plain_session.statements(given):
+        answer = session.answer(said)
+        if session.parts_asked(said) and said[0] != "layout" and not answer[0].startswith("refused"):
+            totals[0] += session.parts_asked(said)
+            totals[1] += said[0] == "insert"
+            totals[2] += answer[0].startswith("gone")
+        text += text_of(answer)
+    return text
+
+
+def batch_text(given, splits, workers):
+    """The text of a batch, each worker with a table of its own, since each has partitions of its own."""
+    own = [b""] * workers
+    for line in given.splitlines(keepends=True):
+        number, _, rest = line.partition(b" ")
+        own[int(number) % workers] += rest
+    totals, text = [0, 0, 0], b""
+    for worker, it in enumerate(own):
+        text += b"worker %d\n" % worker + session_text(it, plain_session.Session(splits), totals)
+    return text + b"accepted %d inserted %d deleted %d held %d\n" % (*totals, totals[1] - totals[2])
+
+
+def options_of(words):
+    """The options and the splits of the words behind a subcommand."""
+    pairs = {words[at]: words[at + 1] for at in range(len(words) - 1) if words[at].startswith("--")}
+    values = {at + 1 for at in range(len(words)) if words[at].startswith("--")}
+    return pairs, [int(it) for at, it in enumerate(words) if not it.startswith("--") and at not in values]
+
+
+def main(fault, subcommand, *words):
+    options, splits = options_of(words)
+    limit = int(options.get("--limit", memory_workers.random_script.MOST_ENTRIES))
+    given, status, complained = sys.stdin.buffer.read(), 0, b""
+    match subcommand:
+        case "script":
+            text = session_text(given, plain_session.Session(splits, limit), [0, 0, 0])
+        case "batch":
+            text = batch_text(given, splits, int(options["--workers"]))
+        case _:
+            status, text, complained = csv_input.exported(given, splits, limit)
+    text = doctored(text, fault)
+    try:
+        done = 0
+        while done < len(text):
+            done += os.write(1, text[done:])
+    except OSError:
+        if fault == "ahead":
+            os.ftruncate(1, max(0, done - 1))
+        status, complained = 1, b"crackd: refused 18\n"
+    os.write(2, complained)
+    return status
+
+
+if __name__ == "__main__":
+    sys.exit(main(*sys.argv[1:]))

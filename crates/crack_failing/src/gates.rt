@@ -1,0 +1,156 @@
+//! Gates that say no: always, at one partition, or until another worker is inside.
+ghost use Rattle.std.specs.Prelude.{◌≡◌, ◌<◌, not, false, nat_eq};
+ghost use Rattle.std.specs.Bool.{OnFalse};
+
+use crack_table::Gate;
+use std::sync::atomic::{AtomicBool, AtomicU32, Ordering};
+use std::thread;
+
+/// A gate that always says no.
+#[derive(Drop)]
+pub struct Shut;
+
+impl Gate for Shut {
+    ghost may_refuse = { λ gate part turn. Unit {0} };
+
+    fn inside(&self, _part: u32, _turn: u32) -> bool
+        ensures { result ≡ false }
+    {
+        false
+    }
+}
+
+/// A gate that says no at one partition, and yes at each other.
+#[derive(Drop)]
+pub struct ShutAt {
+    pub part: u32,
+}
+
+impl Gate for ShutAt {
+    ghost may_refuse = { λ gate part turn. part ≡ gate.part };
+
+    fn inside(&self, part: u32, _turn: u32) -> bool
+        ensures no { OnFalse result (part ≡ self.now.part) }
+        ensures yes { result ≡ not (nat_eq part self.now.part) }
+    {
+        part != self.part
+    }
+}
+
+/// A gate that says no until it was asked so often, and from then on yes. It counts how often it is asked, by whomever, and notes whether that is
+/// about one partition, with the turns of one call, in order.
+#[derive(Drop)]
+pub struct Counting {
+    part: u32,
+    opens_at: u32,
+    asked: AtomicU32,
+    is_orderly: AtomicBool,
+}
+
+impl Counting {
+    /// A gate that is to be asked about this partition, and says no as often as this.
+    pub fn new(part: u32, opens_at: u32) -> Counting {
+        Counting {
+            part,
+            opens_at,
+            asked: AtomicU32::new(0),
+            is_orderly: AtomicBool::new(true),
+        }
+    }
+
+    /// How often it was asked.
+    pub fn asked(&self) -> u32 {
+        self.asked.load(Ordering::SeqCst)
+    }
+
+    /// Whether the n-th time that it was asked, from 0, was always at turn n and about its partition.
+    pub fn is_orderly(&self) -> bool {
+        self.is_orderly.load(Ordering::SeqCst)
+    }
+}
+
+impl Gate for Counting {
+    ghost may_refuse = { λ gate part turn. Unit {0} };
+
+    fn inside(&self, part: u32, turn: u32) -> bool {
+        let asked = self.asked.fetch_add(1, Ordering::SeqCst);
+        if part != self.part || turn != asked {
+            self.is_orderly.store(false, Ordering::SeqCst);
+        }
+        asked >= self.opens_at
+    }
+}
+
+/// Gives way, long enough for another thread to arrive.
+fn give_way() {
+    'turns: for _ in 0..1000u32 {
+        thread::yield_now();
+    }
+}
+
+/// A gate that says no to each of partitions 0 and 1 until the other has been inside. Before each no it gives way.
+/// At other partitions it says yes.
+#[derive(Drop)]
+pub struct Meeting {
+    arrived: [AtomicBool; 2],
+}
+
+impl Meeting {
+    /// A gate at which nobody has arrived.
+    pub fn new() -> Meeting {
+        Meeting {
+            arrived: [AtomicBool::new(false), AtomicBool::new(false)],
+        }
+    }
+}
+
+impl Gate for Meeting {
+    ghost may_refuse = { λ gate part turn. part < 2 };
+
+    fn inside(&self, part: u32, _turn: u32) -> bool {
+        if part > 1 {
+            return true;
+        }
+        self.arrived[part as usize].store(true, Ordering::SeqCst);
+        if self.arrived[1 - part as usize].load(Ordering::SeqCst) {
+            return true;
+        }
+        give_way();
+        false
+    }
+}
+
+/// A gate that notes whether it is asked while someone else is inside. It says no twenty times, and gives way before each answer.
+#[derive(Drop)]
+pub struct Alone {
+    inside: AtomicBool,
+    met: AtomicBool,
+}
+
+impl Alone {
+    /// A gate at which nobody is.
+    pub fn new() -> Alone {
+        Alone {
+            inside: AtomicBool::new(false),
+            met: AtomicBool::new(false),
+        }
+    }
+
+    /// Whether two were inside at once.
+    pub fn met(&self) -> bool {
+        self.met.load(Ordering::SeqCst)
+    }
+}
+
+impl Gate for Alone {
+    ghost may_refuse = { λ gate part turn. turn < 20 };
+
+    fn inside(&self, _part: u32, turn: u32) -> bool {
+        if self.inside.swap(true, Ordering::SeqCst) {
+            self.met.store(true, Ordering::SeqCst);
+        }
+        give_way();
+        self.inside.store(false, Ordering::SeqCst);
+        turn >= 20
+    }
+}

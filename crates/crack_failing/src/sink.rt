@@ -1,0 +1,111 @@
+//! A writer that keeps what it takes, takes little of it, and fails.
+ghost use Rattle.std.specs.Prelude.{◌≡◌, ◌+◌, ◌<◌, ◌≤◌, ◌^◌, ◌-◌, min, max, Some, is_ok, nat_le, nat_lt, IfOk, OnOk};
+ghost use Rattle.std.specs.Io.{WritesAtMost};
+ghost use Rattle.std.specs.Io.KnownBytes.{Keeps, WriteAppends};
+
+use std::io;
+use std::io::Write;
+
+/// A writer that keeps the bytes that it takes, up to a call that fails. Its calls are its writes and its flushes.
+#[derive(Drop)]
+pub struct Sink {
+    bytes: Vec<u8>,
+    most: usize,
+    calls: u64,
+    fails_at: u64,
+}
+
+impl Sink {
+    /// A writer that takes all that it is given, behind the bytes that are there, and never fails but where it finds no memory for them.
+    pub fn new(bytes: Vec<u8>) -> Sink
+        ensures bytes { result.bytes ≡ bytes }
+        ensures never { (result.calls ≡ 0) × (result.fails_at ≡ 2 ^ 64 - 1) }
+    {
+        Sink {
+            bytes,
+            most: usize::MAX,
+            calls: 0,
+            fails_at: u64::MAX,
+        }
+    }
+
+    /// The same writer, which takes at most so many bytes at a time, and one where this is 0.
+    pub fn taking(self, most: usize) -> Sink
+        ensures { result ≡ record self { most = most } }
+    {
+        Sink { most, ..self }
+    }
+
+    /// The same writer, whose k-th call, from 1, fails, as does each behind it. A failed call takes no bytes.
+    pub fn failing_at(self, k: u64) -> Sink
+        ensures { result ≡ record self { fails_at = k } }
+    {
+        Sink {
+            fails_at: k,
+            ..self
+        }
+    }
+
+    /// The bytes that it took, behind those that were there.
+    pub fn bytes(&self) -> &[u8]
+        ensures { result.now ≡ self.now.bytes.items }
+    {
+        self.bytes.as_slice()
+    }
+
+    /// The bytes that it took, behind those that were there.
+    pub fn into_bytes(self) -> Vec<u8>
+        ensures { result ≡ self.bytes }
+    {
+        self.bytes
+    }
+
+    /// How many calls there were, failed ones too; stays at the greatest number once it is there.
+    pub fn calls(&self) -> u64
+        ensures { result ≡ self.now.calls }
+    {
+        self.calls
+    }
+
+    /// Counts a call, and says whether it is to fail.
+    fn fails(&mut self) -> bool
+        ensures calls { self.new ≡ record self.old { calls = min (self.old.calls + 1) (2 ^ 64 - 1) } }
+        ensures fails { result ≡ nat_le self.old.fails_at self.new.calls }
+    {
+        self.calls = self.calls.saturating_add(1);
+        self.calls >= self.fails_at
+    }
+}
+
+impl Write for Sink {
+    ghost contents = { λ s. Some s.bytes.items };
+
+    fn write(&mut self, buf: &[u8]) -> io::Result<usize>
+        ensures bound { WritesAtMost result buf.now }
+        ensures bytes { WriteAppends (Some self.old.bytes.items) (Some self.new.bytes.items) result buf.now }
+        ensures calls { self.new.calls ≡ min (self.old.calls + 1) (2 ^ 64 - 1) }
+        ensures kept { (self.new.fails_at ≡ self.old.fails_at) × (self.new.most ≡ self.old.most) }
+        ensures works { OnOk result (self.new.calls < self.old.fails_at) }
+        ensures little { IfOk result (λ count. count ≤ max self.old.most 1) }
+    {
+        if self.fails() {
+            return Err(io::Error::from(io::ErrorKind::BrokenPipe));
+        }
+        let count = buf.len().min(self.most.max(1));
+        match self.bytes.extend_from_slice(&buf[..count]) {
+            Ok(()) => Ok(count),
+            Err(_) => Err(io::Error::from(io::ErrorKind::OutOfMemory)),
+        }
+    }
+
+    fn flush(&mut self) -> io::Result<()>
+        ensures bytes { Keeps (Some self.old.bytes.items) (Some self.new.bytes.items) }
+        ensures calls { self.new ≡ record self.old { calls = min (self.old.calls + 1) (2 ^ 64 - 1) } }
+        ensures fails { is_ok result ≡ nat_lt self.new.calls self.old.fails_at }
+    {
+        if self.fails() {
+            return Err(io::Error::from(io::ErrorKind::BrokenPipe));
+        }
+        Ok(())
+    }
+}

@@ -1,0 +1,95 @@
+//! A reader over memory that cuts what it gives, and fails.
+ghost use Rattle.std.specs.Prelude.{◌≡◌, ◌+◌, ◌<◌, ◌^◌, ◌-◌, min, drop, Some, is_ok, nat_lt, IfOk};
+ghost use Rattle.std.specs.Io.{ReadsAtMost};
+ghost use Rattle.std.specs.Io.KnownBytes.{ReadConsumes};
+
+use std::io;
+use std::io::Read;
+
+/// The sizes of a reader that gives one byte at a time.
+pub const ONE_BYTE: &[usize] = &[1];
+
+/// A reader that gives bytes of memory: in pieces of any sizes, and up to a read that fails.
+#[derive(Drop)]
+pub struct Source<'a> {
+    bytes: &'a [u8],
+    sizes: &'a [usize],
+    reads: u64,
+    fails_at: u64,
+}
+
+impl<'a> Source<'a> {
+    /// A reader that gives all that there is room for, and never fails.
+    pub fn new(bytes: &'a [u8]) -> Source<'a>
+        ensures bytes { result.bytes.now ≡ bytes.now }
+        ensures never { (result.reads ≡ 0) × (result.fails_at ≡ 2 ^ 64 - 1) }
+    {
+        Source {
+            bytes,
+            sizes: &[],
+            reads: 0,
+            fails_at: u64::MAX,
+        }
+    }
+
+    /// The same reader, whose reads give at most so many bytes each, by these sizes in turn and then from the first one again; where a size is
+    /// 0, one byte. Without sizes it gives all that there is room for.
+    pub fn cut(self, sizes: &'a [usize]) -> Source<'a>
+        ensures sizes { result.sizes.now ≡ sizes.now }
+        ensures bytes { result.bytes.now ≡ self.entry.bytes.now }
+        ensures reads { (result.reads ≡ self.entry.reads) × (result.fails_at ≡ self.entry.fails_at) }
+    {
+        Source { sizes, ..self }
+    }
+
+    /// The same reader, whose k-th read, from 1, fails, as does each behind it. A failed read takes no bytes.
+    pub fn failing_at(self, k: u64) -> Source<'a>
+        ensures fails { result.fails_at ≡ k }
+        ensures bytes { result.bytes.now ≡ self.entry.bytes.now }
+        ensures reads { (result.reads ≡ self.entry.reads) × (result.sizes.now ≡ self.entry.sizes.now) }
+    {
+        Source {
+            fails_at: k,
+            ..self
+        }
+    }
+
+    /// The bytes that weren't given yet.
+    pub fn left(&self) -> &'a [u8]
+        ensures { result.now ≡ self.now.bytes.now }
+    {
+        self.bytes
+    }
+
+    /// How many bytes the next read may give.
+    fn size(&self) -> usize
+        ensures { 0 < result }
+    {
+        if self.sizes.is_empty() {
+            return usize::MAX;
+        }
+        let turn = self.reads % self.sizes.len() as u64;
+        self.sizes[turn as usize].max(1)
+    }
+}
+
+impl Read for Source<'_> {
+    ghost remaining = { λ s. Some s.bytes.now };
+
+    fn read(&mut self, buf: &mut [u8]) -> io::Result<usize>
+        ensures bound { ReadsAtMost result buf.new }
+        ensures bytes { ReadConsumes (Some self.old.bytes.now) (Some self.new.bytes.now) result buf.new }
+        ensures fails { is_ok result ≡ nat_lt self.new.reads self.old.fails_at }
+        ensures reads { self.new.reads ≡ min (self.old.reads + 1) (2 ^ 64 - 1) }
+        ensures kept { (self.new.fails_at ≡ self.old.fails_at) × (self.new.sizes.now ≡ self.old.sizes.now) }
+        ensures rest { IfOk result (λ n. self.new.bytes.now ≡ drop n self.old.bytes.now) }
+    {
+        let most = self.size();
+        self.reads = self.reads.saturating_add(1);
+        if self.reads >= self.fails_at {
+            return Err(io::Error::from(io::ErrorKind::BrokenPipe));
+        }
+        let room = buf.len().min(most);
+        self.bytes.read(&mut buf[..room])
+    }
+}

@@ -1,0 +1,142 @@
+//! What a worker asks next, drawn from a seed.
+
+use crack_row::{Bound, Command, Key, KeyRange, Payload, Refusal, Reply, Serial};
+
+/// How many keys a partition has, but for the last one, which has all that are above.
+const PART_WIDTH: u32 = 1000;
+
+/// Where the three partitions meet.
+pub static SPLITS: [Bound; 2] = [Bound(1000), Bound(2000)];
+
+/// How many partitions there are.
+pub const PARTS: usize = 3;
+
+/// How wide the range of a query is, at most, where it isn't of all keys.
+const WIDEST: u32 = 64;
+
+/// How many serials back a deletion or an update aims, at most.
+const BACK: u32 = 64;
+
+/// Numbers that look random (SplitMix64).
+#[derive(Drop)]
+struct Numbers {
+    state: u64,
+}
+
+impl Numbers {
+    /// The next number.
+    fn next(&mut self) -> u64 {
+        self.state = self.state.wrapping_add(11400714819323198485);
+        let mixed = (self.state ^ (self.state >> 30)).wrapping_mul(13787848793156543929);
+        let mixed = (mixed ^ (mixed >> 27)).wrapping_mul(10723151780598845931);
+        mixed ^ (mixed >> 31)
+    }
+
+    /// The next number, below this one.
+    fn below(&mut self, most: u32) -> u32 {
+        ((self.next() >> 32) as u32) % most.max(1)
+    }
+}
+
+/// A command, and the partition that is asked.
+#[derive(Clone, Copy)]
+pub struct Question {
+    pub part: u32,
+    pub command: Command,
+}
+
+/// The questions of one worker: they depend on its seed, and on the serials that it was told.
+#[derive(Drop)]
+pub struct Draws {
+    numbers: Numbers,
+    /// The serial of the last row that it was told of, in each partition.
+    last: [u64; PARTS],
+}
+
+impl Draws {
+    /// The questions of the worker with this number.
+    pub fn new(seed: u64, worker: u32) -> Draws {
+        let mut seeds = Numbers {
+            state: seed.wrapping_mul(64).wrapping_add(u64::from(worker)),
+        };
+        Draws {
+            numbers: Numbers {
+                state: seeds.next(),
+            },
+            last: [0; PARTS],
+        }
+    }
+
+    /// The next question. One of 64 asks a partition that isn't there, and one of 32 that bring a key may bring one of another partition.
+    pub fn next(&mut self) -> Question {
+        let part = match self.numbers.below(64) {
+            0 => PARTS as u32,
+            _ => self.numbers.below(PARTS as u32),
+        };
+        let command = match self.numbers.below(100) {
+            0..28 => self.insert(part),
+            28..56 => Command::Delete {
+                serial: self.serial(part),
+            },
+            56..68 => self.update(part),
+            68..80 => Command::Count(self.range(part)),
+            80..90 => Command::Sum(self.range(part)),
+            _ => Command::Select(self.range(part)),
+        };
+        Question { part, command }
+    }
+
+    /// Remembers the serial of a row that was placed in a partition.
+    pub fn learn(&mut self, part: u32, answer: &Result<Reply, Refusal>) {
+        if let (Some(last), Ok(Reply::Placed(serial))) = (
+            self.last.get_mut(part as usize),
+            answer,
+        ) {
+            *last = serial.0;
+        }
+    }
+
+    fn insert(&mut self, part: u32) -> Command {
+        Command::Insert {
+            key: self.key(part),
+            payload: Payload(self.numbers.below(u32::MAX)),
+        }
+    }
+
+    fn update(&mut self, part: u32) -> Command {
+        Command::Update {
+            serial: self.serial(part),
+            key: self.key(part),
+            payload: Payload(self.numbers.below(u32::MAX)),
+        }
+    }
+
+    fn key(&mut self, part: u32) -> Key {
+        match self.numbers.below(32) {
+            0 => Key(self.numbers.below(PART_WIDTH * 3)),
+            _ => Key(
+                part.wrapping_mul(PART_WIDTH)
+                    .wrapping_add(self.numbers.below(PART_WIDTH)),
+            ),
+        }
+    }
+
+    /// The serial of a row that may be there: one of the last that were placed.
+    fn serial(&mut self, part: u32) -> Serial {
+        let last = self.last.get(part as usize).copied().unwrap_or(0);
+        Serial(last.saturating_sub(u64::from(self.numbers.below(BACK))))
+    }
+
+    /// A narrow range that begins in the partition; one of 32 is that of all keys.
+    fn range(&mut self, part: u32) -> KeyRange {
+        let low = part
+            .wrapping_mul(PART_WIDTH)
+            .wrapping_add(self.numbers.below(PART_WIDTH));
+        let wide = self.numbers.below(WIDEST);
+        let range = match self.numbers.below(32) {
+            0 => Ok(KeyRange::all()),
+            _ => KeyRange::new(u128::from(low), u128::from(low) + u128::from(wide)),
+        };
+        range.unwrap_or_default()
+    }
+}

@@ -1,0 +1,177 @@
+//! A table with its workers, each on a thread of its own.
+
+use crate::draws::{Draws, Question, SPLITS};
+use crate::gate::Restless;
+use crate::texts::{write_answer, write_entry, write_receipt};
+use crack_commands::send;
+use crack_part::Partition;
+use crack_row::{Policy, Refusal, Watched};
+use crack_table::{Closed, Table, Worker, gather};
+use std::alloc::{AllocError, Global};
+use std::io::Write;
+use std::sync::Wait;
+use std::thread::Threads;
+use std::{mem, thread};
+
+/// What a run does.
+#[derive(Clone, Copy)]
+pub struct Plan {
+    pub seed: u64,
+    pub workers: u32,
+    /// How many commands each worker asks.
+    pub statements: u32,
+    pub policy: Policy,
+    /// How many entries a history may have.
+    pub limit: u64,
+}
+
+/// A worker, what it asks, and the text of what it asked and was answered.
+#[derive(Drop)]
+struct Hand {
+    worker: Worker,
+    draws: Draws,
+    told: Vec<u8>,
+    /// Whether there was no memory for some of the text.
+    cut: bool,
+}
+
+impl Hand {
+    fn new(alloc: Global, seed: u64, worker: Worker) -> Hand {
+        let draws = Draws::new(seed, worker.book().worker());
+        Hand {
+            worker,
+            draws,
+            told: Vec::new(alloc),
+            cut: false,
+        }
+    }
+
+    fn ask_once<R: Wait>(&mut self, rt: &R, table: &Table, gate: &Restless, policy: Policy) {
+        let Question { part, command } = self.draws.next();
+        let answer = self.worker.ask(rt, table, gate, part, command, policy);
+        self.draws.learn(part, &answer);
+        let mut text = Watched::new(&mut self.told);
+        self.cut = write_answer(part, &command, &answer, &mut text).is_err() || self.cut;
+    }
+
+    /// The same worker behind its commands.
+    fn worked<R: Wait>(mut self, rt: &R, table: &Table, gate: &Restless, plan: Plan) -> Hand {
+        gate.begin_together(plan.workers);
+        'statements: for _ in 0..plan.statements {
+            self.ask_once(rt, table, gate, plan.policy);
+        }
+        self
+    }
+
+    /// Writes what was asked and answered, and then the receipts.
+    fn write<W: Write>(&self, writer: &mut Watched<W>) -> anyhow::Result<()> {
+        if self.cut {
+            return Err(anyhow::anyhow!("no memory for an answer's text"));
+        }
+        let book = self.worker.book();
+        let worker = book.worker();
+        writeln!(writer, "worker {worker}")?;
+        send(writer, self.told.as_slice())?;
+        writeln!(writer, "receipts {worker}")?;
+        'receipts: for receipt in book.receipts() {
+            write_receipt(receipt, writer)?;
+        }
+        Ok(())
+    }
+}
+
+/// A table with its workers.
+#[derive(Drop)]
+pub struct Pool {
+    table: Table,
+    hands: Vec<Hand>,
+}
+
+impl Pool {
+    pub fn open(alloc: Global, plan: Plan) -> Result<Pool, Refusal> {
+        let (table, workers) = Table::open(alloc, &SPLITS, plan.limit, u64::from(plan.workers))?;
+        let hands = hands_of(alloc, plan.seed, workers)?;
+        Ok(Pool { table, hands })
+    }
+
+    /// Has each worker ask, on threads of their own. No worker is left where it finds no memory.
+    pub fn work<R: Threads + Wait + Sync>(
+        &mut self,
+        rt: &R,
+        alloc: Global,
+        plan: Plan,
+    ) -> Result<(), AllocError> {
+        let hands = mem::replace(&mut self.hands, Vec::new(alloc));
+        let gate = Restless::new();
+        let (table, shared) = (&self.table, &gate);
+        self.hands = thread::map_vec(rt, hands, &|hand| hand.worked(rt, table, shared, plan))?;
+        Ok(())
+    }
+
+    /// Writes what the workers asked and were answered, a worker behind the other.
+    pub fn write<W: Write>(&self, writer: &mut Watched<W>) -> anyhow::Result<()> {
+        'hands: for hand in self.hands.iter() {
+            hand.write(writer)?;
+        }
+        Ok(())
+    }
+
+    /// The workers and their histories, once they agree.
+    pub fn gather(self, alloc: Global) -> Result<Closed, Refusal> {
+        let Pool { table, hands } = self;
+        let workers = workers_of(alloc, hands)?;
+        match gather(alloc, table, workers) {
+            Ok(closed) => Ok(closed),
+            Err(refused) => {
+                let refusal = refused.refusal;
+                drop(refused);
+                Err(refusal)
+            }
+        }
+    }
+}
+
+/// The workers, with what they ask.
+fn hands_of(alloc: Global, seed: u64, workers: Vec<Worker>) -> Result<Vec<Hand>, AllocError> {
+    let mut hands = Vec::new(alloc);
+    'workers: for worker in workers {
+        hands.push(Hand::new(alloc, seed, worker))?;
+    }
+    Ok(hands)
+}
+
+/// The workers alone.
+fn workers_of(alloc: Global, hands: Vec<Hand>) -> Result<Vec<Worker>, AllocError> {
+    let mut workers = Vec::new(alloc);
+    'hands: for hand in hands {
+        workers.push(hand.worker)?;
+    }
+    Ok(workers)
+}
+
+/// Writes the histories, a partition behind the other, and the totals.
+pub fn write_closed<W: Write>(closed: &Closed, writer: &mut Watched<W>) -> anyhow::Result<()> {
+    'parts: for (part, partition) in closed.parts.iter().enumerate() {
+        write_history(part as u32, partition, writer)?;
+    }
+    let (accepted, inserted) = (closed.accepted, closed.inserted);
+    let (deleted, held) = (closed.deleted, closed.held);
+    writeln!(
+        writer,
+        "accepted {accepted} inserted {inserted} deleted {deleted} held {held}"
+    )?;
+    writer.flush()?;
+    Ok(())
+}
+
+fn write_history<W: Write>(
+    part: u32,
+    partition: &Partition,
+    writer: &mut Watched<W>,
+) -> anyhow::Result<()> {
+    writeln!(writer, "partition {part}")?;
+    'entries: for entry in partition.history() {
+        write_entry(part, entry, writer)?;
+    }
+    Ok(())
+}

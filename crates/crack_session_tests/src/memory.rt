@@ -1,0 +1,169 @@
+//! Sessions that find no memory for a statement: what was refused changed nothing.
+//!
+//! The tests `sweep_..` hold whichever one of their allocations is refused, so they may be run with each of them refused in turn.
+use crate::faults::joined;
+use crate::session::{assert_run, session};
+use crack_core::Core;
+use crack_failing::{Refusing, Sink, Starved};
+use crack_plain::PlainTable;
+use crack_row::{GREATEST_LIMIT, Layout, Policy, Refusal, Watched};
+use crack_session::{Desk, End, How, serve};
+use std::alloc::Global;
+use std::io::Write;
+use std::process::Abort;
+use std::test::Fail;
+
+/// Statements that ask for one command each: rows come, change, go and are read, with more that pend in between.
+static LINES: [&[u8]; 17] = [
+    b"insert 10 10\n",
+    b"insert 20 20\n",
+    b"insert 30 30\n",
+    b"insert 40 40\n",
+    b"count 0 4294967296\n",
+    b"count 15 25\n",
+    b"insert 17 0\n",
+    b"insert 90 0\n",
+    b"delete 0.2\n",
+    b"update 0.0 12 60\n",
+    b"update 0.5 11 1\n",
+    b"count 15 25\n",
+    b"delete 0.3\n",
+    b"sum 0 15\n",
+    b"select 0 4294967296\n",
+    b"delete 0.5\n",
+    b"count 0 50\n",
+];
+
+/// Has one line answered.
+fn answer<D: Desk, W: Write>(
+    rt: &impl Abort,
+    alloc: Global,
+    desk: &mut D,
+    line: &[u8],
+    writer: &mut Watched<W>,
+) {
+    let mut reader = Watched::new(line);
+    assert!(rt; session(alloc, desk, &mut reader, writer).is_ok());
+}
+
+/// What a plain table replies that never hears the line at one place, with a refusal there.
+fn replies_without(rt: &impl Abort, alloc: Global, place: u64) -> Vec<u8> {
+    let mut plain = PlainTable::new(alloc);
+    let mut refusing = Refusing {
+        refusal: Refusal::OutOfMemory,
+    };
+    let mut writer = Watched::new(Vec::new(alloc));
+    let mut at = 0u64;
+    for line in LINES {
+        at = at.saturating_add(1);
+        if at == place {
+            answer(rt, alloc, &mut refusing, line, &mut writer);
+        } else {
+            answer(rt, alloc, &mut plain, line, &mut writer);
+        }
+    }
+    drop(plain);
+    writer.into_inner()
+}
+
+/// A desk that finds no memory once, at whichever command, answers from then on as if that had never been asked.
+#[test]
+fn a_want_of_memory_stops_nothing(rt: HostRuntime) -> Result<(), Fail> {
+    let alloc: Global = rt.alloc();
+    let input = joined(alloc, &LINES)?;
+    'places: for before in 0..17u64 {
+        let place = before + 1;
+        let replies = replies_without(&rt, alloc, place);
+        let desk = Starved::new(PlainTable::new(alloc), place);
+        let end = End {
+            how: How::InputEnded,
+            statements: 17,
+            first_short: Some(place),
+        };
+        assert_run(&rt, alloc, desk, input.as_slice(), replies.as_slice(), end)?;
+    }
+    Ok(())
+}
+
+/// What a desk is told to one line by a policy, and whether that is a want of room. Room for the text is found at the second time.
+fn told<D: Desk>(
+    rt: &impl Abort,
+    alloc: Global,
+    desk: &mut D,
+    policy: Policy,
+    line: &[u8],
+) -> (bool, Vec<u8>) {
+    let room = Vec::with_capacity(alloc, 256).or_else(|_| Vec::with_capacity(alloc, 256));
+    let mut reader = Watched::new(line);
+    let mut writer = Watched::new(Sink::new(room.expect(rt, "room")));
+    let end = serve(alloc, desk, policy, &mut reader, &mut writer);
+    let text = writer.into_inner().into_bytes();
+    match end {
+        Ok(end) => (end.first_short == Some(1), text),
+        Err(_) => (false, text),
+    }
+}
+
+/// Asserts that each cell stands in one place, that the rows are those of the column less the doomed ones and more the pending ones, and that
+/// the pieces are all of the column.
+fn assert_layout(rt: &impl Abort, layout: &Layout) {
+    let whole = layout.pieces.as_slice().iter().map(|piece| piece.size);
+    assert_eq!(rt;
+        whole.fold(0u64, |sum, size| sum.saturating_add(size)),
+        layout.column
+    );
+    let column = u128::from(layout.column);
+    let pending = u128::from(layout.pending_in);
+    let cells = column + pending + u128::from(layout.free);
+    assert_eq!(rt; cells, u128::from(layout.cells));
+    let rows = u128::from(layout.rows) + u128::from(layout.pending_out);
+    assert_eq!(rt; rows, column + pending);
+}
+
+/// Has one line answered by a core, and by a plain table if the core finds memory for it; says whether it didn't.
+fn answer_beside(
+    rt: &impl Abort,
+    alloc: Global,
+    core: &mut Core,
+    plain: &mut PlainTable,
+    policy: Policy,
+    line: &[u8],
+) -> bool {
+    let (is_short, text) = told(rt, alloc, core, policy, line);
+    if is_short {
+        assert_eq!(rt; text.as_slice(), b"refused 8\n".as_slice());
+        let layout = core.layout(0).expect(rt, "a layout");
+        assert_layout(rt, &layout);
+        return true;
+    }
+    let (is_short, mut wanted) = told(rt, alloc, plain, policy, line);
+    if is_short {
+        wanted = told(rt, alloc, plain, policy, line).1;
+    }
+    assert_eq!(rt; text.as_slice(), wanted.as_slice());
+    false
+}
+
+/// Has all lines answered by a fresh core, where one is opened, of which at most one is refused.
+fn answer_all(rt: &impl Abort, alloc: Global, policy: Policy) {
+    let Ok(mut core) = Core::open(alloc, &[], GREATEST_LIMIT) else {
+        return;
+    };
+    let mut plain = PlainTable::new(alloc);
+    let mut refused = 0u64;
+    for line in LINES {
+        if answer_beside(rt, alloc, &mut core, &mut plain, policy, line) {
+            refused = refused.saturating_add(1);
+        }
+    }
+    drop(core);
+    drop(plain);
+    assert!(rt; refused <= 1);
+}
+
+#[test]
+fn sweep_session(rt: HostRuntime) {
+    for policy in [Policy::Complete, Policy::Gradual, Policy::Ripple] {
+        answer_all(&rt, rt.alloc(), policy);
+    }
+}

@@ -1,0 +1,127 @@
+//! How often a session reads, writes and hands on.
+use crate::log::{Log, Logged};
+use crate::session::{ends, session};
+use crack_core::Core;
+use crack_failing::{Sink, Source};
+use crack_row::{GREATEST_LIMIT, Watched};
+use crack_session::{Desk, How};
+use std::alloc::Global;
+use std::io::{BufWriter, Write};
+use std::process::Abort;
+use std::test::Fail;
+
+/// A thousand inserts, and a count.
+fn insert_often(alloc: Global) -> Result<Vec<u8>, Fail> {
+    let mut input = Vec::new(alloc);
+    for _ in 0..1000 {
+        input.extend_from_slice(b"insert 1 1\n")?;
+    }
+    input.extend_from_slice(b"count 0 9")?;
+    Ok(input)
+}
+
+/// Asserts that there are several writes, no more of them than reads and one, a flush before each read and at the end,
+/// and nothing behind the last flush.
+fn assert_few_writes(rt: &impl Abort, log: &Log) {
+    let most = log.reads.get().saturating_add(1);
+    let writes = log.writes.get();
+    assert!(rt; 1 < writes && writes <= most);
+    assert_eq!(rt; [log.flushes.get(), log.left.get() as u64], [most, 0]);
+}
+
+/// Asserts that each read asked for 4,096 bytes, and once each whole line was answered; each line of so many is in the end.
+fn assert_orderly(rt: &impl Abort, log: &Log, lines: usize) {
+    assert!(rt; log.is_orderly.get());
+    assert_eq!(rt; log.answered.get(), lines);
+}
+
+/// A session of a desk and a writer whose reader gives so many bytes at a time, and which is to end.
+fn log_reads<D: Desk, W: Write>(
+    rt: &impl Abort,
+    alloc: Global,
+    desk: &mut D,
+    writer: &mut Watched<W>,
+    input: &[u8],
+    most: usize,
+    log: &Log,
+) {
+    let sizes = [most];
+    let mut reader = Watched::new(Logged {
+        device: Source::new(input).cut(&sizes),
+        log,
+    });
+    let result = session(alloc, desk, &mut reader, writer);
+    assert!(rt; result.is_ok());
+}
+
+/// A session whose reader gives so many bytes at a time, and whose writer keeps so many before it writes.
+fn log_it(rt: &impl Abort, alloc: Global, input: &[u8], most: usize, room: usize, log: &Log) {
+    let mut desk = Core::open(alloc, &[], GREATEST_LIMIT).expect(rt, "a desk");
+    let device = Sink::new(Vec::new(alloc));
+    let buffered = BufWriter::with_capacity(alloc, room, Logged { device, log });
+    let mut writer = Watched::new(buffered.expect(rt, "a buffer"));
+    log_reads(rt, alloc, &mut desk, &mut writer, input, most, log);
+    drop(writer);
+    drop(desk);
+}
+
+/// What is written is handed on before each read and at the end, and so is buffered to at most a write for each read.
+#[test]
+fn writes_are_as_few_as_reads(rt: HostRuntime) -> Result<(), Fail> {
+    let input = insert_often(rt.alloc())?;
+    let log = Log::new();
+    log_it(&rt, rt.alloc(), input.as_slice(), 4096, 8192, &log);
+    assert_few_writes(&rt, &log);
+    assert_orderly(&rt, &log, 1001);
+    Ok(())
+}
+
+/// So it is where each two bytes get ten, if the writer keeps the replies to a whole read.
+#[test]
+fn short_lines_get_few_writes(rt: HostRuntime) -> Result<(), Fail> {
+    let mut input = Vec::new(rt.alloc());
+    for _ in 0..8192 {
+        input.extend_from_slice(b"x\n")?;
+    }
+    let log = Log::new();
+    log_it(&rt, rt.alloc(), input.as_slice(), 4096, 24576, &log);
+    assert_few_writes(&rt, &log);
+    assert_orderly(&rt, &log, 8192);
+    Ok(())
+}
+
+/// A session that ends by its `quit`, though its reader fails once its bytes are read.
+fn quit_it(rt: &impl Abort, alloc: Global, log: &Log) {
+    let mut desk = Core::open(alloc, &[], GREATEST_LIMIT).expect(rt, "a desk");
+    let mut reader = Watched::new(Logged {
+        device: Source::new(b"insert 1 1\nquit\n").failing_at(2),
+        log,
+    });
+    let mut writer = Watched::new(Logged {
+        device: Sink::new(Vec::new(alloc)),
+        log,
+    });
+    let result = session(alloc, &mut desk, &mut reader, &mut writer);
+    drop(desk);
+    assert_eq!(rt; result.ok(), Some(ends(How::Quit, 2)));
+    assert!(rt; !reader.failed());
+}
+
+/// Behind `quit` nothing is read, and what is written is handed on: there is one read, with a flush before it and one at the end.
+#[test]
+fn quit_reads_no_more_and_hands_on(rt: HostRuntime) {
+    let log = Log::new();
+    quit_it(&rt, rt.alloc(), &log);
+    let told = [log.reads.get(), log.flushes.get(), log.left.get() as u64];
+    assert_eq!(rt; told, [1, 2, 0]);
+}
+
+/// Each whole line is answered before the next read, wherever the reads cut the lines.
+#[test]
+fn lines_are_answered_before_the_next_read(rt: HostRuntime) -> Result<(), Fail> {
+    let input = insert_often(rt.alloc())?;
+    let log = Log::new();
+    log_it(&rt, rt.alloc(), input.as_slice(), 29, 8, &log);
+    assert_orderly(&rt, &log, 1001);
+    Ok(())
+}
