@@ -23,6 +23,7 @@ sys.path.insert(0, str(TOP / "tools"))
 import check_tools
 import crates
 import examples
+import histories
 import processor
 import prove
 import random_script
@@ -31,6 +32,7 @@ import run
 import server
 
 PROGRAM = TOP / "crates" / "crackd" / "out" / "crackd"
+HISTORIES = TOP / "crates" / "crack_histories" / "out" / "crack_histories"
 SUM = re.compile(r"(\d+) passed, (\d+) failed")
 # What a copy leaves out, wherever it stands, and what it leaves out of each crate.
 LEFT_OUT = {".git", "__pycache__"}
@@ -117,8 +119,9 @@ def test_all():
     else:
         print("acceptance: the gate left no program, so no case was run")
         more_passed, more_failed = 0, 1
+    histories_passed, histories_failed = histories.run(HISTORIES) if HISTORIES.exists() else (0, 1)
     print("\n".join(times), flush=True)
-    return passed + more_passed, failed + more_failed
+    return passed + more_passed + histories_passed, failed + more_failed + histories_failed
 
 
 def main():
