@@ -152,7 +152,7 @@ fn workers_of(alloc: Global, hands: Vec<Hand>) -> Result<Vec<Worker>, AllocError
 /// Writes the histories, a partition behind the other, and the totals.
 pub fn write_closed<W: Write>(closed: &Closed, writer: &mut Watched<W>) -> anyhow::Result<()> {
     'parts: for (part, partition) in closed.parts.iter().enumerate() {
-        write_history(part as u32, partition, writer)?;
+        write_history(u32::try_from(part)?, partition, writer)?;
     }
     let (accepted, inserted) = (closed.accepted, closed.inserted);
     let (deleted, held) = (closed.deleted, closed.held);
