@@ -1,6 +1,6 @@
 #!/usr/bin/env python3
 """Runs the gate without the must-fail edits, and then the acceptance cases, the random scripts and the cases of many clients on the program that
-it built, the examples, and the cases of the tools.
+it built, the examples, the cases of the tools, and the histories of threads.
 
 The gate, `rt ci`, proves every crate from nothing, runs the tests, and runs each program as both compilers build it. It has no switch for the edits, so
 it runs on a copy of this checkout that has none, and what it built is brought back: `make run` and `make edits` prove nothing again that it has proved.
@@ -20,6 +20,7 @@ import tempfile
 TOP = pathlib.Path(__file__).resolve().parent.parent
 sys.path.insert(0, str(TOP / "tools"))
 
+import check_histories
 import check_tools
 import crates
 import examples
@@ -119,9 +120,10 @@ def test_all():
     else:
         print("acceptance: the gate left no program, so no case was run")
         more_passed, more_failed = 0, 1
-    histories_passed, histories_failed = histories.run(HISTORIES) if HISTORIES.exists() else (0, 1)
+    of_threads = [check_histories.run_all(), histories.run(HISTORIES) if HISTORIES.exists() else (0, 1)]
+    passed, failed = (sum(it) for it in zip((passed, failed), *of_threads))
     print("\n".join(times), flush=True)
-    return passed + more_passed + histories_passed, failed + more_failed + histories_failed
+    return passed + more_passed, failed + more_failed
 
 
 def main():
