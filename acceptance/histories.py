@@ -87,7 +87,7 @@ class Rows:
 
     def take(self, serial):
         key, payload = self.rows.pop(serial)
-        self.keys.remove((key, serial))
+        del self.keys[bisect.bisect_left(self.keys, (key, serial))]
         return key, payload
 
     def between(self, low, high):
