@@ -1,4 +1,5 @@
 pub mod Bits
+pub mod Inserting
 pub mod Numbers
 pub mod Sending
 pub mod Splitting

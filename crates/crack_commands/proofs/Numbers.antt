@@ -53,7 +53,7 @@ digit_no_space b d = ⊎_elim
     (λ (e : eqb b 32 ≡ false). e)
     (cases_Bool (eqb b 32))
 
-digits_no_space : (xs : List ℕ) → list_all is_digit xs ≡ true → has_space xs ≡ false
+pub digits_no_space : (xs : List ℕ) → list_all is_digit xs ≡ true → has_space xs ≡ false
 digits_no_space [] h = refl
 digits_no_space (b ∷ bs) h =
     let each = and_parts (is_digit b) (list_all is_digit bs) h in

@@ -47,10 +47,10 @@ spaces_space (b ∷ bs) more h =
     rw (other, spaces_space bs more each.1) refl
 
 -- a word, and the end or a space behind it
-words_end : (w : List ℕ) → has_space w ≡ false → is_word w ≡ true → words w ≡ w ∷ []
+pub words_end : (w : List ℕ) → has_space w ≡ false → is_word w ≡ true → words w ≡ w ∷ []
 words_end w h some = rw (spaces_word w h, some) refl
 
-words_front : (w more : List ℕ) → has_space w ≡ false → is_word w ≡ true → words (w ++ 32 ∷ more) ≡ w ∷ words (32 ∷ more)
+pub words_front : (w more : List ℕ) → has_space w ≡ false → is_word w ≡ true → words (w ++ 32 ∷ more) ≡ w ∷ words (32 ∷ more)
 words_front w more h some = rw (spaces_space w more h, some) refl
 
 no_text : (w : List ℕ) → is_word w ≡ false → w ≡ []

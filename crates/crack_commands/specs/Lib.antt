@@ -1,3 +1,4 @@
 pub mod Inside
 pub mod Grammar
+pub mod LeadingInsert
 pub mod Texts

@@ -1,11 +1,13 @@
 //! The statement language and its texts: a line to a statement, a reply or a layout to lines.
 #![tactic(auto)]
 
+mod leading;
 mod output;
 pub mod statement;
 pub mod text;
 mod words;
 
+pub use leading::{LeadingInsert, leading_insert};
 pub use output::send;
 pub use statement::{Statement, parse_statement};
 pub use text::{

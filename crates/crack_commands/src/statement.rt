@@ -102,7 +102,7 @@ fn parse_insert(rest: &[u8]) -> Result<Statement, Refusal>
 }
 
 /// Whether a key and a payload are small enough.
-fn is_row(key: u128, payload: u128) -> bool
+pub(crate) fn is_row(key: u128, payload: u128) -> bool
     ensures { result ≡ is_row key payload }
 {
     key <= GREATEST_KEY as u128 && payload <= GREATEST_PAYLOAD as u128

@@ -10,7 +10,7 @@ use crack_row::{RowNo, Serial};
 pub const MOST_DIGITS: usize = 20;
 
 /// So many digits fit 64 bits, whatever they are.
-const SHORT_DIGITS: usize = 19;
+pub(crate) const SHORT_DIGITS: usize = 19;
 
 /// So many digits are read at once where a number has as many.
 const BLOCK_DIGITS: usize = 8;
@@ -144,7 +144,7 @@ fn ends_at(bytes: &[u8], end: usize) -> bool
 /// The digits at the front: their value, and how many there are.
 #[tactic(auto, using(crate::proofs::Numbers::digits_more, crate::proofs::Numbers::value_more, crate::proofs::Numbers::digit_bounds))]
 #[inline(always)]
-fn leading_digits(bytes: &[u8]) -> (u64, usize)
+pub(crate) fn leading_digits(bytes: &[u8]) -> (u64, usize)
     requires { length bytes.now ≤ SHORT_DIGITS }
     ensures within { result.1 ≤ length bytes.now }
     ensures digits { list_all is_digit (take result.1 bytes.now) ≡ true }

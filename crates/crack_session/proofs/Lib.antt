@@ -4,6 +4,7 @@ pub mod Finishing
 pub mod Following
 pub mod Going
 pub mod Joining
+pub mod Passing
 pub mod Ranges
 pub mod Reading
 pub mod WholeLines

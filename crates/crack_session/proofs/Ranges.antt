@@ -1,5 +1,5 @@
 -- What stands in a range of a buffer.
-use Rattle.std.proofs.Common.{◌≡◌, ℕ, ◌+◌, ◌-◌, ◌<◌, ◌≤◌, min, true, eqb, List, ◌++◌, length, take, drop, sym, ap, ◌∙◌, ⊎_elim, arith, length-take, length-drop}
+use Rattle.std.proofs.Common.{◌≡◌, ℕ, ◌+◌, ◌-◌, ◌<◌, ◌≤◌, min, true, eqb, List, [], ◌++◌, length, take, drop, refl, sym, ap, ◌∙◌, ⊎_elim, arith, length-take, length-drop}
 use Rattle.std.proofs.lemmas.Bool.{eqb-true, cases_lt}
 use Rattle.std.proofs.lemmas.List.{take-take, take_all, drop-drop, drop_at, length-take-le}
 use Rattle.std.proofs.lemmas.List.Edits.{take-paste}
@@ -24,6 +24,10 @@ range_front xs i j p within =
     let same : (i + p) - i ≡ p = omega arith in
     take-take p (j - i) (drop i xs) (omega (arith, long)) ∙ ap (λ n. take n (drop i xs)) (sym same)
 
+-- the back of a range
+pub range_behind : (xs : List ℕ) (i j p : ℕ) → slice_range xs (i + p) j ≡ drop p (slice_range xs i j)
+range_behind xs i j p = between_is xs (i + p) j ∙ sym (drop-drop p i (take j xs)) ∙ ap (drop p) (sym (between_is xs i j))
+
 -- a line that grows by the front of what stands behind it
 pub line_grown : (xs : List ℕ) (s l i j p : ℕ) (line unread : List ℕ) → slice_range xs s l ≡ line → slice_range xs i j ≡ unread → eqb l i ≡ true → s ≤ l → p ≤ length unread → slice_range xs s (i + p) ≡ line ++ take p unread
 line_grown xs s l i j p line unread is is' joined before within =
@@ -31,6 +35,11 @@ line_grown xs s l i j p line unread is is' joined before within =
     let long = ap length is' in
     let front : take p unread ≡ slice_range xs i (i + p) = ap (take p) (sym is') ∙ range_front xs i j p (omega (arith, long, within)) in
     range_joined xs s i (i + p) (omega (arith, at, before)) (omega arith) ∙ ap (λ n. slice_range xs s n ++ slice_range xs i (i + p)) (sym at) ∙ ap (λ z. z ++ slice_range xs i (i + p)) is ∙ ap (λ z. line ++ z) (sym front)
+
+-- a line that begins with the front of what stands behind it
+pub line_begun : (xs : List ℕ) (s l i j p : ℕ) (line : List ℕ) → slice_range xs s l ≡ line → line ≡ [] → eqb l i ≡ true → s ≤ l → p < length (slice_range xs i j) → slice_range xs s (i + p) ≡ take p (slice_range xs i j)
+line_begun xs s l i j p line is none joined before within =
+    line_grown xs s l i j p [] (slice_range xs i j) (is ∙ none) refl joined before (omega (arith, within))
 
 -- a line's kept bytes, moved to end at 202
 pub line_moved : (xs new : List ℕ) (s l k : ℕ) (line : List ℕ) → new ≡ copy_within xs s (s + k) (202 - k) → slice_range xs s l ≡ line → k ≡ min (l - s) 202 → s ≤ l → l ≤ length xs → 202 ≤ length xs → slice_range new (202 - k) 202 ≡ take 202 line

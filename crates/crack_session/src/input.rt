@@ -1,12 +1,15 @@
 //! The lines of a reader, in the place where they were read to.
-ghost use Rattle.std.specs.Prelude.{◌≡◌, ℕ, ◌+◌, ◌-◌, ◌^◌, ◌<◌, ◌≤◌, ◌++◌, ◌⊎◌, min, List, [], length, take, drop, slice_range, true, false, Some, MatchBool, IfOk, IfErr, OnErr, OnOk};
+ghost use Rattle.std.specs.Prelude.{◌≡◌, ℕ, ◌+◌, ◌-◌, ◌^◌, ◌<◌, ◌≤◌, ◌++◌, ◌⊎◌, min, List, [], length, take, drop, slice_range, true, false, Some, MatchBool, IfOk, IfErr, OnErr, OnOk, IsTrue, IsFalse};
 ghost use Rattle.std.specs.Io.KnownBytes.{Keeps};
 ghost use Rattle.crack_row.specs.Devices.{device, has_failed, reads_of};
 ghost use Rattle.crack_session.specs.Input.{has_feed, first_line, after_line, kept_of, ahead, left_of, IsNextLine, IsBegun, IsPaid, KnowsEnd};
+ghost use Rattle.crack_session.specs.Readings.{reading_of};
 
 use crate::MOST_READS;
+use crate::line::read_line;
 use crate::output::flush;
-use crack_row::{Refusal, Watched};
+use crack_commands::{Statement, leading_insert};
+use crack_row::{Key, Payload, Refusal, Watched};
 use memchr::memchr;
 use std::io::{Read, Write};
 use std::marker::Model;
@@ -32,11 +35,15 @@ pub struct LineReader {
     end: usize,
     reads: u64,
     ended: bool,
+    /// The row of the line that was found last, where it was read as an insert in passing.
+    insert: Option<(Key, Payload)>,
 }
 
 impl Model for LineReader {
-    ghost use Rattle.std.specs.Prelude.{◌≤◌, ◌==◌, slice_range};
+    ghost use Rattle.std.specs.Prelude.{◌≡◌, ◌≤◌, ◌==◌, slice_range, Some, Ok, IfSome};
+    ghost use Rattle.crack_commands.specs.declared.statement.Statement.TheVariants.{Insert};
     ghost use Rattle.crack_session.specs.Input.{Input};
+    ghost use Rattle.crack_session.specs.Readings.{reading_of};
     ghost use Rattle.crack_session.specs.declared.input.TheConstants.{ROOM_BYTES};
 
     ghost Value = { Input };
@@ -50,7 +57,8 @@ impl Model for LineReader {
     } };
 
     ghost invariant = { λ r. (r.line_start ≤ r.line_end) × (r.line_end ≤ r.at) × (r.at ≤ r.end)
-        × (r.end ≤ ROOM_BYTES) };
+        × (r.end ≤ ROOM_BYTES)
+        × IfSome r.insert (λ row. reading_of (slice_range r.bytes r.line_start r.line_end) ≡ Some (Ok (Insert row.0 row.1))) };
 }
 
 impl LineReader {
@@ -68,6 +76,7 @@ impl LineReader {
             end: 0,
             reads: MOST_READS,
             ended: false,
+            insert: None,
         }
     }
 
@@ -78,6 +87,17 @@ impl LineReader {
         &self.bytes[self.line_start..self.line_end]
     }
 
+    /// What the line that was found last says, unless it is blank.
+    #[inline(always)]
+    pub fn reading(&self) -> Option<Result<Statement, Refusal>>
+        ensures { result ≡ reading_of self.now.line }
+    {
+        match self.insert {
+            Some((key, payload)) => Some(Ok(Statement::Insert { key, payload })),
+            None => read_line(self.line()),
+        }
+    }
+
     /// Begins a line where the bytes begin that aren't used yet.
     fn begin_line(&mut self)
         ensures line { (self.new.line ≡ []) × (self.new.joined ≡ true) }
@@ -86,6 +106,28 @@ impl LineReader {
     {
         self.line_start = self.at;
         self.line_end = self.at;
+        self.insert = None;
+    }
+
+    /// Takes the next line where it is an insert that is written as most are, and says whether it is: its end isn't looked for before it is read.
+    #[inline(always)]
+    fn take_insert(&mut self) -> bool
+        requires { (self.old.line ≡ []) × (self.old.joined ≡ true) }
+        ensures found { IsTrue result → has_feed self.old.unread ≡ true }
+        ensures rest { IsTrue result → self.new.unread ≡ after_line self.old.unread }
+        ensures line { IsTrue result → self.new.line ≡ first_line self.old.unread }
+        ensures reads { (self.new.reads ≡ self.old.reads) × (self.new.ended ≡ self.old.ended) }
+        ensures same { IsFalse result → self.new ≡ self.old }
+    {
+        match leading_insert(&self.bytes[self.at..self.end]) {
+            Some(found) => {
+                self.line_end = self.at + found.len;
+                self.at = self.line_end + 1;
+                self.insert = Some((found.key, found.payload));
+                true
+            }
+            None => false,
+        }
     }
 
     /// Adds to the line what is read up to a line feed, or all of it, and says whether there was one.
@@ -98,6 +140,7 @@ impl LineReader {
             (self.new.line ≡ self.old.line ++ self.old.unread) }
         ensures reads { (self.new.reads ≡ self.old.reads) × (self.new.ended ≡ self.old.ended) }
     {
+        self.insert = None;
         let place = feed_at(&self.bytes[self.at..self.end]);
         self.line_end = self.at + place;
         if self.line_end < self.end {
@@ -132,6 +175,7 @@ impl LineReader {
             return Err(Refusal::ReadFault);
         }
         self.reads -= 1;
+        self.insert = None;
         let kept = move_back(&mut self.bytes, self.line_start, self.line_end);
         self.line_start = KEPT_BYTES - kept;
         self.line_end = KEPT_BYTES;
@@ -183,6 +227,9 @@ pub fn next_line<R: Read, W: Write>(
 {
     let _counted = reader.reads();
     input.begin_line();
+    if input.take_insert() {
+        return Ok(true);
+    }
     'reading: loop {
         if input.take_line() {
             return Ok(true);

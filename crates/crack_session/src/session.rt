@@ -10,7 +10,7 @@ ghost use Rattle.crack_session.specs.Telling.{Responds, Tells, marked, policy_af
 use crate::answer::{Answer, answer_reading, part_of};
 use crate::desk::Desk;
 use crate::input::{LineReader, next_line};
-use crate::line::{read_line, says_quit};
+use crate::line::says_quit;
 use crate::output::flush;
 use crack_commands::{Statement, write_reply};
 use crack_row::{Command, Key, Payload, Policy, Refusal, Reply, Watched};
@@ -287,7 +287,7 @@ pub fn serve<D: Desk, R: Read, W: Write>(
             Ok(false) => return finish(writer, progress, How::InputEnded),
             Ok(true) => {}
         }
-        if let Some(reading) = read_line(input.line()) {
+        if let Some(reading) = input.reading() {
             if let Err(refusal) = respond(alloc, desk, reading, &mut progress, writer) {
                 return Err(progress.fault(refusal));
             }

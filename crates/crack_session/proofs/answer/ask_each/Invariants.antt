@@ -1,4 +1,4 @@
-use Rattle.std.proofs.Common.{◌≡◌, ◌+◌, ◌≤◌, List, Some, Ok, length, take}
+use Rattle.std.proofs.Common.{◌≡◌, ◌≤◌, List, Some, Ok, length, take}
 use Rattle.std.specs.Prelude.{All, vec_len, vec_capacity}
 use Rattle.crack_plain.specs.Plain.{PlainView, IsSmall}
 use Rattle.crack_session.specs.Answers.{AsksInTurn}

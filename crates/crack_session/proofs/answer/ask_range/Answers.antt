@@ -1,4 +1,4 @@
-use Rattle.std.proofs.Common.{◌≡◌, ◌∙◌, ◌∷◌, [], List, ap, refl, inr}
+use Rattle.std.proofs.Common.{◌∙◌, List, ap, refl, inr}
 use Rattle.crack_row.specs.declared.Bound.{Bound}
 use Rattle.crack_core.specs.Routes.{parts_of}
 use Rattle.crack_session.proofs.Asking.{AsksParts-several}

@@ -1,4 +1,4 @@
-use Rattle.std.proofs.Common.{Ok, Err, refl, inl, inr}
+use Rattle.std.proofs.Common.{refl, inr}
 use Rattle.crack_session.proofs.answer.ask_several.Goals as goal
 
 pub returns-in-Err : goal.returns-in-Err

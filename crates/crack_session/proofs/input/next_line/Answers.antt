@@ -1,9 +1,26 @@
-use Rattle.std.proofs.Common.{rules, ◌≡◌, ℕ, List, [], Some, length, arith, sym, ap, ◌∙◌, true, not}
+use Rattle.std.proofs.Common.{rules, ◌≡◌, ℕ, List, [], Some, length, arith, refl, sym, ap, ◌∙◌, true, not}
 use Rattle.std.proofs.lemmas.Bool.{false≢true}
 use Rattle.crack_row.specs.Devices.{device, reads_of}
 use Rattle.crack_session.specs.Input.{Input}
-use Rattle.crack_session.proofs.Reading.{SoFar-more, SoFar-found, SoFar-ended, SoFar-begun, SoFar-read, after_line-shorter, IsPaid-taken, IsPaid-then, Keeps-same, Keeps-then, counted-then, if_err_anyway, on_err_anyway, SoFar-feed}
+use Rattle.crack_session.proofs.Reading.{SoFar-none_taken, SoFar-more, SoFar-found, SoFar-ended, SoFar-begun, SoFar-read, after_line-shorter, IsPaid-taken, IsPaid-then, Keeps-same, Keeps-then, counted-then, if_err_anyway, on_err_anyway, SoFar-feed}
 use Rattle.crack_session.proofs.input.next_line.Goals as goal
+
+pub returns-then-take_insert-clause-line : goal.returns-then-take_insert-clause-line
+returns-then-take_insert-clause-line g c = λ u e.
+    SoFar-found c.begin_line.new.self.unread (g.R.Read.remaining (device c.args.reader.now)) c.take_insert.new.self.line c.take_insert.new.self.unread
+    (SoFar-none_taken u _ [] (rw c.begin_line.ensures.unread e) refl) (c.if-take_insert.ensures.found refl) (c.if-take_insert.ensures.line refl) (c.if-take_insert.ensures.rest refl)
+
+pub returns-then-take_insert-clause-falls : goal.returns-then-take_insert-clause-falls
+returns-then-take_insert-clause-falls g c = λ _.
+    let shorter = after_line-shorter c.begin_line.new.self.unread (c.if-take_insert.ensures.found refl) in
+    let rest = ap length (c.if-take_insert.ensures.rest refl) in
+    let begun = ap length c.begin_line.ensures.unread in
+    omega (arith, shorter, rest, begun, c.if-take_insert.ensures.reads.0, c.begin_line.ensures.reads.0)
+
+pub returns-then-take_insert-clause-last : goal.returns-then-take_insert-clause-last
+returns-then-take_insert-clause-last g c = λ _ u e none.
+    absurd (false≢true (sym none ∙ SoFar-feed c.begin_line.new.self.unread (g.R.Read.remaining (device c.args.reader.now))
+    (SoFar-none_taken u _ [] (rw c.begin_line.ensures.unread e) refl) (c.if-take_insert.ensures.found refl)))
 
 pub returns-then-take_line-clause-line : goal.returns-then-take_line-clause-line
 returns-then-take_line-clause-line g c = λ u e.

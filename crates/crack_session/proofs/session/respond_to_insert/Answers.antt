@@ -1,4 +1,4 @@
-use Rattle.std.proofs.Common.{◌≡◌, Ok, Err, refl}
+use Rattle.std.proofs.Common.{Ok, Err, refl}
 use Rattle.crack_row.specs.declared.command.Command.TheVariants.{Insert}
 use Rattle.crack_core.specs.Steps.{tables_after}
 use Rattle.crack_session.specs.declared.answer.Answer.TheVariants.{Replied, Refused}

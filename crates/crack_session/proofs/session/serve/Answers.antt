@@ -90,7 +90,7 @@ at_quit g c = λ bytes e.
     let inv = c.lines.invariant.going bytes e in
     let some = rw c.in-Ok-true.field-0-test at c.in-Ok-true.ensures.line in
     let next = some inv.0 inv.1 in
-    let said = ap reading_of (sym c.line.ensures) ∙ sym c.in-Some.ensures in
+    let said = sym c.in-Some.ensures in
     let more = Going-answered g.W.Write.contents inv.0 c.next_line.new.input.line c.in-Some.reading c.in_default-respond.ensures.answer c.lines.progress c.respond.new.progress _ c.next_line.new.writer c.respond.new.writer inv.2 c.next_line.ensures.bytes next.0 next.1 said
     (Answered-desk c.in-Some.reading c.in_default-respond.ensures.answer c.in_default-respond.ensures.asks.is c.lines.invariant.limit c.lines.invariant.splits) c.in_default-respond.ensures.tells in
     let quit : is_quit c.in-Some.reading ≡ true = sym c.says_quit.ensures ∙ c.if-says_quit.true in
@@ -118,7 +118,7 @@ returns-in-Err-respond-clause-cut_off g c = λ bytes out s e f h.
     let inv = c.lines.invariant.going bytes e in
     let some = rw c.in-Ok-true.field-0-test at c.in-Ok-true.ensures.line in
     let next = some inv.0 inv.1 in
-    let said = ap reading_of (sym c.line.ensures) ∙ sym c.in-Some.ensures in
+    let said = sym c.in-Some.ensures in
     let left = Going-line _ _ inv.0 c.next_line.new.input.line c.in-Some.reading inv.2 c.next_line.ensures.bytes next.0 next.1 said in
     Going-cut_in g.W.Write.contents bytes out s c.fault-in-Err-respond.result c.in-Some.reading c.in-Err-respond.ensures.answer c.lines.progress c.respond.new.progress c.in-Err-respond.refusal _ c.next_line.new.writer c.respond.new.writer left
     (Answered-desk c.in-Some.reading c.in-Err-respond.ensures.answer c.in-Err-respond.ensures.asks.is c.lines.invariant.limit c.lines.invariant.splits) c.in-Err-respond.ensures.tells
@@ -132,7 +132,7 @@ lines-preserved-else-says_quit g c =
           let some = rw c.in-Ok-true.field-0-test at c.in-Ok-true.ensures.line in
           let last = rw c.in-Ok-true.field-0-test at c.in-Ok-true.ensures.last in
           let next = some inv.0 inv.1 in
-          let said = ap reading_of (sym c.line.ensures) ∙ sym c.in-Some.ensures in
+          let said = sym c.in-Some.ensures in
           let more = Going-answered g.W.Write.contents inv.0 c.next_line.new.input.line c.in-Some.reading c.in_default-respond.ensures.answer c.lines.progress c.respond.new.progress _ c.next_line.new.writer c.respond.new.writer inv.2 c.next_line.ensures.bytes next.0 next.1 said
           (Answered-desk c.in-Some.reading c.in_default-respond.ensures.answer c.in_default-respond.ensures.asks.is c.lines.invariant.limit c.lines.invariant.splits) c.in_default-respond.ensures.tells in
           let goes : is_quit c.in-Some.reading ≡ false = sym c.says_quit.ensures ∙ c.if-says_quit.false in (

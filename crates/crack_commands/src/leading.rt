@@ -1,0 +1,56 @@
+//! An insert at the front of bytes of which nobody has looked yet where their first line ends.
+ghost use Rattle.std.specs.Prelude.{◌≡◌, ◌<◌, ◌≤◌, true, length, take, slice_index, IfSome};
+ghost use Rattle.std.specs.List.{list_all};
+ghost use Rattle.crack_commands.specs.Grammar.{value_on, is_digit};
+ghost use Rattle.crack_commands.specs.LeadingInsert.{BeginsWithInsert};
+
+use crate::statement::is_row;
+use crate::words::{SHORT_DIGITS, leading_digits};
+use crack_row::{Key, Payload};
+
+/// The name of the statement with the space behind it.
+const NAME: &[u8] = b"insert ";
+
+/// An insert that bytes begin with: the row that it brings, and how long its line is.
+#[derive(Clone, Copy, Debug)]
+pub struct LeadingInsert {
+    pub key: Key,
+    pub payload: Payload,
+    /// The bytes of its line, without the line feed behind it.
+    pub len: usize,
+}
+
+/// The insert that bytes begin with, up to a line feed, where it is written without a space more than it needs, and its numbers are short; so most inserts
+/// are. The end of the line isn't looked for first. None says nothing of what they begin with. O(bytes of the line), no memory.
+#[inline(always)]
+pub fn leading_insert(bytes: &[u8]) -> Option<LeadingInsert>
+    ensures { IfSome result (λ i. BeginsWithInsert bytes.now i.len i.key i.payload) }
+{
+    let rest = bytes.strip_prefix(NAME)?;
+    let (key, first) = number_before(rest, b' ')?;
+    let (payload, second) = number_before(&rest[first + 1..], b'\n')?;
+    if !is_row(key as u128, payload as u128) {
+        return None;
+    }
+    Some(LeadingInsert {
+        key: Key(key as u32),
+        payload: Payload(payload as u32),
+        len: NAME.len() + first + 1 + second,
+    })
+}
+
+/// The number that bytes begin with, and how many digits it has, where this byte stands behind them.
+#[inline(always)]
+fn number_before(bytes: &[u8], stop: u8) -> Option<(u64, usize)>
+    ensures within { IfSome result (λ n. (0 < n.1) × (n.1 ≤ SHORT_DIGITS) × (n.1 < length bytes.now)) }
+    ensures stop { IfSome result (λ n. slice_index bytes.now n.1 ≡ stop) }
+    ensures digits { IfSome result (λ n. list_all is_digit (take n.1 bytes.now) ≡ true) }
+    ensures value { IfSome result (λ n. n.0 ≡ value_on 0 (take n.1 bytes.now)) }
+{
+    let (value, end) = leading_digits(&bytes[..bytes.len().min(SHORT_DIGITS)]);
+    if end > 0 && end < bytes.len() && bytes[end] == stop {
+        Some((value, end))
+    } else {
+        None
+    }
+}
