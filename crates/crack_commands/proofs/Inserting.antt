@@ -1,11 +1,12 @@
 -- An insert at the front of bytes.
-use Rattle.std.proofs.Common.{◌≡◌, ℕ, ◌+◌, ◌-◌, ◌<◌, ◌≤◌, ◌&&◌, true, false, leb, Some, Ok, suc, List, [], ◌∷◌, ◌++◌, codes, length, take, drop, get_or, slice_index, refl, sym, ap, ◌∙◌, subst, arith, length-take, length-drop}
+use Rattle.std.proofs.Common.{◌≡◌, ℕ, ◌+◌, ◌<◌, ◌≤◌, true, leb, Some, Ok, suc, List, [], ◌∷◌, ◌++◌, codes, length, take, drop, get_or, refl, sym, ap, ◌∙◌, arith, length-take, length-drop}
 use Rattle.std.proofs.lemmas.Bool.{and_parts, le-leb}
-use Rattle.std.proofs.lemmas.List.{drop_more, take-append-drop, take-take, length-append, get_or-append-add, get_or-drop}
+use Rattle.std.proofs.lemmas.List.{drop_more, length-append, get_or-append-add, get_or-drop}
 use Rattle.std.proofs.lemmas.List.Folds.{list_all-append}
 use Rattle.std.proofs.Math.Seq.{take-append-add, take-add}
 use Rattle.std.specs.List.{list_all}
-use Rattle.crack_commands.specs.Grammar.{words, is_word, is_digit, is_row, value_on, number_of, statement_of}
+use Rattle.crack_commands.specs.Grammar.{words, is_word, is_digit, number_of, statement_of}
+use Rattle.crack_commands.specs.Inside.{is_row, value_on}
 use Rattle.crack_commands.specs.LeadingInsert.{BeginsWithInsert}
 use Rattle.crack_commands.specs.declared.statement.Statement.TheVariants.{Insert}
 use Rattle.crack_commands.proofs.Numbers.{digit_bounds, digits_no_space}
@@ -61,11 +62,11 @@ begins_with bytes rest m n v w whole first space digits is second feed digits' i
     let len_ys = length-take n more in
     let same : 7 + m + 1 + n ≡ 7 + (m + 1 + n) = omega arith in
     let line : take (7 + m + 1 + n) bytes ≡ codes "insert " ++ (xs ++ 32 ∷ ys) =
-        ap (λ k. take k bytes) same ∙ ap (take (7 + (m + 1 + n))) whole ∙ take-append-add (codes "insert ") rest (m + 1 + n) ∙ ap (λ r. codes "insert " ++ r) (two_parts rest m n first.2 space) in
+    ap (λ k. take k bytes) same ∙ ap (take (7 + (m + 1 + n))) whole ∙ take-append-add (codes "insert ") rest (m + 1 + n) ∙ ap (λ r. codes "insert " ++ r) (two_parts rest m n first.2 space) in
     let len_bytes : length bytes ≡ 7 + length rest = ap length whole ∙ length-append (codes "insert ") rest in
     let at : get_or bytes (7 + m + 1 + n) 0 ≡ 10 =
-        ap (λ k. get_or bytes k 0) same ∙ ap (λ z. get_or z (7 + (m + 1 + n)) 0) whole ∙ get_or-append-add (codes "insert ") rest (m + 1 + n) 0
-        ∙ sym (get_or-drop (m + 1) rest n 0) ∙ feed in
+    ap (λ k. get_or bytes k 0) same ∙ ap (λ z. get_or z (7 + (m + 1 + n)) 0) whole ∙ get_or-append-add (codes "insert ") rest (m + 1 + n) 0
+    ∙ sym (get_or-drop (m + 1) rest n 0) ∙ feed in
     let printed : list_all (leb 32) (xs ++ 32 ∷ ys) ≡ true = list_all-append (leb 32) xs (32 ∷ ys) ∙ rw (digits_printed xs digits, digits_printed ys digits') refl in
     let row = says_insert xs ys (omega (arith, len_xs, first)) (omega (arith, len_xs, first)) (omega (arith, len_ys, second)) (omega (arith, len_ys, second)) digits digits' (rw (sym is, sym is') small) in
     record {

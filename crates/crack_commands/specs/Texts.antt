@@ -51,7 +51,7 @@ layout_text part layout = (
     ++ (codes " column " ++ decimal layout.column ++ codes " out " ++ decimal layout.pending_out)
     ++ (codes " in " ++ decimal layout.pending_in ++ codes " cells " ++ decimal layout.cells)
     ++ (codes " free " ++ decimal layout.free ++ codes " pieces " ++ decimal (length layout.pieces)) ++ codes "\n"
-) ++ flat_map piece_text layout.pieces
+    ) ++ flat_map piece_text layout.pieces
 
 -- the answer to `policy NAME`
 abbrev pub policy_text : Policy → List ℕ

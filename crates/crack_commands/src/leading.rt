@@ -1,7 +1,8 @@
 //! An insert at the front of bytes of which nobody has looked yet where their first line ends.
 ghost use Rattle.std.specs.Prelude.{◌≡◌, ◌<◌, ◌≤◌, true, length, take, slice_index, IfSome};
 ghost use Rattle.std.specs.List.{list_all};
-ghost use Rattle.crack_commands.specs.Grammar.{value_on, is_digit};
+ghost use Rattle.crack_commands.specs.Grammar.{is_digit};
+ghost use Rattle.crack_commands.specs.Inside.{value_on};
 ghost use Rattle.crack_commands.specs.LeadingInsert.{BeginsWithInsert};
 
 use crate::statement::is_row;

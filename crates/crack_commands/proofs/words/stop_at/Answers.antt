@@ -1,4 +1,4 @@
-use Rattle.std.proofs.Common.{rules, arith}
+use Rattle.std.proofs.Common.{arith}
 use Rattle.crack_commands.proofs.Splitting.{no_stop}
 use Rattle.crack_commands.proofs.words.stop_at.Goals as goal
 
