@@ -1,6 +1,6 @@
 -- The lines of a session's bytes.
 use Rattle.std.specs.List.{onto_first}
-use Rattle.std.specs.Prelude.{ℕ, ◌-◌, Bool, false, List, [], ◌∷◌, length, take, slice_index, ◌==◌, ◌||◌, if◌then◌else◌}
+use Rattle.std.specs.Prelude.{ℕ, ◌-◌, List, [], ◌∷◌, length, take, slice_index, ◌==◌, if◌then◌else◌}
 
 -- a line ends at a line feed, or at the end where bytes are left
 abbrev pub lines : List ℕ → List (List ℕ)
