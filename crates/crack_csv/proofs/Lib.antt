@@ -3,4 +3,3 @@ pub mod Exporting
 pub mod Fields
 pub mod Loading
 pub mod Within
-pub mod Rows

@@ -19,7 +19,6 @@ pub struct NewRow {
 }
 
 /// The row that a record brings: it has just two fields, a key and a payload, both numbers in range.
-#[tactic(auto, using(crate::proofs::Rows::brings_row, crate::proofs::Rows::no_key, crate::proofs::Rows::no_payload, crate::proofs::Rows::no_row))]
 pub fn new_row(fields: &ByteRecord) -> Option<NewRow>
     ensures { result ≡ new_row_of (fields_of fields.now) }
 {

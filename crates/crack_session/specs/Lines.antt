@@ -10,4 +10,3 @@ lines (b ∷ bs) = if b == 10 then [] ∷ lines bs else onto_first b (lines bs)
 -- a line without the one carriage return that may end it
 abbrev pub without_return : List ℕ → List ℕ
 without_return line = if slice_index line (length line - 1) == 13 then take (length line - 1) line else line
-
