@@ -1,7 +1,12 @@
 -- The texts of bits.
-use Rattle.std.proofs.Common.{◌≡◌, ℕ, zero, suc, ◌+◌, ◌-◌, ◌<◌, Option, Some, None, ◌++◌, List, [], refl, sym, ap, ◌∙◌, arith, append_assoc, append-nil}
+use Rattle.std.proofs.Common.{◌≡◌, ℕ, zero, suc, ◌+◌, ◌-◌, ◌<◌, Bool, true, false, cond, Option, Some, None, ◌++◌, List, [], ◌∷◌, filter, refl, sym, ap, ◌∙◌, arith, append_assoc, append-nil}
+use Rattle.std.specs.List.{flat_map, range_with_len}
 use Rattle.std.specs.Io.KnownBytes.{Appends}
-use Rattle.crack_commands.specs.Texts.{bit_text, bits_text, AppendsFront}
+use Rattle.std.proofs.lemmas.List.Elements.{filter-append}
+use Rattle.std.proofs.lemmas.Grind.{flat_map-append}
+use Rattle.crack_row.proofs.Lists.{range_with_len-more}
+use Rattle.crack_commands.specs.Inside.{has_bit, bit_text}
+use Rattle.crack_commands.specs.Texts.{field_text, bits_text, AppendsFront}
 use Rattle.crack_commands.proofs.Sending.{Appends-then, front_first, front_then}
 
 -- without a bit nothing is written
@@ -10,10 +15,19 @@ unfolding bits_text
 Appends-no_bit bits None = tt
 Appends-no_bit bits (Some bytes) = sym (append-nil bytes)
 
+field_if : (is_set : Bool) (number : ℕ) → flat_map field_text (cond is_set (number ∷ []) []) ≡ cond is_set (field_text number) []
+field_if true number = append-nil (field_text number)
+field_if false number = refl
+
 -- one bit more
 bits_text-suc : (bits number : ℕ) → bits_text bits (suc number) ≡ bits_text bits number ++ bit_text bits number
 unfolding bits_text
-bits_text-suc bits number = refl
+bits_text-suc bits number =
+    let last : 0 + number ≡ number = omega arith in
+    ap (λ numbers. flat_map field_text (filter (has_bit bits) numbers)) (range_with_len-more 0 number ∙ ap (λ n. range_with_len 0 number ++ n ∷ []) last)
+    ∙ ap (flat_map field_text) (filter-append (has_bit bits) (range_with_len 0 number) (number ∷ []))
+    ∙ flat_map-append field_text (filter (has_bit bits) (range_with_len 0 number)) (filter (has_bit bits) (number ∷ []))
+    ∙ ap (λ text. flat_map field_text (filter (has_bit bits) (range_with_len 0 number)) ++ text) (field_if (has_bit bits number) number)
 
 pub Appends-bit : (bits number : ℕ) (a b c : Option (List ℕ)) → Appends a b (bits_text bits number) → Appends b c (bit_text bits number) → Appends a c (bits_text bits (number + 1))
 Appends-bit bits number a b c sent one =

@@ -4,7 +4,8 @@ use Rattle.std.proofs.lemmas.Bool.{and_parts, cases_Bool, le-leb, leb-true, lt-l
 use Rattle.std.proofs.lemmas.List.{take_more, take-take, take_all}
 use Rattle.std.proofs.Math.Nat.{pow-suc, pow-le-pow_right}
 use Rattle.std.specs.List.{list_all}
-use Rattle.crack_commands.specs.Grammar.{words, is_word, is_digit, has_space, value_on, IsFirstNumber}
+use Rattle.crack_commands.specs.Grammar.{words, is_word, is_digit}
+use Rattle.crack_commands.specs.Inside.{value_on, has_space, IsFirstNumber}
 use Rattle.crack_commands.proofs.Splitting.{is_word_some, first_word}
 
 -- one digit more

@@ -3,7 +3,11 @@ use Rattle.std.proofs.Common.{◌≡◌, ℕ, ◌+◌, ◌<◌, ◌≤◌, true,
 use Rattle.std.proofs.lemmas.Bool.{or_parts, false≢true, ne_eqb, cases_lt}
 use Rattle.std.proofs.lemmas.List.{take_more, at_drop_more, take-append-drop, drop_all, drop_more, take_all}
 use Rattle.std.proofs.Math.Seq.{drop-nil}
-use Rattle.crack_commands.specs.Grammar.{between_spaces, words, is_word, has_space, before_stop, behind_stop, named, statement_of, IsFirstWord}
+use Rattle.std.proofs.lemmas.List.Sums.{position_or_len_is}
+use Rattle.std.specs.Prelude.{slice_index_or}
+use Rattle.std.specs.List.{slice_split, position_or_len}
+use Rattle.crack_commands.specs.Grammar.{words, is_word, named, statement_of}
+use Rattle.crack_commands.specs.Inside.{has_space, IsFirstWord}
 
 -- a space more at the front
 pub words_space : (xs : List ℕ) (i : ℕ) → i < length xs → get_or xs i 0 ≡ 32 → words (drop i xs) ≡ words xs → words (drop (i + 1) xs) ≡ words xs
@@ -28,14 +32,14 @@ no_space_more xs i below none here =
     let other : eqb (get_or xs i 0) 32 ≡ false = ne_eqb _ _ here in
     rw (take_more xs i 0 below, has_space-append (take i xs) (get_or xs i 0 ∷ []) none, other) refl
 
-spaces_word : (w : List ℕ) → has_space w ≡ false → between_spaces w ≡ w ∷ []
+spaces_word : (w : List ℕ) → has_space w ≡ false → slice_split (λ b. eqb b 32) w ≡ w ∷ []
 spaces_word [] h = refl
 spaces_word (b ∷ bs) h =
     let each = or_parts (eqb b 32) (has_space bs) h in
     let other : eqb b 32 ≡ false = each.0 in
     rw (other, spaces_word bs each.1) refl
 
-spaces_space : (w more : List ℕ) → has_space w ≡ false → between_spaces (w ++ 32 ∷ more) ≡ w ∷ between_spaces more
+spaces_space : (w more : List ℕ) → has_space w ≡ false → slice_split (λ b. eqb b 32) (w ++ 32 ∷ more) ≡ w ∷ slice_split (λ b. eqb b 32) more
 spaces_space [] more h = refl
 spaces_space (b ∷ bs) more h =
     let each = or_parts (eqb b 32) (has_space bs) h in
@@ -90,33 +94,21 @@ pub is_word_none : (w : List ℕ) → length w ≡ 0 → is_word w ≡ false
 is_word_none [] h = refl
 is_word_none (b ∷ bs) h = absurd (omega arith)
 
--- what stands around the first full stop of the bytes, of which none is among the first i
-pub record IsAround (xs : List ℕ) (i : ℕ) : Type 0 where
-  pub before : before_stop xs ≡ take i xs ++ before_stop (drop i xs)
-  pub behind : behind_stop xs ≡ behind_stop (drop i xs)
+-- the place of the first full stop, where none stands before it
+pub stop_here : (xs : List ℕ) (i : ℕ) → i < length xs → get_or xs i 0 ≡ 46 → ((k : ℕ) → k < i → eqb (get_or xs k 0) 46 ≡ false) → i ≡ position_or_len (λ b. eqb b 46) xs
+stop_here xs i below here before = sym (position_or_len_is (λ b. eqb b 46) xs i 0 (omega (arith, below)) before (λ within. rw here refl))
 
-pub around_more : (xs : List ℕ) (i : ℕ) → i < length xs → (get_or xs i 0 ≡ 46 → ⊥) → IsAround xs i → IsAround xs (i + 1)
-around_more xs i below here so_far =
-    let other : eqb (get_or xs i 0) 46 ≡ false = ne_eqb _ _ here in
-    let rest : drop i xs ≡ get_or xs i 0 ∷ drop (i + 1) xs = drop_more xs i 0 below in
-    let before : before_stop (get_or xs i 0 ∷ drop (i + 1) xs) ≡ get_or xs i 0 ∷ before_stop (drop (i + 1) xs) = rw other refl in
-    let behind : behind_stop (get_or xs i 0 ∷ drop (i + 1) xs) ≡ behind_stop (drop (i + 1) xs) = rw other refl in
-    record {
-      before = so_far.before ∙ ap (λ r. take i xs ++ before_stop r) rest ∙ ap (λ r. take i xs ++ r) before
-          ∙ sym (append_assoc (take i xs) (get_or xs i 0 ∷ []) (before_stop (drop (i + 1) xs)))
-          ∙ ap (λ f. f ++ before_stop (drop (i + 1) xs)) (sym (take_more xs i 0 below));
-      behind = so_far.behind ∙ ap behind_stop rest ∙ behind;
-    }
+pub no_stop : (xs : List ℕ) (i : ℕ) → length xs ≤ i → ((k : ℕ) → k < i → eqb (get_or xs k 0) 46 ≡ false) → length xs ≡ position_or_len (λ b. eqb b 46) xs
+no_stop xs i all before = sym (position_or_len_is (λ b. eqb b 46) xs (length xs) 0 (omega arith) (λ k below. before k (omega (arith, below, all))) (λ within. absurd (omega (arith, within))))
 
-pub stop_here : (xs : List ℕ) (i : ℕ) → i < length xs → get_or xs i 0 ≡ 46 → IsAround xs i → (take i xs ≡ before_stop xs) × (drop (i + 1) xs ≡ behind_stop xs)
-stop_here xs i below here so_far =
-    let rest : drop i xs ≡ 46 ∷ drop (i + 1) xs = drop_more xs i 0 below ∙ ap (λ b. b ∷ drop (i + 1) xs) here in
-    (sym (so_far.before ∙ ap (λ r. take i xs ++ before_stop r) rest ∙ append-nil (take i xs)), sym (so_far.behind ∙ ap behind_stop rest))
+-- the first word and the others
+pub first_is : (bytes word rest : List ℕ) → IsFirstWord bytes word rest → slice_index_or (words bytes) 0 [] ≡ word
+first_is bytes [] rest first = rw (first.none refl).0 refl
+first_is bytes (b ∷ bs) rest first = rw (first.some refl) refl
 
-pub no_stop : (xs : List ℕ) (i : ℕ) → length xs ≤ i → IsAround xs i → (xs ≡ before_stop xs) × ([] ≡ behind_stop xs)
-no_stop xs i past so_far =
-    let rest : drop i xs ≡ [] = drop_all i xs past in
-    (sym (so_far.before ∙ ap (λ r. take i xs ++ before_stop r) rest ∙ append-nil (take i xs) ∙ take_all i xs past), sym (so_far.behind ∙ ap behind_stop rest))
+pub others_are : (bytes word rest : List ℕ) → IsFirstWord bytes word rest → drop 1 (words bytes) ≡ words rest
+others_are bytes [] rest first = rw ((first.none refl).0, (first.none refl).1) refl
+others_are bytes (b ∷ bs) rest first = rw (first.some refl) refl
 
 -- what words say
 pub said : (line name : List ℕ) (rest : List (List ℕ)) → words line ≡ name ∷ rest → statement_of line ≡ named name rest

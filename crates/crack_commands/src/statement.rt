@@ -1,6 +1,7 @@
 //! The statement language.
 ghost use Rattle.std.specs.Prelude.{◌≡◌, ◌∷◌, codes, Some, IfSome};
-ghost use Rattle.crack_commands.specs.Grammar.{statement_of, words, named, insert_of, delete_of, update_of, update_from, range_from, two_numbers, over, layout_of, policy_of, policy_named, quit_of, is_row};
+ghost use Rattle.crack_commands.specs.Grammar.{statement_of, words, named, two_numbers, over, policy_named};
+ghost use Rattle.crack_commands.specs.Inside.{insert_of, delete_of, update_of, update_from, range_from, layout_of, policy_of, quit_of, is_row};
 ghost use Rattle.crack_commands.specs.declared.statement.Statement.TheVariants.{Count, Sum, Select};
 
 use crate::words::{next_word, only_word, read_part, read_row_number, two_numbers};
@@ -143,8 +144,9 @@ fn update_from(row: RowNo, pair: Option<(u128, u128)>) -> Result<Statement, Refu
 }
 
 /// A count of the words behind its name.
+#[tactic(auto, using(crate::proofs::Statements::over_ok, crate::proofs::Statements::over_err))]
 fn parse_count(rest: &[u8]) -> Result<Statement, Refusal>
-    ensures { result ≡ over Count (range_from (two_numbers (words rest.now))) }
+    ensures { result ≡ over Count (two_numbers (words rest.now)) }
 {
     match parse_range(rest) {
         Ok(range) => Ok(Statement::Count(range)),
@@ -153,8 +155,9 @@ fn parse_count(rest: &[u8]) -> Result<Statement, Refusal>
 }
 
 /// A sum of the words behind its name.
+#[tactic(auto, using(crate::proofs::Statements::over_ok, crate::proofs::Statements::over_err))]
 fn parse_sum(rest: &[u8]) -> Result<Statement, Refusal>
-    ensures { result ≡ over Sum (range_from (two_numbers (words rest.now))) }
+    ensures { result ≡ over Sum (two_numbers (words rest.now)) }
 {
     match parse_range(rest) {
         Ok(range) => Ok(Statement::Sum(range)),
@@ -163,8 +166,9 @@ fn parse_sum(rest: &[u8]) -> Result<Statement, Refusal>
 }
 
 /// A select of the words behind its name.
+#[tactic(auto, using(crate::proofs::Statements::over_ok, crate::proofs::Statements::over_err))]
 fn parse_select(rest: &[u8]) -> Result<Statement, Refusal>
-    ensures { result ≡ over Select (range_from (two_numbers (words rest.now))) }
+    ensures { result ≡ over Select (two_numbers (words rest.now)) }
 {
     match parse_range(rest) {
         Ok(range) => Ok(Statement::Select(range)),

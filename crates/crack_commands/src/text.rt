@@ -3,7 +3,8 @@ ghost use Rattle.std.specs.Prelude.{◌≡◌, ◌+◌, ◌<◌, ◌≤◌, ◌+
 ghost use Rattle.std.specs.Io.KnownBytes.{Appends};
 ghost use Rattle.crack_row.specs.Devices.{device, has_failed};
 ghost use Rattle.std.specs.List.{flat_map};
-ghost use Rattle.crack_commands.specs.Texts.{reply_text, placed_text, gone_text, count_text, sum_text, rows_text, head_text, row_text, layout_text, layout_head, two_fields, piece_text, policy_text, refusal_text, refused_text, field_text, has_bit, bit_text, bits_text, AppendsFront};
+ghost use Rattle.crack_commands.specs.Texts.{reply_text, count_text, sum_text, head_text, row_text, layout_text, piece_text, policy_text, refusal_text, field_text, bits_text, AppendsFront};
+ghost use Rattle.crack_commands.specs.Inside.{placed_text, gone_text, rows_text, layout_head, two_fields, refused_text, has_bit, bit_text};
 
 use crate::output::send;
 use arrayvec::ArrayVec;

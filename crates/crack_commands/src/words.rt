@@ -1,7 +1,8 @@
 //! Words and numbers among bytes.
-ghost use Rattle.std.specs.Prelude.{◌≡◌, ◌+◌, ◌^◌, ◌<◌, ◌≤◌, ◌≢◌, ◌↔◌, true, false, length, IsTrue, Some, take, drop, IfSome, slice_index};
-ghost use Rattle.std.specs.List.{list_all};
-ghost use Rattle.crack_commands.specs.Grammar.{words, number_of, number_up_to, two_numbers, only_word, row_number_of, before_stop, behind_stop, value_on, is_digit, has_space, IsFirstWord, IsFirstNumber};
+ghost use Rattle.std.specs.Prelude.{◌≡◌, ◌+◌, ◌^◌, ◌<◌, ◌≤◌, ◌≢◌, ◌↔◌, true, false, length, IsTrue, Some, take, ◌==◌, IfSome, slice_index};
+ghost use Rattle.std.specs.List.{list_all, position_or_len};
+ghost use Rattle.crack_commands.specs.Grammar.{words, number_of, number_up_to, two_numbers, only_word, row_number_of, is_digit};
+ghost use Rattle.crack_commands.specs.Inside.{value_on, has_space, IsFirstWord, IsFirstNumber};
 
 use crack_row::{RowNo, Serial};
 
@@ -105,10 +106,9 @@ fn read_serial(word: &[u8]) -> Option<u64>
 }
 
 /// The place of the first full stop, or the length.
+#[tactic(auto, using(crate::proofs::Splitting::stop_here))]
 fn stop_at(word: &[u8]) -> usize
-    ensures within { result ≤ length word.now }
-    ensures before { take result word.now ≡ before_stop word.now }
-    ensures behind { drop (result + 1) word.now ≡ behind_stop word.now }
+    ensures { result ≡ position_or_len (λ b. b == 46) word.now }
 {
     for (i, b) in word.iter().enumerate() {
         if *b == b'.' {

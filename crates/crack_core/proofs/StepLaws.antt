@@ -1,5 +1,5 @@
 -- What follows of steps, of the entries that they leave, and of partitions of which one is replaced.
-use Rattle.std.specs.Prelude.{◌≡◌, ◌≢◌, ℕ, ◌+◌, ◌<◌, ◌≤◌, ◌==◌, Bool, true, false, cond, List, [], ◌∷◌, ◌++◌, length, map, take, drop, Option, None, Some, Result, Ok, Err, is_ok, slice_get, IfSome, IfOk, IfErr, OnOk, OnErr, ◌⊎◌, nat_le, nat_lt, if◌then◌else◌}
+use Rattle.std.specs.Prelude.{◌≡◌, ◌≢◌, ℕ, ◌+◌, ◌<◌, ◌≤◌, ◌==◌, Bool, true, false, cond, fold, List, [], ◌∷◌, ◌++◌, length, map, take, drop, Option, None, Some, Result, Ok, Err, is_ok, slice_get, IfSome, IfOk, IfErr, OnOk, OnErr, ◌⊎◌, nat_le, nat_lt, if◌then◌else◌}
 use Rattle.std.specs.Option.{option_map}
 use Rattle.std.proofs.Common.{zero, suc, get_or, set, arith, ap, refl, sym, subst, ◌∙◌, ⊎_elim, inl, inr, append-nil, append_assoc, length-append, length-set}
 use Rattle.std.proofs.lemmas.Bool.{true≢false, both_ways, and_parts, and_from, leb-true, leb-false, le-leb, ltb-true, lt-ltb, eq-eqb, ne_eqb, cases_eq, cases_lt}
@@ -23,7 +23,7 @@ use Rattle.crack_part.specs.Parts.{Part, IsSound}
 use Rattle.crack_core.specs.declared.step.Step.{Step}
 use Rattle.crack_core.specs.Routes.{keys_of_part}
 use Rattle.crack_core.specs.Opening.{AreParts}
-use Rattle.crack_core.specs.Steps.{is_key_in, expected, expected_at, IsOutcome, fresh_table, table_after, table_after_all, tables_after, table_of, tables_of, histories_of, accepted_by, entries_at, KeepsEntries, answered_at, table_at, AreExpectedReplies}
+use Rattle.crack_core.specs.Steps.{is_key_in, expected, expected_at, IsOutcome, fresh_table, table_after, tables_after, table_of, tables_of, histories_of, accepted_by, entries_at, KeepsEntries, answered_at, table_at, AreExpectedReplies}
 use Rattle.crack_core.specs.Cores.{Makes, MakesAll}
 
 -- whether a command brings a key of others, by the test
@@ -105,10 +105,10 @@ table_of-push history e =
     rw (replay-push history e, long) refl
 
 -- several entries more
-pub table_of-append : (history es : List Entry) → table_after_all (table_of history) (map (λ (e : Entry). e.command) es) ≡ table_of (history ++ es)
+pub table_of-append : (history es : List Entry) → fold table_after (table_of history) (map (λ (e : Entry). e.command) es) ≡ table_of (history ++ es)
 table_of-append history [] = ap table_of (sym (append-nil history))
 table_of-append history (e ∷ es) =
-    ap (λ (t : PlainView). table_after_all t (map (λ (x : Entry). x.command) es)) (sym (table_of-push history e)) ∙ table_of-append (history ++ e ∷ []) es ∙ ap table_of (append_assoc history (e ∷ []) es)
+    ap (λ (t : PlainView). fold table_after t (map (λ (x : Entry). x.command) es)) (sym (table_of-push history e)) ∙ table_of-append (history ++ e ∷ []) es ∙ ap table_of (append_assoc history (e ∷ []) es)
 
 -- the tables are those of the histories
 pub tables-histories : (parts : List Part) (part : ℕ) → slice_get (tables_of parts) part ≡ option_map table_of (slice_get (histories_of parts) part)
@@ -173,9 +173,9 @@ Keeps-push old now new steps results s r same before step = λ part.
 -- what one partition is after its answered steps, by what its history is
 pub table_at-kept : (old now : List Part) (part : ℕ) (steps : List Step) (results : List (Result Reply Refusal)) → KeepsEntries (histories_of old) steps results (histories_of now) → slice_get (tables_of now) part ≡ table_at (tables_of old) part steps results
 table_at-kept old now part steps results kept =
-    tables-histories now part ∙ ap (option_map table_of) (kept part) ∙ by_history (slice_get (histories_of old) part) ∙ ap (option_map (λ (t : PlainView). table_after_all t (answered_at part steps results))) (sym (tables-histories old part))
+    tables-histories now part ∙ ap (option_map table_of) (kept part) ∙ by_history (slice_get (histories_of old) part) ∙ ap (option_map (λ (t : PlainView). fold table_after t (answered_at part steps results))) (sym (tables-histories old part))
   where
-    by_history : (o : Option (List Entry)) → option_map table_of (option_map (λ (history : List Entry). history ++ entries_at part steps results) o) ≡ option_map (λ (t : PlainView). table_after_all t (answered_at part steps results)) (option_map table_of o)
+    by_history : (o : Option (List Entry)) → option_map table_of (option_map (λ (history : List Entry). history ++ entries_at part steps results) o) ≡ option_map (λ (t : PlainView). fold table_after t (answered_at part steps results)) (option_map table_of o)
     by_history None = refl
     by_history (Some history) = ap Some (sym (table_of-append history (entries_at part steps results)))
 

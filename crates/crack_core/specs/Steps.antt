@@ -1,5 +1,5 @@
 -- What the steps of many workers are to be answered, and what they leave.
-use Rattle.std.specs.Prelude.{◌≡◌, ◌⊎◌, ℕ, ◌+◌, ◌==◌, Bool, true, List, [], ◌∷◌, ◌++◌, length, map, take, Option, None, Some, Result, Ok, Err, IsOk, nat_le, slice_get, slice_set, slice_index_or, sum_by, if◌then◌else◌}
+use Rattle.std.specs.Prelude.{◌≡◌, ◌⊎◌, ℕ, ◌+◌, ◌==◌, Bool, true, List, [], ◌∷◌, ◌++◌, length, map, take, Option, None, Some, Result, Ok, Err, IsOk, nat_le, slice_get, slice_set, slice_index_or, fold, sum_by, if◌then◌else◌}
 use Rattle.std.specs.Option.{option_map}
 use Rattle.crack_row.specs.Ranges.{Range, is_in}
 use Rattle.crack_row.specs.Commands.{key_of}
@@ -42,11 +42,6 @@ fresh_table = record { state = no_rows; accepted = 0 }
 -- a partition after an answered command: its rows, and one entry more
 abbrev pub table_after : PlainView → Command → PlainView
 table_after table command = record { state = after table.state command; accepted = table.accepted + 1 }
-
--- a partition after several answered commands
-abbrev pub table_after_all : PlainView → List Command → PlainView
-table_after_all table [] = table
-table_after_all table (command ∷ commands) = table_after_all (table_after table command) commands
 
 -- the partitions after what came out of asking one of them: a refusal leaves all as they were
 abbrev pub tables_after : List PlainView → ℕ → Command → Result Reply Refusal → List PlainView
@@ -93,7 +88,7 @@ answered_at part steps results = map (λ (entry : Entry). entry.command) (entrie
 
 -- one partition after its answered steps, if there is such a partition
 abbrev pub table_at : List PlainView → ℕ → List Step → List (Result Reply Refusal) → Option PlainView
-table_at tables part steps results = option_map (λ table. table_after_all table (answered_at part steps results)) (slice_get tables part)
+table_at tables part steps results = option_map (λ table. fold table_after table (answered_at part steps results)) (slice_get tables part)
 
 -- the expected replies: each step comes out as its partition is to answer after those of its own steps that it answered before; neither
 -- workers nor policies nor other partitions' steps matter

@@ -19,7 +19,8 @@ use Rattle.crack_core.specs.Steps.{expected, expected_at, IsOutcome, tables_afte
 use Rattle.crack_session.specs.Queries.{listed}
 use Rattle.crack_commands.specs.Texts.{AppendsFront}
 use Rattle.crack_commands.proofs.Sending.{Appends-then, front_first, front_then}
-use Rattle.crack_csv.specs.Exports.{header_text, record_text, rows_at, rows_from, asked, lines_of, IsUnsent, AreUnsent, RefusesList, IsUnlisted, IsUnwritten, IsPartCut, IsExportCut}
+use Rattle.crack_csv.specs.Exports.{header_text, record_text, rows_at, rows_from, asked, lines_of, AreUnsent, IsExportCut}
+use Rattle.crack_csv.specs.Inside.{RefusesList, IsUnsent, IsUnlisted, IsUnwritten, IsPartCut}
 use Rattle.crack_csv.proofs.Exporting.{Exporting, batch_more, keeps_appends, kept_written, replied_rows, index_there, next_is, next_is_there, next_asked, next_rows}
 
 concat_map : {X : Type 0} (f : X → List ℕ) (xs : List X) → concat (map f xs) ≡ flat_map f xs
@@ -124,6 +125,8 @@ unlisted_next limit splits tables part table e receipts now receipts' failed fai
       left_is = next.left_is;
       receipts_are = let none = next.receipts_are in omega (arith, none, so_far, reached);
       cause = inr (inl (
+        t,
+        refl,
         subst (λ n. RefusesList limit splits n (t ∷ rest) e) (sym reached) here,
         next.unfailed,
         lines_text splits done out out'' (kept_written out out' out'' _ written (keeps_appends out' out'' next.unwritten)),

@@ -1,5 +1,5 @@
 -- How a load goes on, one record after another.
-use Rattle.std.proofs.Common.{◌≡◌, ℕ, ◌+◌, ◌==◌, ◌&&◌, ◌⊎◌, Bool, true, false, cond, Option, Some, List, [], ◌∷◌, ◌++◌, length, map, refl, sym, ap, ◌∙◌, inl, inr, arith, length-append}
+use Rattle.std.proofs.Common.{◌≡◌, ℕ, ◌+◌, ◌<◌, ◌==◌, ◌&&◌, ◌⊎◌, Bool, true, false, cond, fold, Option, Some, List, [], ◌∷◌, ◌++◌, length, map, refl, sym, ap, ◌∙◌, inl, inr, arith, length-append}
 use Rattle.std.proofs.lemmas.List.{map-append}
 use Rattle.std.proofs.lemmas.Bool.{ne_eqb}
 use Rattle.csv.specs.Reading.{Reached, source_of, strip_bom, reader_state}
@@ -10,8 +10,19 @@ use Rattle.crack_row.specs.declared.refusal.Refusal.{Refusal}
 use Rattle.crack_row.specs.declared.refusal.Refusal.TheVariants.{ReadFault, OutOfMemory}
 use Rattle.crack_plain.specs.Plain.{PlainView}
 use Rattle.crack_csv.specs.declared.record.NewRow.{NewRow}
-use Rattle.crack_csv.specs.Records.{Fields, is_header, is_header_behind, without_header, new_row_of, IsBehind, AreAllOf}
-use Rattle.crack_csv.specs.Loads.{with_row, with_rows, BringsRow, AreInserted, IsLoaded, IsCause, IsCutShort}
+use Rattle.crack_csv.specs.Inside.{Fields, AreAllOf, IsBehind, BringsRow}
+use Rattle.crack_csv.specs.Records.{is_header, without_header, new_row_of}
+use Rattle.crack_csv.specs.Loads.{with_row, Refuses, AreInserted, IsLoaded, IsCutShort}
+use Rattle.crack_csv.specs.declared.TheConstants.{MOST_RECORDS}
+
+-- whether a record is a header, behind these others
+abbrev is_header_behind : List Fields → Fields → Bool
+is_header_behind [] fields = is_header fields
+is_header_behind (first ∷ records) fields = false
+
+-- the partitions after these rows are inserted, in order
+abbrev with_rows : List Bound → List PlainView → List NewRow → List PlainView
+with_rows splits tables rows = fold (with_row splits) tables rows
 
 without_header-more : (header : Bool) (first : Fields) (records : List Fields) (fields : Fields) → cond header (records ++ fields ∷ []) (first ∷ (records ++ fields ∷ [])) ≡ cond header records (first ∷ records) ++ fields ∷ []
 without_header-more true first records fields = refl
@@ -86,22 +97,33 @@ Going-row new fields left' g reads plain brings = record {
 pub Going-end : {R : Type 0} {remaining : R → Option (List ℕ)} {old : Reader R} {splits : List Bound} {tables : List PlainView} {bytes : List ℕ} {number loaded : ℕ} {left : Option (List PlainView)} → Going remaining old splits tables bytes number loaded left → ((text : List ℕ) (records : List Fields) → IsBehind remaining old text records → AreAllOf text records) → IsLoaded splits tables bytes loaded left
 Going-end g ends = record { records = g.records; all = ends _ g.records g.behind; inserted = g.inserted }
 
+-- why a record isn't inserted behind so many others: they are as many as may be, or it is refused
+abbrev pub IsCause : ℕ → List Bound → List PlainView → ℕ → ℕ → Fields → Refusal → Type 0
+IsCause limit splits tables loaded number fields e = ((loaded ≡ MOST_RECORDS) × (e ≡ ReadFault)) ⊎ ((loaded < MOST_RECORDS) × Refuses limit splits tables number (new_row_of fields) e)
+
+one_of : {A B C : Type 0} → A ⊎ B → A ⊎ B ⊎ C
+one_of (inl a) = inl a
+one_of (inr b) = inr (inl b)
+
 pub Going-unread : {R : Type 0} {remaining : R → Option (List ℕ)} {old : Reader R} {splits : List Bound} {tables : List PlainView} {bytes : List ℕ} {number loaded : ℕ} {left : Option (List PlainView)} (limit : ℕ) (e : Refusal) → Going remaining old splits tables bytes number loaded left → (e ≡ ReadFault) ⊎ (e ≡ OutOfMemory) → IsCutShort limit splits tables bytes (record { refusal = e; loaded = loaded }) left
-Going-unread limit e g cause = inl (record {
+Going-unread limit e g cause = record {
   records = g.records;
   first = (_, g.behind.rest, g.behind.reached);
   inserted = g.inserted;
-  cause = cause;
-})
+  cause = one_of cause;
+}
 
 pub Going-refused : {R : Type 0} {remaining : R → Option (List ℕ)} {old : Reader R} {splits : List Bound} {tables : List PlainView} {bytes : List ℕ} {number loaded : ℕ} {left : Option (List PlainView)} (limit : ℕ) (e : Refusal) (new : Reader R) (fields : Fields) (left' : Option (List PlainView)) → Going remaining old splits tables bytes number loaded left → ReadsOne remaining old new fields → (number == 1 && is_header fields) ≡ false → ((known : List PlainView) → left ≡ Some known → left' ≡ Some known) → ((known : List PlainView) → left ≡ Some known → IsCause limit splits known loaded number fields e) → IsCutShort limit splits tables bytes (record { refusal = e; loaded = loaded }) left'
 Going-refused {loaded = loaded} limit e new fields left' g reads plain kept cause =
     let behind = reads _ g.records g.behind in
-    inr (record {
+    record {
       records = g.records;
-      fields = fields;
-      first = (_, behind.rest, behind.reached);
+      first = (_, g.behind.rest, g.behind.reached);
       inserted = record { rows = g.inserted.rows; are = g.inserted.are; count_is = g.inserted.count_is; left_is = kept _ g.inserted.left_is };
-      no_header = no_header g.records fields _ g.count plain;
-      cause = rw g.count (cause _ g.inserted.left_is);
-    })
+      cause = inr (inr (record {
+        fields = fields;
+        first = (_, behind.rest, behind.reached);
+        no_header = without_header-push g.records fields (no_header g.records fields _ g.count plain);
+        cause = rw g.count (cause _ g.inserted.left_is);
+      }));
+    }

@@ -1,7 +1,7 @@
 -- Rows keep within the keys of their partition.
 use Rattle.std.proofs.Common.{◌≡◌, ℕ, suc, ◌+◌, ◌<◌, ◌&&◌, Bool, true, false, cond, List, [], ◌∷◌, ◌++◌, length, map, filter, get_or, refl, ap, ◌∙◌, arith}
 use Rattle.std.specs.Prelude.{All}
-use Rattle.std.specs.List.{list_all}
+use Rattle.std.specs.List.{list_all, flat_map}
 use Rattle.std.proofs.lemmas.Bool.{lt-ltb, le-leb}
 use Rattle.std.proofs.lemmas.List.Elements.{All-head, All-tail}
 use Rattle.std.proofs.lemmas.List.Folds.{list_all-append}
@@ -12,11 +12,15 @@ use Rattle.crack_row.specs.declared.Row.{Row}
 use Rattle.crack_row.specs.declared.command.Command.{Command}
 use Rattle.crack_row.specs.declared.command.Command.TheVariants.{Insert, Delete, Update, Count, Sum, Select}
 use Rattle.crack_row.specs.declared.command.Entry.{Entry}
-use Rattle.crack_plain.specs.Plain.{PlainState, after, replay_from, no_rows, IsWithin, BringWithin}
+use Rattle.crack_plain.specs.Plain.{PlainState, PlainView, after, no_rows, IsWithin, BringWithin}
+use Rattle.crack_plain.proofs.Laws.{replay_from}
 use Rattle.crack_part.specs.Parts.{Part, IsSound}
 use Rattle.crack_core.specs.Routes.{keys_of_part}
 use Rattle.crack_core.specs.Steps.{tables_of}
-use Rattle.crack_csv.specs.Exports.{rows_from, all_rows}
+use Rattle.crack_csv.specs.Exports.{rows_from}
+
+abbrev all_rows : List PlainView → List Row
+all_rows tables = flat_map (λ (table : PlainView). table.state.rows) tables
 
 both_true : (a b : Bool) → (a && b) ≡ true → (a ≡ true) × (b ≡ true)
 both_true true b e = (refl, e)

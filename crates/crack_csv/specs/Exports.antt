@@ -1,9 +1,8 @@
 -- What `export_csv` leaves.
-use Rattle.std.specs.Prelude.{◌≡◌, ℕ, ◌+◌, ◌<◌, ◌⊎◌, List, [], ◌∷◌, ◌++◌, length, map, take, Option, Some, Err, codes, decimal, Bool, true, false, slice_get, slice_set}
+use Rattle.std.specs.Prelude.{◌≡◌, ℕ, ◌+◌, ◌<◌, ◌⊎◌, List, [], ◌∷◌, ◌++◌, length, map, take, slice_get, Option, Some, Err, codes, decimal, Bool, true}
 use Rattle.std.specs.List.{concat, flat_map}
-use Rattle.std.specs.Io.KnownBytes.{Appends, Keeps}
-use Rattle.csv.specs.Writing.{default_writer, fields_written, has_written, row_text, writer_setup}
-use Rattle.csv.specs.declared.writer.Writer.{Writer}
+use Rattle.std.specs.Io.KnownBytes.{Appends}
+use Rattle.csv.specs.Writing.{default_writer, row_text}
 use Rattle.crack_row.specs.declared.Bound.{Bound}
 use Rattle.crack_row.specs.declared.Row.{Row}
 use Rattle.crack_row.specs.declared.command.Command.TheVariants.{Select}
@@ -31,20 +30,9 @@ abbrev pub rows_from : List Bound → ℕ → List PlainView → List Row
 rows_from splits part [] = []
 rows_from splits part (table ∷ tables) = rows_at splits part table ++ rows_from splits (part + 1) tables
 
--- all rows of these partitions: those of each in turn
-abbrev pub all_rows : List PlainView → List Row
-all_rows [] = []
-all_rows (table ∷ tables) = table.state.rows ++ all_rows tables
-
 -- a partition that was asked for its rows: these are as they were, and its history has one entry more
 abbrev pub asked : PlainView → PlainView
 asked table = record { state = table.state; accepted = table.accepted + 1 }
-
--- a writer of CSV writes by default, and stands before a record
-pub record IsFresh {W : Type 0} (writer : Writer W) : Type 0 where
-  pub setup : writer_setup writer ≡ default_writer
-  pub none : fields_written writer ≡ 0
-  pub empty : has_written writer ≡ false
 
 -- The header and a record for each row are written, partitions rising, and within each its rows in rising serial.
 pub record IsExported (splits : List Bound) (tables : List PlainView) (count : ℕ) (left : Option (List PlainView)) (out out' : Option (List ℕ)) : Type 0 where
@@ -52,59 +40,20 @@ pub record IsExported (splits : List Bound) (tables : List PlainView) (count : �
   pub left_is : left ≡ Some (map asked tables)
   pub written : Appends out out' (header_text ++ flat_map record_text (rows_from splits 0 tables))
 
--- A partition is asked for its rows, and a record for each is written.
-pub record IsPartExported (splits : List Bound) (tables : List PlainView) (part count : ℕ) (left : Option (List PlainView)) (out out' : Option (List ℕ)) : Type 0 where
-  pub table : PlainView
-  pub there : slice_get tables part ≡ Some table
-  pub count_is : count ≡ length (rows_at splits part table)
-  pub left_is : left ≡ Some (slice_set tables part (asked table))
-  pub written : Appends out out' (flat_map record_text (rows_at splits part table))
-
 -- the header, and a record for each row of these partitions
 abbrev pub lines_of : List Bound → List PlainView → List (List ℕ)
 lines_of splits tables = header_text ∷ map record_text (rows_from splits 0 tables)
-
--- why a text isn't written: for want of memory, and nothing of it is; or the writer failed, and a front of it is
-abbrev pub IsUnsent : List ℕ → Refusal → Bool → Bool → Option (List ℕ) → Option (List ℕ) → Type 0
-IsUnsent text e failed failed' out out' = ((e ≡ OutOfMemory) × (failed' ≡ failed) × Keeps out out')
-    ⊎ ((e ≡ WriteFault) × (failed' ≡ true) × AppendsFront out out' text)
 
 -- why texts aren't all written: for want of memory, and the first of them are, each whole; or the writer failed, and a front of all is
 abbrev pub AreUnsent : List (List ℕ) → Refusal → Bool → Bool → Option (List ℕ) → Option (List ℕ) → Type 0
 AreUnsent texts e failed failed' out out' = ((e ≡ OutOfMemory) × (failed' ≡ failed) × (count : ℕ) × (count < length texts) × Appends out out' (concat (take count texts)))
     ⊎ ((e ≡ WriteFault) × (failed' ≡ true) × AppendsFront out out' (concat texts))
 
--- why the partition of this number, if it is there, doesn't list its rows: as it is to answer
-abbrev pub RefusesList : ℕ → List Bound → ℕ → List PlainView → Refusal → Type 0
-RefusesList limit splits part [] e = ⊥
-RefusesList limit splits part (table ∷ rest) e = IsOutcome (expected limit (keys_of_part splits part) (Some table) (Select (keys_of_part splits part))) (Err e)
-
--- A partition refuses the list of its rows: all is as it was.
-pub record IsUnlisted (limit : ℕ) (splits : List Bound) (tables : List PlainView) (part : ℕ) (table : PlainView) (e : Refusal) (receipts receipts' : ℕ) (failed failed' : Bool) (left : Option (List PlainView)) (out out' : Option (List ℕ)) : Type 0 where
-  pub cause : RefusesList limit splits part (table ∷ []) e
-  pub left_is : left ≡ Some tables
-  pub receipts_are : receipts' ≡ receipts
-  pub unfailed : failed' ≡ failed
-  pub unwritten : Keeps out out'
-
--- A partition lists its rows, and their records aren't all written.
-pub record IsUnwritten (splits : List Bound) (tables : List PlainView) (part : ℕ) (table : PlainView) (e : Refusal) (receipts receipts' : ℕ) (failed failed' : Bool) (left : Option (List PlainView)) (out out' : Option (List ℕ)) : Type 0 where
-  pub cause : AreUnsent (map record_text (rows_at splits part table)) e failed failed' out out'
-  pub left_is : left ≡ Some (slice_set tables part (asked table))
-  pub receipts_are : receipts' ≡ receipts + 1
-
--- The export of a partition is refused.
-pub record IsPartCut (limit : ℕ) (splits : List Bound) (tables : List PlainView) (part : ℕ) (e : Refusal) (receipts receipts' : ℕ) (failed failed' : Bool) (left : Option (List PlainView)) (out out' : Option (List ℕ)) : Type 0 where
-  pub table : PlainView
-  pub there : slice_get tables part ≡ Some table
-  pub how : IsUnlisted limit splits tables part table e receipts receipts' failed failed' left out out'
-      ⊎ IsUnwritten splits tables part table e receipts receipts' failed failed' left out out'
-
 -- why an export stops behind these partitions, before the rest: the lines aren't all written; or they are, and the next partition refuses the
 -- list of its rows; or there is no other, and what is written can't be handed on
 abbrev pub IsStopped : ℕ → List Bound → List PlainView → List PlainView → Refusal → Bool → Bool → Option (List ℕ) → Option (List ℕ) → Type 0
 IsStopped limit splits done rest e failed failed' out out' = AreUnsent (lines_of splits done) e failed failed' out out'
-    ⊎ (RefusesList limit splits (length done) rest e × (failed' ≡ failed) × Appends out out' (concat (lines_of splits done)))
+    ⊎ ((table : PlainView) × (slice_get rest 0 ≡ Some table) × IsOutcome (expected limit (keys_of_part splits (length done)) (Some table) (Select (keys_of_part splits (length done)))) (Err e) × (failed' ≡ failed) × Appends out out' (concat (lines_of splits done)))
     ⊎ ((e ≡ WriteFault) × (failed' ≡ true) × (rest ≡ []) × Appends out out' (concat (lines_of splits done)))
 
 -- An export that is refused: the first partitions are asked, and their rows are as they were; the rest is untouched.

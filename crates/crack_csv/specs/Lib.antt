@@ -1,3 +1,4 @@
 pub mod Exports
+pub mod Inside
 pub mod Loads
 pub mod Records

@@ -1,71 +1,26 @@
 -- What records of CSV say, and how far a reader of them is.
-use Rattle.std.specs.Prelude.{◌≡◌, ℕ, Bool, true, false, List, [], ◌∷◌, Option, Some, None, ◌&&◌, codes, if◌then◌else◌}
+use Rattle.std.specs.Prelude.{ℕ, Bool, false, List, [], ◌∷◌, Option, option_map, ◌&&◌, codes, if◌then◌else◌}
 use Rattle.std.specs.Str.{bytes_eq}
-use Rattle.crack_row.specs.declared.TheConstants.{GREATEST_KEY, GREATEST_PAYLOAD}
-use Rattle.crack_row.specs.declared.refusal.Refusal.{Refusal}
-use Rattle.crack_row.specs.declared.refusal.Refusal.TheVariants.{ReadFault, OutOfMemory}
-use Rattle.crack_commands.specs.Grammar.{number_up_to}
-use Rattle.csv.specs.declared.error.ErrorKind.{ErrorKind}
-use Rattle.csv.specs.declared.error.ErrorKind.TheVariants as kind
-use Rattle.csv.specs.Reading.{default_config, Ready, Reached, AreRecords, reader_config, reader_trim, reader_state, is_flexible, source_of}
+use Rattle.crack_commands.specs.Grammar.{key_and_payload}
+use Rattle.csv.specs.Reading.{default_config, Reached}
 use Rattle.csv.specs.declared.parser.State.{State}
 use Rattle.csv.specs.declared.parser.State.TheVariants as st
-use Rattle.csv.specs.declared.reader.Reader.{Reader}
-use Rattle.csv.specs.declared.reader.Trim.TheVariants as trim
 use Rattle.crack_csv.specs.declared.record.NewRow.{NewRow}
 
--- the fields of a record
-abbrev pub Fields : Type 0
-Fields = List (List ℕ)
-
 -- whether a record's fields are the names of the two fields
-abbrev pub is_header : Fields → Bool
+abbrev pub is_header : List (List ℕ) → Bool
 is_header (key ∷ payload ∷ []) = bytes_eq key (codes "key") && bytes_eq payload (codes "payload")
 is_header _ = false
 
--- whether a record is a header, behind these others
-abbrev pub is_header_behind : List Fields → Fields → Bool
-is_header_behind [] fields = is_header fields
-is_header_behind (first ∷ records) fields = false
-
 -- the records that are to be inserted: all, but for a header
-abbrev pub without_header : List Fields → List Fields
+abbrev pub without_header : List (List (List ℕ)) → List (List (List ℕ))
 without_header [] = []
 without_header (first ∷ records) = if is_header first then records else first ∷ records
 
--- the row of this key and payload
-abbrev pub row_of_numbers : Option ℕ → Option ℕ → Option NewRow
-row_of_numbers (Some key) (Some payload) = Some (record { key = record { 0 = key }; payload = record { 0 = payload } })
-row_of_numbers (Some key) None = None
-row_of_numbers None payload = None
-
 -- the row that a record brings: it has just two fields, both NUMBERs, each at most the greatest of its kind
-abbrev pub new_row_of : Fields → Option NewRow
-new_row_of (key ∷ payload ∷ []) = row_of_numbers (number_up_to GREATEST_KEY key) (number_up_to GREATEST_PAYLOAD payload)
-new_row_of _ = None
-
--- the refusal that tells why a record isn't read: no memory was found, or else the reader failed
-abbrev pub unread_by : ErrorKind → Refusal
-unread_by kind.OutOfMemory = OutOfMemory
-unread_by _ = ReadFault
-
--- a reader reads bytes as CSV by default, records of any number of fields, and takes none of them as a header itself
-pub record IsReady {R : Type 0} (reader : Reader R) : Type 0 where
-  pub config : reader_config reader ≡ default_config
-  pub trim : reader_trim reader ≡ trim.None
-  pub flexible : is_flexible reader ≡ true
-  pub ready : Ready reader
+abbrev pub new_row_of : List (List ℕ) → Option NewRow
+new_row_of fields = option_map (λ n. record { key = record { 0 = n.0 }; payload = record { 0 = n.1 } }) (key_and_payload fields)
 
 -- these are the first records of a text
-abbrev pub AreFirstOf : List ℕ → List Fields → Type 0
+abbrev pub AreFirstOf : List ℕ → List (List (List ℕ)) → Type 0
 AreFirstOf text records = (state : State) × (rest : List ℕ) × Reached default_config st.StartRecord text records state rest
-
--- these are all records of a text
-abbrev pub AreAllOf : List ℕ → List Fields → Type 0
-AreAllOf text records = AreRecords default_config st.StartRecord text records
-
--- a reader of a text stands behind these records
-pub record IsBehind {R : Type 0} (remaining : R → Option (List ℕ)) (reader : Reader R) (text : List ℕ) (records : List Fields) : Type 0 where
-  pub rest : List ℕ
-  pub left : source_of remaining reader ≡ Some rest
-  pub reached : Reached default_config st.StartRecord text records (reader_state reader) rest

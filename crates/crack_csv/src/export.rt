@@ -6,7 +6,8 @@ ghost use Rattle.crack_row.specs.Devices.{device, has_failed};
 ghost use Rattle.crack_plain.specs.Plain.{PlainView};
 ghost use Rattle.crack_core.specs.Steps.{tables_of};
 ghost use Rattle.crack_session.specs.Queries.{listed};
-ghost use Rattle.crack_csv.specs.Exports.{header_text, record_text, rows_from, all_rows, IsExported, IsPartExported, IsUnsent, AreUnsent, IsPartCut, IsExportCut};
+ghost use Rattle.crack_csv.specs.Exports.{header_text, record_text, rows_from, IsExported, AreUnsent, IsExportCut};
+ghost use Rattle.crack_csv.specs.Inside.{IsPartExported, IsUnsent, IsPartCut};
 
 use crate::text::{header_text, rows_text};
 use crack_commands::send;
@@ -59,7 +60,7 @@ pub fn export_csv<D: Desk, W: Write>(
 
 /// The keys of a core's rows are those of their partitions: an export of it leaves no row out. Does nothing.
 pub fn leaves_no_row_out(core: &Core)
-    ensures { rows_from core.now.splits 0 (tables_of core.now.parts) ≡ all_rows (tables_of core.now.parts) }
+    ensures { rows_from core.now.splits 0 (tables_of core.now.parts) ≡ flat_map (λ (table : PlainView). table.state.rows) (tables_of core.now.parts) }
 {
     core.facts();
 }

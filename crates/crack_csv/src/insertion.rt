@@ -5,7 +5,8 @@ ghost use Rattle.crack_plain.specs.Plain.{PlainView};
 ghost use Rattle.crack_core.specs.Routes.{route};
 ghost use Rattle.crack_core.specs.Steps.{expected_at, IsOutcome};
 ghost use Rattle.crack_csv.specs.Records.{new_row_of};
-ghost use Rattle.crack_csv.specs.Loads.{insertion, with_row, BringsRow, Refuses};
+ghost use Rattle.crack_csv.specs.Inside.{insertion, BringsRow};
+ghost use Rattle.crack_csv.specs.Loads.{with_row, Refuses};
 
 use crate::record::{NewRow, new_row};
 use crack_core::route;

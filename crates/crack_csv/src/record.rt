@@ -3,7 +3,8 @@ ghost use Rattle.std.specs.Prelude.{◌≡◌, ◌≢◌, ◌⊎◌, ◌++◌, �
 ghost use Rattle.csv.specs.Reading.{AreRecords};
 ghost use Rattle.csv.specs.Records.{fields_of};
 ghost use Rattle.csv.specs.declared.parser.State.TheVariants as st;
-ghost use Rattle.crack_csv.specs.Records.{Fields, is_header, new_row_of, unread_by, IsReady, IsBehind, AreAllOf};
+ghost use Rattle.crack_csv.specs.Inside.{Fields, AreAllOf, unread_by, IsReady, IsBehind};
+ghost use Rattle.crack_csv.specs.Records.{is_header, new_row_of};
 
 use crack_commands::read_number_up_to;
 use crack_row::{GREATEST_KEY, GREATEST_PAYLOAD, Key, Payload, Refusal};

@@ -3,7 +3,8 @@ ghost use Rattle.std.specs.Prelude.{◌≡◌, ◌≢◌, ◌++◌, ◌∷◌, [
 ghost use Rattle.std.specs.List.{flat_map};
 ghost use Rattle.std.specs.Io.KnownBytes.{Appends};
 ghost use Rattle.csv.specs.Writing.{text_written, row_text, default_writer};
-ghost use Rattle.crack_csv.specs.Exports.{header_text, record_text, IsFresh};
+ghost use Rattle.crack_csv.specs.Exports.{header_text, record_text};
+ghost use Rattle.crack_csv.specs.Inside.{IsFresh};
 
 use crack_row::{Refusal, Row};
 use csv::{Writer, WriterBuilder};

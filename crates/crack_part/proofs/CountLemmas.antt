@@ -13,7 +13,7 @@ use Rattle.crack_plain.specs.Plain.{PlainState, IsNumbered, rows_in}
 use Rattle.crack_state.specs.State.{State, live_rows, IsIntact}
 use Rattle.crack_state.specs.Merge.{IsSettled, edge}
 use Rattle.crack_state.specs.Stretch.{stretch_rows, serial_of}
-use Rattle.crack_part.specs.Parts.{IsCommon}
+use Rattle.crack_part.specs.Inside.{IsCommon}
 use Rattle.crack_state.proofs.SettledLaws.{count-settled}
 use Rattle.crack_state.proofs.StretchLaws.{sum-settled, rows-settled}
 use Rattle.crack_state.proofs.LiveLaws.{live_rows-within}

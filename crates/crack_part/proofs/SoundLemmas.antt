@@ -20,7 +20,8 @@ use Rattle.crack_row.specs.declared.command.Command.TheVariants.{Insert, Delete,
 use Rattle.crack_row.specs.declared.command.Policy.{Policy}
 use Rattle.crack_row.specs.declared.command.Reply.{Reply}
 use Rattle.crack_row.specs.declared.command.Entry.{Entry}
-use Rattle.crack_plain.specs.Plain.{PlainState, changed, after, reply_to, row_in, gone, rewritten, IsWithin}
+use Rattle.crack_plain.specs.Plain.{PlainState, changed, after, reply_to, row_in, IsWithin}
+use Rattle.crack_plain.specs.Inside.{gone, rewritten}
 use Rattle.crack_plain.specs.Totals.{is_placed, is_gone, is_changed}
 use Rattle.crack_plain.proofs.Laws.{IsLegal-push, replay-push, next-le-accepted, IsNumbered-replay}
 use Rattle.crack_plain.proofs.TotalLaws.{inserted-push, deleted-push, updated-push, inserted-le-accepted, deleted-le-accepted, updated-le-accepted}
@@ -32,7 +33,8 @@ use Rattle.crack_state.proofs.AdmitLaws.{live_rows-admitted, freed-admitted, cel
 use Rattle.crack_state.proofs.PointLaws.{Spends, Spends-cancels, Spends-dooms, Spends-rewrites, found_by}
 use Rattle.crack_state.proofs.LookUpLaws.{row_by-find, row_by-pending}
 use Rattle.crack_store.specs.Inside.{no_cells}
-use Rattle.crack_part.specs.Parts.{Part, IsLimit, IsSound, IsFaithful, Serves, Prepares, Performs, Replaces, MayPerform, state_of, placed}
+use Rattle.crack_part.specs.Parts.{Part, IsLimit, IsSound, IsFaithful, Serves, Prepares, Performs, Replaces, state_of, placed}
+use Rattle.crack_part.specs.Inside.{MayPerform}
 use Rattle.crack_part.proofs.KeepLemmas.{Keeps, Keeps-room, Keeps-prepared, IsIntact-prepared}
 
 -- the next serial stays far below the greatest number

@@ -2,7 +2,7 @@
 use Rattle.std.specs.Prelude.{◌≡◌, ◌⊎◌, ℕ, ◌+◌, ◌<◌, ◌≤◌, Bool, List, [], length, Option, Some, None}
 use Rattle.std.specs.List.Sorted.{IsPermutation}
 use Rattle.crack_row.specs.Commands.{change_of, range_of}
-use Rattle.crack_row.specs.Ranges.{Range, IsIn, clipped}
+use Rattle.crack_row.specs.Ranges.{Range, clipped}
 use Rattle.crack_row.specs.Rows.{row_with}
 use Rattle.crack_row.specs.declared.TheConstants.{GREATEST_LIMIT}
 use Rattle.crack_row.specs.declared.Key.{Key}
@@ -17,8 +17,8 @@ use Rattle.crack_row.specs.declared.command.Entry.{Entry}
 use Rattle.crack_plain.specs.Plain.{PlainState, replay, IsLegal}
 use Rattle.crack_plain.specs.Totals.{inserted, deleted, updated}
 use Rattle.crack_state.specs.State.{State, IsIntact, live_rows, freed_of}
-use Rattle.crack_state.specs.Steps.{admitted, IsAdmissible, SameButRoom}
-use Rattle.crack_state.specs.Points.{pending_by, MayFree, IsRenewable, Removes, Rewrites}
+use Rattle.crack_state.specs.Steps.{admitted, SameButRoom}
+use Rattle.crack_state.specs.Points.{pending_by, Removes, Rewrites}
 use Rattle.crack_state.specs.Merge.{Refines, Merges, Tallies}
 use Rattle.crack_merge.specs.Merges.{Stops}
 use Rattle.crack_ripple.specs.Near.{MergesNear}
@@ -59,16 +59,6 @@ pub record IsSound (part : Part) : Type 0 where
 -- a row as a change places it
 abbrev pub placed : ℕ → Key → Payload → Row
 placed serial key payload = row_with (record { 0 = serial }) key payload
-
--- what a range has in common with the keys, if anything
-abbrev pub IsCommon : Range → Range → Option Range → Type 0
-IsCommon range keys None = (clipped range keys).high ≤ (clipped range keys).low
-IsCommon range keys (Some common) = (common ≡ clipped range keys) × (common.low < common.high)
-
--- the same of the range that a command reads, if any
-abbrev pub AreCommon : Option Range → Range → Option Range → Type 0
-AreCommon None keys common = common ≡ None
-AreCommon (Some range) keys common = IsCommon range keys common
 
 -- where a merge of this policy leaves rows: ripple near the range
 abbrev pub LeavesNear : Policy → State → State → Range → Type 0
@@ -112,13 +102,6 @@ Prepares policy keys (Some range) s t = ReadsRange policy s t (clipped range key
 abbrev pub Spares : Policy → Range → Option Range → State → State → Type 0
 Spares policy keys None s t = SameButRoom s t
 Spares policy keys (Some range) s t = StopsRead policy s t (clipped range keys)
-
--- when a change may be made, where the next row gets this serial
-abbrev pub MayPerform : ℕ → Option Change → State → Type 0
-MayPerform next None s = Unit {0}
-MayPerform next (Some (Place key payload)) s = IsAdmissible (placed next key payload) s
-MayPerform next (Some (Remove serial)) s = MayFree s
-MayPerform next (Some (Rewrite serial key payload)) s = IsIn s.keys key.0 × IsRenewable s
 
 -- what an update does to a store, by whether the row of its serial is a pending insertion; nothing where there is no such row
 abbrev pub Replaces : Option Bool → Row → State → State → Type 0

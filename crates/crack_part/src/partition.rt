@@ -6,14 +6,16 @@ ghost use Rattle.crack_row.specs.Ranges.{Range, IsIn, in_range};
 ghost use Rattle.crack_row.specs.Replies.{IsFlat};
 ghost use Rattle.crack_row.specs.Rows.{is_other, replaced, sum_of};
 ghost use Rattle.crack_row.specs.Layouts.{IsLayout};
-ghost use Rattle.crack_plain.specs.Plain.{PlainState, IsNumbered, reply_to, row_in, rows_in, gone, rewritten, after, IsSmall, IsWithin, IsLegal};
+ghost use Rattle.crack_plain.specs.Plain.{PlainState, IsNumbered, reply_to, row_in, rows_in, after, IsSmall, IsWithin, IsLegal};
+ghost use Rattle.crack_plain.specs.Inside.{gone, rewritten};
 ghost use Rattle.crack_state.specs.State.{State, IsIntact, live_rows};
 ghost use Rattle.crack_state.specs.Steps.{SameButRoom, admitted, IsAdmissible};
 ghost use Rattle.crack_state.specs.Points.{pending_by, MayFree, IsRenewable, Removes};
 ghost use Rattle.crack_state.specs.Merge.{IsCracked, IsSettled, Merges, Tallies};
 ghost use Rattle.crack_merge.specs.Merges.{Stops};
 ghost use Rattle.crack_store.specs.Inside.{no_cells, IsLayoutOf};
-ghost use Rattle.crack_part.specs.Parts.{state_of, IsLimit, IsSound, IsFaithful, IsCommon, AreCommon, LeavesNear, CracksAndMerges, StopsRead, Serves, Spares, Prepares, MayPerform, Performs, Replaces, placed};
+ghost use Rattle.crack_part.specs.Parts.{state_of, IsLimit, IsSound, IsFaithful, LeavesNear, CracksAndMerges, StopsRead, Serves, Spares, Prepares, Performs, Replaces, placed};
+ghost use Rattle.crack_part.specs.Inside.{IsCommon, AreCommon, MayPerform};
 
 use crack_merge::{merge_complete, merge_gradual};
 use crack_ripple::merge_ripple;

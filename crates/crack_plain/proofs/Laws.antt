@@ -1,5 +1,5 @@
 -- What follows from the definitions of the plain table.
-use Rattle.std.specs.Prelude.{◌≢◌, ◌≡◌, ℕ, ◌+◌, ◌<◌, ◌≤◌, ◌==◌, not, cond, true, false, List, [], ◌∷◌, ◌++◌, length, map, filter, All, AllPairs, if◌then◌else◌, Option, Some, None, Bool, pos, ◌-ℤ◌}
+use Rattle.std.specs.Prelude.{◌≢◌, ◌≡◌, ℕ, ◌+◌, ◌<◌, ◌≤◌, ◌==◌, not, cond, fold, true, false, List, [], ◌∷◌, ◌++◌, length, map, filter, All, AllPairs, if◌then◌else◌, Option, Some, None, Bool, pos, ◌-ℤ◌}
 use Rattle.std.proofs.Common.{suc, get_or, arith, length-append, ap, refl, sym, subst, ◌∙◌}
 use Rattle.std.proofs.Math.IntN.{+ℤ-neg_ℤ_cancel}
 use Rattle.std.proofs.lemmas.List.Elements.{All-nil, All-push, All-filter, All-map, All-head, All-tail}
@@ -19,9 +19,14 @@ use Rattle.crack_row.specs.declared.command.Change.TheVariants.{Place, Remove, R
 use Rattle.crack_row.specs.declared.command.Command.{Command}
 use Rattle.crack_row.specs.declared.command.Command.TheVariants.{Insert, Delete, Update, Count, Sum, Select}
 use Rattle.crack_row.specs.declared.command.Entry.{Entry}
-use Rattle.crack_plain.specs.Plain.{PlainState, no_rows, IsNumbered, reply_to, row_in, gone, rewritten, after, replay_from, replay, AreReplies, changed, places_row, IsWithin, BringWithin, IsLegal}
+use Rattle.crack_plain.specs.Plain.{PlainState, no_rows, IsNumbered, reply_to, row_in, after, replay, AreReplies, changed, places_row, IsWithin, BringWithin, IsLegal}
+use Rattle.crack_plain.specs.Inside.{gone, rewritten}
 use Rattle.crack_plain.specs.Totals.{is_placed, is_gone, accepted, inserted, deleted, held}
 use Rattle.crack_plain.proofs.TotalLaws.{inserted-cons, deleted-cons, inserted-le-accepted}
+
+-- the state after answering the commands of these entries, in order, from any state on
+abbrev pub replay_from : PlainState → List Entry → PlainState
+replay_from s es = fold (λ s e. after s e.command) s es
 
 -- one list of entries after another
 pub replay_from-append : (s : PlainState) (xs ys : List Entry) → replay_from s (xs ++ ys) ≡ replay_from (replay_from s xs) ys

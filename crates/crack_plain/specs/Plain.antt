@@ -1,5 +1,5 @@
 -- The plain table: rows changed by commands and filtered by ranges, with no piece, handle, pending row, policy or lock.
-use Rattle.std.specs.Prelude.{◌≡◌, ℕ, ◌+◌, ◌<◌, ◌≤◌, ◌^◌, List, [], ◌∷◌, ◌++◌, length, map, filter, find, count_by, All, AllPairs, Option, Some, None, IfSome, Bool, true, false}
+use Rattle.std.specs.Prelude.{◌≡◌, ℕ, ◌+◌, ◌<◌, ◌≤◌, ◌^◌, List, [], ◌∷◌, ◌++◌, length, map, filter, find, fold, count_by, unwrap_or, option_map, All, AllPairs, Option, Some, None, IfSome, Bool, true, false}
 use Rattle.crack_row.specs.Ranges.{Range, IsIn, in_range}
 use Rattle.crack_row.specs.Commands.{change_of, key_of}
 use Rattle.crack_row.specs.Replies.{IsFlat}
@@ -35,16 +35,6 @@ pub record IsNumbered (s : PlainState) : Type 0 where
 abbrev pub row_in : List Row → Serial → Option Row
 row_in rows serial = find (has_serial serial.0) rows
 
--- what a delete is replied where this is the row of its serial: the row as it was
-abbrev pub gone : Option Row → Reply
-gone None = NoRow
-gone (Some row) = Gone row
-
--- what an update is replied where this is the row of its serial
-abbrev pub rewritten : Option Row → Reply
-rewritten None = NoRow
-rewritten (Some row) = Changed
-
 -- the rows whose key is in the range
 abbrev pub rows_in : Range → List Row → List Row
 rows_in range rows = filter (in_range range) rows
@@ -52,8 +42,8 @@ rows_in range rows = filter (in_range range) rows
 -- what a command is replied
 abbrev pub reply_to : PlainState → Command → Reply
 reply_to s (Insert key payload) = Placed (record { 0 = s.next })
-reply_to s (Delete serial) = gone (row_in s.rows serial)
-reply_to s (Update serial key payload) = rewritten (row_in s.rows serial)
+reply_to s (Delete serial) = unwrap_or (option_map Gone (row_in s.rows serial)) NoRow
+reply_to s (Update serial key payload) = unwrap_or (option_map (λ row. Changed) (row_in s.rows serial)) NoRow
 reply_to s (Count range) = Counted (count_by (in_range range) s.rows)
 reply_to s (Sum range) = Summed (sum_of (rows_in range s.rows))
 reply_to s (Select range) = Rows (rows_in range s.rows)
@@ -79,10 +69,8 @@ after s command = changed s (change_of command)
 
 -- whether a change places a row
 abbrev pub places_row : Option Change → Bool
-places_row None = false
 places_row (Some (Place key payload)) = true
-places_row (Some (Remove serial)) = false
-places_row (Some (Rewrite serial key payload)) = false
+places_row _ = false
 
 -- the command is answered from what is there: no row is placed, and the reply has no list
 pub record TakesNoMemory (s : PlainState) (command : Command) : Type 0 where
@@ -93,14 +81,9 @@ pub record TakesNoMemory (s : PlainState) (command : Command) : Type 0 where
 abbrev pub answer : PlainState → Command → Reply × PlainState
 answer s command = (reply_to s command, after s command)
 
--- the state after answering the commands of these entries, in order
-abbrev pub replay_from : PlainState → List Entry → PlainState
-replay_from s [] = s
-replay_from s (e ∷ es) = replay_from (after s e.command) es
-
--- the same, from the start
+-- the state after answering the commands of these entries, in order, from the start
 abbrev pub replay : List Entry → PlainState
-replay es = replay_from no_rows es
+replay es = fold (λ s e. after s e.command) no_rows es
 
 -- each entry has the reply of the state that the entries before it leave
 abbrev pub AreReplies : PlainState → List Entry → Type 0

@@ -12,7 +12,8 @@ use Rattle.crack_session.specs.declared.query.PartReply.{PartReply}
 use Rattle.crack_session.specs.declared.query.Query.{Query}
 use Rattle.crack_core.specs.Steps.{expected_at, IsOutcome, tables_after}
 use Rattle.crack_session.specs.Queries.{asking}
-use Rattle.crack_session.specs.Answers.{AsksInTurn, replies, refuses, AsksSeveral, AsksParts}
+use Rattle.crack_session.specs.Answers.{AsksInTurn, replies, refuses, AsksParts}
+use Rattle.crack_session.specs.Telling.{AsksSeveral}
 
 -- one more replies
 pub AsksInTurn-more : {limit : ℕ} {splits : List Bound} (query : Query) (tables : List PlainView) (parts : List (ℕ × Range)) (i : ℕ) (part : ℕ × Range) (command : Command) (said said' : List PartReply) (reply : Reply) (between : List PlainView) → i < length parts → part ≡ get_or parts i part → command ≡ asking query part.1 → said' ≡ said ++ record { part = part.0; reply = reply } ∷ [] → AsksInTurn limit splits query tables (take i parts) (Ok said) between → IsOutcome (expected_at limit splits between part.0 command) (Ok reply) → AsksInTurn limit splits query tables (take (i + 1) parts) (Ok said') (tables_after between part.0 command (Ok reply))

@@ -3,7 +3,8 @@ use Rattle.std.proofs.Common.{◌≡◌, ℕ, ◌+◌, ◌<◌, ◌≤◌, true,
 use Rattle.std.proofs.lemmas.Bool.{or_parts, cases_Bool, ne_eqb, eq-eqb, eqb-true, false≢true}
 use Rattle.std.proofs.lemmas.List.{take_more, take-append-drop, take_all}
 use Rattle.memchr.specs.Find.{Nowhere, Passes, IsFirstByte, is_byte}
-use Rattle.crack_session.specs.Lines.{lines, first_line, after_line, has_feed}
+use Rattle.crack_session.specs.Lines.{lines}
+use Rattle.crack_session.specs.Input.{has_feed, first_line, after_line}
 
 -- a front without a line feed belongs to the first line
 pub first_line-append : (xs ys : List ℕ) → has_feed xs ≡ false → first_line (xs ++ ys) ≡ xs ++ first_line ys

@@ -4,9 +4,10 @@ use Rattle.std.proofs.lemmas.Bool.{cond_both, lt-ltb, cases_lt}
 use Rattle.std.proofs.lemmas.List.{take_all}
 use Rattle.std.specs.List.{filter_map}
 use Rattle.crack_row.specs.declared.refusal.Refusal.TheVariants.{BadStatement}
-use Rattle.crack_session.specs.Lines.{first_line, after_line, kept_of, without_return}
-use Rattle.crack_commands.specs.Grammar.{Reading}
+use Rattle.crack_session.specs.Lines.{without_return}
+use Rattle.crack_session.specs.Input.{first_line, after_line, kept_of}
 use Rattle.crack_session.specs.Readings.{statements, until_quit, reading_of, is_quit}
+use Rattle.crack_commands.specs.Grammar.{Reading}
 use Rattle.crack_session.proofs.Feeds.{lines-first}
 
 -- a line says what its kept bytes say

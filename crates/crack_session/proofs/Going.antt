@@ -18,8 +18,9 @@ use Rattle.crack_session.specs.declared.session.How.{How}
 use Rattle.crack_session.specs.declared.session.How.TheVariants.{Quit, InputEnded}
 use Rattle.crack_commands.specs.Grammar.{Reading}
 use Rattle.crack_session.specs.Readings.{statements, is_quit, reading_of}
-use Rattle.crack_session.specs.Lines.{first_line, after_line, kept_of}
-use Rattle.crack_session.specs.Answers.{IsAnswer, Tells, is_short_answer, answer_text, marked}
+use Rattle.crack_session.specs.Input.{first_line, after_line, kept_of}
+use Rattle.crack_session.specs.Answers.{IsAnswer, is_short_answer, answer_text}
+use Rattle.crack_session.specs.Telling.{Tells, marked}
 use Rattle.crack_session.specs.Sessions.{AreAnswers, first_short, ending}
 use Rattle.crack_session.specs.Served.{AreAnswered, AreTold, CountsStatements, IsServed, IsDone, IsCutOff}
 use Rattle.crack_session.proofs.Following.{next_some}

@@ -10,7 +10,8 @@ use Rattle.crack_commands.specs.Texts.{AppendsFront}
 use Rattle.crack_commands.proofs.Sending.{front_within, texts_more}
 use Rattle.crack_session.specs.declared.query.PartReply.{PartReply}
 use Rattle.crack_plain.specs.Plain.{IsSmall}
-use Rattle.crack_session.specs.Queries.{counted, summed, rows_told, sum_told, list_text}
+use Rattle.crack_session.specs.Queries.{counted, summed}
+use Rattle.crack_session.specs.Telling.{rows_told, sum_told, list_text}
 
 -- what a small reply counts or lists
 counted-small : (r : Reply) → IsSmall r → counted r ≤ 4294967295

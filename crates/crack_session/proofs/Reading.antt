@@ -3,7 +3,7 @@ use Rattle.std.proofs.Common.{◌≡◌, ℕ, ◌+◌, ◌-◌, ◌^◌, ◌<◌
 use Rattle.std.proofs.lemmas.Bool.{cases_Bool, false≢true}
 use Rattle.std.specs.Io.KnownBytes.{prepend_known, Keeps, Consumes}
 use Rattle.crack_session.specs.declared.TheConstants.{MOST_READS}
-use Rattle.crack_session.specs.Lines.{first_line, after_line, has_feed, kept_of, Input, IsNextLine, IsBegun, IsPaid}
+use Rattle.crack_session.specs.Input.{has_feed, first_line, after_line, kept_of, Input, IsNextLine, IsBegun, IsPaid}
 use Rattle.crack_session.proofs.Feeds.{first_line-append, after_line-append, has_feed-append, first_line-in, after_line-in, has_feed-in, all_first_line, none_after, take-take-append}
 
 -- what is ahead is what is unread, and what the reader has

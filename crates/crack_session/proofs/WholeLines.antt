@@ -2,10 +2,10 @@
 use Rattle.std.proofs.Common.{◌≡◌, ℕ, ◌+◌, ◌<◌, Bool, true, false, cond, Option, Some, None, List, [], ◌∷◌, ◌++◌, length, eqb, refl, sym, ap, ◌∙◌, ⊎_elim, arith, append_assoc, append-nil, length-append}
 use Rattle.std.proofs.lemmas.Bool.{cases_Bool, eqb-true, false≢true}
 use Rattle.std.proofs.lemmas.List.{append_cancel_right}
-use Rattle.crack_session.specs.Lines.{first_line, after_line, has_feed, kept_of, IsBegun}
-use Rattle.crack_commands.specs.Grammar.{Reading}
+use Rattle.crack_session.specs.Input.{has_feed, first_line, after_line, kept_of, IsBegun}
 use Rattle.crack_session.specs.Readings.{statements, reading_of, is_quit}
 use Rattle.crack_session.specs.Sessions.{whole_lines}
+use Rattle.crack_commands.specs.Grammar.{Reading}
 use Rattle.crack_session.proofs.Feeds.{first_line-append, after_line-append}
 use Rattle.crack_session.proofs.Following.{next_blank, next_some}
 

@@ -1,8 +1,6 @@
 -- The lines of a session's bytes.
-use Rattle.std.specs.Prelude.{◌≡◌, ℕ, ◌+◌, ◌*◌, ◌-◌, ◌<◌, ◌≤◌, Bool, true, false, List, [], ◌∷◌, ◌++◌, length, take, slice_index, Option, Some, ◌==◌, ◌||◌, if◌then◌else◌}
-use Rattle.std.specs.Io.KnownBytes.{prepend_known}
-use Rattle.crack_commands.specs.Grammar.{onto_first}
-use Rattle.crack_session.specs.declared.input.TheConstants.{READ_BYTES, KEPT_BYTES}
+use Rattle.std.specs.List.{onto_first}
+use Rattle.std.specs.Prelude.{ℕ, ◌-◌, Bool, false, List, [], ◌∷◌, length, take, slice_index, ◌==◌, ◌||◌, if◌then◌else◌}
 
 -- a line ends at a line feed, or at the end where bytes are left
 abbrev pub lines : List ℕ → List (List ℕ)
@@ -12,63 +10,3 @@ lines (b ∷ bs) = if b == 10 then [] ∷ lines bs else onto_first b (lines bs)
 -- a line without the one carriage return that may end it
 abbrev pub without_return : List ℕ → List ℕ
 without_return line = if slice_index line (length line - 1) == 13 then take (length line - 1) line else line
-
--- the bytes before the first line feed
-abbrev pub first_line : List ℕ → List ℕ
-first_line [] = []
-first_line (b ∷ bs) = if b == 10 then [] else b ∷ first_line bs
-
--- the bytes behind the first line feed
-abbrev pub after_line : List ℕ → List ℕ
-after_line [] = []
-after_line (b ∷ bs) = if b == 10 then bs else after_line bs
-
--- whether there is a line feed
-abbrev pub has_feed : List ℕ → Bool
-has_feed [] = false
-has_feed (b ∷ bs) = b == 10 || has_feed bs
-
--- a line's bytes as far as a session keeps them: more make it too long however many they are
-abbrev pub kept_of : List ℕ → List ℕ
-kept_of line = take KEPT_BYTES line
-
--- the line that was found last, or as much of the next one as is read; whether what isn't used yet stands
--- right behind it; what is read and not yet used; how many more reads there may be; whether a read brought nothing
-pub record Input : Type 0 where
-  pub line : List ℕ
-  pub joined : Bool
-  pub unread : List ℕ
-  pub reads : ℕ
-  pub ended : Bool
-
--- the bytes that are still to come, where they are known
-abbrev pub ahead : Input → Option (List ℕ) → Option (List ℕ)
-ahead input remaining = prepend_known input.unread remaining
-
--- once a read brought nothing, nothing is left to read
-abbrev pub KnowsEnd : Input → Option (List ℕ) → Type 0
-KnowsEnd input remaining = input.ended ≡ true → (bytes : List ℕ) → remaining ≡ Some bytes → bytes ≡ []
-
--- each read brought a byte, but for one that brought nothing
-abbrev pub IsPaid : Input → Input → Option (List ℕ) → Option (List ℕ) → Type 0
-IsPaid old new remaining remaining' = new.ended ≡ false → (old.ended ≡ false)
-    × ((bytes : List ℕ) → remaining ≡ Some bytes → (rest : List ℕ) × (remaining' ≡ Some rest)
-    × (length rest + old.reads ≤ length bytes + new.reads))
-
--- falls with each line
-abbrev pub left_of : Input → ℕ
-left_of input = (READ_BYTES + 1) * input.reads + length input.unread
-
--- From these bytes on, there was no line, or this was the next one, as far as lines are kept; what is ahead then is new.
-abbrev pub IsNextLine : List ℕ → Bool → List ℕ → Option (List ℕ) → Type 0
-IsNextLine bytes false line new = bytes ≡ []
-IsNextLine bytes true line new = (0 < length bytes) × (kept_of line ≡ kept_of (first_line bytes))
-    × (new ≡ Some (after_line bytes))
-
--- From these bytes on, what was taken is the begin of a line: it has no line feed.
-pub record IsBegun (bytes : List ℕ) (remaining : Option (List ℕ)) : Type 0 where
-  pub front : List ℕ
-  pub rest : List ℕ
-  pub split : bytes ≡ front ++ rest
-  pub none : has_feed front ≡ false
-  pub left : remaining ≡ Some rest

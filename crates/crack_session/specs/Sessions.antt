@@ -1,11 +1,11 @@
 -- A session as a relation between statements, rows and answers.
-use Rattle.std.specs.Prelude.{◌≡◌, ℕ, ◌+◌, List, [], ◌∷◌, Option, None, Some, option_map, if◌then◌else◌}
+use Rattle.std.specs.Prelude.{◌≡◌, ℕ, ◌+◌, List, [], ◌∷◌, Option, None, Some, option_map, ◌==◌, if◌then◌else◌}
+use Rattle.std.specs.List.{list_any}
 use Rattle.crack_row.specs.declared.Bound.{Bound}
 use Rattle.crack_plain.specs.Plain.{PlainView}
 use Rattle.crack_session.specs.declared.answer.Answer.{Answer}
 use Rattle.crack_session.specs.declared.session.How.{How}
 use Rattle.crack_session.specs.declared.session.How.TheVariants.{Quit, InputEnded}
-use Rattle.crack_session.specs.Lines.{has_feed}
 use Rattle.crack_commands.specs.Grammar.{Reading}
 use Rattle.crack_session.specs.Readings.{is_quit}
 use Rattle.crack_session.specs.Answers.{IsAnswer, is_short_answer}
@@ -13,11 +13,8 @@ use Rattle.crack_session.specs.Answers.{IsAnswer, is_short_answer}
 -- answers to these statements, one after the other, and the partitions afterwards
 abbrev pub AreAnswers : ℕ → List Bound → List PlainView → List Reading → List Answer → List PlainView → Type 0
 AreAnswers limit splits tables [] [] new = new ≡ tables
-AreAnswers limit splits tables [] (answer ∷ answers) new = ⊥
-AreAnswers limit splits tables (reading ∷ readings) [] new = ⊥
-AreAnswers limit splits tables (reading ∷ readings) (answer ∷ answers) new = (between : List PlainView)
-    × IsAnswer limit splits tables reading answer between
-    × AreAnswers limit splits between readings answers new
+AreAnswers limit splits tables (reading ∷ readings) (answer ∷ answers) new = (between : List PlainView) × IsAnswer limit splits tables reading answer between × AreAnswers limit splits between readings answers new
+AreAnswers limit splits tables _ _ new = ⊥
 
 -- the number, from 1, of the first answer that is a refusal for want of room
 abbrev pub first_short : List Answer → Option ℕ
@@ -33,4 +30,4 @@ ending (r ∷ q ∷ rs) = ending (q ∷ rs)
 -- the lines that end in a line feed: the bytes up to and with the last one
 abbrev pub whole_lines : List ℕ → List ℕ
 whole_lines [] = []
-whole_lines (b ∷ bs) = if has_feed (b ∷ bs) then b ∷ whole_lines bs else []
+whole_lines (b ∷ bs) = if list_any (λ c. c == 10) (b ∷ bs) then b ∷ whole_lines bs else []

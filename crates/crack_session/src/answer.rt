@@ -4,8 +4,8 @@ ghost use Rattle.std.specs.Result.{result_and};
 ghost use Rattle.std.specs.List.{flat_map};
 ghost use Rattle.crack_plain.specs.Plain.{PlainView, IsSmall};
 ghost use Rattle.crack_core.specs.Routes.{route, parts_of};
-ghost use Rattle.crack_session.specs.Queries.{list_text, lists_text};
-ghost use Rattle.crack_session.specs.Answers.{AsksDesk, IsAnswer, IsAnswerTo, IsAsked, AsksInTurn, AsksSeveral, AsksParts, IsLaidOut, Writes, is_short_answer, answer_text};
+ghost use Rattle.crack_session.specs.Telling.{list_text, lists_text, AsksSeveral, AsksDesk, Writes};
+ghost use Rattle.crack_session.specs.Answers.{IsAnswer, IsAnswerTo, IsAsked, AsksInTurn, AsksParts, IsLaidOut, is_short_answer, answer_text};
 
 use crate::desk::Desk;
 use crate::query::{PartReply, Query, ReplyList, joined};

@@ -2,7 +2,7 @@
 ghost use Rattle.std.specs.Prelude.{◌≡◌, ℕ, ◌+◌, ◌-◌, ◌^◌, ◌<◌, ◌≤◌, ◌++◌, ◌⊎◌, min, List, [], length, take, drop, slice_range, true, false, Some, MatchBool, IfOk, IfErr, OnErr, OnOk};
 ghost use Rattle.std.specs.Io.KnownBytes.{Keeps};
 ghost use Rattle.crack_row.specs.Devices.{device, has_failed, reads_of};
-ghost use Rattle.crack_session.specs.Lines.{first_line, after_line, has_feed, kept_of, ahead, left_of, IsNextLine, IsBegun, IsPaid, KnowsEnd};
+ghost use Rattle.crack_session.specs.Input.{has_feed, first_line, after_line, kept_of, ahead, left_of, IsNextLine, IsBegun, IsPaid, KnowsEnd};
 
 use crate::MOST_READS;
 use crate::output::flush;
@@ -36,7 +36,7 @@ pub struct LineReader {
 
 impl Model for LineReader {
     ghost use Rattle.std.specs.Prelude.{◌≤◌, ◌==◌, slice_range};
-    ghost use Rattle.crack_session.specs.Lines.{Input};
+    ghost use Rattle.crack_session.specs.Input.{Input};
     ghost use Rattle.crack_session.specs.declared.input.TheConstants.{ROOM_BYTES};
 
     ghost Value = { Input };

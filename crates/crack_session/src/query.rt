@@ -1,7 +1,8 @@
 //! What is asked of a range, and what several partitions reply to it.
 ghost use Rattle.std.specs.Prelude.{◌≡◌, ◌<◌, ◌≤◌, ◌^◌, List, All, length, sum_by, vec_len, vec_capacity};
 ghost use Rattle.crack_plain.specs.Plain.{IsSmall};
-ghost use Rattle.crack_session.specs.Queries.{asking, counted, summed, listed, rows_told, sum_told, joined};
+ghost use Rattle.crack_session.specs.Queries.{asking, counted, summed, listed, joined};
+ghost use Rattle.crack_session.specs.Telling.{rows_told, sum_told};
 
 use crate::answer::Answer;
 use crack_row::{Command, KeyRange, Reply, Row};

@@ -4,7 +4,8 @@ ghost use Rattle.std.specs.Io.KnownBytes.{Keeps};
 ghost use Rattle.crack_row.specs.Devices.{device, has_failed, reads_of};
 ghost use Rattle.crack_plain.specs.Plain.{PlainView};
 ghost use Rattle.crack_session.specs.Served.{CountsStatements, IsServed, IsDone, IsCutOff};
-ghost use Rattle.crack_session.specs.Answers.{Responds, Tells, is_short_answer, marked, policy_after};
+ghost use Rattle.crack_session.specs.Answers.{is_short_answer};
+ghost use Rattle.crack_session.specs.Telling.{Responds, Tells, marked, policy_after};
 
 use crate::answer::{Answer, answer_reading, part_of};
 use crate::desk::Desk;

@@ -13,8 +13,8 @@ use Rattle.crack_core.specs.declared.receipt.Receipt.{Receipt}
 use Rattle.crack_core.specs.Receipts.{entry_of}
 use Rattle.crack_table.specs.declared.marks.Naming.{Naming}
 use Rattle.crack_table.specs.declared.marks.Naming.TheVariants.{Unnamed, Met, Failed}
-use Rattle.crack_table.specs.Cover.{at, names, has_place, AllMet, IsLeastUnmet, first_stranger, first_late, is_late, Rises, IsFault, named_place, Covers}
-use Rattle.crack_table.specs.Marks.{MarkIs, MarkIsAt, Marked, IsFirstOpen}
+use Rattle.crack_table.specs.Cover.{at, names, has_place, AllMet, IsLeastUnmet, first_stranger, first_late, is_late, Rises, IsFault, Covers}
+use Rattle.crack_table.specs.Marks.{named_place, MarkIs, MarkIsAt, Marked, IsFirstOpen}
 
 met_at : (e : Entry) (o : Option Naming) (named : List Receipt) → MarkIsAt (Some e) o named → ((k : Naming) → o ≡ Some k → k ≡ Met) → map entry_of named ≡ e ∷ []
 met_at e None named is all = absurd is

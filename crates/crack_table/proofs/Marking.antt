@@ -15,8 +15,8 @@ use Rattle.crack_core.specs.declared.receipt.Receipt.{Receipt}
 use Rattle.crack_core.specs.Receipts.{entry_of}
 use Rattle.crack_table.specs.declared.marks.Naming.{Naming}
 use Rattle.crack_table.specs.declared.marks.Naming.TheVariants.{Unnamed, Met, Failed}
-use Rattle.crack_table.specs.Cover.{at, names, named_place, first_stranger}
-use Rattle.crack_table.specs.Marks.{mark_after, MarkIs, MarkIsAt, Marked}
+use Rattle.crack_table.specs.Cover.{at, names, first_stranger}
+use Rattle.crack_table.specs.Marks.{named_place, mark_after, MarkIs, MarkIsAt, Marked}
 use Rattle.crack_table.proofs.Places.{at_set_same, at_set_other, row_of}
 
 two_long : (x r : Receipt) (xs : List Receipt) (e : Entry) → map entry_of ((x ∷ xs) ++ r ∷ []) ≡ e ∷ [] → ⊥

@@ -62,10 +62,6 @@ abbrev pub first_late : List Receipt → List Receipt → Option Receipt
 first_late done [] = None
 first_late done (r ∷ rs) = if list_any (λ earlier. is_late earlier r) done then Some r else first_late (done ++ r ∷ []) rs
 
--- the place that a receipt names
-abbrev pub named_place : Receipt → ℕ × ℕ
-named_place r = (r.part, r.position)
-
 -- it is this receipt, and it names this place
 abbrev pub IsPlaceOf : Option Receipt → ℕ → ℕ → Type 0
 IsPlaceOf found part position = (r : Receipt) × (found ≡ Some r) × (r.part ≡ part) × (r.position ≡ position)

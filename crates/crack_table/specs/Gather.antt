@@ -1,14 +1,14 @@
 -- What a table comes to when its workers are gathered.
-use Rattle.std.specs.Prelude.{ℕ, zero, suc, List, length, ◌≡◌, ◌≢◌, ◌+◌, ◌^◌, ◌<◌, ◌⊎◌, ◌==◌, Some, slice_get, All, sum_by, if◌then◌else◌}
+use Rattle.std.specs.Prelude.{ℕ, pos, zero, suc, List, length, ◌≡◌, ◌≢◌, ◌+◌, ◌^◌, ◌<◌, ◌⊎◌, ◌==◌, Some, slice_get, All, sum_by, if◌then◌else◌}
 use Rattle.std.specs.List.{list_any, flat_map}
 use Rattle.crack_row.specs.declared.Bound.{Bound}
 use Rattle.crack_row.specs.declared.refusal.Refusal.{Refusal}
 use Rattle.crack_row.specs.declared.refusal.Refusal.TheVariants.{OutOfMemory, WorkersMissing, StrangeReceipt}
-use Rattle.crack_plain.specs.Totals.{accepted, inserted, deleted}
+use Rattle.crack_plain.specs.Totals.{accepted, inserted, deleted, held}
 use Rattle.crack_state.specs.State.{live_rows}
 use Rattle.crack_part.specs.Parts.{Part, IsSound}
 use Rattle.crack_core.specs.declared.receipt.Receipt.{Receipt}
-use Rattle.crack_core.specs.Receipts.{BookState, entries_of}
+use Rattle.crack_core.specs.Receipts.{BookState}
 use Rattle.crack_core.specs.Opening.{AreParts}
 use Rattle.crack_core.specs.Routes.{keys_of_part}
 use Rattle.crack_core.specs.Steps.{histories_of}
@@ -34,19 +34,13 @@ IsFirstOther splits limit parts part =
     (p : Part) × (slice_get parts part ≡ Some p) × (¬ IsTables splits limit part p)
     × ((q : ℕ) (earlier : Part) → q < part → slice_get parts q ≡ Some earlier → IsTables splits limit q earlier)
 
--- the sums of the workers' shares
-pub record AreSharesOfAll (workers : List BookState) (answers placed gone : ℕ) : Type 0 where
-  pub accepted_is : answers ≡ sum_by (λ (w : BookState). accepted (entries_of w.receipts)) workers
-  pub inserted_is : placed ≡ sum_by (λ (w : BookState). inserted (entries_of w.receipts)) workers
-  pub deleted_is : gone ≡ sum_by (λ (w : BookState). deleted (entries_of w.receipts)) workers
-
--- the totals of the histories, and the number of live rows
+-- the totals of the histories, and the number of live rows, which are the rows that the histories leave
 pub record AreTotals (parts : List Part) (answers placed gone left : ℕ) : Type 0 where
   pub accepted_is : answers ≡ sum_by (λ (p : Part). accepted p.history) parts
   pub inserted_is : placed ≡ sum_by (λ (p : Part). inserted p.history) parts
   pub deleted_is : gone ≡ sum_by (λ (p : Part). deleted p.history) parts
-  pub held_is : left ≡ sum_by (λ (p : Part). length (live_rows p.store)) parts
-  pub difference : left + gone ≡ placed
+  pub rows_are : left ≡ sum_by (λ (p : Part). length (live_rows p.store)) parts
+  pub held_is : pos left ≡ held (flat_map (λ (p : Part). p.history) parts)
 
 -- the place at which partitions and workers don't come to one account: the first partition that isn't the table's; where there is none,
 -- the fault of the cover

@@ -1,3 +1,4 @@
+-- What private clauses alone cite.
 -- What is noted of the receipts on the way to a cover.
 use Rattle.std.specs.Prelude.{ℕ, Bool, true, false, List, [], ◌∷◌, map, ◌≡◌, ◌≢◌, ◌<◌, nat_le, Option, Some, None, filter, slice_get}
 use Rattle.std.specs.List.{list_any}
@@ -9,6 +10,8 @@ use Rattle.crack_core.specs.Receipts.{entry_of}
 use Rattle.crack_table.specs.declared.marks.Naming.{Naming}
 use Rattle.crack_table.specs.declared.marks.Naming.TheVariants.{Unnamed, Met, Failed}
 use Rattle.crack_table.specs.Cover.{at, names, is_late, IsBefore}
+use Rattle.crack_row.specs.declared.refusal.Refusal.{Refusal}
+use Rattle.crack_row.specs.declared.refusal.Refusal.TheVariants.{HistoryFull}
 
 -- the mark of a place after one more receipt that names it, by whether its entry is the place's
 abbrev pub mark_after : Naming → Bool → Naming
@@ -56,3 +59,12 @@ pair_cmp x y = ordering_then (nat_cmp x.0 y.0) (nat_cmp x.1 y.1)
 -- the look-up tells the last position of each worker in each partition
 abbrev pub Tracks : (ℕ × ℕ → Option ℕ) → List Receipt → Type 0
 Tracks last done = (r : Receipt) → list_any (λ earlier. is_late earlier r) done ≡ is_late_at (last (r.worker, r.part)) r.position
+
+-- the place that a receipt names
+abbrev pub named_place : Receipt → ℕ × ℕ
+named_place r = (r.part, r.position)
+
+-- a refusal, with this limit where it tells of a full history
+abbrev pub with_limit : ℕ → Refusal → Refusal
+with_limit limit (HistoryFull entries) = HistoryFull limit
+with_limit limit e = e

@@ -57,8 +57,3 @@ pub record LooksAt (table : TableState) (part : ℕ) (result : Result Layout Ref
   pub there : OnOk result (part ≤ length table.splits)
   pub nowhere : length table.splits < part → result ≡ Err NoSuchPartition
   pub err : part ≤ length table.splits → IfErr result (λ e. e ≡ OutOfMemory)
-
--- a refusal, with this limit where it tells of a full history
-abbrev pub with_limit : ℕ → Refusal → Refusal
-with_limit limit (HistoryFull entries) = HistoryFull limit
-with_limit limit e = e

@@ -3,12 +3,12 @@ ghost use Rattle.std.specs.Prelude.{◌≡◌, ◌+◌, ◌<◌, ◌≤◌, ◌^
 ghost use Rattle.std.specs.List.{flat_map};
 ghost use Rattle.crack_plain.specs.Totals.{accepted, inserted, deleted};
 ghost use Rattle.crack_part.specs.Parts.{IsSound};
-ghost use Rattle.crack_core.specs.Receipts.{BookState, entries_of};
+ghost use Rattle.crack_core.specs.Receipts.{BookState, AreShares, entries_of};
 ghost use Rattle.crack_core.specs.Opening.{AreParts};
 ghost use Rattle.crack_core.specs.Routes.{AreSplits};
 ghost use Rattle.crack_core.specs.Steps.{histories_of};
 ghost use Rattle.crack_table.specs.Cover.{Covers};
-ghost use Rattle.crack_table.specs.Gather.{receipts_of, IsTables, IsFirstOther, AreSharesOfAll, AreTotals, MayNotAgree};
+ghost use Rattle.crack_table.specs.Gather.{receipts_of, IsTables, IsFirstOther, AreTotals, MayNotAgree};
 
 use crate::covering::cover;
 use crate::worker::Worker;
@@ -39,7 +39,7 @@ pub(crate) fn account(
     requires rising { AreSplits splits.now }
     ensures parts { OnOk result (AreParts splits.now limit parts.now.items) }
     ensures covered { OnOk result (Covers (histories_of parts.now.items) (receipts_of workers.now.items)) }
-    ensures shares { IfOk result (λ s. AreSharesOfAll workers.now.items s.accepted s.inserted s.deleted) }
+    ensures shares { IfOk result (λ s. AreShares (receipts_of workers.now.items) s.accepted s.inserted s.deleted) }
     ensures totals { IfOk result (λ s. AreTotals parts.now.items s.accepted s.inserted s.deleted s.held) }
     ensures causes { IfErr result (MayNotAgree splits.now limit workers.now.items) }
 {
@@ -122,7 +122,7 @@ fn sums_of(parts: &Vec<Partition>, workers: &Vec<Worker>) -> Sums
     requires covered { Covers (histories_of parts.now.items) (receipts_of workers.now.items) }
     requires sound { All IsSound parts.now.items }
     requires few { length parts.now.items ≤ 64 }
-    ensures shares { AreSharesOfAll workers.now.items result.accepted result.inserted result.deleted }
+    ensures shares { AreShares (receipts_of workers.now.items) result.accepted result.inserted result.deleted }
     ensures totals { AreTotals parts.now.items result.accepted result.inserted result.deleted result.held }
 {
     let inserted = inserted_by(workers);

@@ -7,8 +7,8 @@ ghost use Rattle.crack_core.specs.declared.receipt.Receipt.{Receipt};
 ghost use Rattle.crack_core.specs.Receipts.{entry_of};
 ghost use Rattle.crack_table.specs.declared.marks.Naming.{Naming};
 ghost use Rattle.crack_table.specs.declared.marks.Naming.TheVariants.{Met};
-ghost use Rattle.crack_table.specs.Cover.{at, named_place, first_stranger, Covers, IsFault, MayNotCover};
-ghost use Rattle.crack_table.specs.Marks.{Marked, IsFirstOpen};
+ghost use Rattle.crack_table.specs.Cover.{at, first_stranger, Covers, IsFault, MayNotCover};
+ghost use Rattle.crack_table.specs.Marks.{named_place, Marked, IsFirstOpen};
 
 use crate::marks::MarkRow;
 use crate::order::first_late;

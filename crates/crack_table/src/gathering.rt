@@ -1,12 +1,12 @@
 //! The end of a table: its workers come together.
 ghost use Rattle.std.specs.Prelude.{◌≡◌, ◌+◌, ◌≤◌, ◌==◌, length, IfOk, IfErr, OnOk, OnErr, vec_len, if◌then◌else◌};
 ghost use Rattle.std.specs.List.{list_any};
-ghost use Rattle.crack_core.specs.Receipts.{BookState};
+ghost use Rattle.crack_core.specs.Receipts.{AreShares, BookState};
 ghost use Rattle.crack_core.specs.Opening.{AreParts};
 ghost use Rattle.crack_core.specs.Routes.{AreSplits};
 ghost use Rattle.crack_core.specs.Steps.{histories_of};
 ghost use Rattle.crack_table.specs.Cover.{Covers};
-ghost use Rattle.crack_table.specs.Gather.{missing_below, receipts_of, AreSharesOfAll, AreTotals, MayNotAgree, MayNotGather};
+ghost use Rattle.crack_table.specs.Gather.{missing_below, receipts_of, AreTotals, MayNotAgree, MayNotGather};
 
 use crate::account::account;
 use crate::locks::{lock, unlock};
@@ -48,7 +48,7 @@ pub fn gather(alloc: Global, table: Table, workers: Vec<Worker>) -> Result<Close
     ensures all { OnOk result (missing_below workers.items table.workers ≡ 0) }
     ensures parts { IfOk result (λ c. AreParts table.splits table.limit c.parts.items) }
     ensures covered { IfOk result (λ c. Covers (histories_of c.parts.items) (receipts_of workers.items)) }
-    ensures shares { IfOk result (λ c. AreSharesOfAll workers.items c.accepted c.inserted c.deleted) }
+    ensures shares { IfOk result (λ c. AreShares (receipts_of workers.items) c.accepted c.inserted c.deleted) }
     ensures totals { IfOk result (λ c. AreTotals c.parts.items c.accepted c.inserted c.deleted c.held) }
 
     ensures table { IfErr result (λ e. e.table ≡ table) }
@@ -97,7 +97,7 @@ fn close(
     requires rising { AreSplits splits.now }
     ensures parts { IfOk result (λ c. AreParts splits.now limit c.parts.items) }
     ensures covered { IfOk result (λ c. Covers (histories_of c.parts.items) (receipts_of workers.now.items)) }
-    ensures shares { IfOk result (λ c. AreSharesOfAll workers.now.items c.accepted c.inserted c.deleted) }
+    ensures shares { IfOk result (λ c. AreShares (receipts_of workers.now.items) c.accepted c.inserted c.deleted) }
     ensures totals { IfOk result (λ c. AreTotals c.parts.items c.accepted c.inserted c.deleted c.held) }
     ensures locked { OnErr result (vec_len locks.new ≡ vec_len locks.old) }
     ensures causes { IfErr result (MayNotAgree splits.now limit workers.now.items) }
@@ -127,7 +127,7 @@ fn settle(
     ensures taken { IfOk result (λ c. c.parts.items ≡ parts.items) }
     ensures parts { IfOk result (λ c. AreParts splits.now limit c.parts.items) }
     ensures covered { IfOk result (λ c. Covers (histories_of c.parts.items) (receipts_of workers.now.items)) }
-    ensures shares { IfOk result (λ c. AreSharesOfAll workers.now.items c.accepted c.inserted c.deleted) }
+    ensures shares { IfOk result (λ c. AreShares (receipts_of workers.now.items) c.accepted c.inserted c.deleted) }
     ensures totals { IfOk result (λ c. AreTotals c.parts.items c.accepted c.inserted c.deleted c.held) }
     ensures back { IfErr result (λ e. e.1.items ≡ parts.items) }
     ensures causes { IfErr result (λ e. MayNotAgree splits.now limit workers.now.items e.0) }

@@ -1,6 +1,7 @@
 //! Workers.
 ghost use Rattle.std.specs.Prelude.{◌≡◌, []};
-ghost use Rattle.crack_table.specs.Tables.{AsksTable, LooksAt, with_limit};
+ghost use Rattle.crack_table.specs.Tables.{AsksTable, LooksAt};
+ghost use Rattle.crack_table.specs.Marks.{with_limit};
 
 use crate::gate::{Gate, pass};
 use crate::table::Table;

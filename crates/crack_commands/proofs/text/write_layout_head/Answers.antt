@@ -1,6 +1,6 @@
 use Rattle.std.proofs.Common.{ℕ, List, ◌++◌, length, codes, refl}
 use Rattle.crack_row.specs.declared.layout.Layout.{Layout}
-use Rattle.crack_commands.specs.Texts.{two_fields}
+use Rattle.crack_commands.specs.Inside.{two_fields}
 use Rattle.crack_commands.proofs.Sending.{Appends-then, front_first, front_then, on_err, then_ok, then_err}
 use Rattle.crack_commands.proofs.text.write_layout_head.Goals as goal
 

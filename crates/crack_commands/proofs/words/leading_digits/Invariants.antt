@@ -1,6 +1,7 @@
 use Rattle.std.proofs.Common.{◌≡◌, ◌<◌, ◌^◌, take, true}
 use Rattle.std.specs.List.{list_all}
-use Rattle.crack_commands.specs.Grammar.{is_digit, value_on}
+use Rattle.crack_commands.specs.Grammar.{is_digit}
+use Rattle.crack_commands.specs.Inside.{value_on}
 use Rattle.crack_commands.proofs.words.leading_digits.Given as goal
 
 abbrev pub invariant-digits : goal.invariant-digits

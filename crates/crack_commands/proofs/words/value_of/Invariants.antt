@@ -1,5 +1,5 @@
 use Rattle.std.proofs.Common.{◌≡◌, ◌<◌, ◌^◌, drop}
-use Rattle.crack_commands.specs.Grammar.{value_on}
+use Rattle.crack_commands.specs.Inside.{value_on}
 use Rattle.crack_commands.proofs.words.value_of.Given as goal
 
 abbrev pub invariant-loop-b : goal.invariant-loop-b

@@ -1,5 +1,5 @@
 use Rattle.std.proofs.Common.{◌≡◌, take, false}
-use Rattle.crack_commands.specs.Grammar.{has_space}
+use Rattle.crack_commands.specs.Inside.{has_space}
 use Rattle.crack_commands.proofs.words.word_end.Given as goal
 
 abbrev pub invariant-loop-i : goal.invariant-loop-i

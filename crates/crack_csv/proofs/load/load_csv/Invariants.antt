@@ -1,7 +1,7 @@
 use Rattle.std.proofs.Common.{◌≡◌, ◌+◌, ◌≤◌, ℕ, List, Some}
 use Rattle.crack_plain.specs.Plain.{PlainView}
 use Rattle.crack_csv.specs.declared.TheConstants.{MOST_RECORDS}
-use Rattle.crack_csv.specs.Records.{IsReady}
+use Rattle.crack_csv.specs.Inside.{IsReady}
 use Rattle.crack_csv.proofs.Loading.{Going}
 use Rattle.crack_csv.proofs.load.load_csv.Given as goal
 

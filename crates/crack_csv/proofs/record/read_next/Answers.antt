@@ -6,7 +6,7 @@ use Rattle.csv.specs.declared.error.ErrorKind.{ErrorKind}
 use Rattle.csv.specs.declared.error.ErrorKind.TheVariants as kind
 use Rattle.csv.proofs.ReadFacts.{rows-more}
 use Rattle.crack_row.specs.declared.refusal.Refusal.TheVariants.{ReadFault, OutOfMemory}
-use Rattle.crack_csv.specs.Records.{unread_by}
+use Rattle.crack_csv.specs.Inside.{unread_by}
 use Rattle.crack_csv.proofs.record.read_next.Goals as goal
 
 unread_by-either : (k : ErrorKind) → (unread_by k ≡ ReadFault) ⊎ (unread_by k ≡ OutOfMemory)

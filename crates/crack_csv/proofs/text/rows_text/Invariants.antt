@@ -2,7 +2,8 @@ use Rattle.std.proofs.Common.{Some, [], take}
 use Rattle.std.specs.List.{flat_map}
 use Rattle.std.specs.Io.KnownBytes.{Appends}
 use Rattle.csv.specs.Writing.{text_written}
-use Rattle.crack_csv.specs.Exports.{record_text, IsFresh}
+use Rattle.crack_csv.specs.Exports.{record_text}
+use Rattle.crack_csv.specs.Inside.{IsFresh}
 use Rattle.crack_csv.proofs.text.rows_text.Given as goal
 
 abbrev pub invariant-rows : goal.invariant-rows

@@ -1,5 +1,5 @@
 use Rattle.std.proofs.Common.{ap, ◌∙◌}
-use Rattle.crack_plain.specs.Plain.{gone}
+use Rattle.crack_plain.specs.Inside.{gone}
 use Rattle.crack_state.proofs.LookUpLaws.{row_by-find}
 use Rattle.crack_part.proofs.PointLemmas.{live-taken}
 use Rattle.crack_part.proofs.partition.remove.Goals as goal

@@ -1,5 +1,5 @@
 use Rattle.std.proofs.Common.{ap, ◌∙◌}
-use Rattle.crack_plain.specs.Plain.{rewritten}
+use Rattle.crack_plain.specs.Inside.{rewritten}
 use Rattle.crack_state.proofs.LookUpLaws.{row_by-find, live-replaced}
 use Rattle.crack_part.proofs.PointLemmas.{live-nothing_replaced, if_none}
 use Rattle.crack_part.proofs.partition.rewrite.Goals as goal

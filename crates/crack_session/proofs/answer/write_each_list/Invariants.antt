@@ -2,7 +2,7 @@ use Rattle.std.proofs.Common.{◌≡◌, take}
 use Rattle.std.specs.List.{flat_map}
 use Rattle.std.specs.Io.KnownBytes.{Appends}
 use Rattle.crack_row.specs.Devices.{device, has_failed}
-use Rattle.crack_session.specs.Queries.{list_text}
+use Rattle.crack_session.specs.Telling.{list_text}
 use Rattle.crack_session.proofs.answer.write_each_list.Given as goal
 
 abbrev pub invariant-lists : goal.invariant-lists

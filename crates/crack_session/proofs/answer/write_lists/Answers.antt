@@ -2,7 +2,7 @@ use Rattle.std.proofs.Common.{◌∙◌, refl, rules}
 use Rattle.std.specs.List.{flat_map}
 use Rattle.crack_commands.specs.Texts.{head_text}
 use Rattle.crack_commands.proofs.Sending.{Appends-then, front_first, front_then, on_err, then_err, then_ok}
-use Rattle.crack_session.specs.Queries.{list_text}
+use Rattle.crack_session.specs.Telling.{list_text}
 use Rattle.crack_session.proofs.answer.write_lists.Goals as goal
 
 pub returns-in_err-write_head : goal.returns-in_err-write_head

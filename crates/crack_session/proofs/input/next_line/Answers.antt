@@ -1,7 +1,7 @@
 use Rattle.std.proofs.Common.{rules, ◌≡◌, ℕ, List, [], Some, length, arith, sym, ap, ◌∙◌, true, not}
 use Rattle.std.proofs.lemmas.Bool.{false≢true}
 use Rattle.crack_row.specs.Devices.{device, reads_of}
-use Rattle.crack_session.specs.Lines.{Input}
+use Rattle.crack_session.specs.Input.{Input}
 use Rattle.crack_session.proofs.Reading.{SoFar-more, SoFar-found, SoFar-ended, SoFar-begun, SoFar-read, after_line-shorter, IsPaid-taken, IsPaid-then, Keeps-same, Keeps-then, counted-then, if_err_anyway, on_err_anyway, SoFar-feed}
 use Rattle.crack_session.proofs.input.next_line.Goals as goal
 

@@ -1,7 +1,7 @@
 use Rattle.std.proofs.Common.{◌≡◌, ℕ, ◌+◌, ◌-◌, ◌^◌, ◌≤◌, ◌<◌, min, true, List, Some, length}
 use Rattle.std.specs.Io.KnownBytes.{Keeps}
 use Rattle.crack_row.specs.Devices.{device, has_failed, reads_of}
-use Rattle.crack_session.specs.Lines.{ahead, left_of, KnowsEnd, IsPaid}
+use Rattle.crack_session.specs.Input.{ahead, left_of, KnowsEnd, IsPaid}
 use Rattle.crack_session.proofs.Reading.{SoFar}
 use Rattle.crack_session.proofs.input.next_line.Given as goal
 

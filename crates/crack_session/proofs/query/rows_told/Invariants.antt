@@ -1,5 +1,5 @@
 use Rattle.std.proofs.Common.{◌≡◌, take}
-use Rattle.crack_session.specs.Queries.{rows_told}
+use Rattle.crack_session.specs.Telling.{rows_told}
 use Rattle.crack_session.proofs.query.rows_told.Given as goal
 
 abbrev pub invariant-replies : goal.invariant-replies

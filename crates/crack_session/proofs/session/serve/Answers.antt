@@ -2,7 +2,7 @@ use Rattle.std.proofs.Common.{◌≡◌, [], ◌∙◌, ap, sym, arith, None, re
 use Rattle.crack_row.specs.Devices.{device, reads_of}
 use Rattle.crack_session.specs.declared.session.Fault.{Fault}
 use Rattle.crack_session.specs.declared.session.How.TheVariants.{Quit, InputEnded}
-use Rattle.crack_session.specs.Lines.{after_line}
+use Rattle.crack_session.specs.Input.{after_line}
 use Rattle.crack_session.specs.Readings.{statements, reading_of, is_quit}
 use Rattle.crack_session.proofs.Reading.{start_input, IsPaid-then, counted-then}
 use Rattle.crack_session.proofs.Following.{next_blank}

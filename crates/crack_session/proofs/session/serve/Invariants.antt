@@ -2,7 +2,7 @@ use Rattle.std.proofs.Common.{◌≡◌, ℕ, ◌+◌, ◌-◌, ◌*◌, ◌^◌
 use Rattle.std.specs.Prelude.{min}
 use Rattle.crack_row.specs.Devices.{device, has_failed, reads_of}
 use Rattle.crack_session.specs.declared.session.How.TheVariants.{InputEnded}
-use Rattle.crack_session.specs.Lines.{ahead, left_of, KnowsEnd, IsPaid}
+use Rattle.crack_session.specs.Input.{ahead, left_of, KnowsEnd, IsPaid}
 use Rattle.crack_session.specs.Readings.{statements}
 use Rattle.crack_session.proofs.Reading.{start_input}
 use Rattle.crack_session.proofs.Going.{Going}

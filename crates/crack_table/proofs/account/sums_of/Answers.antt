@@ -1,5 +1,5 @@
 use Rattle.std.proofs.Common.{arith, ◌∙◌}
-use Rattle.crack_table.proofs.Totals.{accepted_are, inserted_are, deleted_are, held_difference, are_small}
+use Rattle.crack_table.proofs.Totals.{accepted_are, inserted_are, deleted_are, accepted_of_all, inserted_of_all, deleted_of_all, held_difference, held_are, are_small}
 use Rattle.crack_table.proofs.account.sums_of.Goals as goal
 
 pub inserted_by-inserted-requires : goal.inserted_by-inserted-requires
@@ -25,6 +25,13 @@ returns-clause-totals c =
       accepted_is = c.accepted_by.ensures ∙ a;
       inserted_is = c.inserted_by-inserted.ensures ∙ i;
       deleted_is = c.deleted_by-deleted.ensures ∙ d;
-      held_is = omega (arith, i, d, h, c.inserted_by-inserted.ensures, c.deleted_by-deleted.ensures);
-      difference = omega (arith, i, d, h, c.inserted_by-inserted.ensures, c.deleted_by-deleted.ensures);
+      rows_are = omega (arith, i, d, h, c.inserted_by-inserted.ensures, c.deleted_by-deleted.ensures);
+      held_is = held_are c.args.parts.now.items _ (omega (arith, i, d, h, c.inserted_by-inserted.ensures, c.deleted_by-deleted.ensures));
     }
+
+pub returns-clause-shares : goal.returns-clause-shares
+returns-clause-shares c = record {
+  accepted_is = c.accepted_by.ensures ∙ accepted_of_all c.args.workers.now.items;
+  inserted_is = c.inserted_by-inserted.ensures ∙ inserted_of_all c.args.workers.now.items;
+  deleted_is = c.deleted_by-deleted.ensures ∙ deleted_of_all c.args.workers.now.items;
+}

@@ -1,8 +1,8 @@
 use Rattle.std.proofs.Common.{◌≡◌, List, ◌++◌, map, take, vec_len}
 use Rattle.std.specs.Option.{option_map}
 use Rattle.crack_core.specs.declared.receipt.Receipt.{Receipt}
-use Rattle.crack_table.specs.Cover.{first_stranger, named_place}
-use Rattle.crack_table.specs.Marks.{Marked}
+use Rattle.crack_table.specs.Cover.{first_stranger}
+use Rattle.crack_table.specs.Marks.{named_place, Marked}
 use Rattle.crack_table.proofs.covering.note_all.Given as goal
 
 abbrev pub invariant-list : goal.invariant-list

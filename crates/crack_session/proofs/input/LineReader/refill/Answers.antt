@@ -1,5 +1,5 @@
 use Rattle.std.proofs.Common.{refl, ap, arith, take, length-take}
-use Rattle.crack_session.specs.Lines.{Input}
+use Rattle.crack_session.specs.Input.{Input}
 use Rattle.crack_session.proofs.Reading.{ahead_read}
 use Rattle.crack_session.proofs.Ranges.{line_stays, range_written}
 use Rattle.crack_session.proofs.input.LineReader.refill.Goals as goal

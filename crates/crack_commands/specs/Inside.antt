@@ -1,0 +1,109 @@
+-- What private clauses alone cite.
+use Rattle.std.specs.Prelude.{◌≡◌, ℕ, ◌+◌, ◌-◌, ◌*◌, fold, Bool, true, false, List, [], ◌∷◌, ◌++◌, length, drop, Option, Some, None, Result, Ok, Err, nat_le, ◌==◌, ◌||◌, ◌&&◌, slice_index_or, codes, decimal, if◌then◌else◌}
+use Rattle.std.specs.Option.{option_and_then, option_zip}
+use Rattle.std.specs.List.{flat_map}
+use Rattle.std.specs.Int.{bit_at}
+use Rattle.crack_row.specs.declared.Row.{Row}
+use Rattle.crack_row.specs.declared.Serial.{Serial}
+use Rattle.crack_row.specs.declared.layout.Layout.{Layout}
+use Rattle.crack_row.specs.Ranges.{Range}
+use Rattle.crack_row.specs.declared.TheConstants.{GREATEST_KEY, GREATEST_PAYLOAD, GREATEST_BOUND}
+use Rattle.crack_row.specs.declared.RowNo.{RowNo}
+use Rattle.crack_row.specs.declared.refusal.Refusal.{Refusal}
+use Rattle.crack_row.specs.declared.refusal.Refusal.TheVariants.{BadStatement, BadRange}
+use Rattle.crack_commands.specs.declared.words.TheConstants.{GREATEST_PART}
+use Rattle.crack_commands.specs.declared.statement.Statement.TheVariants.{Insert, Delete, Update, Layout as AsksLayout, Policy, Quit}
+use Rattle.crack_commands.specs.Grammar.{Reading, is_word, words, number_of, number_up_to, row_number_of, key_and_payload, only_word, policy_named, made}
+use Rattle.crack_commands.specs.Texts.{head_text, row_text, field_text}
+
+-- whether there is a space
+abbrev pub has_space : List ℕ → Bool
+has_space [] = false
+has_space (b ∷ bs) = b == 32 || has_space bs
+
+-- the first of the words, and what stands behind it: no word where there is none
+pub record IsFirstWord (bytes word rest : List ℕ) : Type 0 where
+  pub some : is_word word ≡ true → words bytes ≡ word ∷ words rest
+  pub none : is_word word ≡ false → (words bytes ≡ []) × (words rest ≡ [])
+
+-- the number that the first of the words is, if it is one, and what stands behind that word
+abbrev pub IsFirstNumber : List ℕ → Option ℕ → List ℕ → Type 0
+IsFirstNumber bytes number rest = (word : List ℕ) × IsFirstWord bytes word rest × (number ≡ number_of word)
+
+-- the number that digits spell, behind others
+abbrev pub value_on : ℕ → List ℕ → ℕ
+value_on n word = fold (λ n b. n * 10 + (b - 48)) n word
+
+-- a row that was placed
+abbrev pub placed_text : ℕ → Serial → List ℕ
+placed_text part serial = codes "row " ++ decimal part ++ codes "." ++ decimal serial.0 ++ codes "\n"
+
+-- a row that was taken out
+abbrev pub gone_text : Row → List ℕ
+gone_text row = codes "gone " ++ decimal row.key.0 ++ codes " " ++ decimal row.payload.0 ++ codes "\n"
+
+-- rows of a partition: how many there are, and then each of them
+abbrev pub rows_text : ℕ → List Row → List ℕ
+rows_text part rows = head_text (length rows) ++ flat_map (row_text part) rows
+
+-- two names, each with its number behind it
+abbrev pub two_fields : List ℕ → ℕ → List ℕ → ℕ → List ℕ
+two_fields first m second n = first ++ decimal m ++ second ++ decimal n
+
+-- the first line of a layout
+abbrev pub layout_head : ℕ → Layout → List ℕ
+layout_head part layout =
+    two_fields (codes "layout ") part (codes " rows ") layout.rows
+    ++ two_fields (codes " column ") layout.column (codes " out ") layout.pending_out
+    ++ two_fields (codes " in ") layout.pending_in (codes " cells ") layout.cells
+    ++ two_fields (codes " free ") layout.free (codes " pieces ") (length layout.pieces)
+    ++ codes "\n"
+
+-- whether the bit of this number is set
+abbrev pub has_bit : ℕ → ℕ → Bool
+has_bit bits number = bit_at bits number == 1
+
+-- the number of a bit, where it is set
+abbrev pub bit_text : ℕ → ℕ → List ℕ
+bit_text bits number = if has_bit bits number then field_text number else []
+
+-- the line of a refusal's number and of what it carries
+abbrev pub refused_text : ℕ → List ℕ → List ℕ
+refused_text code carried = codes "refused " ++ decimal code ++ carried ++ codes "\n"
+
+-- a key and a payload are small enough
+abbrev pub is_row : ℕ → ℕ → Bool
+is_row key payload = nat_le key GREATEST_KEY && nat_le payload GREATEST_PAYLOAD
+
+-- `insert K V`
+abbrev pub insert_of : List (List ℕ) → Reading
+insert_of arguments = made (λ n. Insert (record { 0 = n.0 }) (record { 0 = n.1 })) (key_and_payload arguments)
+
+-- `delete P.S`
+abbrev pub delete_of : List (List ℕ) → Reading
+delete_of arguments = made Delete (row_number_of (only_word arguments))
+
+-- an update of this row to this key and payload
+abbrev pub update_from : Option RowNo → Option (ℕ × ℕ) → Reading
+update_from row pair = made (λ u. Update u.0 (record { 0 = u.1.0 }) (record { 0 = u.1.1 })) (option_zip row (option_and_then (λ n. if is_row n.0 n.1 then Some n else None) pair))
+
+-- `update P.S K V`
+abbrev pub update_of : List (List ℕ) → Reading
+update_of arguments = made (λ u. Update u.0 (record { 0 = u.1.0 }) (record { 0 = u.1.1 })) (option_zip (row_number_of (slice_index_or arguments 0 [])) (key_and_payload (drop 1 arguments)))
+
+-- the range between these ends, which alone are refused as a bad range
+abbrev pub range_from : Option (ℕ × ℕ) → Result Range Refusal
+range_from (Some (low, high)) = if nat_le low high && nat_le high GREATEST_BOUND then Ok (record { low = low; high = high }) else Err BadRange
+range_from None = Err BadStatement
+
+-- `layout P`
+abbrev pub layout_of : List (List ℕ) → Reading
+layout_of arguments = made AsksLayout (number_up_to GREATEST_PART (only_word arguments))
+
+-- `policy NAME`
+abbrev pub policy_of : List (List ℕ) → Reading
+policy_of arguments = made Policy (policy_named (only_word arguments))
+
+-- `quit`
+abbrev pub quit_of : List (List ℕ) → Reading
+quit_of arguments = if length arguments == 0 then Ok Quit else Err BadStatement

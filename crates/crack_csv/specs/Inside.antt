@@ -1,0 +1,104 @@
+-- What private clauses alone cite.
+use Rattle.std.specs.Prelude.{Err, ◌≡◌, ℕ, ◌+◌, ◌⊎◌, List, [], ◌∷◌, length, map, Option, Some, Bool, true, false, slice_get, slice_set, None}
+use Rattle.std.specs.List.{flat_map}
+use Rattle.std.specs.Io.KnownBytes.{Appends, Keeps}
+use Rattle.csv.specs.Writing.{default_writer, fields_written, has_written, writer_setup}
+use Rattle.csv.specs.declared.writer.Writer.{Writer}
+use Rattle.crack_row.specs.declared.Bound.{Bound}
+use Rattle.crack_row.specs.declared.refusal.Refusal.{Refusal}
+use Rattle.crack_row.specs.declared.refusal.Refusal.TheVariants.{OutOfMemory, WriteFault, ReadFault}
+use Rattle.crack_plain.specs.Plain.{PlainView}
+use Rattle.crack_commands.specs.Texts.{AppendsFront}
+use Rattle.crack_csv.specs.Exports.{record_text, rows_at, asked, AreUnsent}
+use Rattle.crack_csv.specs.Records.{new_row_of}
+use Rattle.crack_csv.specs.Loads.{with_row}
+use Rattle.crack_row.specs.declared.command.Command.{Command}
+use Rattle.crack_row.specs.declared.command.Command.TheVariants.{Insert, Select}
+use Rattle.crack_core.specs.Routes.{keys_of_part}
+use Rattle.crack_core.specs.Steps.{expected, IsOutcome}
+use Rattle.crack_csv.specs.declared.record.NewRow.{NewRow}
+use Rattle.csv.specs.declared.error.ErrorKind.{ErrorKind}
+use Rattle.csv.specs.declared.error.ErrorKind.TheVariants as kind
+use Rattle.csv.specs.Reading.{AreRecords, default_config, Ready, Reached, reader_config, reader_trim, reader_state, is_flexible, source_of}
+use Rattle.csv.specs.declared.parser.State.TheVariants as st
+use Rattle.csv.specs.declared.reader.Reader.{Reader}
+use Rattle.csv.specs.declared.reader.Trim.TheVariants as trim
+
+-- the fields of a record
+abbrev pub Fields : Type 0
+Fields = List (List ℕ)
+
+-- these are all records of a text
+abbrev pub AreAllOf : List ℕ → List Fields → Type 0
+AreAllOf text records = AreRecords default_config st.StartRecord text records
+
+-- the command that inserts a row
+abbrev pub insertion : NewRow → Command
+insertion row = Insert row.key row.payload
+
+-- why the partition of this number, if it is there, doesn't list its rows: as it is to answer
+abbrev pub RefusesList : ℕ → List Bound → ℕ → List PlainView → Refusal → Type 0
+RefusesList limit splits part [] e = ⊥
+RefusesList limit splits part (table ∷ rest) e = IsOutcome (expected limit (keys_of_part splits part) (Some table) (Select (keys_of_part splits part))) (Err e)
+
+-- a writer of CSV writes by default, and stands before a record
+pub record IsFresh {W : Type 0} (writer : Writer W) : Type 0 where
+  pub setup : writer_setup writer ≡ default_writer
+  pub none : fields_written writer ≡ 0
+  pub empty : has_written writer ≡ false
+
+-- A partition is asked for its rows, and a record for each is written.
+pub record IsPartExported (splits : List Bound) (tables : List PlainView) (part count : ℕ) (left : Option (List PlainView)) (out out' : Option (List ℕ)) : Type 0 where
+  pub table : PlainView
+  pub there : slice_get tables part ≡ Some table
+  pub count_is : count ≡ length (rows_at splits part table)
+  pub left_is : left ≡ Some (slice_set tables part (asked table))
+  pub written : Appends out out' (flat_map record_text (rows_at splits part table))
+
+-- why a text isn't written: for want of memory, and nothing of it is; or the writer failed, and a front of it is
+abbrev pub IsUnsent : List ℕ → Refusal → Bool → Bool → Option (List ℕ) → Option (List ℕ) → Type 0
+IsUnsent text e failed failed' out out' = ((e ≡ OutOfMemory) × (failed' ≡ failed) × Keeps out out')
+    ⊎ ((e ≡ WriteFault) × (failed' ≡ true) × AppendsFront out out' text)
+
+-- A partition refuses the list of its rows: all is as it was.
+pub record IsUnlisted (limit : ℕ) (splits : List Bound) (tables : List PlainView) (part : ℕ) (table : PlainView) (e : Refusal) (receipts receipts' : ℕ) (failed failed' : Bool) (left : Option (List PlainView)) (out out' : Option (List ℕ)) : Type 0 where
+  pub cause : RefusesList limit splits part (table ∷ []) e
+  pub left_is : left ≡ Some tables
+  pub receipts_are : receipts' ≡ receipts
+  pub unfailed : failed' ≡ failed
+  pub unwritten : Keeps out out'
+
+-- A partition lists its rows, and their records aren't all written.
+pub record IsUnwritten (splits : List Bound) (tables : List PlainView) (part : ℕ) (table : PlainView) (e : Refusal) (receipts receipts' : ℕ) (failed failed' : Bool) (left : Option (List PlainView)) (out out' : Option (List ℕ)) : Type 0 where
+  pub cause : AreUnsent (map record_text (rows_at splits part table)) e failed failed' out out'
+  pub left_is : left ≡ Some (slice_set tables part (asked table))
+  pub receipts_are : receipts' ≡ receipts + 1
+
+-- The export of a partition is refused.
+pub record IsPartCut (limit : ℕ) (splits : List Bound) (tables : List PlainView) (part : ℕ) (e : Refusal) (receipts receipts' : ℕ) (failed failed' : Bool) (left : Option (List PlainView)) (out out' : Option (List ℕ)) : Type 0 where
+  pub table : PlainView
+  pub there : slice_get tables part ≡ Some table
+  pub how : IsUnlisted limit splits tables part table e receipts receipts' failed failed' left out out'
+      ⊎ IsUnwritten splits tables part table e receipts receipts' failed failed' left out out'
+
+-- a record brings a row, which is inserted
+abbrev pub BringsRow : List Bound → List PlainView → Fields → Option (List PlainView) → Type 0
+BringsRow splits tables fields left = (row : NewRow) × (new_row_of fields ≡ Some row) × (left ≡ Some (with_row splits tables row))
+
+-- the refusal that tells why a record isn't read: no memory was found, or else the reader failed
+abbrev pub unread_by : ErrorKind → Refusal
+unread_by kind.OutOfMemory = OutOfMemory
+unread_by _ = ReadFault
+
+-- a reader reads bytes as CSV by default, records of any number of fields, and takes none of them as a header itself
+pub record IsReady {R : Type 0} (reader : Reader R) : Type 0 where
+  pub config : reader_config reader ≡ default_config
+  pub trim : reader_trim reader ≡ trim.None
+  pub flexible : is_flexible reader ≡ true
+  pub ready : Ready reader
+
+-- a reader of a text stands behind these records
+pub record IsBehind {R : Type 0} (remaining : R → Option (List ℕ)) (reader : Reader R) (text : List ℕ) (records : List Fields) : Type 0 where
+  pub rest : List ℕ
+  pub left : source_of remaining reader ≡ Some rest
+  pub reached : Reached default_config st.StartRecord text records (reader_state reader) rest

@@ -1,0 +1,64 @@
+-- What private clauses alone cite.
+use Rattle.std.specs.Prelude.{◌≡◌, ℕ, ◌+◌, ◌*◌, ◌<◌, ◌≤◌, Bool, true, false, List, [], ◌∷◌, ◌++◌, length, take, Option, Some, ◌==◌, if◌then◌else◌}
+use Rattle.std.specs.Io.KnownBytes.{prepend_known}
+use Rattle.crack_session.specs.declared.input.TheConstants.{READ_BYTES, KEPT_BYTES}
+use Rattle.std.specs.List.{list_any}
+
+-- whether there is a line feed
+abbrev pub has_feed : List ℕ → Bool
+has_feed bytes = list_any (λ b. b == 10) bytes
+
+-- the bytes before the first line feed
+abbrev pub first_line : List ℕ → List ℕ
+first_line [] = []
+first_line (b ∷ bs) = if b == 10 then [] else b ∷ first_line bs
+
+-- the bytes behind the first line feed
+abbrev pub after_line : List ℕ → List ℕ
+after_line [] = []
+after_line (b ∷ bs) = if b == 10 then bs else after_line bs
+
+-- a line's bytes as far as a session keeps them: more make it too long however many they are
+abbrev pub kept_of : List ℕ → List ℕ
+kept_of line = take KEPT_BYTES line
+
+-- the line that was found last, or as much of the next one as is read; whether what isn't used yet stands
+-- right behind it; what is read and not yet used; how many more reads there may be; whether a read brought nothing
+pub record Input : Type 0 where
+  pub line : List ℕ
+  pub joined : Bool
+  pub unread : List ℕ
+  pub reads : ℕ
+  pub ended : Bool
+
+-- the bytes that are still to come, where they are known
+abbrev pub ahead : Input → Option (List ℕ) → Option (List ℕ)
+ahead input remaining = prepend_known input.unread remaining
+
+-- once a read brought nothing, nothing is left to read
+abbrev pub KnowsEnd : Input → Option (List ℕ) → Type 0
+KnowsEnd input remaining = input.ended ≡ true → (bytes : List ℕ) → remaining ≡ Some bytes → bytes ≡ []
+
+-- each read brought a byte, but for one that brought nothing
+abbrev pub IsPaid : Input → Input → Option (List ℕ) → Option (List ℕ) → Type 0
+IsPaid old new remaining remaining' = new.ended ≡ false → (old.ended ≡ false)
+    × ((bytes : List ℕ) → remaining ≡ Some bytes → (rest : List ℕ) × (remaining' ≡ Some rest)
+    × (length rest + old.reads ≤ length bytes + new.reads))
+
+-- falls with each line
+abbrev pub left_of : Input → ℕ
+left_of input = (READ_BYTES + 1) * input.reads + length input.unread
+
+-- From these bytes on, there was no line, or this was the next one, as far as lines are kept; what is ahead then is new.
+abbrev pub IsNextLine : List ℕ → Bool → List ℕ → Option (List ℕ) → Type 0
+IsNextLine bytes false line new = bytes ≡ []
+IsNextLine bytes true line new = (0 < length bytes) × (kept_of line ≡ kept_of (first_line bytes))
+    × (new ≡ Some (after_line bytes))
+
+-- From these bytes on, what was taken is the begin of a line: it has no line feed.
+pub record IsBegun (bytes : List ℕ) (remaining : Option (List ℕ)) : Type 0 where
+  pub front : List ℕ
+  pub rest : List ℕ
+  pub split : bytes ≡ front ++ rest
+  pub none : has_feed front ≡ false
+  pub left : remaining ≡ Some rest

@@ -1,0 +1,80 @@
+-- What private clauses alone cite.
+use Rattle.std.specs.List.{flat_map}
+use Rattle.std.specs.Prelude.{◌≡◌, ℕ, ◌+◌, ◌⊎◌, ◌++◌, sum_by, Bool, true, false, List, Option, None, Some, Result, is_ok, OnOk, IfErr, if◌then◌else◌}
+use Rattle.std.specs.Io.KnownBytes.{Appends}
+use Rattle.crack_row.specs.Devices.{device, has_failed}
+use Rattle.crack_row.specs.declared.Bound.{Bound}
+use Rattle.crack_row.specs.declared.command.Policy.{Policy as MergePolicy}
+use Rattle.crack_row.specs.declared.refusal.Refusal.{Refusal}
+use Rattle.crack_row.specs.declared.refusal.Refusal.TheVariants.{WriteFault}
+use Rattle.crack_row.specs.declared.watched.Watched.{Watched}
+use Rattle.crack_plain.specs.Plain.{PlainView}
+use Rattle.crack_commands.specs.Grammar.{Reading}
+use Rattle.crack_commands.specs.Texts.{AppendsFront}
+use Rattle.crack_session.specs.declared.answer.Answer.{Answer}
+use Rattle.crack_session.specs.declared.session.Progress.{Progress}
+use Rattle.crack_row.specs.Ranges.{Range}
+use Rattle.crack_row.specs.declared.refusal.Refusal.TheVariants.{OutOfMemory}
+use Rattle.crack_commands.specs.Texts.{head_text, row_text}
+use Rattle.crack_session.specs.declared.answer.Answer.TheVariants.{Set, Refused}
+use Rattle.crack_session.specs.declared.query.PartReply.{PartReply}
+use Rattle.crack_session.specs.declared.query.Query.{Query}
+use Rattle.crack_session.specs.Queries.{counted, summed, listed}
+use Rattle.crack_session.specs.Answers.{IsJoined, IsAnswer, is_short_answer, answer_text}
+
+-- A desk is asked: its tables, where they are known, change as they may by its limit and splits, and these stay.
+pub record AsksDesk {D : Type 0} (limit : D → ℕ) (splits : D → List Bound) (tables : D → Option (List PlainView)) (IsChange : ℕ → List Bound → List PlainView → List PlainView → Type 0) (old new : D) : Type 0 where
+  pub is : (known : List PlainView) → tables old ≡ Some known → (next : List PlainView) × IsChange (limit old) (splits old) known next × (tables new ≡ Some next)
+  pub limit_is : limit new ≡ limit old
+  pub splits_are : splits new ≡ splits old
+
+-- the first want of room, after the n-th statement
+abbrev pub marked : Option ℕ → ℕ → Bool → Option ℕ
+marked (Some k) n short = Some k
+marked None n true = Some n
+marked None n false = None
+
+-- the session's policy after an answer
+abbrev pub policy_after : MergePolicy → Answer → MergePolicy
+policy_after policy (Set next) = next
+policy_after policy _ = policy
+
+-- All of a text is written, or, where the writer failed, a front of it that is shorter.
+pub record Writes {W : Type 0} (contents : W → Option (List ℕ)) (text : List ℕ) (result : Result (Unit {0}) Refusal) (old new : Watched W) : Type 0 where
+  pub ok : OnOk result (Appends (contents (device old)) (contents (device new)) text)
+  pub unfailed : OnOk result (has_failed new ≡ has_failed old)
+  pub err : IfErr result (λ e. (e ≡ WriteFault) × (has_failed new ≡ true))
+  pub front : IfErr result (λ _. AppendsFront (contents (device old)) (contents (device new)) text)
+
+-- An answer is told: a first want of room and another policy are noted, its text is written, and it is counted where that is whole.
+pub record Tells {W : Type 0} (contents : W → Option (List ℕ)) (answer : Answer) (old new : Progress) (result : Result (Unit {0}) Refusal) (writer writer' : Watched W) : Type 0 where
+  pub count : new.statements ≡ (if is_ok result then old.statements + 1 else old.statements)
+  pub short : new.first_short ≡ marked old.first_short (old.statements + 1) (is_short_answer answer)
+  pub policy : new.policy ≡ policy_after old.policy answer
+  pub writes : Writes contents (answer_text answer) result writer writer'
+
+-- A statement is answered at a desk, and the answer is told.
+pub record Responds {D W : Type 0} (limit : D → ℕ) (splits : D → List Bound) (tables : D → Option (List PlainView)) (contents : W → Option (List ℕ)) (reading : Reading) (old new : Progress) (result : Result (Unit {0}) Refusal) (desk desk' : D) (writer writer' : Watched W) : Type 0 where
+  pub answer : Answer
+  pub asks : AsksDesk limit splits tables (λ limit splits tables. IsAnswer limit splits tables reading answer) desk desk'
+  pub tells : Tells contents answer old new result writer writer'
+
+-- how many rows these count or list, all together
+abbrev pub rows_told : List PartReply → ℕ
+rows_told replies = sum_by (λ (r : PartReply). counted r.reply) replies
+
+-- their sums, added
+abbrev pub sum_told : List PartReply → ℕ
+sum_told replies = sum_by (λ (r : PartReply). summed r.reply) replies
+
+-- the rows that a partition listed
+abbrev pub list_text : PartReply → List ℕ
+list_text r = flat_map (row_text r.part) (listed r.reply)
+
+-- the lists of several partitions: how many rows there are in all, and then each row
+abbrev pub lists_text : ℕ → List PartReply → List ℕ
+lists_text total replies = head_text total ++ flat_map list_text replies
+
+-- Several partitions are asked: in turn, or none of them, where no memory is found for their replies.
+abbrev pub AsksSeveral : ℕ → List Bound → List PlainView → Query → List (ℕ × Range) → Answer → List PlainView → Type 0
+AsksSeveral limit splits tables query parts answer new = IsJoined limit splits tables query parts answer new ⊎ ((answer ≡ Refused OutOfMemory) × (new ≡ tables))
