@@ -12,7 +12,7 @@ With --before it compares crackd and crack_bench with those of another checkout,
 and the same files. Prints the ratio of this checkout's to those of FOLDER, a line for each thing; nothing is bounded. What FOLDER's crack_bench
 doesn't know is said and passed over.
 
-With --report it writes docs/BENCHMARKS.md with its plots, and nothing else.
+With --report it writes docs/BENCHMARKS.md with its plots, and nothing else. A Redis sorted set is compared there, where `redis-server` is installed.
 
 With --small everything is so small that it shows only whether all runs and answers the same, once; a report then goes to bench/out.
 """
