@@ -56,7 +56,7 @@ fn whole_parts(parts: &[&[u8]], bytes: usize) -> (u64, usize) {
         left -= part.len();
         count = count.saturating_add(1);
     }
-    (count, bytes - left)
+    (count, bytes.saturating_sub(left))
 }
 
 /// What is seen of a session.

@@ -112,12 +112,9 @@ fn assert_layout(rt: &impl Abort, layout: &Layout) {
         whole.fold(0u64, |sum, size| sum.saturating_add(size)),
         layout.column
     );
-    let column = u128::from(layout.column);
-    let pending = u128::from(layout.pending_in);
-    let cells = column + pending + u128::from(layout.free);
-    assert_eq!(rt; cells, u128::from(layout.cells));
-    let rows = u128::from(layout.rows) + u128::from(layout.pending_out);
-    assert_eq!(rt; rows, column + pending);
+    let placed = layout.column.saturating_add(layout.pending_in);
+    assert_eq!(rt; placed.saturating_add(layout.free), layout.cells);
+    assert_eq!(rt; layout.rows.saturating_add(layout.pending_out), placed);
 }
 
 /// Has one line answered by a core, and by a plain table if the core finds memory for it; says whether it didn't.
