@@ -105,13 +105,16 @@ def a_server_with_closed_descriptors(program):
 
 
 def full_devices(program):
-    """A full device is 18, also where a server has nothing but its first line to write, or its totals."""
+    """A full device is 18, also for a server's first line; one in the place of standard error changes no exit status."""
     full = os.open("/dev/full", os.O_WRONLY)
     try:
         serving = ["serve", "--port", str(server.free_port()), "--workers", "1", "--sessions", "0"]
         for words, given in [*((it[0], it[1]) for it in SUBCOMMANDS), (["--help"], b""), (serving, b"")]:
             ran = subprocess.run([program, *words], input=given, stdout=full, stderr=subprocess.PIPE, timeout=SECONDS, check=False)
             server.expect(f"{words}", (1, WRITE_FAULT), (ran.returncode, ran.stderr))
+        for words, status in [(["script", "0"], 1), (["nothing"], 2)]:
+            ran = subprocess.run([program, *words], stdout=subprocess.PIPE, stderr=full, timeout=SECONDS, check=False)
+            server.expect(f"{words}, and standard error is full", (status, b""), (ran.returncode, ran.stdout))
     finally:
         os.close(full)
 
