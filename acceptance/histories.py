@@ -21,7 +21,7 @@ ENDS = [0, *SPLITS, MOST]
 PARTS = range(len(ENDS) - 1)
 POLICIES = ["complete", "gradual", "ripple"]
 WORKERS = 4
-STATEMENTS = 1000
+STATEMENTS, STATEMENTS_OF_A_SOAK = 1000, 10000
 SEEDS = range(1, 11)
 SECONDS = 60
 MOST_ENTRIES = 1000000
@@ -87,7 +87,7 @@ class Rows:
 
     def take(self, serial):
         key, payload = self.rows.pop(serial)
-        self.keys.remove((key, serial))
+        del self.keys[bisect.bisect_left(self.keys, (key, serial))]
         return key, payload
 
     def between(self, low, high):
@@ -261,6 +261,11 @@ def fault(program, seed, statements=STATEMENTS, counted=None):
         if counted is not None:
             counted.update(entries=entries, follows=follows)
     return None
+
+
+def soak_fault(crackd, seed):
+    """The same of the program that was built beside `crackd`, of ten times as many statements."""
+    return fault(pathlib.Path(crackd).resolve().parents[2] / "crack_histories" / "out" / "crack_histories", seed, STATEMENTS_OF_A_SOAK)
 
 
 def run(program, seeds=SEEDS, statements=STATEMENTS):

@@ -1,6 +1,6 @@
 #!/usr/bin/env python3
 """Runs the gate without the must-fail edits, and then the acceptance cases, the random scripts, the cases of many clients, of bad ones and of hostile
-input on the program that it built, the examples, and the cases of the tools.
+input on the program that it built, the examples, the cases of the tools, and the histories of threads.
 
 The gate, `rt ci`, proves every crate from nothing, runs the tests, and runs each program as both compilers build it. It has no switch for the edits, so
 it runs on a copy of this checkout that has none, and what it built is brought back: `make run` and `make edits` prove nothing again that it has proved.
@@ -21,11 +21,13 @@ TOP = pathlib.Path(__file__).resolve().parent.parent
 sys.path.insert(0, str(TOP / "tools"))
 
 import check_clients
+import check_histories
 import check_hostile
 import check_tools
 import clients
 import crates
 import examples
+import histories
 import hostile
 import processor
 import prove
@@ -35,6 +37,7 @@ import run
 import server
 
 PROGRAM = TOP / "crates" / "crackd" / "out" / "crackd"
+HISTORIES = TOP / "crates" / "crack_histories" / "out" / "crack_histories"
 SUM = re.compile(r"(\d+) passed, (\d+) failed")
 # What a copy leaves out, wherever it stands, and what it leaves out of each crate.
 LEFT_OUT = {".git", "__pycache__"}
@@ -133,6 +136,8 @@ def test_all():
     else:
         print("acceptance: the gate left no program, so no case was run")
         more_passed, more_failed = 0, 1
+    of_threads = [check_histories.run_all(), histories.run(HISTORIES) if HISTORIES.exists() else (0, 1)]
+    passed, failed = (sum(it) for it in zip((passed, failed), *of_threads))
     print("\n".join(times), flush=True)
     return passed + more_passed, failed + more_failed
 

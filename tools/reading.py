@@ -18,7 +18,7 @@ import sources
 # the crates of tests and of measurements, which promise nothing
 LEFT_OUT = {
     *("crack_tests", "crack_session_tests", "crack_table_tests", "crack_server_tests", "crack_failing"),
-    *("crack_bench", "crack_bench_workers"),
+    *("crack_bench", "crack_bench_workers", "crack_histories"),
 }
 HEADLINE = "headline"
 CALLS = re.compile(r"`([\w:]+)::(\w+|\{[\w, ]+\})`(?: \(((?:`\w+`(?:, )?)+)\))?")

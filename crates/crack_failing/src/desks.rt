@@ -1,4 +1,6 @@
 //! Desks that refuse. The desk beside which they are held is the plain table, which `crack_session` has as one.
+ghost use Rattle.std.specs.Prelude.{◌≡◌};
+
 use crack_plain::PlainTable;
 use crack_row::{Bound, Command, Layout, Policy, Refusal, Reply};
 use crack_session::Desk;

@@ -19,6 +19,7 @@ impl Sink {
     /// A writer that takes all that it is given, behind the bytes that are there, and never fails but where it finds no memory for them.
     pub fn new(bytes: Vec<u8>) -> Sink
         ensures bytes { result.bytes ≡ bytes }
+        ensures whole { result.most ≡ 2 ^ 64 - 1 }
         ensures never { (result.calls ≡ 0) × (result.fails_at ≡ 2 ^ 64 - 1) }
     {
         Sink {

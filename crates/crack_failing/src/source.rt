@@ -1,6 +1,7 @@
 //! A reader over memory that cuts what it gives, and fails.
-ghost use Rattle.std.specs.Prelude.{◌≡◌, ◌+◌, ◌<◌, ◌^◌, ◌-◌, min, drop, Some, is_ok, nat_lt, IfOk};
+ghost use Rattle.std.specs.Prelude.{◌≡◌, ◌+◌, ◌<◌, ◌^◌, ◌-◌, [], min, length, drop, Some, is_ok, nat_lt, IfOk};
 ghost use Rattle.std.specs.Io.{ReadsAtMost};
+ghost use Rattle.crack_failing.specs.Sizes.{most_at};
 ghost use Rattle.std.specs.Io.KnownBytes.{ReadConsumes};
 
 use std::io;
@@ -22,6 +23,7 @@ impl<'a> Source<'a> {
     /// A reader that gives all that there is room for, and never fails.
     pub fn new(bytes: &'a [u8]) -> Source<'a>
         ensures bytes { result.bytes.now ≡ bytes.now }
+        ensures whole { result.sizes.now ≡ [] }
         ensures never { (result.reads ≡ 0) × (result.fails_at ≡ 2 ^ 64 - 1) }
     {
         Source {
@@ -62,8 +64,9 @@ impl<'a> Source<'a> {
     }
 
     /// How many bytes the next read may give.
-    fn size(&self) -> usize
-        ensures { 0 < result }
+    fn most(&self) -> usize
+        ensures value { result ≡ most_at self.now.sizes.now self.now.reads }
+        ensures some { 0 < result }
     {
         if self.sizes.is_empty() {
             return usize::MAX;
@@ -82,9 +85,10 @@ impl Read for Source<'_> {
         ensures fails { is_ok result ≡ nat_lt self.new.reads self.old.fails_at }
         ensures reads { self.new.reads ≡ min (self.old.reads + 1) (2 ^ 64 - 1) }
         ensures kept { (self.new.fails_at ≡ self.old.fails_at) × (self.new.sizes.now ≡ self.old.sizes.now) }
+        ensures gives { IfOk result (λ n. n ≡ min (min (length buf.old) (most_at self.old.sizes.now self.old.reads)) (length self.old.bytes.now)) }
         ensures rest { IfOk result (λ n. self.new.bytes.now ≡ drop n self.old.bytes.now) }
     {
-        let most = self.size();
+        let most = self.most();
         self.reads = self.reads.saturating_add(1);
         if self.reads >= self.fails_at {
             return Err(io::Error::from(io::ErrorKind::BrokenPipe));

@@ -12,7 +12,7 @@ mod gate;
 mod pool;
 mod texts;
 
-use crack_row::{Policy, Watched};
+use crack_row::{Policy, Refusal, Watched};
 use pool::{Plan, Pool, write_closed};
 use std::alloc::Global;
 use std::io::{BufWriter, Write};
@@ -48,7 +48,7 @@ fn plan_of(words: &[&str]) -> anyhow::Result<Plan> {
 }
 
 /// Has the workers ask, and writes what they were answered, and the histories.
-fn run<R: Host, W: Write>(rt: &R, plan: Plan, writer: &mut Watched<W>) -> anyhow::Result<()> {
+fn run<R: Host, W: Write>(rt: &R, plan: Plan, writer: &mut Watched<W>) -> Result<(), Refusal> {
     let mut pool = Pool::open(rt.alloc(), plan)?;
     if let Err(error) = work(rt, plan, &mut pool, writer) {
         drop(pool);
@@ -65,7 +65,7 @@ fn work<R: Host, W: Write>(
     plan: Plan,
     pool: &mut Pool,
     writer: &mut Watched<W>,
-) -> anyhow::Result<()> {
+) -> Result<(), Refusal> {
     pool.work(rt, rt.alloc(), plan)?;
     pool.write(writer)
 }
@@ -75,5 +75,6 @@ fn main(rt: HostRuntime) -> anyhow::Result<()> {
     let words: Vec<&str> = words.iter().map(|it| it.as_str()).collect(rt.alloc())?;
     let plan = plan_of(words.as_slice())?;
     let mut writer = Watched::new(BufWriter::new(rt.alloc(), rt.stdout())?);
-    run(&rt, plan, &mut writer)
+    run(&rt, plan, &mut writer)?;
+    Ok(())
 }

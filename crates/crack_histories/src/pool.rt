@@ -2,7 +2,7 @@
 
 use crate::draws::{Draws, Question, SPLITS};
 use crate::gate::Restless;
-use crate::texts::{write_answer, write_entry, write_receipt};
+use crate::texts::{write_answer, write_entry, write_receipt, written};
 use crack_commands::send;
 use crack_part::Partition;
 use crack_row::{Policy, Refusal, Watched};
@@ -64,15 +64,15 @@ impl Hand {
     }
 
     /// Writes what was asked and answered, and then the receipts.
-    fn write<W: Write>(&self, writer: &mut Watched<W>) -> anyhow::Result<()> {
+    fn write<W: Write>(&self, writer: &mut Watched<W>) -> Result<(), Refusal> {
         if self.cut {
-            return Err(anyhow::anyhow!("no memory for an answer's text"));
+            return Err(Refusal::OutOfMemory);
         }
         let book = self.worker.book();
         let worker = book.worker();
-        writeln!(writer, "worker {worker}")?;
+        written(writeln!(writer, "worker {worker}"))?;
         send(writer, self.told.as_slice())?;
-        writeln!(writer, "receipts {worker}")?;
+        written(writeln!(writer, "receipts {worker}"))?;
         'receipts: for receipt in book.receipts() {
             write_receipt(receipt, writer)?;
         }
@@ -109,7 +109,7 @@ impl Pool {
     }
 
     /// Writes what the workers asked and were answered, a worker behind the other.
-    pub fn write<W: Write>(&self, writer: &mut Watched<W>) -> anyhow::Result<()> {
+    pub fn write<W: Write>(&self, writer: &mut Watched<W>) -> Result<(), Refusal> {
         'hands: for hand in self.hands.iter() {
             hand.write(writer)?;
         }
@@ -150,26 +150,27 @@ fn workers_of(alloc: Global, hands: Vec<Hand>) -> Result<Vec<Worker>, AllocError
 }
 
 /// Writes the histories, a partition behind the other, and the totals.
-pub fn write_closed<W: Write>(closed: &Closed, writer: &mut Watched<W>) -> anyhow::Result<()> {
-    'parts: for (part, partition) in closed.parts.iter().enumerate() {
-        write_history(part as u32, partition, writer)?;
+pub fn write_closed<W: Write>(closed: &Closed, writer: &mut Watched<W>) -> Result<(), Refusal> {
+    let mut part = 0u32;
+    'parts: for partition in closed.parts.iter() {
+        write_history(part, partition, writer)?;
+        part = part.wrapping_add(1);
     }
     let (accepted, inserted) = (closed.accepted, closed.inserted);
     let (deleted, held) = (closed.deleted, closed.held);
-    writeln!(
+    written(writeln!(
         writer,
         "accepted {accepted} inserted {inserted} deleted {deleted} held {held}"
-    )?;
-    writer.flush()?;
-    Ok(())
+    ))?;
+    written(writer.flush())
 }
 
 fn write_history<W: Write>(
     part: u32,
     partition: &Partition,
     writer: &mut Watched<W>,
-) -> anyhow::Result<()> {
-    writeln!(writer, "partition {part}")?;
+) -> Result<(), Refusal> {
+    written(writeln!(writer, "partition {part}"))?;
     'entries: for entry in partition.history() {
         write_entry(part, entry, writer)?;
     }

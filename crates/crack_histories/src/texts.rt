@@ -1,4 +1,4 @@
-//! Questions and answers as lines: a statement, and behind it the lines of its reply.
+//! Questions and answers as lines: a statement, and behind it the lines of its reply. Refused with 18 where the writer fails.
 
 use crack_commands::{write_refusal, write_reply};
 use crack_core::Receipt;
@@ -6,13 +6,21 @@ use crack_row::{Command, Entry, KeyRange, Refusal, Reply, Watched};
 use std::io;
 use std::io::Write;
 
+/// What came of a writing.
+pub fn written(line: io::Result<()>) -> Result<(), Refusal> {
+    match line {
+        Ok(()) => Ok(()),
+        Err(_) => Err(Refusal::WriteFault),
+    }
+}
+
 /// Writes a command as a session has it.
 fn write_command<W: Write>(
     part: u32,
     command: &Command,
     writer: &mut Watched<W>,
-) -> io::Result<()> {
-    match *command {
+) -> Result<(), Refusal> {
+    let line = match *command {
         Command::Insert { key, payload } => { writeln!(writer, "insert {} {}", key.0, payload.0) }
         Command::Delete { serial } => writeln!(writer, "delete {part}.{}", serial.0),
         Command::Update {
@@ -23,12 +31,35 @@ fn write_command<W: Write>(
         Command::Count(range) => write_query("count", range, writer),
         Command::Sum(range) => write_query("sum", range, writer),
         Command::Select(range) => write_query("select", range, writer),
-    }
+    };
+    written(line)
 }
 
 fn write_query<W: Write>(name: &str, range: KeyRange, writer: &mut Watched<W>) -> io::Result<()> {
     let (low, high) = (range.low().0, range.high().0);
     writeln!(writer, "{name} {low} {high}")
+}
+
+/// Writes a command, and what was replied to it.
+fn write_replied<W: Write>(
+    part: u32,
+    command: &Command,
+    reply: &Reply,
+    writer: &mut Watched<W>,
+) -> Result<(), Refusal> {
+    write_command(part, command, writer)?;
+    write_reply(part, reply, writer)
+}
+
+/// Writes a command, and why it was refused.
+fn write_refused<W: Write>(
+    part: u32,
+    command: &Command,
+    refusal: &Refusal,
+    writer: &mut Watched<W>,
+) -> Result<(), Refusal> {
+    write_command(part, command, writer)?;
+    write_refusal(refusal, writer)
 }
 
 /// Writes what a partition was asked, and what it answered.
@@ -37,29 +68,19 @@ pub fn write_answer<W: Write>(
     command: &Command,
     answer: &Result<Reply, Refusal>,
     writer: &mut Watched<W>,
-) -> anyhow::Result<()> {
-    write!(writer, "{part} ")?;
-    write_command(part, command, writer)?;
+) -> Result<(), Refusal> {
+    written(write!(writer, "{part} "))?;
     match answer {
-        Ok(reply) => write_reply(part, reply, writer)?,
-        Err(refusal) => write_refusal(refusal, writer)?,
+        Ok(reply) => write_replied(part, command, reply, writer),
+        Err(refusal) => write_refused(part, command, refusal, writer),
     }
-    Ok(())
 }
 
 /// Writes a receipt: its partition, position and worker, and what was asked and replied.
-pub fn write_receipt<W: Write>(receipt: &Receipt, writer: &mut Watched<W>) -> anyhow::Result<()> {
-    let Receipt {
-        part,
-        position,
-        worker,
-        command,
-        reply,
-    } = receipt;
-    write!(writer, "{part} {position} {worker} ")?;
-    write_command(*part, command, writer)?;
-    write_reply(*part, reply, writer)?;
-    Ok(())
+pub fn write_receipt<W: Write>(receipt: &Receipt, writer: &mut Watched<W>) -> Result<(), Refusal> {
+    let (part, position, worker) = (receipt.part, receipt.position, receipt.worker);
+    written(write!(writer, "{part} {position} {worker} "))?;
+    write_replied(part, &receipt.command, &receipt.reply, writer)
 }
 
 /// Writes an entry: its worker, and what was asked and replied.
@@ -67,14 +88,8 @@ pub fn write_entry<W: Write>(
     part: u32,
     entry: &Entry,
     writer: &mut Watched<W>,
-) -> anyhow::Result<()> {
-    let Entry {
-        worker,
-        command,
-        reply,
-    } = entry;
-    write!(writer, "{worker} ")?;
-    write_command(part, command, writer)?;
-    write_reply(part, reply, writer)?;
-    Ok(())
+) -> Result<(), Refusal> {
+    let worker = entry.worker;
+    written(write!(writer, "{worker} "))?;
+    write_replied(part, &entry.command, &entry.reply, writer)
 }

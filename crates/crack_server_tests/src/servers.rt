@@ -136,7 +136,40 @@ fn clients_who_break_off_harm_nobody(rt: HostRuntime) -> Result<(), Fail> {
     let written = written?;
     let (first, last) = answered?;
     assert_eq!(rt; first.as_slice(), b"row 0.0\nrefused 1\n".as_slice());
-    assert!(rt; last.as_slice() == b"count 0\n" || last.as_slice() == b"count 1\n");
+    let last = last.as_slice();
+    assert!(rt; last == b"count 0\n".as_slice() || last == b"count 1\n".as_slice());
+    assert_eq!(rt;
+        written.as_slice(),
+        b"accepted 2 inserted 1 deleted 0 held 1\n".as_slice()
+    );
+    Ok(())
+}
+
+/// What a client is answered behind one that reads a byte of its reply and goes: what is left of the reply resets the connection, which cuts that
+/// one's session off.
+fn behind_one_cut_off<N: Net<Listener = TcpListener, Stream = TcpStream>>(
+    rt: &N,
+    alloc: Global,
+    port: u16,
+) -> io::Result<Vec<u8>> {
+    let mut first = sender(rt, port, b"insert 7 70\n")?;
+    first.read_exact(&mut [0u8; 1])?;
+    drop(first);
+    client(rt, alloc, port, b"count 0 4294967296\nquit\n")
+}
+
+#[test]
+fn a_session_that_is_cut_off_ends_no_other(rt: HostRuntime) -> Result<(), Fail> {
+    let alloc: Global = rt.alloc();
+    let listener = TcpListener::bind(&rt, "127.0.0.1:0")?;
+    let port = listener.local_addr()?.port();
+    let (written, answered) = thread::join(
+        &rt,
+        || server(&rt, alloc, &listener, 1, 2),
+        || behind_one_cut_off(&rt, alloc, port),
+    );
+    let (written, answered) = (written?, answered?);
+    assert_eq!(rt; answered.as_slice(), b"count 1\nbye\n".as_slice());
     assert_eq!(rt;
         written.as_slice(),
         b"accepted 2 inserted 1 deleted 0 held 1\n".as_slice()

@@ -1,0 +1,157 @@
+#!/usr/bin/env python3
+"""Tries that histories.py finds what is wrong with what was printed: a right text, written here by hand, passes, and each wrong one doesn't."""
+
+import histories
+
+WORKERS, STATEMENTS, LIMIT = 2, 5, 5
+# five of the first partition's commands are kept, and two of the second's
+RIGHT = """\
+worker 0
+0 insert 5 50
+row 0.0
+1 insert 1500 7
+row 1.0
+0 count 0 10
+count 2
+0 delete 0.1
+gone 6 60
+1 select 0 4294967296
+rows 1
+1.0 1500 7
+receipts 0
+0 0 0 insert 5 50
+row 0.0
+1 0 0 insert 1500 7
+row 1.0
+0 3 0 count 0 10
+count 2
+0 4 0 delete 0.1
+gone 6 60
+1 1 0 select 0 4294967296
+rows 1
+1.0 1500 7
+worker 1
+0 insert 6 60
+row 0.1
+0 update 0.0 8 80
+changed
+0 sum 0 10
+refused 6 5
+0 insert 1500 1
+refused 4
+3 delete 3.0
+refused 5
+receipts 1
+0 1 1 insert 6 60
+row 0.1
+0 2 1 update 0.0 8 80
+changed
+partition 0
+0 insert 5 50
+row 0.0
+1 insert 6 60
+row 0.1
+1 update 0.0 8 80
+changed
+0 count 0 10
+count 2
+0 delete 0.1
+gone 6 60
+partition 1
+0 insert 1500 7
+row 1.0
+0 select 0 4294967296
+rows 1
+1.0 1500 7
+partition 2
+accepted 7 inserted 3 deleted 1 held 2
+"""
+UPDATED = "0 2 1 update 0.0 8 80\nchanged\n"
+# what is wrong, and each text with what stands in its place
+WRONG = {
+    "a reply that no list gives": [("count 2\n", "count 3\n")],
+    "a row that isn't there": [("1.0 1500 7\n", "1.0 1500 8\n")],
+    "an answer that is no receipt's": [("worker 0\n0 insert 5 50\nrow 0.0", "worker 0\n0 insert 5 50\nrow 0.1")],
+    "a receipt that is lost": [(UPDATED, "")],
+    "a receipt that comes twice": [(UPDATED, UPDATED * 2)],
+    "a receipt of a refused command": [(UPDATED, UPDATED + "0 5 1 sum 0 10\nsum 0\n")],
+    "a receipt of another worker": [("0 2 1 update", "0 2 0 update")],
+    "a receipt of another place": [("0 3 0 count", "0 5 0 count")],
+    "two places exchanged": [("0 3 0 count", "0 9 0 count"), ("0 4 0 delete", "0 3 0 delete"), ("0 9 0 count", "0 4 0 count")],
+    "an entry of another worker": [("1 update 0.0 8 80\nchanged\n0 count", "0 update 0.0 8 80\nchanged\n0 count")],
+    "an entry that no receipt has": [("partition 2\n", "partition 2\n0 count 0 1\ncount 0\n")],
+    "a history that isn't full": [("refused 6 5", "refused 6 4")],
+    "a key that is the partition's": [("0 insert 1500 1\n", "0 insert 150 1\n")],
+    "a gate that gave up": [("refused 4\n", "refused 7\n")],
+    "no memory": [("refused 5\n", "refused 8\n")],
+    "another number of insertions": [("inserted 3", "inserted 4")],
+    "another number of rows": [("held 2", "held 3")],
+    "a gathering that was refused": [(RIGHT[RIGHT.index("partition 0") :], "")],
+}
+# two workers who each saw the other's insert before their own: no order of all has it so
+NO_ORDER = """\
+worker 0
+0 insert 1 0
+row 0.1
+1 insert 1001 0
+row 1.0
+receipts 0
+0 1 0 insert 1 0
+row 0.1
+1 0 0 insert 1001 0
+row 1.0
+worker 1
+1 insert 1002 0
+row 1.1
+0 insert 2 0
+row 0.0
+receipts 1
+1 1 1 insert 1002 0
+row 1.1
+0 0 1 insert 2 0
+row 0.0
+partition 0
+1 insert 2 0
+row 0.0
+0 insert 1 0
+row 0.1
+partition 1
+0 insert 1001 0
+row 1.0
+1 insert 1002 0
+row 1.1
+partition 2
+accepted 4 inserted 4 deleted 0 held 4
+"""
+
+
+def is_right(text, statements=STATEMENTS):
+    try:
+        histories.check(histories.Printed(text), WORKERS, statements, LIMIT)
+    except histories.Wrong:
+        return False
+    return True
+
+
+def altered(pairs):
+    text = RIGHT
+    for old, new in pairs:
+        assert old in text, old
+        text = text.replace(old, new)
+    return text
+
+
+def run_all():
+    """Tries all texts. How many passed, and how many failed."""
+    failed = [] if is_right(RIGHT) else ["the right text"]
+    failed += [what for what, pairs in WRONG.items() if is_right(altered(pairs))]
+    failed += ["no order of all"] if is_right(NO_ORDER, 2) else []
+    for it in failed:
+        print(f"check histories: {it} FAILED")
+    tried = len(WRONG) + 2
+    print(f"check histories: {tried - len(failed)} passed, {len(failed)} failed", flush=True)
+    return tried - len(failed), len(failed)
+
+
+if __name__ == "__main__":
+    raise SystemExit(1 if run_all()[1] else 0)
