@@ -214,5 +214,5 @@ def check_totals(line, counts):
 
 
 def most_bytes(accepted, listed, sessions):
-    """How many bytes a server may take beyond those of its start, for so many sessions at a time."""
+    """How many bytes a server may take beyond those of its start, behind so many sessions."""
     return BYTES_OF_A_COMMAND * accepted + BYTES_OF_A_LISTED_ROW * listed + BYTES_OF_A_SESSION * sessions

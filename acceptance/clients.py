@@ -24,7 +24,7 @@ from server import MOST, MOST_WORKERS, SECONDS, Wrong, expect, started
 SEED, SESSIONS, SLOW_SECONDS = 1, 400, 8
 MOST_SESSIONS, MOST_SECONDS = 3000, 40
 # how many keys each client has, how many splits there are, and how many connections may wait for a worker
-WIDTH, SPLITS, WAITING = 1_000_000, 7, 64
+WIDTH, SPLITS, WAITING = 1_000_000, 7, 32
 BACKLOG = 16
 
 
@@ -185,7 +185,7 @@ class Storm:
         own = {"least": 2 * parts, "most": 2 * parts, "inserted": parts, "deleted": 0, "listed": len(account.rows)}
         counts = {name: it + own[name] for name, it in counts.items()}
         accepted = check_totals(wrote, counts)
-        took, most = peak.bytes - peak.first, most_bytes(accepted, counts["listed"], self.workers)
+        took, most = peak.bytes - peak.first, most_bytes(accepted, counts["listed"], self.sessions)
         if took > most:
             raise Wrong(f"memory: at most {most} bytes were wanted, and {took} taken")
         return {"sessions": self.sessions, "accepted": accepted, "listed": counts["listed"], "bytes": took, "most": most}
@@ -201,7 +201,7 @@ def fault(program, seed):
     """What is wrong with a run of a size that the seed draws, or None."""
     numbers = random.Random(seed)
     workers = numbers.choice([4, 8, 32, MOST_WORKERS])
-    return fault_of(program, seed, workers + numbers.randrange(60, 500), workers, numbers.randrange(1, 20))
+    return fault_of(program, seed, workers + numbers.randrange(250, 500), workers, numbers.randrange(1, 20))
 
 
 def whole_fault(program, seed):

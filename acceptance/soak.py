@@ -1,12 +1,12 @@
 #!/usr/bin/env python3
-"""Runs cases of hostile use with new seeds, side by side, until the time is over: soak.py SECONDS [--built FOLDER] [--seed N] [--only KIND ..]
+"""Runs cases of hostile use with new seeds, side by side, until the time is over: soak.py SECONDS [--top FOLDER] [--seed N] [--only KIND ..]
 [--failures FOLDER]; or one case again: soak.py --again KIND SEED
 
 The kinds are histories of threads, clients of a server, lines, CSV, devices, memory that is refused, and random scripts. Each has about the same share of
 the time, and there are as many cases at once as there are processors; one run of clients is that of 3,000 sessions and 64 workers. Each case has a seed of
 its own; a soak's first one is drawn anew, and printed. A case that fails is written to FOLDER, soak-failures/ where none is given: what is wrong, and the
-command that repeats it, as far as the schedule of threads allows. FOLDER of --built has the programs where the crates' own out/ haven't. Cases that were
-begun are ended once the time is over. Prints counts by kind, and last 'N passed, M failed'.
+command that repeats it, as far as the schedule of threads allows. --top names another checkout whose programs are tried. Cases that were begun are ended
+once the time is over. Prints counts by kind, and last 'N passed, M failed'.
 """
 
 import argparse
@@ -29,18 +29,17 @@ import random_script
 TOP = pathlib.Path(__file__).resolve().parent.parent
 FAILURES = TOP / "soak-failures"
 SEEDS = 2**32
-# how many statements each worker of a history has
-STATEMENTS = 10_000
 TOLD_EVERY = 60
 # a kind that has failed so often isn't run any more
 MOST_FAILURES = 10
 
 
 class Kind:
-    """A kind of cases: its name, the function of a program and a seed that runs one and says what is wrong, the program, and what was seen of it."""
+    """A kind of cases: its name, the function of the program and a seed that runs one and says what is wrong, which program has to be built, and what was
+    seen of it."""
 
-    def __init__(self, name, fault, program="crackd", alone=False):
-        self.name, self.fault, self.program, self.alone = name, fault, program, alone
+    def __init__(self, name, fault, needs="crackd", alone=False):
+        self.name, self.fault, self.needs, self.alone = name, fault, needs, alone
         self.passed = self.failed = self.running = 0
         self.seconds = 0.0
 
@@ -48,17 +47,12 @@ class Kind:
         return f"soak: {self.name} {self.passed} passed, {self.failed} failed, {self.seconds:.0f} seconds"
 
 
-def fault_of_histories(program, seed):
-    """What is wrong with long histories of a seed under each policy, or None."""
-    return histories.fault(program, seed, STATEMENTS)
-
-
 def kinds():
     """All kinds by their names. Of those that take several processors only one case runs at a time."""
     all_kinds = [
         Kind("clients-whole", clients.whole_fault, alone=True),
         Kind("clients", clients.fault, alone=True),
-        Kind("threads", fault_of_histories, "crack_histories"),
+        Kind("threads", histories.soak_fault, "crack_histories"),
         Kind("lines", lines.fault),
         Kind("csv", csv_input.fault),
         Kind("devices", devices.fault),
@@ -69,19 +63,19 @@ def kinds():
     return {it.name: it for it in all_kinds}
 
 
-def built(folder, name):
+def built(top, name):
     """The path of a program that is built."""
-    return str((folder / name if folder else TOP / "crates" / name / "out" / name).resolve())
+    return str((top / "crates" / name / "out" / name).resolve())
 
 
-def chosen(folder, only):
+def chosen(top, only):
     """The kinds that are wanted and can be run. It prints which can't."""
     can = []
     for kind in kinds().values():
         if only and kind.name not in only:
             continue
-        if not pathlib.Path(built(folder, kind.program)).exists():
-            print(f"soak: {kind.name} skipped, since {kind.program} isn't built", flush=True)
+        if not pathlib.Path(built(top, kind.needs)).exists():
+            print(f"soak: {kind.name} skipped, since {kind.needs} isn't built", flush=True)
         elif kind.name.startswith("memory") and not memory.is_there():
             print(f"soak: {kind.name} skipped, since no C compiler works here", flush=True)
         else:
@@ -89,11 +83,11 @@ def chosen(folder, only):
     return can
 
 
-def run_case(name, folder, seed):
+def run_case(name, top, seed):
     """Runs one case. What is wrong, or None, and how many seconds it took."""
-    began, kind = time.monotonic(), kinds()[name]
+    began = time.monotonic()
     try:
-        wrong = kind.fault(built(folder, kind.program), seed)
+        wrong = kinds()[name].fault(built(top, "crackd"), seed)
     # (whatever ends a case is told, so that the others go on)
     except Exception as error:  # noqa: BLE001
         wrong = f"{type(error).__name__}: {error}"
@@ -114,7 +108,7 @@ def write_failure(failures, kind, seed, wrong):
     (failures / f"{kind.name}-{seed}.txt").write_text(f"{command}\n\n{wrong}\n")
 
 
-def soak(seconds, folder, of, first, failures):
+def soak(seconds, top, of, first, failures):
     """Runs cases until the time is over."""
     end, tell, running = time.monotonic() + seconds, time.monotonic() + TOLD_EVERY, {}
     seeds = random.Random(first)
@@ -122,7 +116,7 @@ def soak(seconds, folder, of, first, failures):
         while running or time.monotonic() < end:
             while time.monotonic() < end and len(running) < os.cpu_count() and (kind := next_kind(of)):
                 seed = seeds.randrange(SEEDS)
-                running[pool.submit(run_case, kind.name, folder, seed)] = kind, seed
+                running[pool.submit(run_case, kind.name, top, seed)] = kind, seed
                 kind.running += 1
             if not running:
                 return
@@ -147,9 +141,9 @@ def take_result(kind, seed, wrong, seconds, failures):
     print(f"soak: {kind.name} {seed} FAILED\n    {wrong}", flush=True)
 
 
-def repeat(name, seed, folder):
+def repeat(name, seed, top):
     """Runs one case again. The exit status."""
-    wrong, seconds = run_case(name, folder, seed)
+    wrong, seconds = run_case(name, top, seed)
     print(f"soak: {name} {seed} {'passed' if wrong is None else 'FAILED'}, {seconds:.1f} seconds" + (f"\n    {wrong}" if wrong else ""))
     return 1 if wrong else 0
 
@@ -157,7 +151,7 @@ def repeat(name, seed, folder):
 def options(words):
     parser = argparse.ArgumentParser(description=__doc__, formatter_class=argparse.RawDescriptionHelpFormatter)
     parser.add_argument("seconds", type=float, nargs="?")
-    parser.add_argument("--built", type=pathlib.Path, metavar="FOLDER")
+    parser.add_argument("--top", type=pathlib.Path, default=TOP, metavar="FOLDER")
     parser.add_argument("--seed", type=int, default=random.SystemRandom().randrange(SEEDS))
     parser.add_argument("--only", nargs="+", choices=kinds(), metavar="KIND")
     parser.add_argument("--failures", type=pathlib.Path, default=FAILURES, metavar="FOLDER")
@@ -168,12 +162,12 @@ def options(words):
 def main(words):
     it = options(words)
     if it.again:
-        return repeat(it.again[0], int(it.again[1]), it.built)
+        return repeat(it.again[0], int(it.again[1]), it.top)
     if it.seconds is None:
         sys.exit(__doc__)
-    of = chosen(it.built, it.only)
+    of = chosen(it.top, it.only)
     print(f"soak: {it.seconds:.0f} seconds from the seed {it.seed}", flush=True)
-    soak(it.seconds, it.built, of, it.seed, it.failures)
+    soak(it.seconds, it.top, of, it.seed, it.failures)
     for kind in of:
         print(kind.told())
     passed, failed = sum(kind.passed for kind in of), sum(kind.failed for kind in of)

@@ -21,14 +21,14 @@ TOP = pathlib.Path(__file__).resolve().parent.parent
 sys.path.insert(0, str(TOP / "tools"))
 
 import check_clients
-import check_hostile
 import check_histories
+import check_hostile
 import check_tools
 import clients
 import crates
 import examples
-import hostile
 import histories
+import hostile
 import processor
 import prove
 import random_script
