@@ -63,6 +63,14 @@ impl CrackerColumn {
         }
     }
 
+    /// The column, as a value of its own, with one without handles left in its place. O(1), and takes no memory.
+    pub fn take(&mut self) -> CrackerColumn
+        ensures { result ≡ self.old }
+    {
+        let alloc = *self.tags.allocator();
+        mem::replace(self, CrackerColumn::new(alloc))
+    }
+
     /// The number of handles. O(1).
     pub fn len(&self) -> usize
         ensures value { result ≡ length self.now.handles }
@@ -92,6 +100,15 @@ impl CrackerColumn {
         ensures { result ≡ (slice_index_or self.now.handles place no_handle).slot }
     {
         self.tags[place].slot
+    }
+
+    /// What is remembered of the row of the handle at the place. O(1), and reads that place alone.
+    #[inline]
+    pub fn memory_at(&self, place: usize) -> Remembered
+        requires { place < length self.now.handles }
+        ensures { result ≡ slice_index_or self.now.remembered place nothing }
+    {
+        self.tags[place].remembered()
     }
 
     /// The first place where the handle stands; none where it stands nowhere. O(n).

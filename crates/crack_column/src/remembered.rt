@@ -1,11 +1,11 @@
 //! What a cracker column remembers of a row.
-ghost use Rattle.std.specs.Prelude.{◌≡◌, [], ◌∷◌};
+ghost use Rattle.std.specs.Prelude.{◌≡◌, ◌≢◌, ◌<◌, ◌↔◌, [], ◌∷◌, IsTrue};
 ghost use Rattle.crack_arena.specs.Arena.{times};
 ghost use Rattle.crack_arena.specs.Rows.{key_at, unknown};
 ghost use Rattle.crack_column.specs.Column.{nothing, memory_at, Agrees};
 
 use crack_arena::{Arena, Handle, key_of};
-use crack_row::{Key, Row};
+use crack_row::{Bound, Key, Row};
 use std::marker::Model;
 
 /// Stands for a key that isn't remembered.
@@ -59,6 +59,14 @@ impl Remembered {
         } else {
             Key(self.key)
         }
+    }
+
+    /// Whether the row is known, and its key is below the bound. O(1).
+    #[inline]
+    pub fn is_known_below(&self, bound: Bound) -> bool
+        ensures { IsTrue result ↔ ((self.now.key ≢ unknown) × (self.now.key < bound.0)) }
+    {
+        self.key != UNKNOWN && (self.key as u64) < bound.0
     }
 
     /// What is to be remembered of the row that the handle reads.

@@ -2,9 +2,10 @@
 ghost use Rattle.std.specs.Prelude.{◌≡◌, ℕ, ◌+◌, ◌-◌, ◌<◌, ◌≤◌, ◌==◌, ◌↔◌, [], map, length, All, Contains, sum_by, IsOk, IsSome, IfSome, IfOk, IfErr, OnOk, IsTrue};
 ghost use Rattle.std.specs.Option.{option_map};
 ghost use Rattle.crack_row.specs.Layouts.{AreJoined};
+ghost use Rattle.crack_index.specs.Walks.{Climbs, Descends};
 ghost use Rattle.crack_index.specs.Marks.{Rising, Fits, HasBound, position_of, next_mark, last_mark, near_mark, first_behind, last_before, pair_of, added, raised, lowered, lowered_at, piece_at, pieces_from};
 
-use crate::{Mark, NearBound, sorted};
+use crate::{Mark, NearBound, Visitor, sorted, walk};
 use crack_row::{Bound, Key, KeyRange, PieceSize, Refusal};
 use std::alloc::Global;
 use std::marker::Model;
@@ -219,5 +220,37 @@ impl CrackerIndex {
         ensures rising { Rising self.new.marks }
     {
         sorted::lower_past(&mut self.marks, near)
+    }
+
+    /// Walks up from the least bound above the key: the visitor is told the place of the bound, and where it says so, that bound and those
+    /// above it that stand there move up by one, and the walk goes on to the next place. The bound at which it ended, if one is left.
+    /// O(log bounds) and the bounds at the places on its way. Takes no memory.
+    #[inline(always)]
+    pub fn climb<V: Visitor>(&mut self, key: Key, visitor: &mut V) -> Option<NearBound>
+        requires small { All (λ m. m.position < usize.MAX) self.old.marks }
+        requires ready { V.is_ready visitor.old }
+        ensures climbs { Climbs V.visits (next_mark key.0 self.old.marks) self.old.marks visitor.old (near_mark result) self.new.marks visitor.new }
+        ensures ready { V.is_ready visitor.new }
+        ensures there { IfSome result (λ n. Contains self.new.marks n.mark) }
+        ensures room { self.new.room ≡ self.old.room }
+        ensures rising { Rising self.new.marks }
+    {
+        walk::climb(&mut self.marks, u64::from(key.0), visitor)
+    }
+
+    /// Walks down from the greatest bound at or below the key: the visitor is told the last place before the bound, and where it says so,
+    /// that bound and those below it that stand where it stands move down by one, and the walk goes on to the next place. The bound at
+    /// which it ended, if one is left; a bound at the column's front has no place before it, and ends it.
+    /// O(log bounds) and the bounds at the places on its way. Takes no memory.
+    #[inline(always)]
+    pub fn descend<V: Visitor>(&mut self, key: Key, visitor: &mut V) -> Option<NearBound>
+        requires ready { V.is_ready visitor.old }
+        ensures descends { Descends V.visits (last_mark key.0 self.old.marks) self.old.marks visitor.old (near_mark result) self.new.marks visitor.new }
+        ensures ready { V.is_ready visitor.new }
+        ensures there { IfSome result (λ n. Contains self.new.marks n.mark) }
+        ensures room { self.new.room ≡ self.old.room }
+        ensures rising { Rising self.new.marks }
+    {
+        walk::descend(&mut self.marks, u64::from(key.0), visitor)
     }
 }

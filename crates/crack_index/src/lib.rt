@@ -6,7 +6,10 @@ pub mod index;
 pub mod mark;
 pub mod near;
 mod sorted;
+pub mod visitor;
+mod walk;
 
 pub use index::{CrackerIndex, Piece};
 pub use mark::Mark;
 pub use near::NearBound;
+pub use visitor::Visitor;

@@ -17,7 +17,7 @@ fn bounds_below(marks: &[Mark], bound: u64) -> usize
 }
 
 /// How many marks have a bound at or below this one. O(log marks).
-fn bounds_up_to(marks: &[Mark], bound: u64) -> usize
+pub(crate) fn bounds_up_to(marks: &[Mark], bound: u64) -> usize
     requires { Rising marks.now }
     ensures split { IsPartitionPoint (λ m. m.bound.0 ≤ bound) (λ m. bound < m.bound.0) marks.now result }
     ensures within { result ≤ length marks.now }
@@ -55,7 +55,7 @@ pub(crate) fn neighbours(marks: &[Mark], number: u64) -> (Option<Mark>, Option<M
 }
 
 /// The mark at this index, if there is one.
-fn near_at(marks: &[Mark], at: usize) -> Option<NearBound>
+pub(crate) fn near_at(marks: &[Mark], at: usize) -> Option<NearBound>
     ensures { near_mark result ≡ slice_get marks.now at }
 {
     match marks.get(at) {
@@ -68,7 +68,7 @@ fn near_at(marks: &[Mark], at: usize) -> Option<NearBound>
 }
 
 /// The mark before this index, if there is one.
-fn near_before(marks: &[Mark], at: usize) -> Option<NearBound>
+pub(crate) fn near_before(marks: &[Mark], at: usize) -> Option<NearBound>
     requires { at ≤ length marks.now }
     ensures { near_mark result ≡ slice_get (take at marks.now) (at - 1) }
 {
@@ -108,9 +108,10 @@ fn index_of(marks: &[Mark], near: NearBound) -> usize
 }
 
 /// Where the marks end that stand at this one's place. O(marks behind it at that place).
-fn level_end(marks: &[Mark], start: usize) -> usize
+pub(crate) fn level_end(marks: &[Mark], start: usize) -> usize
     requires rising { Rising marks.now }
     requires start { start < length marks.now }
+    ensures further { start < result }
     ensures within { result ≤ length marks.now }
     ensures split { IsPartitionPoint (λ m. m.position ≤ (get_or marks.now start no_mark).position) (λ m. (get_or marks.now start no_mark).position < m.position) marks.now result }
 {
@@ -123,7 +124,7 @@ fn level_end(marks: &[Mark], start: usize) -> usize
 }
 
 /// Where the marks begin that stand at this one's place. O(marks before it at that place).
-fn level_start(marks: &[Mark], last: usize) -> usize
+pub(crate) fn level_start(marks: &[Mark], last: usize) -> usize
     requires rising { Rising marks.now }
     requires last { last < length marks.now }
     ensures within { result ≤ last }
@@ -203,7 +204,7 @@ pub(crate) fn lower_at(marks: &mut [Mark], place: usize)
 }
 
 /// Each of the marks moves up by one. Mostly it is one mark, which needs no loop.
-fn raise_all(marks: &mut [Mark])
+pub(crate) fn raise_all(marks: &mut [Mark])
     requires { All (λ m. m.position < usize.MAX) marks.old }
     ensures { marks.new ≡ map one_up marks.old }
 {
@@ -217,7 +218,7 @@ fn raise_all(marks: &mut [Mark])
 }
 
 /// Each of the marks moves down by one. Mostly it is one mark, which needs no loop.
-fn lower_all(marks: &mut [Mark])
+pub(crate) fn lower_all(marks: &mut [Mark])
     requires { All (λ m. 0 < m.position) marks.old }
     ensures { marks.new ≡ map one_down marks.old }
 {

@@ -10,19 +10,52 @@ use Rattle.crack_arena.specs.Rows.{key_at, keys_at}
 use Rattle.crack_pending.specs.Pending.{Finds}
 use Rattle.crack_pending.proofs.Searches.{is_in-true, is_in-false}
 use Rattle.crack_state.specs.State.{State, Carried, IsIntact}
-use Rattle.crack_state.specs.Steps.{hand_key, buried, SameButRoom, lifted}
+use Rattle.crack_state.specs.Steps.{hand_key, buried, SameButRoom, lifted, pushed_on, IsBelow, PushesOn}
 use Rattle.crack_state.proofs.OwnedLaws.{hand_apart}
 use Rattle.crack_state.proofs.CellLaws.{AgreeOff-set, keys-off}
 use Rattle.crack_state.proofs.BuryLaws.{IsIntact-buried}
 use Rattle.crack_state.proofs.PullLaws.{IsIntact-returned}
 use Rattle.crack_state.proofs.StepLaws.{IsIntact-appended}
-use Rattle.crack_merge.specs.declared.carries.CarryEnd.{CarryEnd}
-use Rattle.crack_merge.specs.declared.carries.CarryEnd.TheVariants.{Buries, Evicts, Appends}
-use Rattle.crack_merge.specs.Merges.{IsBelow, IsCeiling, Carries, CarriesIn, carries}
+use Rattle.crack_store.specs.declared.ways.CarryEnd.{CarryEnd}
+use Rattle.crack_store.specs.declared.ways.CarryEnd.TheVariants.{Buries, Evicts, Appends}
+use Rattle.crack_store.specs.Ends.{EndsBy}
+use Rattle.crack_merge.specs.Merges.{IsCeiling, Carries, buries, evicts, ends, goes_on, CarriesIn, carries}
 use Rattle.crack_merge.specs.Loops.{MayEnd, EvictsOver, ended}
 
-pub not_below : (ceiling : Option ℕ) (key bound : ℕ) → ceiling ≡ Some bound → bound ≤ key → ¬ IsBelow ceiling key
-not_below ceiling key bound is above = λ below. absurd (let less : key < bound = rw is at below in omega arith)
+-- a carry whose pushes have come to a hand that ends it by a rule
+ends_by : (ceiling : Option ℕ) (rule : CarryEnd) (c : Carried) → EndsBy ceiling rule c → Carries ceiling c (ended rule c)
+ends_by ceiling Buries c by = buries c by
+ends_by None Evicts c by = absurd (by.1 tt)
+ends_by (Some bound) Evicts c by = evicts c bound by.0 refl (elim (cases_lt (hand_key c) bound) [ inl l ↦ absurd (by.1 l) | inr l ↦ l ])
+ends_by ceiling Appends c by = ends c by.0 by.1 by.2
+
+pub carries_by : (ceiling : Option ℕ) (rule : CarryEnd) (c e : Carried) → PushesOn ceiling c e → EndsBy ceiling rule e → Carries ceiling c (ended rule e)
+carries_by ceiling rule c e (PushesOn.stays d) by = ends_by ceiling rule d by
+carries_by ceiling rule c e (PushesOn.pushes d f lasting below room rest) by = goes_on d (ended rule f) lasting below room (carries_by ceiling rule (pushed_on d) f rest by)
+
+-- the rule by which it ends may end it
+pub MayEnd-by : (ceiling : Option ℕ) (rule : CarryEnd) (c : Carried) → EndsBy ceiling rule c → MayEnd rule c
+MayEnd-by ceiling Buries c by = by
+MayEnd-by ceiling Evicts c by = omega (arith, by.0)
+MayEnd-by ceiling Appends c by = (omega (arith, by.0), by.2)
+
+pub EvictsOver-by : (ceiling : Option ℕ) (rule : CarryEnd) (c : Carried) → EndsBy ceiling rule c → EvictsOver ceiling rule (hand_key c)
+EvictsOver-by ceiling Buries c by = tt
+EvictsOver-by ceiling Evicts c by = by.1
+EvictsOver-by ceiling Appends c by = tt
+
+-- pushes leave all but column, marks and tally
+pub record KeepsRest (c e : Carried) : Type 0 where
+  pub column_room : e.store.column_room ≡ c.store.column_room
+  pub in_room : e.store.in_room ≡ c.store.in_room
+  pub pending_in : e.store.pending_in ≡ c.store.pending_in
+  pub cells : e.store.cells ≡ c.store.cells
+
+pub KeepsRest-by : (ceiling : Option ℕ) (c e : Carried) → PushesOn ceiling c e → KeepsRest c e
+KeepsRest-by ceiling c e (PushesOn.stays d) = record { column_room = refl; in_room = refl; pending_in = refl; cells = refl }
+KeepsRest-by ceiling c e (PushesOn.pushes d f lasting below room rest) =
+    let on = KeepsRest-by ceiling (pushed_on d) f rest in
+    record { column_room = on.column_room; in_room = on.in_room; pending_in = on.pending_in; cells = on.cells }
 
 -- the keys of the pending insertions
 abbrev pub pending_keys : State → List ℕ

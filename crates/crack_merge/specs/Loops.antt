@@ -3,11 +3,11 @@ use Rattle.std.specs.Prelude.{◌≡◌, ⊤, ℕ, Option, length}
 use Rattle.crack_row.specs.declared.command.Policy.{Policy}
 use Rattle.crack_arena.specs.Arena.{times, slots}
 use Rattle.crack_state.specs.State.{State, Carried}
-use Rattle.crack_state.specs.Steps.{hand_key, piece_end, IsDoomed, appended, buried, returned}
-use Rattle.crack_merge.specs.declared.carries.CarryEnd.{CarryEnd}
-use Rattle.crack_merge.specs.declared.carries.CarryEnd.TheVariants.{Buries, Evicts, Appends}
+use Rattle.crack_state.specs.Steps.{hand_key, piece_end, IsDoomed, appended, buried, returned, IsBelow}
+use Rattle.crack_store.specs.declared.ways.CarryEnd.{CarryEnd}
+use Rattle.crack_store.specs.declared.ways.CarryEnd.TheVariants.{Buries, Evicts, Appends}
 use Rattle.crack_state.specs.Merge.{Advances}
-use Rattle.crack_merge.specs.Merges.{IsBelow, BuriesFew}
+use Rattle.crack_merge.specs.Merges.{BuriesFew}
 
 -- where a carry ends by a rule
 abbrev pub ended : CarryEnd → Carried → State

@@ -1,25 +1,14 @@
 -- What a carry, a pull and a merge have done to a store, where they end.
 use Rattle.std.specs.Prelude.{◌≡◌, ◌≢◌, ◌<◌, ◌≤◌, ⊤, ℕ, ◌+◌, ◌++◌, take, drop, length, List, [], Option, Some, None}
 use Rattle.crack_row.specs.Ranges.{Range}
-use Rattle.crack_row.specs.declared.Bound.{Bound}
 use Rattle.crack_row.specs.declared.command.Policy.{Policy}
 use Rattle.crack_row.specs.declared.command.Policy.TheVariants.{Complete, Gradual, Ripple}
 use Rattle.crack_arena.specs.Arena.{Handle, StandsAt}
 use Rattle.crack_arena.specs.Rows.{keys_at}
 use Rattle.crack_pending.specs.Pending.{Finds}
 use Rattle.crack_state.specs.State.{State, Carried, IsIntact}
-use Rattle.crack_state.specs.Steps.{hand_key, piece_start, piece_end, IsDoomed, lifted, lifted_last, appended, pushed_on, pulled_back, exchanged, buried, SameButRoom, returned}
+use Rattle.crack_state.specs.Steps.{hand_key, piece_start, piece_end, IsDoomed, lifted, lifted_last, appended, pushed_on, pulled_back, exchanged, buried, SameButRoom, returned, IsBelow}
 use Rattle.crack_state.specs.Merge.{Follows, Tallies, SomeOf, edge, outside_of, without_first, count_inside}
-
--- the number of a bound, if there is one
-abbrev pub ceiling_of : Option Bound → Option ℕ
-ceiling_of None = None
-ceiling_of (Some bound) = Some bound.0
-
--- the key is below the ceiling, if there is one
-abbrev pub IsBelow : Option ℕ → ℕ → Type 0
-IsBelow None key = ⊤
-IsBelow (Some bound) key = key < bound
 
 -- the ceiling, if there is one, is at or above the range's high end
 abbrev pub IsCeiling : Option ℕ → Range → Type 0

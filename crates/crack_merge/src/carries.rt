@@ -1,22 +1,11 @@
 //! The carry, and the carries of a range.
-ghost use Rattle.std.specs.Prelude.{◌≡◌, ◌≤◌, ◌<◌, ℕ, length, Some, IsTrue, IsFalse, IfOk, IfErr};
-ghost use Rattle.crack_state.specs.Steps.{hand_key, lifted};
-ghost use Rattle.crack_merge.specs.Merges.{Carries, CarriesAll, CarriesSome, IsBelow, IsCeiling, ceiling_of};
+ghost use Rattle.std.specs.Prelude.{◌≡◌, ◌<◌, length, IfOk, IfErr};
+ghost use Rattle.crack_state.specs.Steps.{hand_key, lifted, ceiling_of};
+ghost use Rattle.crack_merge.specs.Merges.{Carries, CarriesAll, CarriesSome, IsCeiling};
 ghost use Rattle.crack_merge.specs.Loops.{MayEnd, EvictsOver, ended};
 
 use crack_row::{Bound, KeyRange, Refusal};
-use crack_store::{Carrying, Store};
-
-/// The rule that ends a carry.
-#[derive(Clone, Copy)]
-pub(crate) enum CarryEnd {
-    /// The hand is doomed: it is buried.
-    Buries,
-    /// The hand's key is at or above the ceiling: its row is evicted.
-    Evicts,
-    /// The hand's own piece ends where the column does: the hand becomes the column's last row.
-    Appends,
-}
+use crack_store::{CarryEnd, Carrying, Store};
 
 /// Carries the pending insertions of a range, each as far as to the ceiling, in the order of arrival; passes over the others once. The ceiling
 /// lies at or above the range's high end, so no row that is evicted is one of these again.
@@ -56,7 +45,7 @@ pub fn carry_range(
 
 /// Carries the hand up through the pieces until a rule holds that ends the carry, and tells which. As long as none does, the hand
 /// takes the place where its own piece ends, and the row that stood there is in hand.
-/// O(1) for each piece, and the bounds at its place; takes no memory.
+/// O(log bounds) and O(1) for each piece, and the bounds at its place; takes no memory.
 pub(crate) fn carry(carrying: &mut Carrying, ceiling: Option<Bound>) -> CarryEnd
     ensures ends { MayEnd result carrying.new }
     ensures evicts { EvictsOver (ceiling_of ceiling) result (hand_key carrying.new) }
@@ -66,30 +55,7 @@ pub(crate) fn carry(carrying: &mut Carrying, ceiling: Option<Bound>) -> CarryEnd
     ensures pending_in { carrying.new.store.pending_in ≡ carrying.old.store.pending_in }
     ensures cells { carrying.new.store.cells ≡ carrying.old.store.cells }
 {
-    'pieces: loop {
-        if carrying.is_doomed() {
-            return CarryEnd::Buries;
-        }
-        if is_at_ceiling(carrying, ceiling) {
-            return CarryEnd::Evicts;
-        }
-        if carrying.piece_ends_at() == carrying.column_len() {
-            return CarryEnd::Appends;
-        }
-        carrying.facts();
-        carrying.push_on();
-    }
-}
-
-/// Whether the key of the hand is at or above the ceiling.
-fn is_at_ceiling(carrying: &Carrying, ceiling: Option<Bound>) -> bool
-    ensures at { IsTrue result → (bound : ℕ) × (ceiling_of ceiling ≡ Some bound) × (bound ≤ hand_key carrying.now) }
-    ensures below { IsFalse result → IsBelow (ceiling_of ceiling) (hand_key carrying.now) }
-{
-    match ceiling {
-        Some(bound) => bound.0 <= carrying.hand_key().0 as u64,
-        None => false,
-    }
+    carrying.carry_up(ceiling)
 }
 
 /// Ends a carry by its rule.

@@ -28,7 +28,7 @@ pub fn pull_range(mut store: Store, range: KeyRange) -> Store
 /// Takes a doomed row out of the column, by the cell in hand, which goes down through the pieces to fill its place: the hand takes
 /// the last place before its own piece, and the row that stood there is in hand. Another doomed row that comes into hand is drawn
 /// on like any other. The cell in hand may come from anywhere behind the doomed row.
-/// O(1) for each piece, and the bounds at its place; one search for the doomed row's place. Takes no memory.
+/// O(log bounds) and O(1) for each piece, and the bounds at its place; one search for the doomed row's place. Takes no memory.
 pub fn pull(mut carrying: Carrying, doomed: Handle<Row>) -> Store
     requires pending { Contains carrying.store.pending_out doomed }
     requires ahead { (place : ℕ) → StandsAt carrying.store.column place doomed → place < piece_end carrying.store (hand_key carrying) }
@@ -39,10 +39,7 @@ pub fn pull(mut carrying: Carrying, doomed: Handle<Row>) -> Store
     let Some(place) = carrying.find(doomed) else {
         return carrying.bury();
     };
-    'pieces: while place < carrying.piece_begins_at() {
-        carrying.facts();
-        carrying.pull_back();
-    }
+    carrying.pull_down(place);
     carrying.facts();
     if carrying.holds(doomed) {
         return carrying.bury();

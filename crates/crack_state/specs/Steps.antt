@@ -1,8 +1,9 @@
 -- What each step does to a store: the row that moves, the bounds that move with it, and the counter that rises.
-use Rattle.std.specs.Prelude.{◌≡◌, ℕ, ◌+◌, ◌-◌, ◌<◌, ◌^◌, nat_lt, nat_le, min, map, take, drop, length, count_by, List, [], ◌∷◌, ◌++◌, Option, Some, None, slice_index_or, slice_set}
+use Rattle.std.specs.Prelude.{◌≡◌, ⊤, ℕ, ◌+◌, ◌-◌, ◌<◌, ◌^◌, nat_lt, nat_le, min, map, take, drop, length, count_by, List, [], ◌∷◌, ◌++◌, Option, Some, None, slice_index_or, slice_set}
 use Rattle.std.specs.List.{remove}
 use Rattle.crack_row.specs.Ranges.{IsIn}
 use Rattle.crack_row.specs.declared.Row.{Row}
+use Rattle.crack_row.specs.declared.Bound.{Bound}
 use Rattle.crack_arena.specs.Arena.{Handle, no_handle, times, slots, place_in, handle_for, cells_with}
 use Rattle.crack_index.specs.declared.mark.Mark.{Mark}
 use Rattle.crack_index.specs.Marks.{next_mark, last_mark, start_of, end_of, raised, lowered, lowered_at}
@@ -149,3 +150,24 @@ returned c =
       tally = record c.store.tally { evicted = more c.store.tally.evicted };
       in_room = c.store.in_room - 1;
     }
+
+-- the number of a bound, if there is one
+abbrev pub ceiling_of : Option Bound → Option ℕ
+ceiling_of None = None
+ceiling_of (Some bound) = Some bound.0
+
+-- the key is below the ceiling, if there is one
+abbrev pub IsBelow : Option ℕ → ℕ → Type 0
+IsBelow None key = ⊤
+IsBelow (Some bound) key = key < bound
+
+-- so many times, one or none, the hand was pushed on: each time it wasn't doomed, its key was below the ceiling, and its own piece ended
+-- before the column does
+pub data PushesOn (ceiling : Option ℕ) : Carried → Carried → Type 0 where
+  stays : (c : Carried) → PushesOn ceiling c c
+  pushes : (c d : Carried) → ¬ IsDoomed c → IsBelow ceiling (hand_key c) → piece_end c.store (hand_key c) < length c.store.column → PushesOn ceiling (pushed_on c) d → PushesOn ceiling c d
+
+-- so many times, one or none, the hand was pulled back: each time its own piece began behind the place
+pub data PullsBack (place : ℕ) : Carried → Carried → Type 0 where
+  stays : (c : Carried) → PullsBack place c c
+  pulls : (c d : Carried) → place < piece_start c.store (hand_key c) → PullsBack place (pulled_back c) d → PullsBack place c d

@@ -5,3 +5,4 @@ mod MissingLemmas
 mod HandLemmas
 mod RememberLemmas
 mod PointLemmas
+mod WayLemmas

@@ -14,7 +14,7 @@ use Rattle.crack_state.proofs.StepLaws.{IsIntact-pushed_on, bounds_above-pushed_
 use Rattle.crack_state.proofs.PullLaws.{IsIntact-pulled_back, bounds_up_to-pulled_back}
 use Rattle.crack_state.proofs.NearLaws.{next-pushed_on, last-pulled_back}
 use Rattle.crack_store.specs.declared.carrying.Near.{Near}
-use Rattle.crack_store.specs.declared.carrying.Near.TheVariants.{Above, Below}
+use Rattle.crack_store.specs.declared.carrying.Near.TheVariants.{Unsought, Above, Below}
 use Rattle.crack_store.specs.Hand.{IsNear}
 use Rattle.crack_store.proofs.EdgeLemmas.{positions_small}
 
@@ -81,5 +81,6 @@ next_listed s hand key (Some n) intact value = (next_mark-is key s.marks n.mark 
 
 -- the bound that is kept stays the one next to a key that has the same neighbours
 pub IsNear-same : (marks : List Mark) (key other : ℕ) (near : Near) → next_mark other marks ≡ next_mark key marks → last_mark other marks ≡ last_mark key marks → IsNear marks key near → IsNear marks other near
+IsNear-same marks key other Unsought next last is = tt
 IsNear-same marks key other (Above bound) next last is = is ∙ sym next
 IsNear-same marks key other (Below bound) next last is = is ∙ sym last

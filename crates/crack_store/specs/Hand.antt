@@ -1,5 +1,5 @@
 -- What a store with a cell in hand keeps of it. No public clause cites this module.
-use Rattle.std.specs.Prelude.{◌≡◌, ◌<◌, ℕ, List, [], ◌∷◌, length}
+use Rattle.std.specs.Prelude.{◌≡◌, ⊤, ◌<◌, ℕ, List, [], ◌∷◌, length}
 use Rattle.crack_arena.specs.Arena.{Handle}
 use Rattle.crack_arena.specs.Rows.{key_at}
 use Rattle.crack_column.specs.Column.{Agrees, first_aside}
@@ -8,7 +8,7 @@ use Rattle.crack_index.specs.Marks.{near_mark, next_mark, last_mark}
 use Rattle.crack_state.specs.State.{Carried}
 use Rattle.crack_store.specs.declared.inside.Inside.{Inside}
 use Rattle.crack_store.specs.declared.carrying.Near.{Near}
-use Rattle.crack_store.specs.declared.carrying.Near.TheVariants.{Above, Below}
+use Rattle.crack_store.specs.declared.carrying.Near.TheVariants.{Unsought, Above, Below}
 use Rattle.crack_store.specs.Inside.{lists_of, KeepsIntact}
 
 -- the cell in hand: the column keeps it aside
@@ -19,8 +19,9 @@ hand_of p = (first_aside p.column).handle
 abbrev pub carried_of : Inside → Carried
 carried_of p = record { store = lists_of p; hand = hand_of p }
 
--- the bound that is kept is the one next to the key
+-- the bound that is kept, once it was looked up, is the one next to the key
 abbrev pub IsNear : List Mark → ℕ → Near → Type 0
+IsNear marks key Unsought = ⊤
 IsNear marks key (Above bound) = near_mark bound ≡ next_mark key marks
 IsNear marks key (Below bound) = near_mark bound ≡ last_mark key marks
 

@@ -15,9 +15,11 @@ use crack_row::{Key, Row};
 use crack_state::MergeReport;
 use std::marker::Model;
 
-/// The bound next to the row in hand on its way, as the search told it with which the way began; each step goes on from there.
+/// The bound next to the row in hand on its way, once it was looked up; each step goes on from there.
 #[derive(Clone, Copy)]
 pub(crate) enum Near {
+    /// Before the way begins.
+    Unsought,
     /// On the way up: the least bound above the row's key.
     Above(Option<NearBound>),
     /// On the way down: the greatest bound at or below the row's key.
@@ -126,7 +128,7 @@ impl Carrying {
     {
         match self.near {
             Near::Above(bound) => bound,
-            Near::Below(_) => self.inside.index.bound_above(self.hand_key()),
+            Near::Below(_) | Near::Unsought => self.inside.index.bound_above(self.hand_key()),
         }
     }
 
@@ -137,7 +139,7 @@ impl Carrying {
     {
         match self.near {
             Near::Below(bound) => bound,
-            Near::Above(_) => self.inside.index.bound_below(self.hand_key()),
+            Near::Above(_) | Near::Unsought => self.inside.index.bound_below(self.hand_key()),
         }
     }
 

@@ -4,6 +4,7 @@
 //! doomed row stays in the column and is a pending deletion besides. Contracts see a store as one record of plain lists.
 #![tactic(auto)]
 
+mod ascent;
 pub mod carrying;
 mod inside;
 mod notes;
@@ -14,7 +15,9 @@ mod search;
 pub mod serial_hash;
 mod steps;
 pub mod store;
+pub mod ways;
 
 pub use carrying::Carrying;
 pub use crack_state::MergeReport;
 pub use store::Store;
+pub use ways::CarryEnd;

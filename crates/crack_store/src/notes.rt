@@ -3,6 +3,7 @@ ghost use Rattle.std.specs.Prelude.{◌≡◌, ◌≤◌, vec_capacity, IfErr};
 
 use crack_row::Refusal;
 use std::alloc::Global;
+use std::mem;
 
 /// For each cell, the place of the column where its row was seen last while it was doomed. Rows move, so a note is checked before it
 /// is used, and nothing hangs on it but time.
@@ -17,6 +18,14 @@ impl Notes {
         Notes {
             places: Vec::new(alloc),
         }
+    }
+
+    /// The notes, with none left in their place. Takes no memory.
+    pub(crate) fn take(&mut self) -> Notes
+        ensures { result ≡ self.old }
+    {
+        let alloc = *self.places.allocator();
+        mem::replace(self, Notes::new(alloc))
     }
 
     /// Makes room for a note of each of the first `cells` cells. Amortised O(1) for each that has none. Refused with 8 alone.

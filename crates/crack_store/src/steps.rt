@@ -13,8 +13,8 @@ use crate::points::row_at;
 use crack_column::Remembered;
 use crack_index::{CrackerIndex, NearBound};
 
-/// Takes the pending insertion at this place into the hand, with what is to be remembered of its row. The bound above its key.
-/// O(log bounds) at the first place or behind the one that was taken last; takes no memory.
+/// Takes the pending insertion at this place into the hand, with what is to be remembered of its row. No bound is looked up yet.
+/// O(1) at the first place or behind the one that was taken last; takes no memory.
 pub(crate) fn take_in(inside: &mut Inside, place: usize) -> Near
     requires intact { KeepsIntact inside.old [] }
     requires there { place < length inside.old.pending_in.handles }
@@ -26,11 +26,11 @@ pub(crate) fn take_in(inside: &mut Inside, place: usize) -> Near
     inside.tally.put_in = inside.tally.put_in.saturating_add(1);
     let row = row_at(&inside.arena, hand);
     inside.column.set_aside(hand, Remembered::of(row));
-    Near::Above(inside.index.bound_above(row.key))
+    Near::Unsought
 }
 
 /// Takes the column's last row into the hand, with what is remembered of it; each bound that stands behind it moves down by one.
-/// The bound up to its key. O(log bounds) and the bounds at that place; takes no memory.
+/// No bound is looked up yet. O(log bounds) and the bounds at that place; takes no memory.
 pub(crate) fn take_last(inside: &mut Inside) -> Near
     requires intact { KeepsIntact inside.old [] }
     requires some { 0 < length inside.old.column.handles }
@@ -40,8 +40,7 @@ pub(crate) fn take_last(inside: &mut Inside) -> Near
     let len = inside.column.len();
     inside.index.lower_at(len);
     inside.column.pop_aside();
-    let key = inside.column.aside_key(&inside.arena);
-    Near::Below(inside.index.bound_below(key))
+    Near::Unsought
 }
 
 /// Frees the cell of the hand, which is doomed, and strikes it from the pending deletions. Amortised O(1).

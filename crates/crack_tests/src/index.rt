@@ -1,6 +1,6 @@
 //! The bounds of a cracked column and their places.
 
-use crack_index::{CrackerIndex, NearBound, Piece};
+use crack_index::{CrackerIndex, NearBound, Piece, Visitor};
 use crack_row::{Bound, GREATEST_BOUND, Key, KeyRange, PieceSize};
 use std::alloc::Global;
 use std::process::Abort;
@@ -169,5 +169,57 @@ fn a_step_down_goes_to_the_place_before(rt: HostRuntime) {
     assert!(rt; thirty.position() == 1);
     assert_eq!(rt; found(index.lower_past(thirty)), Some((Bound(10), 0)));
     assert_eq!(rt; places(&index), [Some(0), Some(0), Some(0)]);
+    drop(index);
+}
+
+/// Keeps the sum of the places that it is told, and goes on as long as it was told fewer than so many.
+struct Sums {
+    told: u32,
+    at_most: u32,
+    sum: usize,
+}
+
+impl Visitor for Sums {
+    ghost use Rattle.std.specs.Prelude.{⊤};
+
+    ghost is_ready = { λ _. ⊤ };
+
+    ghost visits = { λ _ _ _ _. ⊤ };
+
+    fn visit(&mut self, place: usize) -> bool {
+        self.told = self.told.saturating_add(1);
+        self.sum = self.sum.saturating_add(place);
+        self.told < self.at_most
+    }
+}
+
+/// A visitor that ends the walk at the place of this number, counted from 1.
+fn ending_at(at_most: u32) -> Sums {
+    Sums {
+        told: 0,
+        at_most,
+        sum: 0,
+    }
+}
+
+#[test]
+fn a_walk_up_raises_what_it_passes(rt: HostRuntime) {
+    let mut index = tens(&rt, rt.alloc());
+    let mut visitor = ending_at(9);
+    let end = index.climb(Key(10), &mut visitor);
+    assert!(rt; end.is_none());
+    assert_eq!(rt; [visitor.told as usize, visitor.sum], [1, 1]);
+    assert_eq!(rt; places(&index), [Some(0), Some(2), Some(2)]);
+    drop(index);
+}
+
+#[test]
+fn a_walk_down_ends_where_the_visitor_says(rt: HostRuntime) {
+    let mut index = tens(&rt, rt.alloc());
+    let mut visitor = ending_at(1);
+    let end = index.descend(Key(30), &mut visitor);
+    assert_eq!(rt; end.map(|near| near.bound()), Some(Bound(30)));
+    assert_eq!(rt; [visitor.told as usize, visitor.sum], [1, 0]);
+    assert_eq!(rt; places(&index), [Some(0), Some(1), Some(1)]);
     drop(index);
 }

@@ -1,6 +1,7 @@
 use Rattle.std.proofs.Common.{Some, None}
 use Rattle.crack_merge.specs.Loops.{ended}
-use Rattle.crack_merge.specs.Merges.{ceiling_of, begins, carries}
+use Rattle.crack_state.specs.Steps.{ceiling_of}
+use Rattle.crack_merge.specs.Merges.{begins, carries}
 use Rattle.crack_merge.proofs.Ending.{EndsAlike, EndsAlike-room}
 use Rattle.crack_merge.proofs.Ending.{Arrives, Arrives-ended, IsOnWay-next, left_in-less}
 use Rattle.crack_merge.proofs.carries.carry_range.Goals as goal

@@ -1,4 +1,4 @@
-use Rattle.crack_merge.specs.Merges.{ceiling_of}
+use Rattle.crack_state.specs.Steps.{ceiling_of}
 use Rattle.crack_merge.proofs.Ending.{IsOnWay, left_in}
 use Rattle.crack_merge.proofs.carries.carry_range.Given as goal
 

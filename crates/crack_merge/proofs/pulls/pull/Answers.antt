@@ -2,13 +2,13 @@ use Rattle.std.proofs.Common.{◌<◌, ◌≤◌, sym, ◌∙◌, arith, ◌≡�
 use Rattle.std.specs.Prelude.{◌==◌}
 use Rattle.std.specs.List.{Contains}
 use Rattle.std.proofs.lemmas.Bool.{and_parts, true≢false, eqb-true, eq-eqb}
-use Rattle.crack_arena.specs.Arena.{Handle, StandsAt, IsAbsent, same_handle}
-use Rattle.crack_state.specs.Steps.{hand_key, piece_start, exchanged, buried, piece_end, IsDoomed}
+use Rattle.crack_arena.specs.Arena.{Handle, StandsAt, IsFirstAt, IsAbsent, same_handle}
+use Rattle.crack_state.specs.Steps.{hand_key, piece_start, exchanged, buried, piece_end, IsDoomed, pulled_back, PullsBack}
 use Rattle.crack_state.proofs.DrawLaws.{IsAhead-pulled_back, IsAhead, IsDoomed-listed, doomed_is_hand, hand_isnt}
 use Rattle.crack_state.proofs.PullLaws.{IsIntact-pulled_back}
-use Rattle.crack_state.specs.State.{Carried, IsIntact}
+use Rattle.crack_state.specs.State.{State, Carried, IsIntact}
 use Rattle.crack_state.proofs.CellLaws.{handle_same}
-use Rattle.crack_merge.specs.Merges.{reaches, exchanges, draws}
+use Rattle.crack_merge.specs.Merges.{Pulls, reaches, exchanges, draws}
 use Rattle.crack_merge.proofs.PullLaws.{exchanged_hand}
 use Rattle.crack_merge.proofs.pulls.pull.Goals as goal
 
@@ -52,44 +52,55 @@ bury-requires c = rw c.find.ensures.same (hand_doomed c.args.carrying c.args.doo
 pub returns-in_default : goal.returns-in_default
 returns-in_default c = rw (c.bury.ensures.after, c.find.ensures.same) (reaches c.args.carrying (hand_absent c.args.carrying c.args.doomed c.facts.ensures c.requires.pending c.in_default.ensures.value))
 
-pub pieces-preserved : goal.pieces-preserved
-pieces-preserved c =
-    let carried = c.pieces.carrying in
-    let place = c.in-Some.place in
-    let intact = c.facts-in-pieces.ensures in
-    let before : place < piece_start carried.store (hand_key carried) = omega (arith, c.pieces-test.true, c.piece_begins_at.ensures.value) in
-    let at = stands_before carried place c.args.doomed before intact c.pieces.invariant.ahead in
-    rw c.pull_back.ensures.after (record {
-      same = c.pieces.invariant.same;
-      ahead = IsAhead-pulled_back carried place c.args.doomed before intact (IsIntact-pulled_back carried (omega arith) intact) c.pieces.invariant.ahead;
-      pulls = λ t rest. c.pieces.invariant.pulls t (draws carried place t at.1 at.0 before rest);
-    })
+-- pulls that come to a row whose piece doesn't begin behind the place
+record IsPulled (doomed : Handle) (place : ℕ) (c e : Carried) : Type 0 where
+  pub same : e.store.pending_out ≡ c.store.pending_out
+  pub ahead : IsAhead e place doomed
+  pub pulls : (t : State) → Pulls doomed e t → Pulls doomed c t
+
+pulled : (doomed : Handle) (place : ℕ) (c e : Carried) → PullsBack place c e → IsIntact c.store (c.hand ∷ []) → IsAhead c place doomed → IsPulled doomed place c e
+pulled doomed place c e (PullsBack.stays d) intact ahead = record { same = refl; ahead = ahead; pulls = λ t rest. rest }
+pulled doomed place c e (PullsBack.pulls d f before rest) intact ahead =
+    let kept = IsIntact-pulled_back d (omega arith) intact in
+    let at = stands_before d place doomed before intact ahead in
+    let on = pulled doomed place (pulled_back d) f rest kept (IsAhead-pulled_back d place doomed before intact kept ahead) in
+    record { same = on.same; ahead = on.ahead; pulls = λ t more. draws d place t at.1 at.0 before (on.pulls t more) }
+
+-- those of a pull whose doomed row was found
+pulled_from : (doomed : Handle) (place : ℕ) (c d e : Carried) → d ≡ c → PullsBack place d e → IsIntact c.store (c.hand ∷ []) → IsFirstAt c.store.column doomed place → ((k : ℕ) → StandsAt c.store.column k doomed → k < piece_end c.store (hand_key c)) → IsPulled doomed place c e
+pulled_from doomed place c d e same pulls intact first ahead = pulled doomed place c e (rw same at pulls) intact (inr (first.here, ahead place first.here))
 
 pub bury-requires-then-holds : goal.bury-requires-then-holds
 bury-requires-then-holds c =
-    let is = same_handle-true c.pieces.carrying.hand c.args.doomed (sym c.holds.ensures ∙ c.if-holds.true) in
-    hand_doomed c.pieces.carrying c.args.doomed (rw c.pieces.invariant.same c.requires.pending) is
+    let way = pulled_from c.args.doomed c.in-Some.place c.args.carrying c.find.new.self c.pull_down.new.self c.find.ensures.same c.pull_down.ensures.pulls c.facts.ensures c.in-Some.ensures.value c.requires.ahead in
+    let is = same_handle-true c.pull_down.new.self.hand c.args.doomed (sym c.holds.ensures ∙ c.if-holds.true) in
+    hand_doomed c.pull_down.new.self c.args.doomed (rw way.same c.requires.pending) is
 
 pub returns-then-holds : goal.returns-then-holds
 returns-then-holds c =
-    let carried = c.pieces.carrying in
-    let is = same_handle-true c.pieces.carrying.hand c.args.doomed (sym c.holds.ensures ∙ c.if-holds.true) in
-    rw c.bury-then-holds.ensures.after (c.pieces.invariant.pulls (buried carried) (reaches carried is))
+    let way = pulled_from c.args.doomed c.in-Some.place c.args.carrying c.find.new.self c.pull_down.new.self c.find.ensures.same c.pull_down.ensures.pulls c.facts.ensures c.in-Some.ensures.value c.requires.ahead in
+    let carried = c.pull_down.new.self in
+    let is = same_handle-true c.pull_down.new.self.hand c.args.doomed (sym c.holds.ensures ∙ c.if-holds.true) in
+    rw c.bury-then-holds.ensures.after (way.pulls (buried carried) (reaches carried is))
 
 -- the doomed row stands in the own piece of the hand
 pub exchange-requires-clause-to : goal.exchange-requires-clause-to
-exchange-requires-clause-to c = (stands_ahead c.pieces.carrying c.in-Some.place c.args.doomed (sym c.holds.ensures ∙ c.if-holds.false) c.pieces.invariant.ahead).2
+exchange-requires-clause-to c =
+    let way = pulled_from c.args.doomed c.in-Some.place c.args.carrying c.find.new.self c.pull_down.new.self c.find.ensures.same c.pull_down.ensures.pulls c.facts.ensures c.in-Some.ensures.value c.requires.ahead in
+    (stands_ahead c.pull_down.new.self c.in-Some.place c.args.doomed (sym c.holds.ensures ∙ c.if-holds.false) way.ahead).2
 
 pub bury-requires-2 : goal.bury-requires-2
 bury-requires-2 c =
-    let carried = c.pieces.carrying in
-    let at = stands_ahead carried c.in-Some.place c.args.doomed (sym c.holds.ensures ∙ c.if-holds.false) c.pieces.invariant.ahead in
-    rw c.exchange.ensures.after (hand_doomed (exchanged c.in-Some.place carried) c.args.doomed (rw c.pieces.invariant.same c.requires.pending) (exchanged_hand carried c.in-Some.place c.args.doomed at.1))
+    let way = pulled_from c.args.doomed c.in-Some.place c.args.carrying c.find.new.self c.pull_down.new.self c.find.ensures.same c.pull_down.ensures.pulls c.facts.ensures c.in-Some.ensures.value c.requires.ahead in
+    let carried = c.pull_down.new.self in
+    let at = stands_ahead carried c.in-Some.place c.args.doomed (sym c.holds.ensures ∙ c.if-holds.false) way.ahead in
+    rw c.exchange.ensures.after (hand_doomed (exchanged c.in-Some.place carried) c.args.doomed (rw way.same c.requires.pending) (exchanged_hand carried c.in-Some.place c.args.doomed at.1))
 
 pub returns : goal.returns
 returns c =
-    let carried = c.pieces.carrying in
+    let way = pulled_from c.args.doomed c.in-Some.place c.args.carrying c.find.new.self c.pull_down.new.self c.find.ensures.same c.pull_down.ensures.pulls c.facts.ensures c.in-Some.ensures.value c.requires.ahead in
+    let carried = c.pull_down.new.self in
     let place = c.in-Some.place in
-    let at = stands_ahead carried place c.args.doomed (sym c.holds.ensures ∙ c.if-holds.false) c.pieces.invariant.ahead in
-    let from : piece_start carried.store (hand_key carried) ≤ place = omega (arith, c.pieces-test.false, c.piece_begins_at.ensures.value) in
-    rw (c.bury-2.ensures.after, c.exchange.ensures.after) (c.pieces.invariant.pulls (buried (exchanged place carried)) (exchanges carried place at.0 at.1 from at.2))
+    let at = stands_ahead carried place c.args.doomed (sym c.holds.ensures ∙ c.if-holds.false) way.ahead in
+    let from : piece_start carried.store (hand_key carried) ≤ place = c.pull_down.ensures.ends in
+    rw (c.bury-2.ensures.after, c.exchange.ensures.after) (way.pulls (buried (exchanged place carried)) (exchanges carried place at.0 at.1 from at.2))

@@ -33,7 +33,7 @@ returns-clause-kept c =
         agrees = rw c.set_aside.ensures (inr (rw (hand, reads) c.of.ensures));
         room = rw c.set_aside.ensures c.requires.room;
       };
-      is_near = rw (c.set_aside.ensures, hand, reads) c.bound_above.ensures.value;
+      is_near = tt;
     }
 
 pub returns-clause-after : goal.returns-clause-after

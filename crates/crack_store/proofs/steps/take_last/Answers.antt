@@ -9,13 +9,6 @@ use Rattle.crack_store.proofs.steps.take_last.Goals as goal
 pub lower_at-requires : goal.lower_at-requires
 lower_at-requires c = λ k d h e. omega (arith, c.requires.some, c.len-len.ensures.value)
 
-pub aside_key-key-requires-clause-some : goal.aside_key-key-requires-clause-some
-aside_key-key-requires-clause-some c = rw c.pop_aside.ensures (omega arith)
-
-pub aside_key-key-requires-clause-known : goal.aside_key-key-requires-clause-known
-aside_key-key-requires-clause-known c =
-    rw c.pop_aside.ensures (c.requires.intact.remembers.right (length c.args.inside.now.column.handles - 1) no_handle (omega (arith, c.requires.some)))
-
 pub returns-clause-kept : goal.returns-clause-kept
 returns-clause-kept c =
     let s = lists_of c.args.inside.now in
@@ -28,7 +21,7 @@ returns-clause-kept c =
         agrees = rw c.pop_aside.ensures (c.requires.intact.remembers.right (length column.handles - 1) no_handle (omega arith));
         room = rw c.pop_aside.ensures (omega arith);
       };
-      is_near = rw (← c.aside_key-key.ensures) c.bound_below.ensures.value;
+      is_near = tt;
     }
 
 pub returns-clause-after : goal.returns-clause-after

@@ -1,0 +1,19 @@
+//! Who is told the places of a walk.
+ghost use Rattle.std.specs.Prelude.{ℕ, Bool};
+
+/// What goes along on a walk over the bounds of an index. At each place where bounds stand it does what a step does there, and says
+/// whether the walk goes on. It has no part of the index, and so calls none.
+/// A walk calls it once for each place, and its body is a part of the walk's loop: mark `visit` with `#[inline(always)]`.
+pub trait Visitor {
+    /// When it may be told a place.
+    ghost is_ready: { Self → Type 0 };
+
+    /// What a visit leaves: from the first state, at this place, with this answer, the second.
+    ghost visits: { Self → ℕ → Bool → Self → Type 0 };
+
+    /// Does what is to be done at the place, and says whether the walk goes on.
+    fn visit(&mut self, place: usize) -> bool
+        requires { is_ready self.old }
+        ensures visits { visits self.old place result self.new }
+        ensures ready { is_ready self.new };
+}

@@ -1,0 +1,160 @@
+//! The hand on its way up and down, as what goes along on a walk over the bounds: it is in registers then, and the column beside it.
+ghost use Rattle.std.specs.Prelude.{◌≤◌, IsTrue};
+ghost use Rattle.crack_state.specs.Steps.{ceiling_of, hand_key, piece_start, PushesOn, PullsBack};
+ghost use Rattle.crack_store.specs.Inside.{lists_of};
+ghost use Rattle.crack_store.specs.Hand.{carried_of, HasHand, KeepsHand};
+ghost use Rattle.crack_store.specs.Ways.{IsKnownBelow};
+
+use crate::carrying::Near;
+use crate::inside::Inside;
+use crate::notes::Notes;
+use crate::search::note_if_doomed;
+use crack_column::{CrackerColumn, Remembered};
+use crack_index::Visitor;
+use crack_pending::PendingOut;
+use crack_row::Bound;
+
+/// The hand on its way up, under a ceiling or none.
+#[derive(Drop)]
+pub(crate) struct Ascent<'a> {
+    column: CrackerColumn,
+    pending_out: &'a PendingOut,
+    ceiling: Option<Bound>,
+    /// The hand's slot, and what is remembered of its row.
+    slot: u32,
+    memory: Remembered,
+    /// How many rows were pushed on, as the store counts them.
+    moved: u64,
+}
+
+impl Ascent<'_> {
+    /// Whether the row in hand is known to be below the ceiling. O(1), and asks no cell.
+    #[inline(always)]
+    fn is_below(&self) -> bool
+        ensures { IsTrue result → IsKnownBelow self.now.ceiling self.now.memory }
+    {
+        match self.ceiling {
+            Some(bound) => self.memory.is_known_below(bound),
+            None => true,
+        }
+    }
+}
+
+impl Visitor for Ascent<'_> {
+    ghost use Rattle.crack_store.specs.Ways.{IsAside, Ascends};
+
+    ghost is_ready = { λ v. IsAside v.column v.slot v.memory };
+
+    ghost visits = { Ascends };
+
+    /// Pushes the hand on, where it isn't doomed, is known to be below the ceiling, and the place is one of the column.
+    #[inline(always)]
+    fn visit(&mut self, place: usize) -> bool {
+        if self.pending_out.contains(self.slot) {
+            return false;
+        }
+        if place >= self.column.len() {
+            return false;
+        }
+        if !self.is_below() {
+            return false;
+        }
+        self.slot = self.column.slot_at(place);
+        self.memory = self.column.memory_at(place);
+        self.column.exchange(place);
+        self.moved = self.moved.saturating_add(1);
+        true
+    }
+}
+
+/// Pushes the hand on from place to place as long as it isn't doomed, is known to be below the ceiling, and its own piece ends before the
+/// column does. The bound where its piece ends then. O(log bounds) and the bounds at the places on its way; takes no memory.
+#[inline(always)]
+pub(crate) fn ascend(inside: &mut Inside, ceiling: Option<Bound>) -> Near
+    requires { HasHand inside.old }
+    ensures pushes { PushesOn (ceiling_of ceiling) (carried_of inside.old) (carried_of inside.new) }
+    ensures kept { KeepsHand inside.new result }
+{
+    let key = inside.column.aside_key(&inside.arena);
+    let mut ascent = Ascent {
+        slot: inside.column.aside_slot(),
+        memory: inside.column.aside_memory(),
+        column: inside.column.take(),
+        pending_out: &inside.pending_out,
+        ceiling,
+        moved: inside.tally.moved,
+    };
+    let above = inside.index.climb(key, &mut ascent);
+    let Ascent { column, moved, .. } = ascent;
+    inside.column = column;
+    inside.tally.moved = moved;
+    Near::Above(above)
+}
+
+/// The hand on its way down to a place.
+#[derive(Drop)]
+pub(crate) struct Descent<'a> {
+    column: CrackerColumn,
+    notes: Notes,
+    pending_out: &'a PendingOut,
+    place: usize,
+    /// The hand's slot.
+    slot: u32,
+    /// How many rows were pulled, as the store counts them.
+    pulled: u64,
+}
+
+impl Visitor for Descent<'_> {
+    ghost use Rattle.crack_store.specs.Ways.{HasSlot, Draws};
+
+    ghost is_ready = { λ v. HasSlot v.column v.slot };
+
+    ghost visits = { Draws };
+
+    /// Pulls the hand back to the place, unless its way ends behind it. A doomed row has its place noted.
+    #[inline(always)]
+    fn visit(&mut self, place: usize) -> bool {
+        if place < self.place {
+            return false;
+        }
+        if place >= self.column.len() {
+            return false;
+        }
+        note_if_doomed(&mut self.notes, self.pending_out, self.slot, place);
+        self.slot = self.column.slot_at(place);
+        self.column.exchange(place);
+        self.pulled = self.pulled.saturating_add(1);
+        true
+    }
+}
+
+/// Pulls the hand back from place to place as long as its own piece begins behind the place. The bound where its piece begins then.
+/// O(log bounds) and the bounds at the places on its way; takes no memory.
+#[inline(always)]
+pub(crate) fn descend(inside: &mut Inside, place: usize) -> Near
+    requires { HasHand inside.old }
+    ensures pulls { PullsBack place (carried_of inside.old) (carried_of inside.new) }
+    ensures ends { piece_start (lists_of inside.new) (hand_key (carried_of inside.new)) ≤ place }
+    ensures kept { KeepsHand inside.new result }
+{
+    let key = inside.column.aside_key(&inside.arena);
+    let mut descent = Descent {
+        slot: inside.column.aside_slot(),
+        column: inside.column.take(),
+        notes: inside.notes.take(),
+        pending_out: &inside.pending_out,
+        place,
+        pulled: inside.tally.pulled,
+    };
+    let below = inside.index.descend(key, &mut descent);
+    let Descent {
+        column,
+        notes,
+        pulled,
+        ..
+    } = descent;
+    inside.column = column;
+    inside.notes = notes;
+    inside.tally.pulled = pulled;
+    Near::Below(below)
+}

@@ -1,0 +1,82 @@
+//! The way of a hand from place to place, as one walk over the bounds.
+ghost use Rattle.std.specs.Prelude.{◌≤◌, IsTrue, IsFalse, MatchOption};
+ghost use Rattle.crack_state.specs.Steps.{hand_key, piece_start, ceiling_of, IsBelow, PushesOn, PullsBack};
+ghost use Rattle.crack_store.specs.Ends.{EndsBy, GoesOn};
+
+use crate::Carrying;
+use crate::ascent::{ascend, descend};
+use crack_row::Bound;
+
+/// The rule that ends a carry.
+#[derive(Clone, Copy)]
+pub enum CarryEnd {
+    /// The hand is doomed: it is buried.
+    Buries,
+    /// The hand's key is at or above the ceiling: its row is evicted.
+    Evicts,
+    /// The hand's own piece ends where the column does: the hand becomes the column's last row.
+    Appends,
+}
+
+impl Carrying {
+    /// Pushes the hand on until a rule holds that ends its carry, and tells which. It leaves what as many `push_on` leave, in one walk over
+    /// the bounds. O(log bounds) and the bounds at the places on its way; takes no memory.
+    pub fn carry_up(&mut self, ceiling: Option<Bound>) -> CarryEnd
+        ensures pushes { PushesOn (ceiling_of ceiling) self.old self.new }
+        ensures ends { EndsBy (ceiling_of ceiling) result self.new }
+    {
+        'walks: loop {
+            self.facts();
+            self.ascend(ceiling);
+            if let Some(end) = self.carry_end(ceiling) {
+                return end;
+            }
+            // the key in hand is that of a row that isn't known, or the greatest
+            self.push_on();
+        }
+    }
+
+    /// Pulls the hand back as long as its own piece begins behind the place. It leaves what as many `pull_back` leave, in one walk over the
+    /// bounds. O(log bounds) and the bounds at the places on its way; takes no memory.
+    pub fn pull_down(&mut self, place: usize)
+        ensures pulls { PullsBack place self.old self.new }
+        ensures ends { piece_start self.new.store (hand_key self.new) ≤ place }
+    {
+        self.near = descend(&mut self.inside, place);
+    }
+
+    /// Pushes the hand on as long as it is sure by its tag that no rule ends its carry.
+    #[inline(always)]
+    fn ascend(&mut self, ceiling: Option<Bound>)
+        ensures { PushesOn (ceiling_of ceiling) self.old self.new }
+    {
+        self.near = ascend(&mut self.inside, ceiling);
+    }
+
+    /// The first rule that holds of those that end a carry, if one does. O(1) on the way up, else O(log bounds).
+    fn carry_end(&self, ceiling: Option<Bound>) -> Option<CarryEnd>
+        ensures { MatchOption result (GoesOn (ceiling_of ceiling) self.now) (λ end. EndsBy (ceiling_of ceiling) end self.now) }
+    {
+        if self.is_doomed() {
+            return Some(CarryEnd::Buries);
+        }
+        if self.is_at_ceiling(ceiling) {
+            return Some(CarryEnd::Evicts);
+        }
+        if self.piece_ends_at() == self.column_len() {
+            return Some(CarryEnd::Appends);
+        }
+        None
+    }
+
+    /// Whether the key of the hand is at or above the ceiling.
+    fn is_at_ceiling(&self, ceiling: Option<Bound>) -> bool
+        ensures at { IsTrue result → ¬ IsBelow (ceiling_of ceiling) (hand_key self.now) }
+        ensures below { IsFalse result → IsBelow (ceiling_of ceiling) (hand_key self.now) }
+    {
+        match ceiling {
+            Some(bound) => bound.0 <= self.hand_key().0 as u64,
+            None => false,
+        }
+    }
+}
