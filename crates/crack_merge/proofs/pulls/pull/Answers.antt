@@ -68,7 +68,7 @@ pulled doomed place c e (PullsBack.pulls d f before rest) intact ahead =
 
 -- those of a pull whose doomed row was found
 pulled_from : (doomed : Handle) (place : ℕ) (c d e : Carried) → d ≡ c → PullsBack place d e → IsIntact c.store (c.hand ∷ []) → IsFirstAt c.store.column doomed place → ((k : ℕ) → StandsAt c.store.column k doomed → k < piece_end c.store (hand_key c)) → IsPulled doomed place c e
-pulled_from doomed place c d e same pulls intact first ahead = pulled doomed place c e (rw same at pulls) intact (inr (first.here, ahead place first.here))
+pulled_from doomed place c d e same drawn intact first ahead = pulled doomed place c e (rw same at drawn) intact (inr (first.here, ahead place first.here))
 
 pub bury-requires-then-holds : goal.bury-requires-then-holds
 bury-requires-then-holds c =
