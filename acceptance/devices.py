@@ -85,19 +85,15 @@ def ended(program, words, given=b"", **how):
     return ran.returncode, ran.stdout, ran.stderr
 
 
-def expect(what, wanted, got):
-    server.expect(what, wanted, got)
-
-
 def closed_descriptors(program):
     """A standard input that is closed is 17, a standard output that is closed 18, and nothing else is touched in their place."""
     for words, given, wanted in SUBCOMMANDS:
-        expect(f"{words}: no input", (1, b"", READ_FAULT), ended(program, words, preexec_fn=closed(0)))
-        expect(f"{words}: no output", (1, b"", WRITE_FAULT), ended(program, words, given, preexec_fn=closed(1)))
-        expect(f"{words}: no standard error", (0, wanted, b""), ended(program, words, given, preexec_fn=closed(2)))
-        expect(f"{words}: neither input nor standard error", (1, b"", b""), ended(program, words, preexec_fn=closed(0, 2)))
-    expect("help, and no output", (1, b"", WRITE_FAULT), ended(program, ["--help"], preexec_fn=closed(1)))
-    expect("bad arguments, and no standard error", (2, b"", b""), ended(program, ["nothing"], preexec_fn=closed(2)))
+        server.expect(f"{words}: no input", (1, b"", READ_FAULT), ended(program, words, preexec_fn=closed(0)))
+        server.expect(f"{words}: no output", (1, b"", WRITE_FAULT), ended(program, words, given, preexec_fn=closed(1)))
+        server.expect(f"{words}: no standard error", (0, wanted, b""), ended(program, words, given, preexec_fn=closed(2)))
+        server.expect(f"{words}: neither input nor standard error", (1, b"", b""), ended(program, words, preexec_fn=closed(0, 2)))
+    server.expect("help, and no output", (1, b"", WRITE_FAULT), ended(program, ["--help"], preexec_fn=closed(1)))
+    server.expect("bad arguments, and no standard error", (2, b"", b""), ended(program, ["nothing"], preexec_fn=closed(2)))
 
 
 def a_server_with_closed_descriptors(program):
@@ -105,17 +101,20 @@ def a_server_with_closed_descriptors(program):
     for descriptors in [(1,), (0, 1), (0, 1, 2)]:
         words = ["serve", "--port", str(server.free_port()), "--workers", "1", "--sessions", "1"]
         came = ended(program, words, preexec_fn=closed(*descriptors))
-        expect(f"closed {descriptors}", (1, b"", b"" if 2 in descriptors else WRITE_FAULT), came)
+        server.expect(f"closed {descriptors}", (1, b"", b"" if 2 in descriptors else WRITE_FAULT), came)
 
 
 def full_devices(program):
-    """A full device is 18, also where a server has nothing but its first line to write, or its totals."""
+    """A full device is 18, also for a server's first line; one in the place of standard error changes no exit status."""
     full = os.open("/dev/full", os.O_WRONLY)
     try:
         serving = ["serve", "--port", str(server.free_port()), "--workers", "1", "--sessions", "0"]
         for words, given in [*((it[0], it[1]) for it in SUBCOMMANDS), (["--help"], b""), (serving, b"")]:
             ran = subprocess.run([program, *words], input=given, stdout=full, stderr=subprocess.PIPE, timeout=SECONDS, check=False)
-            expect(f"{words}", (1, WRITE_FAULT), (ran.returncode, ran.stderr))
+            server.expect(f"{words}", (1, WRITE_FAULT), (ran.returncode, ran.stderr))
+        for words, status in [(["script", "0"], 1), (["nothing"], 2)]:
+            ran = subprocess.run([program, *words], stdout=subprocess.PIPE, stderr=full, timeout=SECONDS, check=False)
+            server.expect(f"{words}, and standard error is full", (status, b""), (ran.returncode, ran.stdout))
     finally:
         os.close(full)
 
@@ -126,7 +125,7 @@ def a_folder_as_input(program):
         folder = os.open(pathlib.Path(__file__).resolve().parent, os.O_RDONLY)
         try:
             ran = subprocess.run([program, *words], stdin=folder, capture_output=True, timeout=SECONDS, check=False)
-            expect(f"{words}", (1, b"", READ_FAULT), (ran.returncode, ran.stdout, ran.stderr))
+            server.expect(f"{words}", (1, b"", READ_FAULT), (ran.returncode, ran.stdout, ran.stderr))
         finally:
             os.close(folder)
 
@@ -176,11 +175,11 @@ def a_writer_that_stays_silent(program):
         for given, wanted in [(b"insert 1 1\ncou", b"row 0.0\n"), (b"nt 0 5\nins", b"count 1\n"), (b"ert 2", None)]:
             it.stdin.write(given)
             if wanted:
-                expect(f"{given}", wanted, it.stdout.read(len(wanted)))
-        expect("before the end", [], select.select([it.stdout], [], [], 0.05)[0])
+                server.expect(f"{given}", wanted, it.stdout.read(len(wanted)))
+        server.expect("before the end", [], select.select([it.stdout], [], [], 0.05)[0])
         it.stdin.close()
-        expect("at the end", b"refused 1\n", it.stdout.read())
-        expect("standard error and status", (b"", 0), (it.stderr.read(), it.wait(SECONDS)))
+        server.expect("at the end", b"refused 1\n", it.stdout.read())
+        server.expect("standard error and status", (b"", 0), (it.stderr.read(), it.wait(SECONDS)))
 
 
 def control():
@@ -212,14 +211,14 @@ def came_by_hanging_up(program, typed, wanted, heeds):
         os.close(end)
         complained, status = it.stderr.read(), it.wait()
         watch.cancel()
-    expect("shown", wanted, shown)
+    server.expect("shown", wanted, shown)
     return status, complained
 
 
 def a_terminal_that_hangs_up(program):
     """Where a terminal hangs up the signal ends the program; where that is ignored, its input ends, or can't be read."""
     typed, wanted = b"insert 1 1\ncount 0 5\nins", b"row 0.0\r\ncount 1\r\n"
-    expect("by the signal", (-signal.SIGHUP, b""), came_by_hanging_up(program, typed, wanted, True))
+    server.expect("by the signal", (-signal.SIGHUP, b""), came_by_hanging_up(program, typed, wanted, True))
     came = came_by_hanging_up(program, typed, wanted, False)
     if came not in [(0, b""), (1, READ_FAULT), (1, WRITE_FAULT)]:
         raise server.Wrong(f"without the signal: {came!r}")
