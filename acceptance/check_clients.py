@@ -210,6 +210,9 @@ class Soak(unittest.TestCase):
         self.assertIs(soak.next_kind([first, second, other]), second)
         first.running = 1
         self.assertIs(soak.next_kind([first, second, other]), other)
+        shared = soak.Kind("d", None, shares=4)
+        shared.seconds = 16
+        self.assertIs(soak.next_kind([first, other, shared]), shared)
         other.failed = soak.MOST_FAILURES
         self.assertIsNone(soak.next_kind([first, second, other]))
 

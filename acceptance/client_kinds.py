@@ -11,7 +11,7 @@ import threading
 import time
 
 from client_rows import part_of
-from server import MOST, SECONDS, Client, Wrong, expect
+from server import SECONDS, Client, Wrong, expect
 
 # how long a client waits for a worker and its reply
 PATIENT_SECONDS = 2 * SECONDS

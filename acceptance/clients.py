@@ -26,6 +26,8 @@ MOST_SESSIONS, MOST_SECONDS = 3000, 40
 # how many keys each client has, how many splits there are, and how many connections may wait for a worker
 WIDTH, SPLITS, WAITING = 1_000_000, 7, 32
 BACKLOG = 16
+# what a wrong reply or a lost connection comes to
+FAULTS = (Wrong, OSError, ValueError, IndexError, subprocess.TimeoutExpired)
 
 
 class Peak(threading.Thread):
@@ -96,7 +98,7 @@ def visit(guest, kind):
         if kind in ABRUPT:
             wait_for_a_place(guest.port)
         kind(guest)
-    except (Wrong, OSError, ValueError, IndexError) as error:
+    except FAULTS as error:
         return f"{kind.__name__} at the keys from {guest.own.low}: {type(error).__name__}: {error}"
     return None
 
@@ -213,7 +215,7 @@ def fault_of(program, *given):
     """What is wrong with a run, or None."""
     try:
         storm(program, *given)
-    except (Wrong, OSError) as error:
+    except FAULTS as error:
         return f"seed, sessions, workers and seconds {given}: {error}"
     return None
 
@@ -262,7 +264,7 @@ def run(program):
     for case in CASES:
         try:
             case(program)
-        except (Wrong, OSError, subprocess.TimeoutExpired) as error:
+        except FAULTS as error:
             failed += 1
             print(f"clients: {case.__name__} FAILED\n    {error}")
     print(f"clients: {len(CASES) - failed} passed, {failed} failed", flush=True)
@@ -281,7 +283,7 @@ def main(words):
         return 1 if run(it.program)[1] else 0
     try:
         print(told(storm(str(pathlib.Path(it.program).resolve()), it.seed, it.sessions, it.workers, it.seconds)))
-    except (Wrong, OSError) as error:
+    except FAULTS as error:
         print(f"clients: FAILED\n    {error}")
         return 1
     return 0

@@ -2,11 +2,11 @@
 """Runs cases of hostile use with new seeds, side by side, until the time is over: soak.py SECONDS [--top FOLDER] [--seed N] [--only KIND ..]
 [--failures FOLDER]; or one case again: soak.py --again KIND SEED
 
-The kinds are histories of threads, clients of a server, lines, CSV, devices, memory that is refused, and random scripts. Each has about the same share of
-the time, and there are as many cases at once as there are processors; one run of clients is that of 3,000 sessions and 64 workers. Each case has a seed of
-its own; a soak's first one is drawn anew, and printed. A case that fails is written to FOLDER, soak-failures/ where none is given: what is wrong, and the
-command that repeats it, as far as the schedule of threads allows. --top names another checkout whose programs are tried. Cases that were begun are ended
-once the time is over. Prints counts by kind, and last 'N passed, M failed'.
+The kinds are histories of threads, clients of a server, lines, CSV, devices, memory that is refused, and random scripts. Each has its shares of the time,
+histories the most, and there are as many cases at once as there are processors; one run of clients is that of 3,000 sessions and 64 workers. Each case has
+a seed of its own; a soak's first one is drawn anew, and printed. A case that fails is written to FOLDER, soak-failures/ where none is given: what is wrong,
+and the command that repeats it, as far as the schedule of threads allows. --top names another checkout whose programs are tried. Cases that were begun are
+ended once the time is over. Prints counts by kind, and last 'N passed, M failed'.
 """
 
 import argparse
@@ -35,11 +35,11 @@ MOST_FAILURES = 10
 
 
 class Kind:
-    """A kind of cases: its name, the function of the program and a seed that runs one and says what is wrong, which program has to be built, and what was
-    seen of it."""
+    """A kind of cases: its name, the function of the program and a seed that runs one and says what is wrong, which program has to be built, how many
+    shares of the time it has, and what was seen of it."""
 
-    def __init__(self, name, fault, needs="crackd", alone=False):
-        self.name, self.fault, self.needs, self.alone = name, fault, needs, alone
+    def __init__(self, name, fault, needs="crackd", shares=1, alone=False):
+        self.name, self.fault, self.needs, self.shares, self.alone = name, fault, needs, shares, alone
         self.passed = self.failed = self.running = 0
         self.seconds = 0.0
 
@@ -52,7 +52,7 @@ def kinds():
     all_kinds = [
         Kind("clients-whole", clients.whole_fault, alone=True),
         Kind("clients", clients.fault, alone=True),
-        Kind("threads", histories.soak_fault, "crack_histories"),
+        Kind("threads", histories.soak_fault, "crack_histories", shares=6),
         Kind("lines", lines.fault),
         Kind("csv", csv_input.fault),
         Kind("devices", devices.fault),
@@ -95,10 +95,10 @@ def run_case(name, top, seed):
 
 
 def next_kind(of):
-    """The kind that has had the least time, of those that may run now. The whole run of clients is the first."""
+    """The kind that has had the least of its shares of the time, of those that may run now. The whole run of clients comes once."""
     alone = any(it.running for it in of if it.alone)
     free = [it for it in of if it.failed < MOST_FAILURES and not (it.alone and alone) and not (it.name == "clients-whole" and it.passed + it.failed)]
-    return min(free, key=lambda it: (it.seconds + it.running, it.name)) if free else None
+    return min(free, key=lambda it: ((it.seconds + it.running) / it.shares, it.name)) if free else None
 
 
 def write_failure(failures, kind, seed, wrong):
