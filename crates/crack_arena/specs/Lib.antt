@@ -1,3 +1,4 @@
 pub mod Arena
 pub mod Links
+pub mod Listed
 pub mod Rows

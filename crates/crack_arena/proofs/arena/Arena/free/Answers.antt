@@ -1,24 +1,31 @@
-use Rattle.std.proofs.Common.{◌≡◌, ◌-◌, is_some, true, sym, ap, length, vec_capacity, length-set, subst, List}
+use Rattle.std.proofs.Common.{◌≡◌, is_some, true, sym, ap, subst, List}
 use Rattle.crack_arena.specs.Arena.{read, Handle, Cell, Arena, KeepsSpent, IsSpent}
 use Rattle.crack_arena.proofs.Laws.{KeepsSpent-freed_at, IsSpent-freed_at, read_spent_after}
 use Rattle.crack_arena.specs.Links.{cells_of}
 use Rattle.crack_arena.proofs.ArenaLemmas.{IsLinked-free, full_from_read, freed_view}
-use Rattle.crack_arena.proofs.Arena.free.Goals as goal
+use Rattle.crack_arena.proofs.arena.Arena.free.Goals as goal
+
+pub replace-content-requires : goal.replace-content-requires
+replace-content-requires g c =
+    let h : Handle = record { slot = c.slot-slot.result; generation = c.generation-generation.result } in
+    let reads : is_some (read (cells_of c.self.inside.cells.items) h) ≡ true = rw (← c.self.view_is) at (sym c.if-not-reads.ensures) in
+    let full = full_from_read c.self.inside.cells.items h reads in
+    full.within
 
 pub invariant_of-self : goal.invariant_of-self
 invariant_of-self g c =
     let h : Handle = record { slot = c.slot-slot.result; generation = c.generation-generation.result } in
     let reads : is_some (read (cells_of c.self.inside.cells.items) h) ≡ true = rw (← c.self.view_is) at (sym c.if-not-reads.ensures) in
     let full = full_from_read c.self.inside.cells.items h reads in
-    rw c.replace.ensures.after (IsLinked-free c.self.inside.cells.items c.self.inside.head c.slot-slot.result c.self.inside.free c.self.inside.freed c.generation-generation.result full.within full.full full.generation c.self.invariant)
+    rw c.replace-content.ensures.after (IsLinked-free c.self.inside.cells.items c.self.inside.head c.slot-slot.result c.self.inside.free c.self.inside.freed c.generation-generation.result full.within full.full full.generation c.self.invariant)
 
 pub returns-clause-after : goal.returns-clause-after
 returns-clause-after g c =
     let h : Handle = record { slot = c.slot-slot.result; generation = c.generation-generation.result } in
     let reads : is_some (read (cells_of c.self.inside.cells.items) h) ≡ true = rw (← c.self.view_is) at (sym c.if-not-reads.ensures) in
     let full = full_from_read c.self.inside.cells.items h reads in
-    let after = freed_view c.self.inside.cells.items c.self.inside.head c.slot-slot.result c.self.inside.free c.self.inside.freed (vec_capacity c.self.inside.cells - length c.self.inside.cells.items) c.generation-generation.result full.within full.full c.self.invariant in
-    rw (← c.self.view_is, c.replace.ensures.after, length-set, ← c.slot-slot.ensures, ← c.generation-generation.ensures) (sym after)
+    let after = freed_view c.self.inside.cells.items c.self.inside.head c.slot-slot.result c.self.inside.free c.self.inside.freed c.self.inside.cells.room c.generation-generation.result full.within full.full c.self.invariant in
+    rw (← c.self.view_is, c.replace-content.ensures.after, ← c.slot-slot.ensures, ← c.generation-generation.ensures) (sym after)
 
 pub returns-clause-keeps_spent : goal.returns-clause-keeps_spent
 returns-clause-keeps_spent g c =

@@ -1,5 +1,5 @@
 use Rattle.std.proofs.Common.{rules}
-use Rattle.crack_arena.proofs.Arena.put.Goals as goal
+use Rattle.crack_arena.proofs.arena.Arena.put.Goals as goal
 
 pub returns-clause-handle : goal.returns-clause-handle
 returns-clause-handle g c = search rules

@@ -1,27 +1,31 @@
-use Rattle.std.proofs.Common.{◌≡◌, is_some, true, sym, ap, ◌∙◌, refl, subst, length-set, List}
+use Rattle.std.proofs.Common.{◌≡◌, is_some, true, sym, ap, refl, subst, List}
 use Rattle.crack_arena.specs.Arena.{read, Handle, Cell, Arena, KeepsSpent}
 use Rattle.crack_arena.proofs.Laws.{KeepsSpent-set_at}
 use Rattle.crack_arena.specs.Links.{cells_of}
-use Rattle.crack_arena.proofs.ArenaLemmas.{IsLinked-write, full_from_read, written_view, read_content}
-use Rattle.crack_arena.proofs.Arena.set.Goals as goal
+use Rattle.crack_arena.proofs.ArenaLemmas.{IsLinked-write, full_from_read, written_view}
+use Rattle.crack_arena.proofs.arena.Arena.set.Goals as goal
+
+pub replace-content-requires : goal.replace-content-requires
+replace-content-requires g c =
+    let h : Handle = record { slot = c.slot-slot.result; generation = c.generation-generation.result } in
+    let reads : is_some (read (cells_of c.self.inside.cells.items) h) ≡ true = rw (← c.self.view_is) at (sym c.if-not-reads.ensures) in
+    let full = full_from_read c.self.inside.cells.items h reads in
+    full.within
 
 pub invariant_of-self : goal.invariant_of-self
 invariant_of-self g c =
     let h : Handle = record { slot = c.slot-slot.result; generation = c.generation-generation.result } in
     let reads : is_some (read (cells_of c.self.inside.cells.items) h) ≡ true = rw (← c.self.view_is) at (sym c.if-not-reads.ensures) in
     let full = full_from_read c.self.inside.cells.items h reads in
-    let content = read_content c.self.inside.cells.items c.slot-slot.result c.index_mut.result.now full.within c.index_mut.ensures.value in
-    rw c.replace.ensures.after (IsLinked-write c.self.inside.cells.items c.self.inside.head c.slot-slot.result c.self.inside.free c.self.inside.freed _ full.within full.full refl (sym (ap (λ x. x.generation) content)) c.self.invariant)
+    rw c.replace-content.ensures.after (IsLinked-write c.self.inside.cells.items c.self.inside.head c.slot-slot.result c.self.inside.free c.self.inside.freed _ full.within full.full refl (sym full.generation) c.self.invariant)
 
 pub returns-clause-after : goal.returns-clause-after
 returns-clause-after g c =
     let h : Handle = record { slot = c.slot-slot.result; generation = c.generation-generation.result } in
     let reads : is_some (read (cells_of c.self.inside.cells.items) h) ≡ true = rw (← c.self.view_is) at (sym c.if-not-reads.ensures) in
     let full = full_from_read c.self.inside.cells.items h reads in
-    let content = read_content c.self.inside.cells.items c.slot-slot.result c.index_mut.result.now full.within c.index_mut.ensures.value in
-    let same : c.index_mut.result.now.generation ≡ c.generation-generation.result = sym (ap (λ x. x.generation) content) ∙ full.generation in
     let after = written_view c.self.inside.cells.items c.self.inside.head c.slot-slot.result c.self.inside.free c.self.inside.freed _ c.generation-generation.result c.args.value full.within full.full c.self.invariant in
-    rw (← c.self.view_is, c.replace.ensures.after, length-set, same, ← c.slot-slot.ensures, ← c.generation-generation.ensures) (sym after)
+    rw (← c.self.view_is, c.replace-content.ensures.after, ← c.slot-slot.ensures, ← c.generation-generation.ensures) (sym after)
 
 pub returns-clause-keeps_spent : goal.returns-clause-keeps_spent
 returns-clause-keeps_spent g c =
