@@ -8,6 +8,7 @@ mod arena;
 mod cell_list;
 mod cells;
 mod handles;
+mod page;
 mod rows;
 
 pub use arena::{Arena, PutRefused};

@@ -11,6 +11,11 @@ invariant_of-self g c =
     let room = rw (← c.self.view_is) at c.requires.cells in
     rw (c.push_reserved.ensures.items, c.in_default.is) (IsLinked-push c.self.inside.cells.items c.self.inside.free c.self.inside.freed _ refl refl (room_to_push c.self.inside.cells.items c.self.inside.head c.self.inside.free c.self.inside.freed c.in_default.is c.self.invariant room) sound)
 
+pub push_reserved-requires-clause-few : goal.push_reserved-requires-clause-few
+push_reserved-requires-clause-few g c =
+    let room = rw (← c.self.view_is) at c.requires.cells in
+    omega (arith, room_to_push c.self.inside.cells.items c.self.inside.head c.self.inside.free c.self.inside.freed c.in_default.is c.self.invariant room)
+
 pub at-requires : goal.at-requires
 at-requires g c = omega (arith, (head_is_vacant c.self.inside.cells.items c.in-Some.slot c.self.inside.free c.self.inside.freed (rw c.in-Some.is at c.self.invariant)).within)
 
