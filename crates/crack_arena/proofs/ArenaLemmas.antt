@@ -6,9 +6,9 @@ use Rattle.std.proofs.lemmas.List.Sums.{sum_by-cons, sum_by-set, sum_by_push}
 use Rattle.std.proofs.lemmas.Bool.{cases_eq, cases_lt, lt-ltb, le-ltb, ltb-true, eqb-true, true≢false}
 use Rattle.crack_arena.specs.Arena.{times, Handle, empty_cell, handle_for, put_in, set_at, freed_at, read, vacancy_at, IsWhole}
 use Rattle.crack_arena.proofs.Times.{times-nil, times-cons, times_one, times_other, times_head, times_apart}
-use Rattle.crack_arena.specs.declared.Cell.{Cell as Stored}
-use Rattle.crack_arena.specs.declared.Content.{Content}
-use Rattle.crack_arena.specs.declared.Content.TheVariants.{Free, Full}
+use Rattle.crack_arena.specs.declared.cells.Cell.{Cell as Stored}
+use Rattle.crack_arena.specs.declared.cells.Content.{Content}
+use Rattle.crack_arena.specs.declared.cells.Content.TheVariants.{Free, Full}
 use Rattle.crack_arena.specs.Links.{content_value, content_link, cell_of, cells_of, empty_stored, link_at, chain, IsChain, is_free, is_vacant, vacancy, vacant_at, IsLinked}
 
 module _ {T : Type 0} where

@@ -1,3 +1,5 @@
 pub mod Arena
 pub mod Links
+pub mod Listed
+pub mod Pages
 pub mod Rows

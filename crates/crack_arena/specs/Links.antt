@@ -1,8 +1,8 @@
 -- How an `Arena` keeps its cells, and links the free ones. No public clause cites this module.
 use Rattle.std.specs.Prelude.{◌≡◌, ℕ, zero, suc, ◌<◌, List, [], ◌∷◌, map, length, Option, Some, None, slice_index_or, sum_by, cond, nat_lt, Bool, true, false, count_by, ◌^◌}
-use Rattle.crack_arena.specs.declared.Cell.{Cell as Stored}
-use Rattle.crack_arena.specs.declared.Content.{Content}
-use Rattle.crack_arena.specs.declared.Content.TheVariants.{Free, Full}
+use Rattle.crack_arena.specs.declared.cells.Cell.{Cell as Stored}
+use Rattle.crack_arena.specs.declared.cells.Content.{Content}
+use Rattle.crack_arena.specs.declared.cells.Content.TheVariants.{Free, Full}
 use Rattle.crack_arena.specs.Arena.{Cell, times}
 
 module _ {T : Type 0} where

@@ -142,3 +142,93 @@ fn reserved_puts_succeed(rt: HostRuntime) {
     assert_reads(&rt, &arena, b, Some('b'));
     drop(arena);
 }
+
+/// Puts as many values, each in a new cell of generation 0.
+fn put_in_order(rt: &impl Abort, arena: &mut Arena<char>, count: u32) {
+    for slot in 0..count {
+        let handle = put(rt, arena, 'a');
+        assert_handle(rt, handle, slot, 0);
+    }
+}
+
+/// The slot that the next put takes, and its generation.
+fn assert_next(rt: &impl Abort, arena: &mut Arena<char>, slot: u32, generation: u64) {
+    let handle = put(rt, arena, 'z');
+    assert_handle(rt, handle, slot, generation);
+    assert_reads(rt, arena, handle, Some('z'));
+}
+
+fn free_over_a_page(rt: &impl Abort, arena: &mut Arena<char>) {
+    put_in_order(rt, arena, 257);
+    assert_cells(rt, arena, 257, 0, 0);
+    assert_frees(rt, arena, Handle::new(256, 0), Some('a'));
+    assert_frees(rt, arena, Handle::new(3, 0), Some('a'));
+    assert_cells(rt, arena, 257, 2, 2);
+    assert_next(rt, arena, 3, 1);
+    assert_next(rt, arena, 256, 1);
+    assert_next(rt, arena, 257, 0);
+    assert_cells(rt, arena, 258, 0, 2);
+}
+
+#[test]
+fn cells_of_a_second_page(rt: HostRuntime) {
+    let mut arena = Arena::new(rt.alloc());
+    free_over_a_page(&rt, &mut arena);
+    drop(arena);
+}
+
+#[test]
+fn thousand_reserved_puts_succeed(rt: HostRuntime) {
+    let mut arena = Arena::new(rt.alloc());
+    let reserved = arena.reserve(1000);
+    assert!(rt; reserved.is_ok());
+    assert_eq!(rt; arena.cells(), 0);
+    put_in_order(&rt, &mut arena, 1000);
+    assert_eq!(rt; arena.cells(), 1000);
+    drop(arena);
+}
+
+#[test]
+fn more_is_refused_than_there_is_memory(rt: HostRuntime) {
+    let mut arena = Arena::new(rt.alloc());
+    put_in_order(&rt, &mut arena, 300);
+    let reserved = arena.reserve(usize::MAX);
+    assert!(rt; reserved.is_err());
+    assert_cells(&rt, &arena, 300, 0, 0);
+    assert_reads(&rt, &arena, Handle::new(299, 0), Some('a'));
+    assert_next(&rt, &mut arena, 300, 0);
+    drop(arena);
+}
+
+/// Makes room, at the second time where memory was refused once; then the arena is as it was.
+fn reserve(rt: &impl Abort, arena: &mut Arena<char>, additional: usize) {
+    let cells = arena.cells();
+    let free_cells = arena.free_cells();
+    let freed = arena.freed();
+    if arena.reserve(additional).is_err() {
+        assert_cells(rt, arena, cells, free_cells, freed);
+        let again = arena.reserve(additional);
+        assert!(rt; again.is_ok());
+    }
+    assert_cells(rt, arena, cells, free_cells, freed);
+}
+
+fn put_reserved(rt: &impl Abort, arena: &mut Arena<char>) {
+    reserve(rt, arena, 300);
+    put_in_order(rt, arena, 300);
+    assert_frees(rt, arena, Handle::new(7, 0), Some('a'));
+    reserve(rt, arena, 600);
+    assert_next(rt, arena, 7, 1);
+    for slot in 300..899 {
+        assert_next(rt, arena, slot, 0);
+    }
+    assert_cells(rt, arena, 899, 0, 1);
+}
+
+/// Holds whichever one call for memory is refused: puts for which there is room make none.
+#[test]
+fn sweep_reserve(rt: HostRuntime) {
+    let mut arena = Arena::new(rt.alloc());
+    put_reserved(&rt, &mut arena);
+    drop(arena);
+}

@@ -1,5 +1,0 @@
-use Rattle.std.proofs.Common.{rules}
-use Rattle.crack_arena.proofs.HandleClone.clone.Goals as goal
-
-pub returns : goal.returns
-returns g c = search rules

@@ -1,0 +1,5 @@
+use Rattle.std.proofs.Common.{rules}
+use Rattle.crack_arena.proofs.handles.Handle.slot.Goals as goal
+
+pub returns : goal.returns
+returns g c = search rules

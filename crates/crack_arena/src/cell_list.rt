@@ -1,0 +1,166 @@
+//! A list of cells in pages. A page is taken whole, and its cells never move: a growth takes more pages and room in the list of pages, and copies no cell.
+ghost use Rattle.std.specs.Prelude.{◌≡◌, ◌+◌, ◌-◌, ◌*◌, ◌<◌, ◌≤◌, [], ◌∷◌, ◌++◌, length, is_ok, if◌then◌else◌, replicate, slice_index_or, slice_set, take, drop, vec_len, vec_capacity, OnOk, OnErr};
+ghost use Rattle.std.specs.Slice.{IsItemAt};
+
+use crate::page::{CELLS, Page};
+use std::alloc::{AllocError, Global};
+use std::marker::Model;
+
+/// A full list of pages grows by so many times its length, so that what it copies as it grows stays small.
+const GROWTH: usize = 3;
+
+/// Cells by number, from 0, and for how many more there is room. Number n is cell n mod 256 of page n / 256.
+#[derive(Drop)]
+pub(crate) struct CellList<C> {
+    pages: Vec<Page<C>>,
+    len: usize,
+}
+
+impl<C> Model for CellList<C> {
+    ghost use Rattle.std.specs.Prelude.{◌-◌, ◌*◌, length};
+    ghost use Rattle.crack_arena.specs.Listed.{Listed, listed_code};
+    ghost use Rattle.crack_arena.specs.Pages.{joined, IsPaged};
+
+    ghost Value = { Listed C };
+
+    ghost coded = { listed_code C.code };
+
+    ghost view = { λ l. record { items = joined l.pages.items; room = 256 * length l.pages.items - l.len } };
+
+    ghost invariant = { λ l. IsPaged l.pages.items l.len };
+}
+
+impl<C> CellList<C> {
+    /// No cells. Takes no memory.
+    pub(crate) fn new(alloc: Global) -> CellList<C>
+        ensures items { result.items ≡ [] }
+        ensures room { result.room ≡ 0 }
+    {
+        CellList {
+            pages: Vec::new(alloc),
+            len: 0,
+        }
+    }
+
+    /// How many cells there are.
+    #[inline(always)]
+    pub(crate) fn len(&self) -> usize
+        ensures { result ≡ length self.now.items }
+    {
+        self.len
+    }
+
+    /// The cell of this number, if there is one. O(1).
+    #[inline(always)]
+    pub(crate) fn get(&self, number: usize) -> Option<&C>
+        ensures { IsItemAt self.now.items number result }
+    {
+        if number < self.len() {
+            Some(self.at(number))
+        } else {
+            None
+        }
+    }
+
+    /// The cell of this number. O(1).
+    #[inline(always)]
+    pub(crate) fn at(&self, number: usize) -> &C
+        requires { number < length self.now.items }
+        ensures { result.now ≡ slice_index_or self.now.items number result.now }
+    {
+        self.pages[number / CELLS].at(number % CELLS)
+    }
+
+    /// Puts a cell in place of the one of this number, which comes back. O(1).
+    #[inline(always)]
+    pub(crate) fn replace(&mut self, number: usize, cell: C) -> C
+        requires { number < length self.old.items }
+        ensures value { result ≡ slice_index_or self.old.items number result }
+        ensures after { self.new ≡ record self.old { items = slice_set self.old.items number cell } }
+    {
+        let page = &mut self.pages[number / CELLS];
+        page.replace(number % CELLS, cell)
+    }
+
+    /// Makes room, so that as many more cells can be appended. O(1), but for a growth.
+    #[inline(always)]
+    pub(crate) fn reserve(&mut self, additional: usize) -> Result<(), AllocError>
+        ensures items { self.new.items ≡ self.old.items }
+        ensures room { OnOk result (additional ≤ self.new.room) }
+        ensures kept { self.old.room ≤ self.new.room }
+        ensures full { OnErr result (self.old.room < additional) }
+        ensures unchanged { OnErr result (self.new ≡ self.old) }
+    {
+        let needed = pages_for(self.len % CELLS, additional);
+        let left = self.pages.len() - self.len / CELLS;
+        if needed <= left {
+            return Ok(());
+        }
+        take_pages(&mut self.pages, needed - left)
+    }
+
+    /// Appends a cell, for which there is room. O(1), takes no memory.
+    #[inline(always)]
+    pub(crate) fn push_reserved(&mut self, cell: C)
+        requires room { 0 < self.old.room }
+        requires few { length self.old.items < 4294967295 }
+        ensures items { self.new.items ≡ self.old.items ++ cell ∷ [] }
+        ensures room { self.new.room + 1 ≡ self.old.room }
+    {
+        let page = &mut self.pages[self.len / CELLS];
+        page.push(cell);
+        self.len += 1;
+    }
+}
+
+/// How many pages have room for so many cells behind those that are used.
+fn pages_for(used: usize, additional: usize) -> usize
+    requires { used < 256 }
+    ensures enough { used + additional ≤ 256 * result }
+    ensures least { 256 * result < used + additional + 256 }
+{
+    additional / CELLS + (additional % CELLS + used + (CELLS - 1)) / CELLS
+}
+
+/// Takes as many pages more. Where one of them is refused, or room in the list of pages, those that were taken are given back.
+#[cold]
+#[inline(never)]
+fn take_pages<C>(pages: &mut Vec<Page<C>>, more: usize) -> Result<(), AllocError>
+    ensures { pages.new.items ≡ (if is_ok result then pages.old.items ++ replicate more [] else pages.old.items) }
+{
+    if more > pages.capacity() - pages.len() {
+        let wanted = more.max(pages.len().saturating_mul(GROWTH));
+        pages.reserve(wanted)?;
+    }
+    push_pages(pages, more)
+}
+
+/// The same where there is room in the list of pages.
+fn push_pages<C>(pages: &mut Vec<Page<C>>, more: usize) -> Result<(), AllocError>
+    requires { vec_len pages.old + more ≤ vec_capacity pages.old }
+    ensures { pages.new.items ≡ (if is_ok result then pages.old.items ++ replicate more [] else pages.old.items) }
+{
+    let before = pages.len();
+    let alloc = *pages.allocator();
+    'pages: for _ in 0..more {
+        match Page::take(alloc) {
+            Ok(page) => pages.push_reserved(page),
+            Err(refused) => {
+                give_back(pages, before);
+                return Err(refused);
+            }
+        }
+    }
+    Ok(())
+}
+
+/// Gives the pages back that stand behind the first so many. They have no cells.
+fn give_back<C>(pages: &mut Vec<Page<C>>, kept: usize)
+    requires within { kept ≤ length pages.old.items }
+    requires empty { drop kept pages.old.items ≡ replicate (length pages.old.items - kept) [] }
+    ensures { pages.new.items ≡ take kept pages.old.items }
+{
+    'pages: while pages.len() > kept {
+        pages.take_last().give_back();
+    }
+}

@@ -1,0 +1,71 @@
+//! A page of cells.
+ghost use Rattle.std.specs.Prelude.{◌≡◌, ◌<◌, [], ◌∷◌, ◌++◌, length, slice_index_or, slice_set, IfOk};
+
+use std::alloc::{AllocError, Global};
+use std::marker::Model;
+use std::mem;
+
+/// How many cells a page has room for.
+pub(crate) const CELLS: usize = 256;
+
+/// Cells by place, from 0, in one block of memory with room for `CELLS`. It is taken whole, and the cells never move.
+#[derive(Drop)]
+pub(crate) struct Page<C> {
+    cells: Vec<C>,
+}
+
+impl<C> Model for Page<C> {
+    ghost use Rattle.std.specs.Prelude.{◌≡◌, List, vec_capacity};
+    ghost use Rattle.std.specs.Coded.{coded_list};
+
+    ghost Value = { List C };
+
+    ghost coded = { coded_list C.code };
+
+    ghost view = { λ p. p.cells.items };
+
+    ghost invariant = { λ p. vec_capacity p.cells ≡ 256 };
+}
+
+impl<C> Page<C> {
+    /// A page without cells. Takes its block of memory.
+    pub(crate) fn take(alloc: Global) -> Result<Page<C>, AllocError>
+        ensures { IfOk result (λ page. page ≡ []) }
+    {
+        let cells = Vec::with_capacity(alloc, CELLS)?;
+        Ok(Page { cells })
+    }
+
+    /// The cell at this place. O(1).
+    pub(crate) fn at(&self, place: usize) -> &C
+        requires { place < length self.now }
+        ensures { result.now ≡ slice_index_or self.now place result.now }
+    {
+        &self.cells[place]
+    }
+
+    /// Puts a cell in place of the one that stands at this place, which comes back. O(1).
+    pub(crate) fn replace(&mut self, place: usize, cell: C) -> C
+        requires { place < length self.old }
+        ensures value { result ≡ slice_index_or self.old place result }
+        ensures after { self.new ≡ slice_set self.old place cell }
+    {
+        mem::replace(&mut self.cells[place], cell)
+    }
+
+    /// Appends a cell. O(1), takes no memory.
+    pub(crate) fn push(&mut self, cell: C)
+        requires { length self.old < 256 }
+        ensures { self.new ≡ self.old ++ cell ∷ [] }
+    {
+        self.cells.push_reserved(cell);
+    }
+
+    /// Gives the memory of a page without cells back.
+    pub(crate) fn give_back(self)
+        requires { self ≡ [] }
+    {
+        let Page { cells } = self;
+        cells.destroy_empty();
+    }
+}
