@@ -3,3 +3,4 @@ pub mod Divisions
 mod Passes
 pub mod Remembering
 mod TicketLaws
+mod Thirds

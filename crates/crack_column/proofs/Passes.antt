@@ -63,7 +63,7 @@ IsSplit-shifted bound ts t low gap low2 inside falls split =
     ]
 
 -- a tag that fills the gap itself, or comes in elsewhere and leaves the gap to the one that stood there: the tags are the same
-shifted-permutes : (ts : List Tag) (t : Tag) (low gap : ℕ) → low ≤ gap → gap < length ts → IsPermutation (set ts gap t) (shifted ts gap low t)
+pub shifted-permutes : (ts : List Tag) (t : Tag) (low gap : ℕ) → low ≤ gap → gap < length ts → IsPermutation (set ts gap t) (shifted ts gap low t)
 shifted-permutes ts t low gap order inside =
     let filled : List Tag = set ts gap t in
     let here : get_or filled gap no_tag ≡ t = get_or-set_same ts gap t no_tag inside in

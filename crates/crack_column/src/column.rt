@@ -377,6 +377,46 @@ impl CrackerColumn {
         self.unread -= learned;
         place
     }
+
+    /// Cracks in three: reorders what stands from the place `from` up to and without `to`, rows below the low bound first, then those
+    /// below the high one, and gives the places of the first row at or above either. In place, without memory, in one pass.
+    /// O(to - from); reads each row there that isn't known through the arena, and remembers it.
+    pub fn crack_three(
+        &mut self,
+        from: usize,
+        to: usize,
+        low: Bound,
+        high: Bound,
+        arena: &Arena<Row>,
+    ) -> (usize, usize)
+        requires order { from ≤ to }
+        requires within { to ≤ length self.old.handles }
+        requires bounds { low.0 ≤ high.0 }
+        requires remembered { Remembers arena.now.cells self.old.handles self.old.remembered }
+        ensures low { Cracks arena.now.cells low.0 from to
+            self.old.handles self.old.remembered self.new.handles self.new.remembered result.0 }
+        ensures high { Cracks arena.now.cells high.0 from to
+            self.old.handles self.old.remembered self.new.handles self.new.remembered result.1 }
+        ensures order { result.0 ≤ result.1 }
+        ensures length { length self.new.handles ≡ length self.old.handles }
+        ensures room { self.new.room ≡ self.old.room }
+        ensures aside { self.new.aside ≡ self.old.aside }
+        ensures remembered { Remembers arena.now.cells self.new.handles self.new.remembered }
+    {
+        let unread = self.unread;
+        let (places, learned) = crack_between_three(
+            &mut self.tags,
+            from,
+            to,
+            unread,
+            &self.generations,
+            low,
+            high,
+            arena,
+        );
+        self.unread -= learned;
+        places
+    }
 }
 
 /// Cracks the tags from the place `from` up to and without `to`, of which at most so many rows are unread.
@@ -400,6 +440,40 @@ fn crack_between(
 {
     let (place, learned) = tag::crack(&mut tags[from..to], unread, generations, bound, arena);
     (from + place, learned)
+}
+
+/// Cracks the tags from the place `from` up to and without `to` in three, of which at most so many rows are unread.
+/// The two places between, and how many rows are known now that weren't.
+fn crack_between_three(
+    tags: &mut Vec<Tag>,
+    from: usize,
+    to: usize,
+    unread: usize,
+    generations: &[u64],
+    low: Bound,
+    high: Bound,
+    arena: &Arena<Row>,
+) -> ((usize, usize), usize)
+    requires order { from ≤ to }
+    requires within { to ≤ vec_len tags.old }
+    requires bounds { low.0 ≤ high.0 }
+    requires drawn { All (λ t. t.ticket < length generations.now) tags.old.items }
+    requires known { All (Knows arena.now.cells generations.now) (between from to tags.old.items) }
+    requires unread { unread_in (between from to tags.old.items) ≤ unread }
+    ensures low { Turns arena.now.cells generations.now low.0 from to tags.old.items tags.new.items result.0.0 result.1 }
+    ensures high { Turns arena.now.cells generations.now high.0 from to tags.old.items tags.new.items result.0.1 result.1 }
+    ensures order { result.0.0 ≤ result.0.1 }
+    ensures capacity { vec_capacity tags.new ≡ vec_capacity tags.old }
+{
+    let (middle, upper, learned) = tag::crack_three(
+        &mut tags[from..to],
+        unread,
+        generations,
+        low,
+        high,
+        arena,
+    );
+    ((from + middle, from + upper), learned)
 }
 
 /// Keeps the handle at the place, under the ticket there, and gives back the one that was kept there.

@@ -1,5 +1,5 @@
 //! The tags of a cracker column, one at each place: what a crack and a sum read, and what a crack exchanges.
-ghost use Rattle.std.specs.Prelude.{◌≡◌, ◌+◌, ◌<◌, ◌≤◌, ◌^◌, All, [], ◌∷◌, MatchOption, length, map, sum_by};
+ghost use Rattle.std.specs.Prelude.{◌≡◌, ◌+◌, ◌<◌, ◌≤◌, ◌^◌, All, [], ◌∷◌, MatchOption, length, map, sum_by, cond};
 ghost use Rattle.std.specs.List.Sorted.{IsPermutation};
 ghost use Rattle.crack_arena.specs.Arena.{times, IsAbsent, IsFirstAt};
 ghost use Rattle.crack_arena.specs.Rows.{key_at, payload_at, unknown};
@@ -112,6 +112,36 @@ pub(crate) fn crack(
     (divide(tags, bound), learned)
 }
 
+/// Reads the rows of the tags, if any of at most so many is unread, and puts those below the low bound first, then those below the
+/// high one. How many are below either, and how many rows are known now that weren't.
+pub(crate) fn crack_three(
+    tags: &mut [Tag],
+    unread: usize,
+    generations: &[u64],
+    low: Bound,
+    high: Bound,
+    arena: &Arena<Row>,
+) -> (usize, usize, usize)
+    requires bounds { low.0 ≤ high.0 }
+    requires drawn { All (λ t. t.ticket < length generations.now) tags.old }
+    requires known { All (Knows arena.now.cells generations.now) tags.old }
+    requires unread { unread_in tags.old ≤ unread }
+    ensures kept { IsPermutation (map forgotten tags.old) (map forgotten tags.new) }
+    ensures read { All (Read arena.now.cells generations.now) tags.new }
+    ensures low { IsDividedAt low.0 (map remembered_key tags.new) result.0 }
+    ensures high { IsDividedAt high.0 (map remembered_key tags.new) result.1 }
+    ensures order { result.0 ≤ result.1 }
+    ensures fewer { unread_in tags.new + result.2 ≡ unread_in tags.old }
+{
+    if unread == 0 {
+        let (middle, upper) = divide_three(tags, low, high);
+        return (middle, upper, 0);
+    }
+    let learned = learn(tags, generations, arena);
+    let (middle, upper) = divide_three(tags, low, high);
+    (middle, upper, learned)
+}
+
 /// Reads each row that isn't known. How many are known now.
 fn learn(tags: &mut [Tag], generations: &[u64], arena: &Arena<Row>) -> usize
     requires drawn { All (λ t. t.ticket < length generations.now) tags.old }
@@ -154,6 +184,48 @@ fn divide(tags: &mut [Tag], bound: Bound) -> usize
     tags[last] = tags[low];
     tags[low] = first;
     low + ((first.key as u64) < bound.0) as usize
+}
+
+/// Puts the keys below the low bound first, then those below the high one, and gives how many are below either.
+/// The gap goes round as in `divide`: each step fills it from the place where the keys at or above the high bound begin, that place
+/// from the one where those at or above the low bound begin, and puts the next tag where it belongs; no branch hangs on a key.
+fn divide_three(tags: &mut [Tag], low: Bound, high: Bound) -> (usize, usize)
+    requires bounds { low.0 ≤ high.0 }
+    ensures kept { IsPermutation tags.old tags.new }
+    ensures low { IsDividedAt low.0 (map remembered_key tags.new) result.0 }
+    ensures high { IsDividedAt high.0 (map remembered_key tags.new) result.1 }
+    ensures order { result.0 ≤ result.1 }
+{
+    let Some(last) = tags.len().checked_sub(1) else {
+        return (0, 0);
+    };
+    let first = tags[0];
+    let (mut middle, mut upper) = (0, 0);
+    'tags: for gap in 0..last {
+        let key = tags[gap + 1].key as u64;
+        let (is_low, is_below) = (key < low.0, key < high.0);
+        let next = tags[gap + 1];
+        let place = place_of(is_low, middle, upper);
+        tags[gap] = tags[upper];
+        tags[upper] = tags[place];
+        tags[place] = next;
+        middle += is_low as usize;
+        upper += is_below as usize;
+    }
+    let key = first.key as u64;
+    let (is_low, is_below) = (key < low.0, key < high.0);
+    let place = place_of(is_low, middle, upper);
+    tags[last] = tags[upper];
+    tags[upper] = tags[place];
+    tags[place] = first;
+    (middle + is_low as usize, upper + is_below as usize)
+}
+
+/// Where a key goes that is below the low bound or not: to the front of the middle keys, or to that of the upper ones.
+fn place_of(is_low: bool, middle: usize, upper: usize) -> usize
+    ensures { result ≡ cond is_low middle upper }
+{
+    if is_low { middle } else { upper }
 }
 
 /// The sum of the payloads of the tags' rows, of which at most so many aren't known.

@@ -132,6 +132,83 @@ fn crack_puts_rows_below_the_bound_first(rt: HostRuntime) -> Result<(), Fail> {
     told
 }
 
+/// Fills a column with rows of the keys 40, 10, 20, 30 and 15.
+fn fill_five(
+    rt: &impl Abort,
+    arena: &mut Arena<Row>,
+    column: &mut CrackerColumn,
+) -> Result<(), Fail>
+    requires remembered { (cells : List (Cell RowValue)) → Remembers cells column.old.handles column.old.remembered }
+    ensures remembered { OnOk result ((cells : List (Cell RowValue)) → Remembers cells column.new.handles column.new.remembered) }
+{
+    let a = put(rt, arena, 0, 40, 1)?;
+    let b = put(rt, arena, 1, 10, 2)?;
+    let c = put(rt, arena, 2, 20, 4)?;
+    let d = put(rt, arena, 3, 30, 8)?;
+    let e = put(rt, arena, 4, 15, 16)?;
+    let len = column.len();
+    assert!(rt; len == 0);
+    column.reserve(5)?;
+    column.append(a);
+    column.append(b);
+    column.append(c);
+    column.append(d);
+    column.append(e);
+    Ok(())
+}
+
+/// Cracks a stretch of the column in three. Where both bounds then stand.
+fn crack_in_three(
+    rt: &impl Abort,
+    arena: &Arena<Row>,
+    column: &mut CrackerColumn,
+    stretch: (usize, usize),
+    bounds: (u64, u64),
+) -> (usize, usize)
+    requires remembered { Remembers arena.now.cells column.old.handles column.old.remembered }
+    ensures remembered { Remembers arena.now.cells column.new.handles column.new.remembered }
+{
+    let len = column.len();
+    assert!(rt; stretch.0 <= stretch.1);
+    assert!(rt; stretch.1 <= len);
+    assert!(rt; bounds.0 <= bounds.1);
+    column.crack_three(
+        stretch.0,
+        stretch.1,
+        Bound(bounds.0),
+        Bound(bounds.1),
+        arena,
+    )
+}
+
+fn fill_and_crack_in_three(
+    rt: &impl Abort,
+    arena: &mut Arena<Row>,
+    column: &mut CrackerColumn,
+) -> Result<(), Fail>
+    requires remembered { (cells : List (Cell RowValue)) → Remembers cells column.old.handles column.old.remembered }
+{
+    fill_five(rt, arena, column)?;
+    assert_eq!(rt; crack_in_three(rt, arena, column, (0, 5), (15, 25)), (1, 3));
+    assert_eq!(rt; key_of(arena, at(rt, column, 0)), 10);
+    assert_two(rt, arena, column, [1, 2], [20, 15]);
+    assert_two(rt, arena, column, [3, 4], [40, 30]);
+    assert_eq!(rt; crack_in_three(rt, arena, column, (3, 5), (35, 35)), (4, 4));
+    assert_eq!(rt; key_of(arena, at(rt, column, 3)), 30);
+    assert_eq!(rt; crack_in_three(rt, arena, column, (1, 1), (12, 14)), (1, 1));
+    Ok(())
+}
+
+#[test]
+fn crack_in_three_puts_rows_between_the_bounds_in_the_middle(rt: HostRuntime) -> Result<(), Fail> {
+    let mut arena = Arena::new(rt.alloc());
+    let mut column = CrackerColumn::new(rt.alloc());
+    let told = fill_and_crack_in_three(&rt, &mut arena, &mut column);
+    drop(column);
+    drop(arena);
+    told
+}
+
 /// Appends two handles to an empty column, and swaps a third in for the first of them.
 fn swap_first(
     rt: &impl Abort,
