@@ -88,3 +88,38 @@ pub fn steps(filled: &mut Filled, count: u64, numbers: &mut Numbers) -> Result<u
     }
     Ok(sum)
 }
+
+/// Puts a row of this serial, without room that was made before.
+pub fn put_row(arena: &mut Arena<Row>, serial: u32) -> Result<(), Refusal> {
+    if arena.cells() >= 4294967295 {
+        return Err(Refusal::OutOfMemory);
+    }
+    arena.put(Row {
+        serial: Serial(serial as u64),
+        key: Key(serial),
+        payload: Payload(1),
+    })?;
+    Ok(())
+}
+
+/// Puts as many rows, one behind the other.
+pub fn put_rows(arena: &mut Arena<Row>, rows: u32) -> Result<(), Refusal> {
+    'rows: for serial in 0..rows {
+        put_row(arena, serial)?;
+    }
+    Ok(())
+}
+
+/// As many gets of random cells of the first so many, none of which was freed. A checksum of their rows.
+pub fn gets(arena: &Arena<Row>, cells: u32, count: u64, numbers: &mut Numbers) -> u64
+    requires { 0 < cells }
+{
+    let mut sum = 0;
+    'gets: for _ in 0..count {
+        let slot = numbers.below(cells as u64) as u32;
+        if let Some(row) = arena.get(Handle::new(slot, 0)) {
+            sum = mixed(sum, row.serial.0);
+        }
+    }
+    sum
+}

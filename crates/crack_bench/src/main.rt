@@ -1,5 +1,5 @@
-//! Measures the arena, the cracker column and a partition that merges by a policy: `crack_bench arena STEPS ROWS`, `crack_bench column ROWS`,
-//! `crack_bench counts POLICY ROWS RANGES`, `crack_bench sums POLICY ROWS RANGES`, `crack_bench each POLICY ROWS RANGES`,
+//! Measures the arena, the cracker column and a partition that merges by a policy: `crack_bench arena STEPS ROWS`, `crack_bench cells ROWS GETS`,
+//! `crack_bench column ROWS`, `crack_bench counts POLICY ROWS RANGES`, `crack_bench sums POLICY ROWS RANGES`, `crack_bench each POLICY ROWS RANGES`,
 //! `crack_bench cold POLICY ROWS RANGES`, `crack_bench pass POLICY ROWS RANGES`, `crack_bench updates POLICY ROWS BATCHES SIZE`,
 //! `crack_bench merge POLICY ROWS PIECES PENDING`, `crack_bench pulls POLICY ROWS PIECES DELETES`, or `crack_bench all STEPS ROWS RANGES`.
 //!
@@ -52,6 +52,51 @@ fn measure_arena(
     let cells = filled.arena.cells();
     let freed = filled.arena.freed();
     println!(rt; "arena {handles} cells {cells} freed {freed} sum {sum}")?;
+    Ok(())
+}
+
+fn run_cells(rt: &HostRuntime, rows: u32, count: u64) -> anyhow::Result<()> {
+    let mut arena = Arena::new(rt.alloc());
+    let told = measure_cells(rt, &mut arena, rows, count);
+    drop(arena);
+    told?;
+    let mut arena = Arena::new(rt.alloc());
+    let told = measure_each_put(rt, &mut arena, rows);
+    drop(arena);
+    told
+}
+
+/// Puts in a row, and gets of random cells.
+fn measure_cells(
+    rt: &HostRuntime,
+    arena: &mut Arena<Row>,
+    rows: u32,
+    count: u64,
+) -> anyhow::Result<()> {
+    let start = Instant::now(rt)?;
+    arena::put_rows(arena, rows)?;
+    report(rt, "puts", start)?;
+    if rows == 0 {
+        return Ok(());
+    }
+    let mut numbers = Numbers::new(3);
+    let start = Instant::now(rt)?;
+    let sum = arena::gets(arena, rows, count, &mut numbers);
+    report(rt, "gets", start)?;
+    let cells = arena.cells();
+    println!(rt; "cells {cells} sum {sum}")?;
+    Ok(())
+}
+
+/// Puts in a row, and how long the slowest took.
+fn measure_each_put(rt: &HostRuntime, arena: &mut Arena<Row>, rows: u32) -> anyhow::Result<()> {
+    let mut slowest = 0;
+    'rows: for serial in 0..rows {
+        let start = Instant::now(rt)?;
+        arena::put_row(arena, serial)?;
+        slowest = slowest.max(start.elapsed(rt)?.as_nanos());
+    }
+    eprintln!(rt; "slowest {slowest}")?;
     Ok(())
 }
 
@@ -375,6 +420,7 @@ fn loaded_of(name: &str, numbers: &[&str]) -> anyhow::Result<Loaded> {
 fn run(rt: &HostRuntime, words: &[&str]) -> anyhow::Result<()> {
     match words {
         [_, "arena", steps, rows] => run_arena(rt, steps.parse()?, rows.parse()?),
+        [_, "cells", rows, count] => run_cells(rt, rows.parse()?, count.parse()?),
         [_, "column", rows] => run_column(rt, rows.parse()?),
         [_, "all", steps, rows, ranges] => {
             run_all(rt, steps.parse()?, rows.parse()?, ranges.parse()?)
@@ -384,7 +430,7 @@ fn run(rt: &HostRuntime, words: &[&str]) -> anyhow::Result<()> {
             run_partition(rt, policy_of(policy)?, rows.parse()?, work)
         }
         _ => Err(anyhow::anyhow!(
-            "arena, column or all, or counts, sums, each, cold, pass, updates, merge or pulls with a policy"
+            "arena, cells, column or all, or counts, sums, each, cold, pass, updates, merge or pulls with a policy"
         )),
     }
 }
