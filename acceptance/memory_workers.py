@@ -23,6 +23,8 @@ WORKERS, OWN_PARTS = 3, 2
 SPLITS = [100, 200, 300, 400, 500]
 LINES = 40
 SESSIONS, SESSION_STATEMENTS = 3, 25
+# a test that holds whichever one of its calls for memory is refused
+SWEEP = re.compile(r"(?:\w+::)*sweep_\w+")
 TOTALS = re.compile(r"accepted (\d+) inserted (\d+) deleted (\d+) held (\d+)")
 
 
@@ -203,10 +205,8 @@ def sweeps_of(folder):
     for built in sorted(pathlib.Path(folder).glob("*/out/*_tests")):
         if built.is_file():
             listed = subprocess.run([built, "--list"], capture_output=True, text=True, timeout=memory.SECONDS, check=False).stdout
-            for line in listed.splitlines():
-                name = line.strip().removesuffix(": test")
-                if name.rpartition("::")[2].startswith("sweep_"):
-                    yield str(built), name
+            for name in SWEEP.findall(listed):
+                yield str(built), name
 
 
 def fault_of_test(built, name):
