@@ -52,7 +52,7 @@ def kinds():
     all_kinds = [
         Kind("clients-whole", clients.whole_fault, alone=True),
         Kind("clients", clients.fault, alone=True),
-        Kind("threads", histories.soak_fault, "crack_histories", shares=6),
+        Kind("threads", histories.soak_fault, "crack_histories", shares=4),
         Kind("lines", lines.fault),
         Kind("csv", csv_input.fault),
         Kind("devices", devices.fault),
