@@ -78,6 +78,9 @@ class Comparison(unittest.TestCase):
         self.assertIsNone(seen_of(given, b"refused 8\nrow 0.0\nrows 1\n0.0 2 20\n", 1).wrong)
         self.assertIsNotNone(seen_of(given, b"refused 8\nrow 0.1\nrows 1\n0.1 2 20\n", 1).wrong)
         self.assertIsNotNone(seen_of(given, b"refused 8\nrow 0.0\nrows 2\n0.0 1 10\n0.1 2 20\n", 1).wrong)
+        # (a reply that is lost behind a refusal, and one that comes twice)
+        self.assertIsNotNone(seen_of(given, b"refused 8\nrows 1\n0.0 2 20\n", 1).wrong)
+        self.assertIsNotNone(seen_of(given, b"refused 8\nrow 0.0\nrow 0.0\nrows 1\n0.0 2 20\n", 1).wrong)
 
     def test_no_more_statements_are_refused_than_calls_and_none_that_asks_nothing(self):
         given = b"insert 1 10\npolicy ripple\nnonsense\ncount 5 1\nlayout 9\nupdate 0.0 200 1\n"
