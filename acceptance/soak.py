@@ -32,6 +32,8 @@ SEEDS = 2**32
 TOLD_EVERY = 60
 # a kind that has failed so often isn't run any more
 MOST_FAILURES = 10
+# how many seconds a kind's first case is taken to last
+FIRST_LASTS = 10
 
 
 class Kind:
@@ -42,6 +44,12 @@ class Kind:
         self.name, self.fault, self.needs, self.shares, self.alone = name, fault, needs, shares, alone
         self.passed = self.failed = self.running = 0
         self.seconds = 0.0
+
+    def share(self):
+        """How many seconds it has had and is having of each of its shares; a case that runs is taken to last as long as those before it."""
+        ended = self.passed + self.failed
+        lasts = self.seconds / ended if ended else FIRST_LASTS
+        return (self.seconds + self.running * lasts) / self.shares
 
     def told(self):
         return f"soak: {self.name} {self.passed} passed, {self.failed} failed, {self.seconds:.0f} seconds"
@@ -98,7 +106,7 @@ def next_kind(of):
     """The kind that has had the least of its shares of the time, of those that may run now. The whole run of clients comes once."""
     alone = any(it.running for it in of if it.alone)
     free = [it for it in of if it.failed < MOST_FAILURES and not (it.alone and alone) and not (it.name == "clients-whole" and it.passed + it.failed)]
-    return min(free, key=lambda it: ((it.seconds + it.running) / it.shares, it.name)) if free else None
+    return min(free, key=lambda it: (it.share(), it.name)) if free else None
 
 
 def write_failure(failures, kind, seed, wrong):
