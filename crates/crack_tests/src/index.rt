@@ -1,12 +1,16 @@
 //! The bounds of a cracked column and their places.
 
+ghost use Rattle.std.specs.Prelude.{◌<◌, All};
+
 use crack_index::{CrackerIndex, NearBound, Piece, Visitor};
 use crack_row::{Bound, GREATEST_BOUND, Key, KeyRange, PieceSize};
 use std::alloc::Global;
 use std::process::Abort;
 
 /// The bounds 10, 20 and 30 at the places 0, 1 and 1.
-fn tens(rt: &impl Abort, alloc: Global) -> CrackerIndex {
+fn tens(rt: &impl Abort, alloc: Global) -> CrackerIndex
+    ensures small { All (λ m. m.position < usize.MAX) result.marks }
+{
     let mut index = CrackerIndex::new(alloc);
     let room = index.reserve(3);
     assert!(rt; room.is_ok());
