@@ -142,6 +142,15 @@ impl Column {
         from + divide(places, bound)
     }
 
+    pub fn crack_three(&mut self, from: usize, to: usize, low: u64, high: u64, arena: &Arena<Row>) -> (usize, usize) {
+        let places = &mut self.places[from..to];
+        if self.unread > 0 {
+            self.unread -= learn(places, &self.generations, arena);
+        }
+        let (middle, upper) = divide_three(places, low, high);
+        (from + middle, from + upper)
+    }
+
     /// The sum of the payloads from a place up to another; reads a cell for a row that isn't known alone.
     pub fn sum_between(&self, from: usize, to: usize, arena: &Arena<Row>) -> u64 {
         if self.unread == 0 {
@@ -188,6 +197,32 @@ fn divide(places: &mut [Place], bound: u64) -> usize {
     places[last] = places[low];
     places[low] = first;
     low + (u64::from(first.key) < bound) as usize
+}
+
+/// Puts the keys below the low bound first, then those below the high one, and gives how many are below either. The gap goes round
+/// through both places between.
+fn divide_three(places: &mut [Place], low: u64, high: u64) -> (usize, usize) {
+    let Some(last) = places.len().checked_sub(1) else {
+        return (0, 0);
+    };
+    let first = places[0];
+    let (mut middle, mut upper) = (0, 0);
+    for gap in 0..last {
+        let key = u64::from(places[gap + 1].key);
+        let next = places[gap + 1];
+        let place = if key < low { middle } else { upper };
+        places[gap] = places[upper];
+        places[upper] = places[place];
+        places[place] = next;
+        middle += (key < low) as usize;
+        upper += (key < high) as usize;
+    }
+    let key = u64::from(first.key);
+    let place = if key < low { middle } else { upper };
+    places[last] = places[upper];
+    places[upper] = places[place];
+    places[place] = first;
+    (middle + (key < low) as usize, upper + (key < high) as usize)
 }
 
 /// A crack that remembers no key: each is read through the arena at each crack.

@@ -89,11 +89,9 @@ impl Marks {
         (self.start(mark), self.places.get(mark).map_or(len, |it| *it as usize))
     }
 
-    /// The bounds of that piece, or the ends of the key space.
-    fn bounds_around(&self, key: u32) -> (u64, u64) {
-        let (below, above) = self.bounds.split_at(self.up_to(key));
-        let bound = |it: &u32| u64::from(*it);
-        (below.last().map_or(0, bound), above.first().map_or(GREATEST_BOUND, bound))
+    /// The first bound above this key, or the end of the key space.
+    fn bound_above(&self, key: u32) -> u64 {
+        self.bounds.get(self.up_to(key)).map_or(GREATEST_BOUND, |bound| u64::from(*bound))
     }
 
     /// Those from this one on that stand where it stands move up by one. Where it stood, and the first behind them.
@@ -274,10 +272,7 @@ impl Fast {
             return (0, 0);
         }
         let (first, last) = (low as u32, (high - 1) as u32);
-        let (below, above) = self.marks.bounds_around(first);
-        let (one, other) = if low - below < above.max(high) - high { (high, low) } else { (low, high) };
-        self.crack_at(one);
-        self.crack_at(other);
+        self.crack(low, high);
         match self.policy {
             Policy::Gradual => self.merge(first, last, GREATEST_BOUND),
             Policy::Ripple => self.merge(first, last, high),
@@ -298,19 +293,48 @@ impl Fast {
         self.marks.start(self.marks.up_to(bound))
     }
 
-    fn crack_at(&mut self, bound: u64) {
-        let Some(bound) = u32::try_from(bound).ok().filter(|it| *it != 0) else {
-            return;
-        };
+    /// Where the bound's mark is to stand, unless it is there or is an end of the keys.
+    fn missing(&self, bound: u64) -> Option<usize> {
+        let bound = u32::try_from(bound).ok().filter(|it| *it != 0)?;
         let mark = self.marks.up_to(bound);
-        if mark.checked_sub(1).is_some_and(|it| self.marks.bounds[it] == bound) {
-            return;
+        (mark == 0 || self.marks.bounds[mark - 1] != bound).then_some(mark)
+    }
+
+    /// Cracks the column at both ends of the range, in three where both are missing and fall into one piece.
+    fn crack(&mut self, low: u64, high: u64) {
+        match (self.missing(low), self.missing(high)) {
+            (Some(mark), Some(same)) if mark == same => self.crack_in_three(mark, low as u32, high as u32),
+            (first, second) => {
+                // the high end first: so the low one's mark stays where it was found
+                for (mark, bound) in [(second, high), (first, low)] {
+                    if let Some(mark) = mark {
+                        self.crack_in_two(mark, bound as u32);
+                    }
+                }
+            }
         }
-        let from = self.marks.start(mark);
+    }
+
+    /// Where the piece before this mark begins and ends.
+    fn piece_before(&self, mark: usize) -> (usize, usize) {
         let to = self.marks.places.get(mark).map_or(self.tags.len(), |it| *it as usize);
+        (self.marks.start(mark), to)
+    }
+
+    fn crack_in_two(&mut self, mark: usize, bound: u32) {
+        let (from, to) = self.piece_before(mark);
         let place = from + divide(&mut self.tags[from..to], bound);
         self.marks.bounds.insert(mark, bound);
         self.marks.places.insert(mark, place as u32);
+    }
+
+    fn crack_in_three(&mut self, mark: usize, low: u32, high: u32) {
+        let (from, to) = self.piece_before(mark);
+        let (middle, upper) = divide_three(&mut self.tags[from..to], low, high);
+        for (bound, place) in [(high, from + upper), (low, from + middle)] {
+            self.marks.bounds.insert(mark, bound);
+            self.marks.places.insert(mark, place as u32);
+        }
     }
 
     /// Puts in the pending rows with keys from the low one up to the last one, and then takes out the doomed ones.
@@ -323,12 +347,25 @@ impl Fast {
             from = spot + 1;
         }
         self.pending_in.close_up(&mut self.cells);
+        let mut fillers = u32::try_from(limit).ok().map(|it| (0, it, (self.marks.bound_above(it) - 1) as u32));
         let mut from = 0;
         while let Some(spot) = self.pending_out.next_in(low, last, from) {
             let doomed = self.pending_out.take(spot);
-            self.pull(doomed);
+            let place = self.place_of(doomed);
+            fillers = fillers.and_then(|(from, low, last)| Some((self.pending_in.next_in(low, last, from)?, low, last)));
+            let hand = match &mut fillers {
+                Some((filler, ..)) => {
+                    self.tally.put_in += 1;
+                    let hand = self.pending_in.take(*filler);
+                    *filler += 1;
+                    hand
+                }
+                None => self.lift_last(),
+            };
+            self.pull(doomed, hand, place);
             from = spot + 1;
         }
+        self.pending_in.close_up(&mut self.cells);
         self.pending_out.close_up(&mut self.cells);
     }
 
@@ -380,14 +417,16 @@ impl Fast {
         self.cells[doomed.slot as usize].note as usize
     }
 
-    /// Takes a doomed row out of the column: the last row goes down to its place, piece by piece.
-    fn pull(&mut self, doomed: Tag) {
-        let place = self.place_of(doomed);
+    fn lift_last(&mut self) -> Tag {
         let len = self.tags.len();
-        let mut hand = self.tags.pop().expect("a doomed row stands in the column");
         if self.marks.places.last() == Some(&(len as u32)) {
             self.marks.lower(self.marks.places.len());
         }
+        self.tags.pop().expect("a doomed row stands in the column")
+    }
+
+    /// Takes a doomed row out of the column: the hand goes down to its place, piece by piece.
+    fn pull(&mut self, doomed: Tag, mut hand: Tag, place: usize) {
         let mut mark = self.marks.up_to(hand.key);
         while hand.slot != doomed.slot {
             let from = self.marks.start(mark);
@@ -422,4 +461,29 @@ fn divide(tags: &mut [Tag], bound: u32) -> usize {
     tags[last] = tags[low];
     tags[low] = first;
     low + (first.key < bound) as usize
+}
+
+/// Puts the keys below the low bound first, then those below the high one, and gives how many are below either. The gap goes round through both
+/// places between.
+fn divide_three(tags: &mut [Tag], low: u32, high: u32) -> (usize, usize) {
+    let Some(last) = tags.len().checked_sub(1) else {
+        return (0, 0);
+    };
+    let first = tags[0];
+    let (mut middle, mut upper) = (0, 0);
+    for gap in 0..last {
+        let key = tags[gap + 1].key;
+        let next = tags[gap + 1];
+        let place = if key < low { middle } else { upper };
+        tags[gap] = tags[upper];
+        tags[upper] = tags[place];
+        tags[place] = next;
+        middle += (key < low) as usize;
+        upper += (key < high) as usize;
+    }
+    let place = if first.key < low { middle } else { upper };
+    tags[last] = tags[upper];
+    tags[upper] = tags[place];
+    tags[place] = first;
+    (middle + (first.key < low) as usize, upper + (first.key < high) as usize)
 }

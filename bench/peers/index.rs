@@ -33,13 +33,9 @@ impl Index {
         )
     }
 
-    /// The bounds of the piece whose keys hold this key, or the ends of the key space.
-    pub fn bounds_around(&self, key: u64) -> (u64, u64) {
-        let (below, above) = self.marks.split_at(self.up_to(key));
-        (
-            below.last().map_or(0, |mark| mark.bound),
-            above.first().map_or(GREATEST_BOUND, |mark| mark.bound),
-        )
+    /// The first bound above this key, or the end of the key space.
+    pub fn bound_above(&self, key: u64) -> u64 {
+        self.marks.get(self.up_to(key)).map_or(GREATEST_BOUND, |mark| mark.bound)
     }
 
     pub fn add(&mut self, bound: u64, position: usize) {

@@ -14,7 +14,8 @@ pub const GREATEST_BOUND: u64 = 1 << 32;
 pub enum Policy {
     Complete,
     Gradual,
-    /// Gradual, with room made near the range: the row that stands in the way is put back among the pending insertions.
+    /// Gradual, with room made near the range: the row that stands in the way is put back among the pending insertions, and one of the piece behind the
+    /// range fills a doomed row's place.
     Ripple,
     /// Complete, in carries that search the index anew at each step, by a key that they read through the arena.
     Anew,
@@ -85,14 +86,7 @@ impl Store {
             return (0, 0);
         }
         self.index.marks.reserve(2);
-        let (below, above) = self.index.bounds_around(low);
-        if low - below.min(low) < above.max(high) - high {
-            self.crack_at(high);
-            self.crack_at(low);
-        } else {
-            self.crack_at(low);
-            self.crack_at(high);
-        }
+        self.crack(low, high);
         match policy {
             Policy::Gradual | Policy::Ripple => self.merge(low, high, policy),
             _ if self.pending_in.next_in(low, high, 0).is_some() || self.pending_out.next_in(low, high, 0).is_some() => {
@@ -107,10 +101,35 @@ impl Store {
         self.column.sum_between(from, to, &self.arena)
     }
 
-    fn crack_at(&mut self, bound: u64) {
-        if bound == 0 || GREATEST_BOUND <= bound || self.index.position(bound).is_some() {
-            return;
+    /// The bound's own piece, by the mark behind it, unless the bound is there or is an end of the keys.
+    fn missing(&self, bound: u64) -> Option<usize> {
+        if bound == 0 || GREATEST_BOUND <= bound {
+            return None;
         }
+        let mark = self.index.up_to(bound);
+        (mark == 0 || self.index.marks[mark - 1].bound != bound).then_some(mark)
+    }
+
+    /// Cracks the column at both ends of the range, in three where both are missing and fall into one piece.
+    fn crack(&mut self, low: u64, high: u64) {
+        match (self.missing(low), self.missing(high)) {
+            (Some(mark), Some(same)) if mark == same => {
+                let (from, to) = self.index.piece_of(low, self.column.len());
+                let (middle, upper) = self.column.crack_three(from, to, low, high, &self.arena);
+                self.index.add(low, middle);
+                self.index.add(high, upper);
+            }
+            (first, second) => {
+                for (mark, bound) in [(second, high), (first, low)] {
+                    if mark.is_some() {
+                        self.crack_in_two(bound);
+                    }
+                }
+            }
+        }
+    }
+
+    fn crack_in_two(&mut self, bound: u64) {
         let (from, to) = self.index.piece_of(bound, self.column.len());
         let place = self.column.crack_two(from, to, bound, &self.arena);
         self.index.add(bound, place);
@@ -130,14 +149,30 @@ impl Store {
             spot = found + 1;
         }
         self.pending_in.close_up();
+        let beyond = self.index.bound_above(high);
+        let mut fillers = (policy == Policy::Ripple).then_some(0);
         let mut spot = 0;
         while let Some(found) = self.pending_out.next_in(low, high, spot) {
             let (doomed, key) = self.pending_out.take(found);
-            self.pull(doomed, key);
+            let place = self.place_of(doomed.slot, key);
+            let filler = fillers.and_then(|from| self.pending_in.next_in(high, beyond, from));
+            fillers = filler.map(|it| it + 1);
+            match filler {
+                Some(it) => self.lift(it),
+                None => self.lift_last(),
+            }
+            self.pull(doomed, place);
             self.arena.free(doomed);
             spot = found + 1;
         }
+        self.pending_in.close_up();
         self.pending_out.close_up();
+    }
+
+    fn lift(&mut self, spot: usize) {
+        let (hand, _) = self.pending_in.take(spot);
+        let held = self.held(hand);
+        self.column.set_aside(held);
     }
 
     fn bury(&mut self, hand: Handle) {
@@ -204,9 +239,7 @@ impl Store {
         self.notes[slot as usize] as usize
     }
 
-    /// Takes a doomed row out of the column: the last row goes down to its place, piece by piece.
-    fn pull(&mut self, doomed: Handle, key: u32) {
-        let place = self.place_of(doomed.slot, key);
+    fn lift_last(&mut self) {
         let len = self.column.len();
         self.column.pop_aside();
         while self.index.marks.last().is_some_and(|mark| mark.position == len) {
@@ -215,6 +248,10 @@ impl Store {
                 mark.position -= 1;
             }
         }
+    }
+
+    /// Takes a doomed row out of the column: the hand goes down to its place, piece by piece.
+    fn pull(&mut self, doomed: Handle, place: usize) {
         let mut mark = self.index.up_to(u64::from(self.column.aside_key()));
         while self.column.aside_slot() != doomed.slot {
             let from = mark.checked_sub(1).map_or(0, |it| self.index.marks[it].position);

@@ -1,4 +1,5 @@
 pub mod Arena
+pub mod Codes
 pub mod Links
 pub mod Listed
 pub mod Pages

@@ -143,6 +143,7 @@ impl<T> Arena<T> {
 
     /// Keeps the value in the first free cell, or else in a new one. O(1), but for a growth.
     /// Takes no memory where room is left.
+    #[inline(always)]
     pub fn put(&mut self, value: T) -> Result<Handle<T>, PutRefused<T>>
         requires { CanPut self.old }
         ensures handle { IfOk result (λ handle. handle ≡ handle_for self.old.cells self.old.free) }
@@ -153,10 +154,25 @@ impl<T> Arena<T> {
         ensures unchanged { OnErr result (self.new ≡ self.old) }
         ensures keeps_spent { KeepsSpent self.old.cells self.new.cells }
     {
-        if self.reserve(1).is_err() {
+        if self.reserve_one().is_err() {
             return Err(PutRefused { value });
         }
         Ok(self.put_reserved(value))
+    }
+
+    /// Makes room for one put. O(1), but for a growth.
+    #[inline(always)]
+    fn reserve_one(&mut self) -> Result<(), Refusal>
+        ensures same { self.new ≡ record self.old { room = self.new.room } }
+        ensures room { OnOk result (1 ≤ self.new.room) }
+        ensures kept { self.old.room ≤ self.new.room }
+        ensures full { OnErr result (self.old.room ≡ 0) }
+        ensures unchanged { OnErr result (self.new ≡ self.old) }
+    {
+        if self.head.is_none() {
+            self.cells.reserve(1)?;
+        }
+        Ok(())
     }
 
     /// Keeps the value in the first free cell, or else in a new one, for which there is room. O(1), takes no memory.
@@ -182,8 +198,8 @@ impl<T> Arena<T> {
             generation,
             content: Content::Full(value),
         };
-        self.free -= 1;
         let Cell { content, .. } = self.cells.replace(slot as usize, full);
+        self.free -= 1;
         match content {
             Content::Free(next) => self.head = next,
             Content::Full(_) => unreachable!(),
@@ -234,10 +250,10 @@ impl<T> Arena<T> {
             generation: generation + 1,
             content: Content::Free(self.head),
         };
+        let Cell { content, .. } = self.cells.replace(slot, vacant);
         self.head = Some(slot as u32);
         self.free += 1;
         self.freed += 1;
-        let Cell { content, .. } = self.cells.replace(slot, vacant);
         match content {
             Content::Full(value) => Some(value),
             Content::Free(_) => unreachable!(),

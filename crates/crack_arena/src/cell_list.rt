@@ -18,7 +18,8 @@ pub(crate) struct CellList<C> {
 
 impl<C> Model for CellList<C> {
     ghost use Rattle.std.specs.Prelude.{◌-◌, ◌*◌, length};
-    ghost use Rattle.crack_arena.specs.Listed.{Listed, listed_code};
+    ghost use Rattle.crack_arena.specs.Listed.{Listed};
+    ghost use Rattle.crack_arena.specs.Codes.{listed_code};
     ghost use Rattle.crack_arena.specs.Pages.{joined, IsPaged};
 
     ghost Value = { Listed C };

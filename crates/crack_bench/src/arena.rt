@@ -90,6 +90,7 @@ pub fn steps(filled: &mut Filled, count: u64, numbers: &mut Numbers) -> Result<u
 }
 
 /// Puts a row of this serial, without room that was made before.
+#[inline(always)]
 pub fn put_row(arena: &mut Arena<Row>, serial: u32) -> Result<(), Refusal> {
     if arena.cells() >= 4294967295 {
         return Err(Refusal::OutOfMemory);

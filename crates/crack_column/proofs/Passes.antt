@@ -15,7 +15,8 @@ use Rattle.crack_row.specs.declared.Row.{Row}
 use Rattle.crack_column.specs.declared.tag.Tag.{Tag}
 use Rattle.crack_arena.specs.Rows.{payload_at, unknown}
 use Rattle.crack_column.specs.Column.{Memory, memory_at, IsDividedAt}
-use Rattle.crack_column.specs.Tickets.{no_tag, remembered_key, tag_handle, forgotten, Knows, Read}
+use Rattle.crack_column.specs.Tickets.{remembered_key, tag_handle}
+use Rattle.crack_column.specs.Inside.{no_tag, forgotten, Knows, Read}
 
 -- a tag comes in at the place, and the one that stood there fills the gap
 abbrev pub shifted : List Tag → ℕ → ℕ → Tag → List Tag

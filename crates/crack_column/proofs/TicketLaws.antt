@@ -18,7 +18,8 @@ use Rattle.crack_column.specs.declared.tag.Tag.{Tag}
 use Rattle.crack_arena.specs.Rows.{key_at, unknown}
 use Rattle.crack_column.specs.Column.{Memory, Aside, no_aside, nothing, memory_at, Remembers, Cracks}
 use Rattle.crack_column.proofs.Cracking.{Replaced, replaced}
-use Rattle.crack_column.specs.Tickets.{no_tag, tag_for, ticket_of, remembered_key, memory_of, tag_handle, handles_in, remembered_in, aside_of, aside_in, unread_in, Knows, AreDrawn, Kept, Turns, forgotten}
+use Rattle.crack_column.specs.Tickets.{ticket_of, remembered_key, memory_of, tag_handle, handles_in, remembered_in, aside_of, aside_in, unread_in, AreDrawn}
+use Rattle.crack_column.specs.Inside.{no_tag, tag_for, Knows, Kept, Turns, forgotten}
 
 -- two tags don't bear one ticket
 apart : (ts : List Tag) (i j : ℕ) → i < length ts → j < length ts → j ≢ i → times (get_or ts i no_tag).ticket (map ticket_of ts) ≤ 1 → (get_or ts j no_tag).ticket ≢ (get_or ts i no_tag).ticket

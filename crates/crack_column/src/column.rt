@@ -4,7 +4,8 @@ ghost use Rattle.std.specs.List.{between};
 ghost use Rattle.crack_arena.specs.Arena.{Cell, StandsAt, IsFirstAt, IsAbsent, no_handle};
 ghost use Rattle.crack_arena.specs.Rows.{key_at, payload_at};
 ghost use Rattle.crack_column.specs.Column.{nothing, Remembers, StillRemembers, StillRemembersWith, Cracks, Agrees, first_aside, with_aside, exchanged_aside, appended_aside, popped_aside};
-ghost use Rattle.crack_column.specs.Tickets.{AreDrawn, Knows, Turns, Kept, handles_in, unread_in, room_in, aside_in, tag_for};
+ghost use Rattle.crack_column.specs.Tickets.{AreDrawn, handles_in, unread_in, room_in, aside_in};
+ghost use Rattle.crack_column.specs.Inside.{Knows, Turns, Kept, tag_for};
 
 use crate::remembered::Remembered;
 use crate::tag::{self, Tag};

@@ -4,7 +4,8 @@ ghost use Rattle.std.specs.List.Sorted.{IsPermutation};
 ghost use Rattle.crack_arena.specs.Arena.{times, IsAbsent, IsFirstAt};
 ghost use Rattle.crack_arena.specs.Rows.{key_at, payload_at, unknown};
 ghost use Rattle.crack_column.specs.Column.{IsDividedAt};
-ghost use Rattle.crack_column.specs.Tickets.{remembered_key, memory_of, tag_handle, tag_for, forgotten, unread_in, Knows, Read};
+ghost use Rattle.crack_column.specs.Tickets.{remembered_key, memory_of, tag_handle, unread_in};
+ghost use Rattle.crack_column.specs.Inside.{tag_for, forgotten, Knows, Read};
 
 use crate::remembered::{Remembered, UNKNOWN};
 use crack_arena::{Arena, Handle, key_of, payload_of};

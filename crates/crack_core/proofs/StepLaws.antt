@@ -17,13 +17,15 @@ use Rattle.crack_row.specs.declared.command.Entry.{Entry}
 use Rattle.crack_row.specs.declared.command.Reply.{Reply}
 use Rattle.crack_row.specs.declared.refusal.Refusal.{Refusal}
 use Rattle.crack_row.specs.declared.refusal.Refusal.TheVariants.{KeyOutside, NoSuchPartition, HistoryFull, OutOfMemory}
-use Rattle.crack_plain.specs.Plain.{PlainView, IsWithin, IsSmall, reply_to, replay}
-use Rattle.crack_plain.proofs.Laws.{replay-push}
+use Rattle.crack_row.specs.declared.limit.Limits.{Limits}
+use Rattle.crack_plain.specs.Past.{Past, with_entry, state_after, accepted_in}
+use Rattle.crack_plain.specs.Plain.{PlainView, IsWithin, IsSmall, reply_to}
+use Rattle.crack_plain.proofs.PastLaws.{state_after-push, accepted_in-push}
 use Rattle.crack_part.specs.Parts.{Part, IsSound}
 use Rattle.crack_core.specs.declared.step.Step.{Step}
 use Rattle.crack_core.specs.Routes.{keys_of_part}
 use Rattle.crack_core.specs.Opening.{AreParts}
-use Rattle.crack_core.specs.Steps.{is_key_in, expected, expected_at, IsOutcome, fresh_table, table_after, tables_after, table_of, tables_of, histories_of, accepted_by, entries_at, KeepsEntries, answered_at, table_at, AreExpectedReplies}
+use Rattle.crack_core.specs.Steps.{is_key_in, expected, expected_at, IsOutcome, fresh_table, table_after, tables_after, table_of, tables_of, pasts_of, accepted_by, entries_at, with_entries, KeepsEntries, answered_at, table_at, AreExpectedReplies}
 use Rattle.crack_core.specs.Cores.{Makes, MakesAll}
 
 -- whether a command brings a key of others, by the test
@@ -39,18 +41,18 @@ within-false keys (Some key) is within =
     both_ways (is_in keys key.0) is (and_from (nat_le keys.low key.0) (nat_lt key.0 keys.high) (le-leb keys.low key.0 within.0) (lt-ltb key.0 keys.high within.1))
 
 -- a refusal of a partition is the one that is expected, or a want of memory in place of a reply
-outcome-refused : {T : Type 0} (limit : ℕ) (keys : Range) (history : List Entry) (command : Command) (e : Refusal) → ((IsWithin keys command → ⊥) → ◌≡◌ {A = Result T Refusal} (Err e) (Err KeyOutside)) → (IsWithin keys command → limit ≤ length history → ◌≡◌ {A = Result T Refusal} (Err e) (Err (HistoryFull limit))) → (IsWithin keys command → length history < limit → e ≡ OutOfMemory) → IsOutcome (expected limit keys (Some (table_of history)) command) (Err e)
-outcome-refused {T} limit keys history command e outside full room = by_key (is_key_in keys (key_of command)) refl
+outcome-refused : {T : Type 0} (limit : ℕ) (keys : Range) (past : Past) (command : Command) (e : Refusal) → ((IsWithin keys command → ⊥) → ◌≡◌ {A = Result T Refusal} (Err e) (Err KeyOutside)) → (IsWithin keys command → limit ≤ length past.tail → ◌≡◌ {A = Result T Refusal} (Err e) (Err (HistoryFull limit))) → (IsWithin keys command → length past.tail < limit → e ≡ OutOfMemory) → IsOutcome (expected limit keys (Some (table_of past)) command) (Err e)
+outcome-refused {T} limit keys past command e outside full room = by_key (is_key_in keys (key_of command)) refl
   where
     same : (f : Refusal) → ◌≡◌ {A = Result T Refusal} (Err e) (Err f) → ◌≡◌ {A = Result Reply Refusal} (Err e) (Err f)
     same f is = let equal : e ≡ f = cc in ap Err equal
 
-    by_length : (b : Bool) → nat_le limit (length history) ≡ b → IsWithin keys command → IsOutcome (if b then Err (HistoryFull limit) else Ok (reply_to (replay history) command)) (Err e)
-    by_length true is within = inl (same (HistoryFull limit) (full within (leb-true limit (length history) is)))
-    by_length false is within = inr (ap Err (room within (leb-false limit (length history) is)), refl)
+    by_length : (b : Bool) → nat_le limit (length past.tail) ≡ b → IsWithin keys command → IsOutcome (if b then Err (HistoryFull limit) else Ok (reply_to (state_after past) command)) (Err e)
+    by_length true is within = inl (same (HistoryFull limit) (full within (leb-true limit (length past.tail) is)))
+    by_length false is within = inr (ap Err (room within (leb-false limit (length past.tail) is)), refl)
 
-    by_key : (b : Bool) → is_key_in keys (key_of command) ≡ b → IsOutcome (if b then (if nat_le limit (length history) then Err (HistoryFull limit) else Ok (reply_to (replay history) command)) else Err KeyOutside) (Err e)
-    by_key true is = by_length (nat_le limit (length history)) refl (within-true keys (key_of command) is)
+    by_key : (b : Bool) → is_key_in keys (key_of command) ≡ b → IsOutcome (if b then (if nat_le limit (length past.tail) then Err (HistoryFull limit) else Ok (reply_to (state_after past) command)) else Err KeyOutside) (Err e)
+    by_key true is = by_length (nat_le limit (length past.tail)) refl (within-true keys (key_of command) is)
     by_key false is = inl (same KeyOutside (outside (within-false keys (key_of command) is)))
 
 -- what comes of an answer once the reply's copy is let go
@@ -71,51 +73,59 @@ small-given (Ok replies) r gives small = rw gives.ok small
 small-given (Err e) r gives small = rw gives.err tt
 
 -- what a partition answers is the reply of its plain rows, or the refusal that they call for, or a want of memory in place of a reply
-pub outcome-given : (p : Part) (command : Command) (a : Result (Reply × Reply) Refusal) (r : Result Reply Refusal) → Gives a r → IfOk a (λ (replies : Reply × Reply). (replies.0 ≡ reply_to (replay p.history) command) × (replies.1 ≡ replies.0)) → ((IsWithin p.keys command → ⊥) → a ≡ Err KeyOutside) → (IsWithin p.keys command → p.limit ≤ length p.history → a ≡ Err (HistoryFull p.limit)) → (IsWithin p.keys command → length p.history < p.limit → IfErr a (λ e. e ≡ OutOfMemory)) → IsOutcome (expected p.limit p.keys (Some (table_of p.history)) command) r
-outcome-given p command (Err e) r gives said outside full room = rw gives.err (outcome-refused p.limit p.keys p.history command e outside full room)
+pub outcome-given : (p : Part) (command : Command) (a : Result (Reply × Reply) Refusal) (r : Result Reply Refusal) → Gives a r → IfOk a (λ (replies : Reply × Reply). (replies.0 ≡ reply_to (state_after p.past) command) × (replies.1 ≡ replies.0)) → ((IsWithin p.keys command → ⊥) → a ≡ Err KeyOutside) → (IsWithin p.keys command → p.limits.history ≤ length p.past.tail → a ≡ Err (HistoryFull p.limits.history)) → (IsWithin p.keys command → length p.past.tail < p.limits.history → IfErr a (λ e. e ≡ OutOfMemory)) → IsOutcome (expected p.limits.history p.keys (Some (table_of p.past)) command) r
+outcome-given p command (Err e) r gives said outside full room = rw gives.err (outcome-refused p.limits.history p.keys p.past command e outside full room)
 outcome-given p command (Ok replies) r gives said outside full room = rw gives.ok (by_key (is_key_in p.keys (key_of command)) refl)
   where
     refused : (e : Refusal) → ◌≡◌ {A = Result (Reply × Reply) Refusal} (Ok replies) (Err e) → ⊥
     refused e is = absurd (cc)
 
-    by_length : (b : Bool) → nat_le p.limit (length p.history) ≡ b → IsWithin p.keys command → IsOutcome (if b then Err (HistoryFull p.limit) else Ok (reply_to (replay p.history) command)) (Ok replies.0)
-    by_length true is within = absurd (refused (HistoryFull p.limit) (full within (leb-true p.limit (length p.history) is)))
+    by_length : (b : Bool) → nat_le p.limits.history (length p.past.tail) ≡ b → IsWithin p.keys command → IsOutcome (if b then Err (HistoryFull p.limits.history) else Ok (reply_to (state_after p.past) command)) (Ok replies.0)
+    by_length true is within = absurd (refused (HistoryFull p.limits.history) (full within (leb-true p.limits.history (length p.past.tail) is)))
     by_length false is within = inl (ap Ok said.0)
 
-    by_key : (b : Bool) → is_key_in p.keys (key_of command) ≡ b → IsOutcome (if b then (if nat_le p.limit (length p.history) then Err (HistoryFull p.limit) else Ok (reply_to (replay p.history) command)) else Err KeyOutside) (Ok replies.0)
-    by_key true is = by_length (nat_le p.limit (length p.history)) refl (within-true p.keys (key_of command) is)
+    by_key : (b : Bool) → is_key_in p.keys (key_of command) ≡ b → IsOutcome (if b then (if nat_le p.limits.history (length p.past.tail) then Err (HistoryFull p.limits.history) else Ok (reply_to (state_after p.past) command)) else Err KeyOutside) (Ok replies.0)
+    by_key true is = by_length (nat_le p.limits.history (length p.past.tail)) refl (within-true p.keys (key_of command) is)
     by_key false is = absurd (refused KeyOutside (outside (within-false p.keys (key_of command) is)))
 
 -- a refusal for another cause than want of memory leaves a partition as it was
-pub same-given : (p q : Part) (command : Command) (a : Result (Reply × Reply) Refusal) (r : Result Reply Refusal) → Gives a r → ((IsWithin p.keys command → ⊥) ⊎ (p.limit ≤ length p.history) → q ≡ p) → (IsWithin p.keys command → length p.history < p.limit → IfErr a (λ e. e ≡ OutOfMemory)) → IfErr r (λ e. e ≢ OutOfMemory → q ≡ p)
+pub same-given : (p q : Part) (command : Command) (a : Result (Reply × Reply) Refusal) (r : Result Reply Refusal) → Gives a r → ((IsWithin p.keys command → ⊥) ⊎ (p.limits.history ≤ length p.past.tail) → q ≡ p) → (IsWithin p.keys command → length p.past.tail < p.limits.history → IfErr a (λ e. e ≡ OutOfMemory)) → IfErr r (λ e. e ≢ OutOfMemory → q ≡ p)
 same-given p q command (Ok replies) r gives same room = rw gives.ok tt
 same-given p q command (Err e) r gives same room = rw gives.err (λ other. by_key (is_key_in p.keys (key_of command)) refl other)
   where
     by_key : (b : Bool) → is_key_in p.keys (key_of command) ≡ b → e ≢ OutOfMemory → q ≡ p
-    by_key true is other = elim (cases_lt (length p.history) p.limit) [
+    by_key true is other = elim (cases_lt (length p.past.tail) p.limits.history) [
       | inl short ↦ absurd (other (room (within-true p.keys (key_of command) is) short))
       | inr full ↦ same (inr full)
     ]
     by_key false is other = same (inl (within-false p.keys (key_of command) is))
 
 -- one entry more
-pub table_of-push : (history : List Entry) (e : Entry) → table_of (history ++ e ∷ []) ≡ table_after (table_of history) e.command
-table_of-push history e =
-    let long : length (history ++ e ∷ []) ≡ length history + 1 = omega (arith, length-append history (e ∷ [])) in
-    rw (replay-push history e, long) refl
+pub table_of-push : (past : Past) (e : Entry) → table_of (with_entry past e) ≡ table_after (table_of past) e.command
+table_of-push past e =
+    let long : length (past.tail ++ e ∷ []) ≡ length past.tail + 1 = omega (arith, length-append past.tail (e ∷ [])) in
+    rw (state_after-push past e, long) refl
+
+-- no entry more
+with-nil : (past : Past) → with_entries past [] ≡ past
+with-nil past = ap (λ (es : List Entry). record past { tail = es }) (append-nil past.tail)
+
+-- several entries more, and more behind them
+with-append : (past : Past) (es fs : List Entry) → with_entries (with_entries past es) fs ≡ with_entries past (es ++ fs)
+with-append past es fs = ap (λ (xs : List Entry). record past { tail = xs }) (append_assoc past.tail es fs)
 
 -- several entries more
-pub table_of-append : (history es : List Entry) → fold table_after (table_of history) (map (λ (e : Entry). e.command) es) ≡ table_of (history ++ es)
-table_of-append history [] = ap table_of (sym (append-nil history))
-table_of-append history (e ∷ es) =
-    ap (λ (t : PlainView). fold table_after t (map (λ (x : Entry). x.command) es)) (sym (table_of-push history e)) ∙ table_of-append (history ++ e ∷ []) es ∙ ap table_of (append_assoc history (e ∷ []) es)
+pub table_of-append : (past : Past) (es : List Entry) → fold table_after (table_of past) (map (λ (e : Entry). e.command) es) ≡ table_of (with_entries past es)
+table_of-append past [] = ap table_of (sym (with-nil past))
+table_of-append past (e ∷ es) =
+    ap (λ (t : PlainView). fold table_after t (map (λ (x : Entry). x.command) es)) (sym (table_of-push past e)) ∙ table_of-append (with_entry past e) es ∙ ap table_of (with-append past (e ∷ []) es)
 
--- the tables are those of the histories
-pub tables-histories : (parts : List Part) (part : ℕ) → slice_get (tables_of parts) part ≡ option_map table_of (slice_get (histories_of parts) part)
-tables-histories parts part =
-    slice_get-map (λ (p : Part). table_of p.history) parts part ∙ both (slice_get parts part) ∙ ap (option_map table_of) (sym (slice_get-map (λ (p : Part). p.history) parts part))
+-- the tables are those of the pasts
+pub tables-pasts : (parts : List Part) (part : ℕ) → slice_get (tables_of parts) part ≡ option_map table_of (slice_get (pasts_of parts) part)
+tables-pasts parts part =
+    slice_get-map (λ (p : Part). table_of p.past) parts part ∙ both (slice_get parts part) ∙ ap (option_map table_of) (sym (slice_get-map (λ (p : Part). p.past) parts part))
   where
-    both : (o : Option Part) → option_map (λ (p : Part). table_of p.history) o ≡ option_map table_of (option_map (λ (p : Part). p.history) o)
+    both : (o : Option Part) → option_map (λ (p : Part). table_of p.past) o ≡ option_map table_of (option_map (λ (p : Part). p.past) o)
     both None = refl
     both (Some p) = refl
 
@@ -127,10 +137,10 @@ entries-other : (part : ℕ) (s : Step) (r : Result Reply Refusal) → s.part �
 entries-other part s (Ok reply) differs = ap (λ (b : Bool). cond b (record { worker = s.worker; command = s.command; reply = reply } ∷ []) []) (ne_eqb s.part part differs)
 entries-other part s (Err e) differs = refl
 
--- the history has the entry of a step that was answered
-pub kept-given : (history new : List Entry) (s : Step) (a : Result (Reply × Reply) Refusal) (r : Result Reply Refusal) → Gives a r → IfOk a (λ (replies : Reply × Reply). new ≡ history ++ record { worker = s.worker; command = s.command; reply = replies.0 } ∷ []) → OnErr a (new ≡ history) → new ≡ history ++ entries_at s.part (s ∷ []) (r ∷ [])
-kept-given history new s (Ok replies) r gives kept same = rw gives.ok (kept ∙ ap (λ (es : List Entry). history ++ es) (sym (entries-own s replies.0)))
-kept-given history new s (Err e) r gives kept same = rw gives.err (same ∙ sym (append-nil history))
+-- the past has the entry of a step that was answered
+pub kept-given : (past new : Past) (s : Step) (a : Result (Reply × Reply) Refusal) (r : Result Reply Refusal) → Gives a r → IfOk a (λ (replies : Reply × Reply). new ≡ with_entry past (record { worker = s.worker; command = s.command; reply = replies.0 })) → OnErr a (new ≡ past) → new ≡ with_entries past (entries_at s.part (s ∷ []) (r ∷ []))
+kept-given past new s (Ok replies) r gives kept same = rw gives.ok (kept ∙ ap (with_entries past) (sym (entries-own s replies.0)))
+kept-given past new s (Err e) r gives kept same = rw gives.err (same ∙ sym (with-nil past))
 
 -- one step more
 pub entries_at-push : (part : ℕ) (steps : List Step) (results : List (Result Reply Refusal)) (s : Step) (r : Result Reply Refusal) → length results ≡ length steps → entries_at part (steps ++ s ∷ []) (results ++ r ∷ []) ≡ entries_at part steps results ++ entries_at part (s ∷ []) (r ∷ [])
@@ -147,37 +157,37 @@ entries_at-push part (y ∷ steps) (Ok reply ∷ results) s r same = by_test (y.
     by_test false later = later
 entries_at-push part (y ∷ steps) (Err e ∷ results) s r same = entries_at-push part steps results s r (omega (arith, same))
 
--- nothing is added to a history that may not be there
-option-same : (o : Option (List Entry)) (none : List Entry) → none ≡ [] → option_map (λ (history : List Entry). history ++ none) o ≡ o
+-- nothing is added to a past that may not be there
+option-same : (o : Option Past) (none : List Entry) → none ≡ [] → option_map (λ (past : Past). with_entries past none) o ≡ o
 option-same None none is = refl
-option-same (Some history) none is = ap Some (ap (λ (es : List Entry). history ++ es) is ∙ append-nil history)
+option-same (Some past) none is = ap Some (ap (with_entries past) is ∙ with-nil past)
 
 -- no step
-pub Keeps-nil : (histories : List (List Entry)) → KeepsEntries histories [] [] histories
-Keeps-nil histories = λ part. sym (option-same (slice_get histories part) [] refl)
+pub Keeps-nil : (pasts : List Past) → KeepsEntries pasts [] [] pasts
+Keeps-nil pasts = λ part. sym (option-same (slice_get pasts part) [] refl)
 
 -- a step that was refused
-pub Keeps-refused : (histories : List (List Entry)) (s : Step) (e : Refusal) → KeepsEntries histories (s ∷ []) (Err e ∷ []) histories
-Keeps-refused histories s e = λ part. sym (option-same (slice_get histories part) [] refl)
+pub Keeps-refused : (pasts : List Past) (s : Step) (e : Refusal) → KeepsEntries pasts (s ∷ []) (Err e ∷ []) pasts
+Keeps-refused pasts s e = λ part. sym (option-same (slice_get pasts part) [] refl)
 
 -- one step more
-pub Keeps-push : (old now new : List (List Entry)) (steps : List Step) (results : List (Result Reply Refusal)) (s : Step) (r : Result Reply Refusal) → length results ≡ length steps → KeepsEntries old steps results now → KeepsEntries now (s ∷ []) (r ∷ []) new → KeepsEntries old (steps ++ s ∷ []) (results ++ r ∷ []) new
+pub Keeps-push : (old now new : List Past) (steps : List Step) (results : List (Result Reply Refusal)) (s : Step) (r : Result Reply Refusal) → length results ≡ length steps → KeepsEntries old steps results now → KeepsEntries now (s ∷ []) (r ∷ []) new → KeepsEntries old (steps ++ s ∷ []) (results ++ r ∷ []) new
 Keeps-push old now new steps results s r same before step = λ part.
     let more = entries_at part (s ∷ []) (r ∷ []) in
-    step part ∙ ap (option_map (λ (history : List Entry). history ++ more)) (before part) ∙ joined (slice_get old part) (entries_at part steps results) more (entries_at part (steps ++ s ∷ []) (results ++ r ∷ [])) (entries_at-push part steps results s r same)
+    step part ∙ ap (option_map (λ (past : Past). with_entries past more)) (before part) ∙ joined (slice_get old part) (entries_at part steps results) more (entries_at part (steps ++ s ∷ []) (results ++ r ∷ [])) (entries_at-push part steps results s r same)
   where
-    joined : (o : Option (List Entry)) (es more all : List Entry) → all ≡ es ++ more → option_map (λ (history : List Entry). history ++ more) (option_map (λ (history : List Entry). history ++ es) o) ≡ option_map (λ (history : List Entry). history ++ all) o
+    joined : (o : Option Past) (es more all : List Entry) → all ≡ es ++ more → option_map (λ (past : Past). with_entries past more) (option_map (λ (past : Past). with_entries past es) o) ≡ option_map (λ (past : Past). with_entries past all) o
     joined None es more all is = refl
-    joined (Some history) es more all is = ap Some (append_assoc history es more ∙ ap (λ (x : List Entry). history ++ x) (sym is))
+    joined (Some past) es more all is = ap Some (with-append past es more ∙ ap (with_entries past) (sym is))
 
--- what one partition is after its answered steps, by what its history is
-pub table_at-kept : (old now : List Part) (part : ℕ) (steps : List Step) (results : List (Result Reply Refusal)) → KeepsEntries (histories_of old) steps results (histories_of now) → slice_get (tables_of now) part ≡ table_at (tables_of old) part steps results
+-- what one partition is after its answered steps, by what its past is
+pub table_at-kept : (old now : List Part) (part : ℕ) (steps : List Step) (results : List (Result Reply Refusal)) → KeepsEntries (pasts_of old) steps results (pasts_of now) → slice_get (tables_of now) part ≡ table_at (tables_of old) part steps results
 table_at-kept old now part steps results kept =
-    tables-histories now part ∙ ap (option_map table_of) (kept part) ∙ by_history (slice_get (histories_of old) part) ∙ ap (option_map (λ (t : PlainView). fold table_after t (answered_at part steps results))) (sym (tables-histories old part))
+    tables-pasts now part ∙ ap (option_map table_of) (kept part) ∙ by_past (slice_get (pasts_of old) part) ∙ ap (option_map (λ (t : PlainView). fold table_after t (answered_at part steps results))) (sym (tables-pasts old part))
   where
-    by_history : (o : Option (List Entry)) → option_map table_of (option_map (λ (history : List Entry). history ++ entries_at part steps results) o) ≡ option_map (λ (t : PlainView). fold table_after t (answered_at part steps results)) (option_map table_of o)
-    by_history None = refl
-    by_history (Some history) = ap Some (sym (table_of-append history (entries_at part steps results)))
+    by_past : (o : Option Past) → option_map table_of (option_map (λ (past : Past). with_entries past (entries_at part steps results)) o) ≡ option_map (λ (t : PlainView). fold table_after t (answered_at part steps results)) (option_map table_of o)
+    by_past None = refl
+    by_past (Some past) = ap Some (sym (table_of-append past (entries_at part steps results)))
 
 -- no step
 pub AreExpectedReplies-nil : (limit : ℕ) (splits : List Bound) (tables : List PlainView) → AreExpectedReplies limit splits tables [] []
@@ -220,15 +230,15 @@ AreExpectedReplies-push limit splits tables steps results s r before now = recor
     some_same e = cc
 
 -- no step
-pub MakesAll-nil : (splits : List Bound) (limit : ℕ) (parts : List Part) → MakesAll splits limit [] [] parts parts
-MakesAll-nil splits limit parts = refl
+pub MakesAll-nil : (splits : List Bound) (limits : Limits) (parts : List Part) → MakesAll splits limits [] [] parts parts
+MakesAll-nil splits limits parts = refl
 
 -- one step more
-pub MakesAll-push : (splits : List Bound) (limit : ℕ) (steps : List Step) (results : List (Result Reply Refusal)) (s : Step) (r : Result Reply Refusal) (old now new : List Part) → MakesAll splits limit steps results old now → Makes splits limit s r now new → MakesAll splits limit (steps ++ s ∷ []) (results ++ r ∷ []) old new
-MakesAll-push splits limit [] [] s r old now new before makes = (new, rw before at makes, refl)
-MakesAll-push splits limit [] (y ∷ results) s r old now new before makes = absurd before
-MakesAll-push splits limit (x ∷ steps) [] s r old now new before makes = absurd before
-MakesAll-push splits limit (x ∷ steps) (y ∷ results) s r old now new before makes = (before.0, before.1, MakesAll-push splits limit steps results s r before.0 now new before.2 makes)
+pub MakesAll-push : (splits : List Bound) (limits : Limits) (steps : List Step) (results : List (Result Reply Refusal)) (s : Step) (r : Result Reply Refusal) (old now new : List Part) → MakesAll splits limits steps results old now → Makes splits limits s r now new → MakesAll splits limits (steps ++ s ∷ []) (results ++ r ∷ []) old new
+MakesAll-push splits limits [] [] s r old now new before makes = (new, rw before at makes, refl)
+MakesAll-push splits limits [] (y ∷ results) s r old now new before makes = absurd before
+MakesAll-push splits limits (x ∷ steps) [] s r old now new before makes = absurd before
+MakesAll-push splits limits (x ∷ steps) (y ∷ results) s r old now new before makes = (before.0, before.1, MakesAll-push splits limits steps results s r before.0 now new before.2 makes)
 
 -- what stands in a list of which one element was replaced
 pub get-set_same : {X : Type 0} (xs : List X) (i : ℕ) (y : X) → i < length xs → slice_get (set xs i y) i ≡ Some y
@@ -244,70 +254,71 @@ get-set_other (x ∷ xs) (suc i) zero y differs = refl
 get-set_other (x ∷ xs) (suc i) (suc k) y differs = get-set_other xs i k y (λ e. differs (ap suc e))
 
 -- the partition of a step is replaced by one that keeps its entry
-pub Keeps-set : (parts : List Part) (q d : Part) (s : Step) (r : Result Reply Refusal) → s.part < length parts → q.history ≡ (get_or parts s.part d).history ++ entries_at s.part (s ∷ []) (r ∷ []) → KeepsEntries (histories_of parts) (s ∷ []) (r ∷ []) (histories_of (set parts s.part q))
+pub Keeps-set : (parts : List Part) (q d : Part) (s : Step) (r : Result Reply Refusal) → s.part < length parts → q.past ≡ with_entries (get_or parts s.part d).past (entries_at s.part (s ∷ []) (r ∷ [])) → KeepsEntries (pasts_of parts) (s ∷ []) (r ∷ []) (pasts_of (set parts s.part q))
 Keeps-set parts q d s r within kept = λ k. ⊎_elim
-    (λ (same : k ≡ s.part). subst (λ (n : ℕ). slice_get (histories_of (set parts s.part q)) n ≡ option_map (λ (h : List Entry). h ++ entries_at n (s ∷ []) (r ∷ [])) (slice_get (histories_of parts) n)) (sym same) own)
+    (λ (same : k ≡ s.part). subst (λ (n : ℕ). slice_get (pasts_of (set parts s.part q)) n ≡ option_map (λ (past : Past). with_entries past (entries_at n (s ∷ []) (r ∷ []))) (slice_get (pasts_of parts) n)) (sym same) own)
     (λ (other : k ≢ s.part).
-    slice_get-map (λ (p : Part). p.history) (set parts s.part q) k
-    ∙ ap (option_map (λ (p : Part). p.history)) (get-set_other parts s.part k q other)
-    ∙ sym (slice_get-map (λ (p : Part). p.history) parts k)
-    ∙ sym (option-same (slice_get (histories_of parts) k) (entries_at k (s ∷ []) (r ∷ [])) (entries-other k s r (λ e. other (sym e)))))
+    slice_get-map (λ (p : Part). p.past) (set parts s.part q) k
+    ∙ ap (option_map (λ (p : Part). p.past)) (get-set_other parts s.part k q other)
+    ∙ sym (slice_get-map (λ (p : Part). p.past) parts k)
+    ∙ sym (option-same (slice_get (pasts_of parts) k) (entries_at k (s ∷ []) (r ∷ [])) (entries-other k s r (λ e. other (sym e)))))
     (cases_eq k s.part)
   where
-    own : slice_get (histories_of (set parts s.part q)) s.part ≡ option_map (λ (h : List Entry). h ++ entries_at s.part (s ∷ []) (r ∷ [])) (slice_get (histories_of parts) s.part)
+    own : slice_get (pasts_of (set parts s.part q)) s.part ≡ option_map (λ (past : Past). with_entries past (entries_at s.part (s ∷ []) (r ∷ []))) (slice_get (pasts_of parts) s.part)
     own =
-        slice_get-map (λ (p : Part). p.history) (set parts s.part q) s.part
-        ∙ ap (option_map (λ (p : Part). p.history)) (get-set_same parts s.part q within)
+        slice_get-map (λ (p : Part). p.past) (set parts s.part q) s.part
+        ∙ ap (option_map (λ (p : Part). p.past)) (get-set_same parts s.part q within)
         ∙ ap Some kept
-        ∙ ap (λ (o : Option Part). option_map (λ (h : List Entry). h ++ entries_at s.part (s ∷ []) (r ∷ [])) (option_map (λ (p : Part). p.history) o)) (sym (slice_get-get_or parts s.part d within))
-        ∙ ap (option_map (λ (h : List Entry). h ++ entries_at s.part (s ∷ []) (r ∷ []))) (sym (slice_get-map (λ (p : Part). p.history) parts s.part))
+        ∙ ap (λ (o : Option Part). option_map (λ (past : Past). with_entries past (entries_at s.part (s ∷ []) (r ∷ []))) (option_map (λ (p : Part). p.past) o)) (sym (slice_get-get_or parts s.part d within))
+        ∙ ap (option_map (λ (past : Past). with_entries past (entries_at s.part (s ∷ []) (r ∷ [])))) (sym (slice_get-map (λ (p : Part). p.past) parts s.part))
 
-pub tables-set : (parts : List Part) (q d : Part) (s : Step) (r : Result Reply Refusal) → s.part < length parts → q.history ≡ (get_or parts s.part d).history ++ entries_at s.part (s ∷ []) (r ∷ []) → tables_of (set parts s.part q) ≡ tables_after (tables_of parts) s.part s.command r
+pub tables-set : (parts : List Part) (q d : Part) (s : Step) (r : Result Reply Refusal) → s.part < length parts → q.past ≡ with_entries (get_or parts s.part d).past (entries_at s.part (s ∷ []) (r ∷ [])) → tables_of (set parts s.part q) ≡ tables_after (tables_of parts) s.part s.command r
 tables-set parts q d s (Ok reply) within kept =
-    let table = λ (p : Part). table_of p.history in
+    let table = λ (p : Part). table_of p.past in
     let entry : Entry = record { worker = s.worker; command = s.command; reply = reply } in
     let old = get_or parts s.part d in
-    let grown = kept ∙ ap (λ (es : List Entry). old.history ++ es) (entries-own s reply) in
-    map-set table parts s.part q ∙ ap (set (tables_of parts) s.part) (ap table_of grown ∙ table_of-push old.history entry ∙ ap (λ (t : PlainView). table_after t s.command) (sym (get_or-map table parts s.part d fresh_table within)))
+    let grown = kept ∙ ap (with_entries old.past) (entries-own s reply) in
+    map-set table parts s.part q ∙ ap (set (tables_of parts) s.part) (ap table_of grown ∙ table_of-push old.past entry ∙ ap (λ (t : PlainView). table_after t s.command) (sym (get_or-map table parts s.part d fresh_table within)))
 tables-set parts q d s (Err e) within kept =
-    map-set_same (λ (p : Part). table_of p.history) parts s.part q d (ap table_of (kept ∙ append-nil (get_or parts s.part d).history))
+    map-set_same (λ (p : Part). table_of p.past) parts s.part q d (ap table_of (kept ∙ with-nil (get_or parts s.part d).past))
 
-pub accepted-set : (parts : List Part) (q d : Part) (s : Step) (r : Result Reply Refusal) → s.part < length parts → q.history ≡ (get_or parts s.part d).history ++ entries_at s.part (s ∷ []) (r ∷ []) → accepted_by (set parts s.part q) ≡ (if is_ok r then accepted_by parts + 1 else accepted_by parts)
+pub accepted-set : (parts : List Part) (q d : Part) (s : Step) (r : Result Reply Refusal) → s.part < length parts → q.past ≡ with_entries (get_or parts s.part d).past (entries_at s.part (s ∷ []) (r ∷ [])) → accepted_by (set parts s.part q) ≡ (if is_ok r then accepted_by parts + 1 else accepted_by parts)
 accepted-set parts q d s (Ok reply) within kept =
     let old = get_or parts s.part d in
-    let sum = sum_by-set (λ (p : Part). length p.history) parts s.part q d within in
-    let grown = ap length (kept ∙ ap (λ (es : List Entry). old.history ++ es) (entries-own s reply)) in
-    let long = length-append old.history (record { worker = s.worker; command = s.command; reply = reply } ∷ []) in
+    let entry : Entry = record { worker = s.worker; command = s.command; reply = reply } in
+    let sum = sum_by-set (λ (p : Part). accepted_in p.past) parts s.part q d within in
+    let grown = ap accepted_in (kept ∙ ap (with_entries old.past) (entries-own s reply)) in
+    let long = accepted_in-push old.past entry in
     omega (arith, sum, grown, long)
 accepted-set parts q d s (Err e) within kept =
     let old = get_or parts s.part d in
-    let sum = sum_by-set (λ (p : Part). length p.history) parts s.part q d within in
-    let same = ap length (kept ∙ append-nil old.history) in
+    let sum = sum_by-set (λ (p : Part). accepted_in p.past) parts s.part q d within in
+    let same = ap accepted_in (kept ∙ with-nil old.past) in
     omega (arith, sum, same)
 
-pub AreParts-set : (splits : List Bound) (limit : ℕ) (parts : List Part) (i : ℕ) (q d : Part) → i < length parts → AreParts splits limit parts → q.keys ≡ (get_or parts i d).keys → q.limit ≡ (get_or parts i d).limit → IsSound q → AreParts splits limit (set parts i q)
-AreParts-set splits limit parts i q d within are keys limits sound = record {
+pub AreParts-set : (splits : List Bound) (limits : Limits) (parts : List Part) (i : ℕ) (q d : Part) → i < length parts → AreParts splits limits parts → q.keys ≡ (get_or parts i d).keys → q.limits ≡ (get_or parts i d).limits → IsSound q → AreParts splits limits (set parts i q)
+AreParts-set splits limits parts i q d within are keys limits_are sound = record {
   count = length-set parts i q ∙ are.count;
   keys = λ k e k_lt. ⊎_elim
       (λ (same : k ≡ i). rw (same, get_or-set_same parts i q e within) (keys ∙ are.keys i d within))
       (λ (other : k ≢ i). rw (get_or-set_other parts i k q e other) (are.keys k e (omega (arith, k_lt, length-set parts i q))))
       (cases_eq k i);
-  limits = All-set (λ (p : Part). p.limit ≡ limit) parts i q (limits ∙ are.limits i d within) are.limits;
+  alike = All-set (λ (p : Part). p.limits ≡ limits) parts i q (limits_are ∙ are.alike i d within) are.alike;
   sound = All-set IsSound parts i q sound are.sound;
 }
 
 -- where there is no such partition
 pub outcome-nowhere : (splits : List Bound) (limit : ℕ) (parts : List Part) (s : Step) → length parts ≤ s.part → IsOutcome (expected_at limit splits (tables_of parts) s.part s.command) (Err NoSuchPartition)
 outcome-nowhere splits limit parts s beyond =
-    let none = slice_get_past (tables_of parts) s.part (omega (arith, beyond, length-map parts (λ (p : Part). table_of p.history))) in
+    let none = slice_get_past (tables_of parts) s.part (omega (arith, beyond, length-map parts (λ (p : Part). table_of p.past))) in
     inl (sym (ap (λ (t : Option PlainView). expected limit (keys_of_part splits s.part) t s.command) none))
 
 -- what a partition of these splits is to answer is what the one of this number is to answer
-pub outcome-at : (splits : List Bound) (limit : ℕ) (parts : List Part) (s : Step) (r : Result Reply Refusal) (d : Part) → AreParts splits limit parts → s.part < length parts → IsOutcome (expected (get_or parts s.part d).limit (get_or parts s.part d).keys (Some (table_of (get_or parts s.part d).history)) s.command) r → IsOutcome (expected_at limit splits (tables_of parts) s.part s.command) r
-outcome-at splits limit parts s r d are within outcome =
-    let table = λ (p : Part). table_of p.history in
+pub outcome-at : (splits : List Bound) (limits : Limits) (parts : List Part) (s : Step) (r : Result Reply Refusal) (d : Part) → AreParts splits limits parts → s.part < length parts → IsOutcome (expected (get_or parts s.part d).limits.history (get_or parts s.part d).keys (Some (table_of (get_or parts s.part d).past)) s.command) r → IsOutcome (expected_at limits.history splits (tables_of parts) s.part s.command) r
+outcome-at splits limits parts s r d are within outcome =
+    let table = λ (p : Part). table_of p.past in
     let there = slice_get-map table parts s.part ∙ ap (option_map table) (slice_get-get_or parts s.part d within) in
-    rw (there, ← are.keys s.part d within) (subst (λ (l : ℕ). IsOutcome (expected l (get_or parts s.part d).keys (Some (table_of (get_or parts s.part d).history)) s.command) r) (are.limits s.part d within) outcome)
+    rw (there, ← are.keys s.part d within) (subst (λ (l : Limits). IsOutcome (expected l.history (get_or parts s.part d).keys (Some (table_of (get_or parts s.part d).past)) s.command) r) (are.alike s.part d within) outcome)
 
 -- what holds of a partition and of the one that replaces it holds of those of its number
 pub replaced-at : (R : Part → Part → Type 0) (parts : List Part) (i : ℕ) (q d : Part) → i < length parts → R (get_or parts i d) q → (old new : Part) → slice_get parts i ≡ Some old → slice_get (set parts i q) i ≡ Some new → R old new

@@ -3,6 +3,7 @@ use Rattle.std.specs.Prelude.{◌≡◌, ℕ, ◌+◌, ◌<◌, ◌⊎◌, ◌&&
 use Rattle.std.specs.Option.{option_or}
 use Rattle.crack_row.specs.declared.TheConstants.{GREATEST_LIMIT}
 use Rattle.crack_row.specs.declared.Bound.{Bound}
+use Rattle.crack_row.specs.declared.limit.Limits.{Limits}
 use Rattle.crack_row.specs.declared.refusal.Refusal.{Refusal}
 use Rattle.crack_row.specs.declared.refusal.Refusal.TheVariants.{BadSplits, TooManyPartitions, BadLimit, OutOfMemory}
 use Rattle.crack_part.specs.Parts.{Part, IsSound}
@@ -25,9 +26,9 @@ opening_fault splits limit = option_or (splits_fault splits) (limit_fault limit)
 abbrev pub MayFault : List Bound → ℕ → Refusal → Type 0
 MayFault splits limit e = (opening_fault splits limit ≡ Some e) ⊎ ((opening_fault splits limit ≡ None) × (e ≡ OutOfMemory))
 
--- the partitions of these splits: each has the keys between its splits, the limit of all, and is sound
-pub record AreParts (splits : List Bound) (limit : ℕ) (parts : List Part) : Type 0 where
+-- the partitions of these splits: each has the keys between its splits, the limits of all, and is sound
+pub record AreParts (splits : List Bound) (limits : Limits) (parts : List Part) : Type 0 where
   pub count : length parts ≡ length splits + 1
   pub keys : (k : ℕ) (d : Part) → k < length parts → (slice_index_or parts k d).keys ≡ keys_of_part splits k
-  pub limits : All (λ (part : Part). part.limit ≡ limit) parts
+  pub alike : All (λ (part : Part). part.limits ≡ limits) parts
   pub sound : All IsSound parts

@@ -12,7 +12,8 @@ use Rattle.crack_row.specs.declared.command.Reply.{Reply}
 use Rattle.crack_row.specs.declared.layout.Layout.{Layout}
 use Rattle.crack_row.specs.declared.refusal.Refusal.{Refusal}
 use Rattle.crack_row.specs.declared.refusal.Refusal.TheVariants.{KeyOutside, NoSuchPartition, HistoryFull, OutOfMemory}
-use Rattle.crack_plain.specs.Plain.{PlainView, no_rows, reply_to, after, replay}
+use Rattle.crack_plain.specs.Plain.{PlainView, no_rows, reply_to, after}
+use Rattle.crack_plain.specs.Past.{Past, state_after, accepted_in}
 use Rattle.crack_part.specs.Parts.{Part}
 use Rattle.crack_core.specs.Routes.{keys_of_part}
 use Rattle.crack_core.specs.declared.step.Step.{Step}
@@ -55,21 +56,21 @@ IsLayoutOutcome keys None outcome = outcome ≡ Err NoSuchPartition
 IsLayoutOutcome keys (Some table) (Ok layout) = IsLayout keys layout × (layout.rows ≡ length table.state.rows)
 IsLayoutOutcome keys (Some table) (Err e) = e ≡ OutOfMemory
 
--- the plain rows after a history, and how many entries it has
-abbrev pub table_of : List Entry → PlainView
-table_of history = record { state = replay history; accepted = length history }
+-- the plain rows that a past left, and how many entries its tail has
+abbrev pub table_of : Past → PlainView
+table_of past = record { state = state_after past; accepted = length past.tail }
 
 -- the same of each partition
 abbrev pub tables_of : List Part → List PlainView
-tables_of parts = map (λ (part : Part). table_of part.history) parts
+tables_of parts = map (λ (part : Part). table_of part.past) parts
 
--- the histories of partitions
-abbrev pub histories_of : List Part → List (List Entry)
-histories_of parts = map (λ (part : Part). part.history) parts
+-- what partitions lived through
+abbrev pub pasts_of : List Part → List Past
+pasts_of parts = map (λ (part : Part). part.past) parts
 
--- how many commands partitions have answered together
+-- how many commands partitions have accepted together, since they were opened
 abbrev pub accepted_by : List Part → ℕ
-accepted_by parts = sum_by (λ (part : Part). length part.history) parts
+accepted_by parts = sum_by (λ (part : Part). accepted_in part.past) parts
 
 -- the entries that one partition keeps of these steps: of each of its own that was answered, in order
 abbrev pub entries_at : ℕ → List Step → List (Result Reply Refusal) → List Entry
@@ -78,9 +79,13 @@ entries_at part (step ∷ steps) [] = []
 entries_at part (step ∷ steps) (Ok reply ∷ results) = if step.part == part then record { worker = step.worker; command = step.command; reply = reply } ∷ entries_at part steps results else entries_at part steps results
 entries_at part (step ∷ steps) (Err e ∷ results) = entries_at part steps results
 
--- each history is the old one, and then the entries of its answered steps
-abbrev pub KeepsEntries : List (List Entry) → List Step → List (Result Reply Refusal) → List (List Entry) → Type 0
-KeepsEntries old steps results new = (part : ℕ) → slice_get new part ≡ option_map (λ history. history ++ entries_at part steps results) (slice_get old part)
+-- a past with these entries more
+abbrev pub with_entries : Past → List Entry → Past
+with_entries past entries = record past { tail = past.tail ++ entries }
+
+-- each past is the old one, and then the entries of its answered steps
+abbrev pub KeepsEntries : List Past → List Step → List (Result Reply Refusal) → List Past → Type 0
+KeepsEntries old steps results new = (part : ℕ) → slice_get new part ≡ option_map (λ past. with_entries past (entries_at part steps results)) (slice_get old part)
 
 -- the commands that one partition answered of these steps, in order
 abbrev pub answered_at : ℕ → List Step → List (Result Reply Refusal) → List Command

@@ -1,6 +1,7 @@
 //! The book of a worker.
 ghost use Rattle.std.specs.Prelude.{◌≡◌, ◌⊎◌, ◌<◌, ◌≤◌, [], ◌∷◌, ◌++◌, length, IsOk, IfOk, IfErr, OnErr, OnOk, Err};
 ghost use Rattle.crack_row.specs.Commands.{range_of};
+ghost use Rattle.crack_plain.specs.Past.{with_entry, accepted_in};
 ghost use Rattle.crack_plain.specs.Plain.{IsWithin, IsSmall, reply_to, after};
 ghost use Rattle.crack_plain.specs.Totals.{accepted, inserted, deleted, is_placed, is_gone};
 ghost use Rattle.crack_part.specs.Parts.{state_of, Serves, Spares};
@@ -104,24 +105,24 @@ impl Book {
         policy: Policy,
     ) -> Result<Reply, Refusal>
         requires room { 0 < self.old.room }
-        ensures receipt { IfOk result (λ reply. self.new.receipts ≡ self.old.receipts ++ record { part = part; position = length partition.old.history; worker = self.old.worker; command = command; reply = reply } ∷ []) }
+        ensures receipt { IfOk result (λ reply. self.new.receipts ≡ self.old.receipts ++ record { part = part; position = accepted_in partition.old.past; worker = self.old.worker; command = command; reply = reply } ∷ []) }
         ensures worker { self.new.worker ≡ self.old.worker }
 
         ensures reply { IfOk result (λ reply. reply ≡ reply_to (state_of partition.old) command) }
         ensures small { IfOk result IsSmall }
-        ensures kept { IfOk result (λ reply. partition.new.history ≡ partition.old.history ++ record { worker = self.old.worker; command = command; reply = reply } ∷ []) }
+        ensures kept { IfOk result (λ reply. partition.new.past ≡ with_entry partition.old.past (record { worker = self.old.worker; command = command; reply = reply })) }
         ensures state { OnOk result (state_of partition.new ≡ after (state_of partition.old) command) }
         ensures store { OnOk result (Serves policy partition.old.keys partition.old.next command partition.old.store partition.new.store) }
-        ensures opened { (partition.new.keys ≡ partition.old.keys) × (partition.new.limit ≡ partition.old.limit) }
+        ensures opened { (partition.new.keys ≡ partition.old.keys) × (partition.new.limits ≡ partition.old.limits) }
 
-        ensures err { OnErr result ((self.new.receipts ≡ self.old.receipts) × (partition.new.history ≡ partition.old.history)) }
+        ensures err { OnErr result ((self.new.receipts ≡ self.old.receipts) × (partition.new.past ≡ partition.old.past)) }
         ensures spared { OnErr result (Spares policy partition.old.keys (range_of command) partition.old.store partition.new.store) }
-        ensures same { (IsWithin partition.old.keys command → ⊥) ⊎ (partition.old.limit ≤ length partition.old.history) → partition.new ≡ partition.old }
+        ensures same { (IsWithin partition.old.keys command → ⊥) ⊎ (partition.old.limits.history ≤ length partition.old.past.tail) → partition.new ≡ partition.old }
         ensures outside { (IsWithin partition.old.keys command → ⊥) → result ≡ Err Refusal.KeyOutside }
-        ensures full { IsWithin partition.old.keys command → partition.old.limit ≤ length partition.old.history → result ≡ Err (Refusal.HistoryFull partition.old.limit) }
-        ensures memory { IsWithin partition.old.keys command → length partition.old.history < partition.old.limit → IfErr result (λ e. e ≡ Refusal.OutOfMemory) }
+        ensures full { IsWithin partition.old.keys command → partition.old.limits.history ≤ length partition.old.past.tail → result ≡ Err (Refusal.HistoryFull partition.old.limits.history) }
+        ensures memory { IsWithin partition.old.keys command → length partition.old.past.tail < partition.old.limits.history → IfErr result (λ e. e ≡ Refusal.OutOfMemory) }
     {
-        let position = partition.history().len() as u64;
+        let position = partition.accepted();
         let kept = command;
         let (reply, copy) = partition.apply(self.worker, command, policy)?;
         let receipt = Receipt {

@@ -1,11 +1,14 @@
 //! Partitions that one thread asks.
 ghost use Rattle.std.specs.Prelude.{◌≡◌, ◌≢◌, ℕ, ◌+◌, ◌≤◌, vec_capacity, List, [], ◌∷◌, length, All, is_ok, IsOk, None, Some, IfOk, IfErr, OnErr, OnOk, Ok, Err, slice_get, if◌then◌else◌};
+ghost use Rattle.crack_row.specs.Limits.{of_history};
 ghost use Rattle.crack_row.specs.declared.Bound.{Bound};
+ghost use Rattle.crack_row.specs.declared.limit.Limits.{Limits};
+ghost use Rattle.crack_plain.specs.Past.{no_past};
 ghost use Rattle.crack_plain.specs.Plain.{PlainView, IsNumbered, IsSmall};
 ghost use Rattle.crack_part.specs.Parts.{Part};
 ghost use Rattle.crack_core.specs.Routes.{AreSplits, keys_of_part, route, parts_of};
 ghost use Rattle.crack_core.specs.Opening.{opening_fault, MayFault, AreParts};
-ghost use Rattle.crack_core.specs.Steps.{expected_at, IsOutcome, IsLayoutOutcome, tables_of, tables_after, histories_of, accepted_by, KeepsEntries, AreExpectedReplies};
+ghost use Rattle.crack_core.specs.Steps.{expected_at, IsOutcome, IsLayoutOutcome, tables_of, tables_after, pasts_of, accepted_by, KeepsEntries, AreExpectedReplies};
 ghost use Rattle.crack_store.specs.Inside.{no_cells, IsLayoutOf};
 ghost use Rattle.crack_core.specs.Cores.{IsCore, ServesAt, SparesAt, MakesAll};
 
@@ -13,16 +16,16 @@ use crate::opening::{limit_fault, open_partitions, splits_fault};
 use crate::routes;
 use crate::step::Step;
 use crack_part::Partition;
-use crack_row::{Bound, Key, KeyRange, Layout, Refusal, Reply};
+use crack_row::{Bound, Key, KeyRange, Layout, Limits, Refusal, Reply};
 use smallvec::SmallVec;
 use std::alloc::Global;
 use std::marker::Model;
 
-/// Partitions by key range, which one thread asks. Contracts see its splits, the limit of each history, and its partitions.
+/// Partitions by key range, which one thread asks. Contracts see its splits, the limits of each partition, and these.
 #[derive(Drop)]
 pub struct Core {
     splits: Vec<Bound>,
-    limit: u64,
+    limits: Limits,
     partitions: Vec<Partition>,
 }
 
@@ -31,9 +34,9 @@ impl Model for Core {
 
     ghost Value = { CoreState };
 
-    ghost view = { λ c. record { splits = c.splits.items; limit = c.limit; parts = c.partitions.items } };
+    ghost view = { λ c. record { splits = c.splits.items; limits = c.limits; parts = c.partitions.items } };
 
-    ghost invariant = { λ c. let core : CoreState = record { splits = c.splits.items; limit = c.limit; parts = c.partitions.items } in IsCore core };
+    ghost invariant = { λ c. let core : CoreState = record { splits = c.splits.items; limits = c.limits; parts = c.partitions.items } in IsCore core };
 }
 
 impl Core {
@@ -41,8 +44,8 @@ impl Core {
     /// the splits don't rise strictly or one isn't 1 to `GREATEST_KEY`, with 12 where they are more than `MOST_SPLITS`, with 14 where
     /// the limit isn't 1 to `GREATEST_LIMIT`, and with 8 where no memory is found.
     pub fn open(alloc: Global, splits: &[Bound], limit: u64) -> Result<Core, Refusal>
-        ensures opened { IfOk result (λ core. (core.splits ≡ splits.now) × (core.limit ≡ limit)) }
-        ensures fresh { IfOk result (λ core. All (λ (part : Part). part.history ≡ []) core.parts) }
+        ensures opened { IfOk result (λ core. (core.splits ≡ splits.now) × (core.limits ≡ of_history limit)) }
+        ensures fresh { IfOk result (λ core. All (λ (part : Part). part.past ≡ no_past) core.parts) }
         ensures empty { IfOk result (λ core. All (λ (part : Part). part.store ≡ no_cells part.keys part.store.column_room part.store.in_room) core.parts) }
         ensures none { OnOk result (opening_fault splits.now limit ≡ None) }
         ensures fault { IfErr result (λ e. MayFault splits.now limit e) }
@@ -57,7 +60,7 @@ impl Core {
         let partitions = open_partitions(alloc, splits, limit)?;
         Ok(Core {
             splits: kept,
-            limit,
+            limits: Limits::of_history(limit),
             partitions,
         })
     }
@@ -114,13 +117,13 @@ impl Core {
     #[inline(always)]
     pub fn step(&mut self, step: Step) -> Result<Reply, Refusal>
         // It is the reply of the partition's plain rows, or the refusal that they call for; in place of a reply it may be 8.
-        ensures outcome { IsOutcome (expected_at self.old.limit self.old.splits (tables_of self.old.parts) step.part step.command) result }
+        ensures outcome { IsOutcome (expected_at self.old.limits.history self.old.splits (tables_of self.old.parts) step.part step.command) result }
         // The plain rows change as the reply says, and a refusal leaves them.
         ensures after { tables_of self.new.parts ≡ tables_after (tables_of self.old.parts) step.part step.command result }
-        ensures kept { KeepsEntries (histories_of self.old.parts) (step ∷ []) (result ∷ []) (histories_of self.new.parts) }
+        ensures kept { KeepsEntries (pasts_of self.old.parts) (step ∷ []) (result ∷ []) (pasts_of self.new.parts) }
         ensures accepted { accepted_by self.new.parts ≡ (if is_ok result then accepted_by self.old.parts + 1 else accepted_by self.old.parts) }
         ensures small { IfOk result IsSmall }
-        ensures opened { (self.new.splits ≡ self.old.splits) × (self.new.limit ≡ self.old.limit) }
+        ensures opened { (self.new.splits ≡ self.old.splits) × (self.new.limits ≡ self.old.limits) }
 
         ensures others { (k : ℕ) → k ≢ step.part → slice_get self.new.parts k ≡ slice_get self.old.parts k }
         ensures store { OnOk result (ServesAt step self.old.parts self.new.parts) }
@@ -133,11 +136,11 @@ impl Core {
     /// Makes these steps one after the other, and answers what comes out of each. A step that is refused leaves what `step` says, and the
     /// next one is made. Refused with 8, before the first step, where the list of the answers finds no memory.
     pub fn run_steps(&mut self, steps: &[Step]) -> Result<Vec<Result<Reply, Refusal>>, Refusal>
-        ensures replies { IfOk result (λ results. AreExpectedReplies self.old.limit self.old.splits (tables_of self.old.parts) steps.now results.items) }
-        ensures kept { IfOk result (λ results. KeepsEntries (histories_of self.old.parts) steps.now results.items (histories_of self.new.parts)) }
+        ensures replies { IfOk result (λ results. AreExpectedReplies self.old.limits.history self.old.splits (tables_of self.old.parts) steps.now results.items) }
+        ensures kept { IfOk result (λ results. KeepsEntries (pasts_of self.old.parts) steps.now results.items (pasts_of self.new.parts)) }
         // Each store is served by the policy of its own steps, in their order, and by nothing else.
-        ensures stores { IfOk result (λ results. MakesAll self.old.splits self.old.limit steps.now results.items self.old.parts self.new.parts) }
-        ensures opened { (self.new.splits ≡ self.old.splits) × (self.new.limit ≡ self.old.limit) }
+        ensures stores { IfOk result (λ results. MakesAll self.old.splits self.old.limits steps.now results.items self.old.parts self.new.parts) }
+        ensures opened { (self.new.splits ≡ self.old.splits) × (self.new.limits ≡ self.old.limits) }
         ensures same { OnErr result (self.new ≡ self.old) }
         ensures err { IfErr result (λ e. e ≡ Refusal.OutOfMemory) }
     {
@@ -146,14 +149,14 @@ impl Core {
         Ok(results)
     }
 
-    /// How many commands were answered by its partitions. O(partitions).
+    /// How many commands its partitions have answered since they were opened. O(partitions).
     pub fn accepted(&self) -> u64
         ensures { result ≡ accepted_by self.now.parts }
     {
         let mut accepted = 0;
         for partition in &self.partitions {
             partition.facts();
-            accepted += partition.history().len() as u64;
+            accepted += partition.accepted();
         }
         accepted
     }
@@ -162,11 +165,11 @@ impl Core {
 /// Asks the partition of a step, if there is one, and lets the receipt go.
 #[inline(always)]
 fn ask_at(partitions: &mut [Partition], step: Step) -> Result<Reply, Refusal>
-    ensures outcome { (splits : List Bound) (limit : ℕ) → AreParts splits limit partitions.old → IsOutcome (expected_at limit splits (tables_of partitions.old) step.part step.command) result }
+    ensures outcome { (splits : List Bound) (limits : Limits) → AreParts splits limits partitions.old → IsOutcome (expected_at limits.history splits (tables_of partitions.old) step.part step.command) result }
     ensures after { tables_of partitions.new ≡ tables_after (tables_of partitions.old) step.part step.command result }
-    ensures kept { KeepsEntries (histories_of partitions.old) (step ∷ []) (result ∷ []) (histories_of partitions.new) }
+    ensures kept { KeepsEntries (pasts_of partitions.old) (step ∷ []) (result ∷ []) (pasts_of partitions.new) }
     ensures accepted { accepted_by partitions.new ≡ (if is_ok result then accepted_by partitions.old + 1 else accepted_by partitions.old) }
-    ensures parts { (splits : List Bound) (limit : ℕ) → AreParts splits limit partitions.old → AreParts splits limit partitions.new }
+    ensures parts { (splits : List Bound) (limits : Limits) → AreParts splits limits partitions.old → AreParts splits limits partitions.new }
     ensures small { IfOk result IsSmall }
     ensures others { (k : ℕ) → k ≢ step.part → slice_get partitions.new k ≡ slice_get partitions.old k }
     ensures store { OnOk result (ServesAt step partitions.old partitions.new) }
@@ -199,10 +202,10 @@ fn without_receipt(answered: Result<(Reply, Reply), Refusal>) -> Result<Reply, R
 fn run_all(partitions: &mut [Partition], steps: &[Step], results: &mut Vec<Result<Reply, Refusal>>)
     requires empty { results.old.items ≡ [] }
     requires room { length steps.now ≤ vec_capacity results.old }
-    ensures replies { (splits : List Bound) (limit : ℕ) → AreParts splits limit partitions.old → AreExpectedReplies limit splits (tables_of partitions.old) steps.now results.new.items }
-    ensures kept { KeepsEntries (histories_of partitions.old) steps.now results.new.items (histories_of partitions.new) }
-    ensures stores { (splits : List Bound) (limit : ℕ) → AreParts splits limit partitions.old → MakesAll splits limit steps.now results.new.items partitions.old partitions.new }
-    ensures parts { (splits : List Bound) (limit : ℕ) → AreParts splits limit partitions.old → AreParts splits limit partitions.new }
+    ensures replies { (splits : List Bound) (limits : Limits) → AreParts splits limits partitions.old → AreExpectedReplies limits.history splits (tables_of partitions.old) steps.now results.new.items }
+    ensures kept { KeepsEntries (pasts_of partitions.old) steps.now results.new.items (pasts_of partitions.new) }
+    ensures stores { (splits : List Bound) (limits : Limits) → AreParts splits limits partitions.old → MakesAll splits limits steps.now results.new.items partitions.old partitions.new }
+    ensures parts { (splits : List Bound) (limits : Limits) → AreParts splits limits partitions.old → AreParts splits limits partitions.new }
 {
     'steps: for step in steps {
         let result = ask_at(partitions, *step);

@@ -1,7 +1,9 @@
 //! The opening of partitions.
 ghost use Rattle.std.specs.Prelude.{◌≡◌, ◌≤◌, [], length, All, IfOk, IfErr};
+ghost use Rattle.crack_row.specs.Limits.{AreLimits, of_history};
+ghost use Rattle.crack_plain.specs.Past.{no_past};
 ghost use Rattle.crack_store.specs.Inside.{no_cells};
-ghost use Rattle.crack_part.specs.Parts.{Part, IsLimit};
+ghost use Rattle.crack_part.specs.Parts.{Part};
 ghost use Rattle.crack_core.specs.Routes.{is_rising, AreSplits};
 ghost use Rattle.crack_core.specs.Opening.{splits_fault, limit_fault, AreParts};
 
@@ -29,7 +31,7 @@ pub fn splits_fault(splits: &[Bound]) -> Option<Refusal>
 /// What is wrong with the limit of a history, if anything: 14 where it isn't 1 to `GREATEST_LIMIT`.
 pub fn limit_fault(limit: u64) -> Option<Refusal>
     ensures value { result ≡ limit_fault limit }
-    ensures good { result ≡ None → IsLimit limit }
+    ensures good { result ≡ None → AreLimits (of_history limit) }
 {
     if limit < 1 || limit > GREATEST_LIMIT {
         return Some(Refusal::BadLimit);
@@ -37,16 +39,16 @@ pub fn limit_fault(limit: u64) -> Option<Refusal>
     None
 }
 
-/// The partitions of these splits, without rows, each with the same limit. Refused with 8 where they find no memory. O(splits).
+/// The partitions of these splits, without rows, each with the same limit of its history. Refused with 8 where they find no memory. O(splits).
 pub fn open_partitions(
     alloc: Global,
     splits: &[Bound],
     limit: u64,
 ) -> Result<Vec<Partition>, Refusal>
     requires splits { AreSplits splits.now }
-    requires limited { IsLimit limit }
-    ensures parts { IfOk result (λ parts. AreParts splits.now limit parts.items) }
-    ensures fresh { IfOk result (λ parts. All (λ (part : Part). part.history ≡ []) parts.items) }
+    requires limited { AreLimits (of_history limit) }
+    ensures parts { IfOk result (λ parts. AreParts splits.now (of_history limit) parts.items) }
+    ensures fresh { IfOk result (λ parts. All (λ (part : Part). part.past ≡ no_past) parts.items) }
     ensures empty { IfOk result (λ parts. All (λ (part : Part). part.store ≡ no_cells part.keys part.store.column_room part.store.in_room) parts.items) }
     ensures err { IfErr result (λ e. e ≡ Refusal.OutOfMemory) }
 {

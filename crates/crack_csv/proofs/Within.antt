@@ -12,8 +12,8 @@ use Rattle.crack_row.specs.declared.Row.{Row}
 use Rattle.crack_row.specs.declared.command.Command.{Command}
 use Rattle.crack_row.specs.declared.command.Command.TheVariants.{Insert, Delete, Update, Count, Sum, Select}
 use Rattle.crack_row.specs.declared.command.Entry.{Entry}
-use Rattle.crack_plain.specs.Plain.{PlainState, PlainView, after, no_rows, IsWithin, BringWithin}
-use Rattle.crack_plain.proofs.Laws.{replay_from}
+use Rattle.crack_plain.specs.Past.{Base, state_after}
+use Rattle.crack_plain.specs.Plain.{PlainState, PlainView, after, replay_from, IsWithin, BringWithin}
 use Rattle.crack_part.specs.Parts.{Part, IsSound}
 use Rattle.crack_core.specs.Routes.{keys_of_part}
 use Rattle.crack_core.specs.Steps.{tables_of}
@@ -74,9 +74,10 @@ pub all_rows-sound : (splits : List Bound) (first : ℕ) (parts : List Part) →
 all_rows-sound splits first [] keys sound = refl
 all_rows-sound splits first (part ∷ parts) keys sound =
     let here : part.keys ≡ keys_of_part splits first = keys 0 part (omega arith) ∙ ap (keys_of_part splits) (omega arith) in
-    let legal = (All-head IsSound part parts sound).legal in
-    let rows = (replay_from no_rows part.history).rows in
-    let within : list_all (in_range (keys_of_part splits first)) rows ≡ true = rw here at (within_replay part.keys no_rows part.history legal.within refl) in
+    let first_sound = All-head IsSound part parts sound in
+    let rows = (state_after part.past).rows in
+    let begun : list_all (in_range part.keys) part.past.base.state.rows ≡ true = ap (λ (base : Base). list_all (in_range part.keys) base.state.rows) first_sound.begun in
+    let within : list_all (in_range (keys_of_part splits first)) rows ≡ true = rw here at (within_replay part.keys part.past.base.state part.past.tail first_sound.legal.within begun) in
     let rest = all_rows-sound splits (first + 1) parts (λ k d below. keys (suc k) d (omega (arith, below)) ∙ ap (keys_of_part splits) (omega arith)) (All-tail IsSound part parts sound) in
     ap (λ z. z ++ rows_from splits (first + 1) (tables_of parts)) (filter_all (in_range (keys_of_part splits first)) rows within)
     ∙ ap (λ z. rows ++ z) rest

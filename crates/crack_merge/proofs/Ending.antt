@@ -1,5 +1,5 @@
 -- The rules that end a carry, and how the carries of a range go on behind it.
-use Rattle.std.proofs.Common.{◌≡◌, ℕ, ◌+◌, ◌<◌, ◌≤◌, List, [], ◌∷◌, ◌++◌, length, Option, Some, None, refl, inl, inr, arith, suc, get_or, take, drop, map, cond, ap}
+use Rattle.std.proofs.Common.{◌≡◌, ℕ, ◌+◌, ◌<◌, List, [], ◌∷◌, ◌++◌, length, Option, Some, None, refl, inl, inr, arith, suc, get_or, take, drop, map, cond, ap}
 use Rattle.std.proofs.lemmas.Bool.{cases_lt}
 use Rattle.std.proofs.lemmas.List.{get_or_append_left, get_or_push, length_push, map-append, take-map, drop-map}
 use Rattle.std.specs.List.{remove, count_by}

@@ -1,8 +1,8 @@
 -- What the searches of carries and pulls of a range find.
-use Rattle.std.proofs.Common.{◌≡◌, ℕ, ◌-◌, ◌<◌, ◌≤◌, List, ◌++◌, length, get_or, Option, None, Some, refl, inl, inr, arith, length-append, Result, Ok, Err, IsOk, IfErr}
+use Rattle.std.proofs.Common.{◌≡◌, ℕ, ◌-◌, ◌<◌, ◌≤◌, List, ◌++◌, length, get_or, take, drop, Option, None, Some, refl, sym, ap, ◌∙◌, inl, inr, arith, length-append, Result, Ok, Err, IsOk, IfErr}
 use Rattle.std.specs.List.{All, remove}
 use Rattle.std.proofs.lemmas.Bool.{cases_lt}
-use Rattle.std.proofs.lemmas.List.{get_or-map, get_or_append_left, get_or-append_right, length-map}
+use Rattle.std.proofs.lemmas.List.{get_or-map, get_or-take, get_or_append_left, get_or-append_right, length-map, length-take-le, take_all, drop_all, append-nil, take-append-drop}
 use Rattle.crack_row.specs.Ranges.{Range, IsIn}
 use Rattle.crack_row.specs.declared.Row.{Row}
 use Rattle.crack_row.specs.declared.refusal.Refusal.{Refusal}
@@ -11,7 +11,7 @@ use Rattle.crack_arena.specs.Rows.{key_at, keys_at}
 use Rattle.crack_pending.specs.Pending.{Finds, NoneIn}
 use Rattle.crack_pending.proofs.Searches.{is_in-true, is_in-false, StandsAt-get_or, keys_at-StandsAt}
 use Rattle.crack_state.specs.Merge.{outside_of, ReadsOutside}
-use Rattle.crack_state.proofs.OutsideLaws.{LacksFirst, LacksFirst-next, LacksFirst-all, NoneInside}
+use Rattle.crack_state.proofs.OutsideLaws.{LacksFirst, LacksFirst-next, LacksFirst-all, NoneInside, outside_of-all}
 use Rattle.crack_state.specs.State.{State}
 use Rattle.crack_merge.specs.Merges.{CarriesIn, CarriesAll, CarriesSome, PullsOut, PullsAll, begins, carries, pulls}
 
@@ -79,10 +79,38 @@ carried_spare ceiling r s (Ok t) some outside = refl
 carried_spare ceiling r s (Err e) some outside = absurd (CarriesSome-outside ceiling r s e.0 some outside)
 
 -- likewise for a pull
-pulled_none : (r : Range) (s : State) (from : ℕ) (t : State) → PullsOut r s from t → All (ReadsOutside s.cells r) s.pending_out → t ≡ s
-pulled_none r s from t begins outside = refl
-pulled_none r s from t (pulls before at doomed u v rest first stands pulled) outside =
-    absurd (found_inside r s.cells s.pending_out before at (rw (pulled_none r s before u rest outside) at first) outside)
+pulled_none : (r fillers : Range) (s : State) (from seen : ℕ) (t : State) → PullsOut r fillers s from seen t → All (ReadsOutside s.cells r) s.pending_out → t ≡ s
+pulled_none r fillers s from seen t (begins at within none) outside = refl
+pulled_none r fillers s from seen t (pulls before at was next doomed u v c rest first stands begun pulled) outside =
+    absurd (found_inside r s.cells s.pending_out before at (rw (pulled_none r fillers s before was u rest outside) at first) outside)
 
-pub PullsAll-outside : (r : Range) (s t : State) → PullsAll r s t → All (ReadsOutside s.cells r) s.pending_out → t ≡ s
-PullsAll-outside r s t all outside = pulled_none r s all.from t all.pulls outside
+pub PullsAll-outside : (r fillers : Range) (s t : State) → PullsAll r fillers s t → All (ReadsOutside s.cells r) s.pending_out → t ≡ s
+PullsAll-outside r fillers s t all outside = pulled_none r fillers s all.from all.seen t all.pulls outside
+
+-- no row of the range stands before a place from which a search is to begin
+pub LacksFirst-begins : (cells : List (Cell Row)) (r : Range) (hs : List Handle) (from : ℕ) → from ≤ length hs → NoneIn r (keys_at cells hs) 0 from → LacksFirst cells r hs hs from
+LacksFirst-begins cells r hs from within none =
+    let long : length (take from hs) ≡ from = length-take-le from hs within in
+    let front : outside_of cells r (take from hs) ≡ take from hs = outside_of-all cells r (take from hs) (λ k d inside.
+    let less : k < from = omega (arith, inside, long) in
+    rw (get_or-take from hs k d less) (is_in-false r (key_at cells (get_or hs k d)) (rw (get_or-map (key_at cells) hs k d 0 (omega arith)) at (none k (omega arith) less)))) in
+    record { passed = from; within = within; left_are = rw front (sym (take-append-drop from hs)); from_is = rw front (sym long) }
+
+-- none is left, and so no search has to look at any
+pub LacksFirst-ends : (cells : List (Cell Row)) (r : Range) (before left : List Handle) → left ≡ outside_of cells r before → LacksFirst cells r before left (length left)
+LacksFirst-ends cells r before left all =
+    let front = take_all (length before) before (omega arith) in
+    let back = drop_all (length before) before (omega arith) in
+    record {
+      passed = length before;
+      within = omega arith;
+      left_are = rw (front, back, append-nil (outside_of cells r before)) all;
+      from_is = rw front (ap length all);
+    }
+
+-- a range without keys has none
+pub LacksFirst-empty : (cells : List (Cell Row)) (r : Range) (before left : List Handle) (from : ℕ) → r.high ≤ r.low → LacksFirst cells r before left from → left ≡ before
+LacksFirst-empty cells r before left from empty lacks =
+    let front : outside_of cells r (take lacks.passed before) ≡ take lacks.passed before = outside_of-all cells r (take lacks.passed before) (λ k d inside.
+    is_in-false r (key_at cells (get_or (take lacks.passed before) k d)) (λ is. omega (arith, is.0, is.1, empty))) in
+    lacks.left_are ∙ ap (λ hs. hs ++ drop lacks.passed before) front ∙ take-append-drop lacks.passed before

@@ -1,4 +1,4 @@
--- What the loops of a merge have done so far. No public clause cites this module.
+-- What private clauses alone cite.
 use Rattle.std.specs.Prelude.{◌≡◌, ⊤, ℕ, Option, length}
 use Rattle.crack_row.specs.declared.command.Policy.{Policy}
 use Rattle.crack_arena.specs.Arena.{times, slots}

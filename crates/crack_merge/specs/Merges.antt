@@ -5,10 +5,10 @@ use Rattle.crack_row.specs.declared.command.Policy.{Policy}
 use Rattle.crack_row.specs.declared.command.Policy.TheVariants.{Complete, Gradual, Ripple}
 use Rattle.crack_arena.specs.Arena.{Handle, StandsAt}
 use Rattle.crack_arena.specs.Rows.{keys_at}
-use Rattle.crack_pending.specs.Pending.{Finds}
+use Rattle.crack_pending.specs.Pending.{Finds, NoneIn}
 use Rattle.crack_state.specs.State.{State, Carried, IsIntact}
 use Rattle.crack_state.specs.Steps.{hand_key, piece_start, piece_end, IsDoomed, lifted, lifted_last, appended, pushed_on, pulled_back, exchanged, buried, SameButRoom, returned, IsBelow}
-use Rattle.crack_state.specs.Merge.{Follows, Tallies, SomeOf, edge, outside_of, without_first, count_inside}
+use Rattle.crack_state.specs.Merge.{Follows, Tallies, SomeOf, Fills, edge, outside_of, without_first, count_inside}
 
 -- the ceiling, if there is one, is at or above the range's high end
 abbrev pub IsCeiling : Option ℕ → Range → Type 0
@@ -62,36 +62,45 @@ pub data Pulls (doomed : Handle) : Carried → State → Type 0 where
   -- else, it stands before that piece: the hand takes the last place before its piece, and the pull goes on with the row that stood there in hand
   draws : (c : Carried) (place : ℕ) (t : State) → c.hand ≢ doomed → StandsAt c.store.column place doomed → place < piece_start c.store (hand_key c) → Pulls doomed (pulled_back c) t → Pulls doomed c t
 
+-- a pull begins with the pending insertion of these keys that a search finds from a place on, and the next search goes on from there; where
+-- it finds none, with the column's last row
+pub data Begins (fillers : Range) (s : State) (seen : ℕ) : ℕ → Carried → Type 0 where
+  -- a filler
+  fills : (place : ℕ) → Finds fillers (keys_at s.cells s.pending_in) seen (Some place) → Begins fillers s seen place (lifted place s)
+  -- no filler is left, and the next search looks at none
+  takes_last : Finds fillers (keys_at s.cells s.pending_in) seen None → Begins fillers s seen (length s.pending_in) (lifted_last s)
+
 -- pending deletions of a range were pulled, in the order of arrival: each where the search found it that went on from the place of the
--- one before, the last of all at this place
-pub data PullsOut (r : Range) (s : State) : ℕ → State → Type 0 where
-  -- none was
-  begins : PullsOut r s 0 s
-  -- one more was, by the column's last row
-  pulls : (from place : ℕ) (doomed : Handle) (t u : State) → PullsOut r s from t → Finds r (keys_at t.cells t.pending_out) from (Some place) → StandsAt t.pending_out place doomed → Pulls doomed (lifted_last t) u → PullsOut r s place u
+-- one before, the last of all at the first of the two places; the search for fillers goes on from the second
+pub data PullsOut (r fillers : Range) (s : State) : ℕ → ℕ → State → Type 0 where
+  -- none was, and no filler stands before the place
+  begins : (seen : ℕ) → seen ≤ length s.pending_in → NoneIn fillers (keys_at s.cells s.pending_in) 0 seen → PullsOut r fillers s 0 seen s
+  -- one more was
+  pulls : (from place seen next : ℕ) (doomed : Handle) (t u : State) (c : Carried) → PullsOut r fillers s from seen t → Finds r (keys_at t.cells t.pending_out) from (Some place) → StandsAt t.pending_out place doomed → Begins fillers t seen next c → Pulls doomed c u → PullsOut r fillers s place next u
 
 -- all pending deletions of a range were pulled: the search finds none behind the last
-pub record PullsAll (r : Range) (s t : State) : Type 0 where
+pub record PullsAll (r fillers : Range) (s t : State) : Type 0 where
   pub from : ℕ
-  pub pulls : PullsOut r s from t
+  pub seen : ℕ
+  pub pulls : PullsOut r fillers s from seen t
   pub none : Finds r (keys_at t.cells t.pending_out) from None
 
--- the pending insertions that ripple leaves where it found no memory: those of the range among the first ones, so many, are gone, and behind
--- the others stand the evicted, at most as many
-pub record EvictsFirst (s t : State) (r : Range) : Type 0 where
+-- the pending insertions of a store where the first ones, so many, were put in under ripple, as far as they are of the range: those are gone,
+-- and behind the others stand the evicted, at most as many
+pub record EvictsFirst (s : State) (r : Range) (left : List Handle) : Type 0 where
   pub passed : ℕ
   pub within : passed ≤ length s.pending_in
   pub evicted : List Handle
-  pub pending_in : t.pending_in ≡ without_first s.cells r passed s.pending_in ++ evicted
+  pub pending_in : left ≡ without_first s.cells r passed s.pending_in ++ evicted
   pub some : SomeOf evicted (drop (edge s r.high) s.column)
   pub few : length evicted ≤ count_inside s.cells r (take passed s.pending_in)
 
 -- which pending insertions are left by a merge of this policy that found no memory: the first ones, so many, are gone; complete
--- takes all from the front, in the order of arrival, gradual and ripple those of the range
+-- takes all from the front, in the order of arrival, gradual and ripple those of the range; under ripple fillers may be gone
 abbrev pub LeavesRest : Policy → State → State → Range → Type 0
 LeavesRest Complete s t r = (k : ℕ) × (k ≤ length s.pending_in) × (t.pending_in ≡ drop k s.pending_in)
 LeavesRest Gradual s t r = (k : ℕ) × (k ≤ length s.pending_in) × (t.pending_in ≡ outside_of s.cells r (take k s.pending_in) ++ drop k s.pending_in)
-LeavesRest Ripple s t r = EvictsFirst s t r
+LeavesRest Ripple s t r = (hs : List Handle) × EvictsFirst s r hs × Fills s t r hs
 
 -- a merge that found no memory on the way: what it had done stands, and commands see the same rows as before; of the pending
 -- deletions some are left, in the order of arrival

@@ -38,7 +38,8 @@ pub fn merge_gradual(
     store.facts();
     match carry_range(store, range, None) {
         Ok(filled) => {
-            let merged = pull_range(filled, range);
+            let seen = filled.pending_in();
+            let merged = pull_range(filled, range, KeyRange::default(), seen);
             merged.facts();
             let after = merged.tally();
             Ok((merged, counted_between(before, after)))

@@ -11,43 +11,51 @@ use Rattle.crack_state.proofs.CrackLaws.{keys-refined}
 use Rattle.crack_state.proofs.FollowLaws.{Follows-refl, Tallies-room}
 use Rattle.crack_state.proofs.MergeLaws.{Merges-untouched}
 use Rattle.crack_state.proofs.OutsideLaws.{SomeOf-none, SomeOf-refl}
-use Rattle.crack_ripple.specs.Near.{MergesNear}
+use Rattle.crack_ripple.specs.Near.{MergesNear, fillers_of}
 use Rattle.crack_part.specs.Parts.{LeavesNear, CracksAndMerges}
 
 LeavesOutside-idle : (s : State) (r : Range) → s.pending_in ≡ [] → s.pending_out ≡ [] → LeavesOutside s s r
 LeavesOutside-idle s r no_in no_out = record { some = rw no_out nothing; few = rw no_out (omega arith) }
 
-Evicts-idle : (s : State) (r : Range) → s.pending_in ≡ [] → Evicts s s r
+Evicts-idle : (s : State) (r : Range) → s.pending_in ≡ [] → Evicts s r s.pending_in
 Evicts-idle s r no_in = record { evicted = []; pending_in = rw no_in refl; some = SomeOf-none _; few = omega arith }
 
 Leaves-idle : (policy : Policy) (s : State) (r : Range) → s.pending_in ≡ [] → s.pending_out ≡ [] → is_touched s r ≡ false → Leaves policy s s r
 Leaves-idle Complete s r no_in no_out untouched = (rw untouched refl, rw untouched refl)
 Leaves-idle Gradual s r no_in no_out untouched = (rw no_in refl, LeavesOutside-idle s r no_in no_out)
-Leaves-idle Ripple s r no_in no_out untouched = (Evicts-idle s r no_in, LeavesOutside-idle s r no_in no_out)
+Leaves-idle Ripple s r no_in no_out untouched = (
+  s.pending_in,
+  Evicts-idle s r no_in,
+  record { count = 0; few = omega arith; loses = record { passed = 0; left_are = refl; count_is = refl } },
+  LeavesOutside-idle s r no_in no_out,
+)
 
 MergesNear-idle : (s : State) (r : Range) → IsIntact s [] → IsSettled s r → s.pending_in ≡ [] → s.pending_out ≡ [] → MergesNear s s r
-MergesNear-idle s r intact settled no_in no_out = record {
-  filled = s;
-  puts_in = record {
-    follows = Follows-refl s;
-    intact = intact;
-    evicts = Evicts-idle s r no_in;
-    pending_out = SomeOf-refl s.pending_out;
-    few = omega arith;
-    reads = λ h reads. refl;
-    before = refl;
-    behind = refl;
-    long = sym (max-eq_left settled.within);
-  };
-  takes_out = record {
-    follows = Follows-refl s;
-    intact = intact;
-    pending_in = refl;
-    pending_out = rw no_out refl;
-    reads = λ h reads. refl;
-    long = refl;
-  };
-}
+MergesNear-idle s r intact settled no_in no_out =
+    let none : fillers_of s r ≡ 0 = rw (no_in, no_out) refl in
+    record {
+      filled = s;
+      puts_in = record {
+        follows = Follows-refl s;
+        intact = intact;
+        evicts = Evicts-idle s r no_in;
+        pending_out = SomeOf-refl s.pending_out;
+        few = omega arith;
+        reads = λ h reads. refl;
+        before = refl;
+        behind = refl;
+        long = sym (max-eq_left settled.within);
+      };
+      takes_out = record {
+        follows = Follows-refl s;
+        intact = intact;
+        pending_in = record { passed = 0; left_are = refl; count_is = sym none };
+        pending_out = rw no_out refl;
+        reads = λ h reads. refl;
+        long = omega (arith, none);
+        behind = λ each. refl;
+      };
+    }
 
 LeavesNear-idle : (policy : Policy) (s : State) (r : Range) → IsIntact s [] → IsSettled s r → s.pending_in ≡ [] → s.pending_out ≡ [] → LeavesNear policy s s r
 LeavesNear-idle Complete s r intact settled no_in no_out = tt

@@ -15,7 +15,7 @@ use Rattle.crack_state.proofs.OutsideLaws.{SomeOf-none, SomeOf-refl, SomeOf-tran
 use Rattle.crack_state.proofs.StepLaws.{IsIntact-room}
 use Rattle.crack_state.proofs.CrackLaws.{keys-refined, live_rows-refined, cells-refined, pending_out-refined}
 use Rattle.crack_state.proofs.FollowLaws.{Follows-trans, Follows-room, Tallies-trans, Tallies-room, length_marks-Follows}
-use Rattle.crack_merge.specs.Merges.{LeavesRest, Stops}
+use Rattle.crack_merge.specs.Merges.{EvictsFirst, LeavesRest, Stops}
 use Rattle.crack_part.specs.Parts.{ReadsRange, CracksAndMerges, StopsRead, Prepares, Spares}
 
 -- the same rows for commands to see, as many cells, and as many of them freed or still to be
@@ -121,17 +121,18 @@ Leaves-rest Gradual s t r leaves =
     (k, omega arith, rw (ahead, behind, append-nil (outside_of s.cells r s.pending_in)) leaves.0)
 Leaves-rest Ripple s t r leaves =
     let k : ℕ = length s.pending_in in
-    let evicts = leaves.0 in
+    let evicts = leaves.1 in
     let all = take_all k s.pending_in (omega arith) in
     let behind = drop_all k s.pending_in (omega arith) in
-    record {
+    let first : EvictsFirst s r leaves.0 = record {
       passed = k;
       within = omega arith;
       evicted = evicts.evicted;
       pending_in = rw (all, behind, append-nil (outside_of s.cells r s.pending_in)) evicts.pending_in;
       some = evicts.some;
       few = rw all evicts.few;
-    }
+    } in
+    (leaves.0, first, leaves.2)
 
 SomeOf-left : (s t : State) (r : Range) → LeavesOutside s t r → SomeOf t.pending_out s.pending_out
 SomeOf-left s t r left = SomeOf-trans t.pending_out (outside_of s.cells r s.pending_out) s.pending_out left.some (SomeOf-filter (λ h. not (is_in r (key_at s.cells h))) s.pending_out)
@@ -143,7 +144,7 @@ Leaves-some Complete s t r leaves = by_test (is_touched s r) leaves.1
     by_test true gone = rw gone (SomeOf-none s.pending_out)
     by_test false same = rw same (SomeOf-refl s.pending_out)
 Leaves-some Gradual s t r leaves = SomeOf-left s t r leaves.1
-Leaves-some Ripple s t r leaves = SomeOf-left s t r leaves.1
+Leaves-some Ripple s t r leaves = SomeOf-left s t r leaves.3
 
 Stops-merged : (policy : Policy) (s t u : State) (r : Range) → Merges policy s t r → Tallies policy s t → SameButRoom t u → Stops policy s u r
 Stops-merged policy s t u r merges tallies room =
@@ -160,7 +161,9 @@ Stops-merged policy s t u r merges tallies room =
     by_policy : (p : Policy) → LeavesRest p s t r → u.pending_in ≡ t.pending_in → LeavesRest p s u r
     by_policy Complete rest same = (rest.0, rest.1, same ∙ rest.2)
     by_policy Gradual rest same = (rest.0, rest.1, same ∙ rest.2)
-    by_policy Ripple rest same = record { passed = rest.passed; within = rest.within; evicted = rest.evicted; pending_in = same ∙ rest.pending_in; some = rest.some; few = rest.few }
+    by_policy Ripple rest same =
+        let loses = rest.2.loses in
+        (rest.0, rest.1, record { count = rest.2.count; few = rest.2.few; loses = record { passed = loses.passed; left_are = same ∙ loses.left_are; count_is = loses.count_is } })
 
 -- a range was read, and no memory was found afterwards
 StopsRead-read : (policy : Policy) (s u t : State) (r : Range) → ReadsRange policy s u r → SameButRoom u t → StopsRead policy s t r

@@ -1,15 +1,16 @@
 -- A partition's fact, and what follows from it.
 use Rattle.std.proofs.Common.{◌≡◌, ℕ, ◌+◌, ◌-◌, ◌^◌, ◌<◌, ◌≤◌, List, [], ◌∷◌, ◌++◌, length, Bool, true, false, if◌then◌else◌, Option, Some, None, IfSome, IsSome, option_and_then, arith, refl, sym, ap, subst, ◌∙◌}
 use Rattle.std.specs.List.{All}
-use Rattle.std.proofs.lemmas.List.Elements.{All-nil}
 use Rattle.std.specs.List.Sorted.{IsPermutation}
 use Rattle.std.proofs.lemmas.List.Sorted.{IsPermutation-refl, IsPermutation-sym, IsPermutation-trans, IsPermutation-cons, IsPermutation-to_front, All-permutation}
 use Rattle.std.proofs.lemmas.Bool.{false≢true}
 use Rattle.crack_row.specs.Commands.{change_of, range_of, brought_key}
 use Rattle.crack_row.specs.Ranges.{Range, IsIn}
+use Rattle.crack_row.specs.Limits.{AreLimits, of_history}
 use Rattle.crack_row.specs.Rows.{row_with}
 use Rattle.crack_row.specs.declared.TheConstants.{GREATEST_LIMIT}
 use Rattle.crack_row.specs.declared.Key.{Key}
+use Rattle.crack_row.specs.declared.limit.Limits.{Limits}
 use Rattle.crack_row.specs.declared.Payload.{Payload}
 use Rattle.crack_row.specs.declared.Row.{Row}
 use Rattle.crack_row.specs.declared.Serial.{Serial}
@@ -22,8 +23,9 @@ use Rattle.crack_row.specs.declared.command.Reply.{Reply}
 use Rattle.crack_row.specs.declared.command.Entry.{Entry}
 use Rattle.crack_plain.specs.Plain.{PlainState, changed, after, reply_to, row_in, IsWithin}
 use Rattle.crack_plain.specs.Inside.{gone, rewritten}
+use Rattle.crack_plain.specs.Past.{Base, no_base, Past, no_past, with_entry, accepted_in}
 use Rattle.crack_plain.specs.Totals.{is_placed, is_gone, is_changed}
-use Rattle.crack_plain.proofs.Laws.{IsLegal-push, replay-push, next-le-accepted, IsNumbered-replay}
+use Rattle.crack_plain.proofs.PastLaws.{IsLegal-no_past, IsLegal-push, state_after-push, next-le-accepted, IsNumbered-after_past}
 use Rattle.crack_plain.proofs.TotalLaws.{inserted-push, deleted-push, updated-push, inserted-le-accepted, deleted-le-accepted, updated-le-accepted}
 use Rattle.crack_state.specs.State.{State, live_rows, freed_of, IsIntact}
 use Rattle.crack_state.specs.Steps.{IsAdmissible, SameButRoom, admitted}
@@ -37,23 +39,31 @@ use Rattle.crack_part.specs.Parts.{Part, IsLimit, IsSound, IsFaithful, Serves, P
 use Rattle.crack_part.specs.Inside.{MayPerform}
 use Rattle.crack_part.proofs.KeepLemmas.{Keeps, Keeps-room, Keeps-prepared, IsIntact-prepared}
 
+-- what a partition lived through that answered these, and has folded none
+abbrev pub unfolded : List Entry → Past
+unfolded tail = record { base = no_base; tail = tail }
+
+-- it has accepted no more commands than a history may have entries
+pub accepted-le-limit : (p : Part) → IsSound p → accepted_in p.past ≤ GREATEST_LIMIT
+accepted-le-limit p sound = omega (arith, ap (λ (b : Base). b.folded) sound.begun, sound.legal.limited, sound.limited.history.1)
+
 -- the next serial stays far below the greatest number
 pub next-le-limit : (p : Part) → IsSound p → p.next ≤ GREATEST_LIMIT
-next-le-limit p sound = omega (arith, sound.faithful.serial, next-le-accepted p.history sound.legal.replies, sound.legal.limited, sound.limited.1)
+next-le-limit p sound = omega (arith, sound.faithful.serial, next-le-accepted p.past sound.legal.base sound.legal.replies, accepted-le-limit p sound)
 
 -- the next serial is above those of all live rows
 next-above : (p : Part) → IsSound p → All (λ (r : Row). r.serial.0 < p.next) (live_rows p.store)
 next-above p sound =
-    let below = (IsNumbered-replay p.history).below in
+    let below = (IsNumbered-after_past p.past sound.legal.base).below in
     let at_next : All (λ (r : Row). r.serial.0 < p.next) (state_of p).rows = rw sound.faithful.serial below in
     All-permutation (λ (r : Row). r.serial.0 < p.next) (state_of p).rows (live_rows p.store) (IsPermutation-sym (live_rows p.store) (state_of p).rows sound.faithful.rows) at_next
 
 -- there are far fewer cells than there may be, and far fewer were freed
 few_cells : (p : Part) → IsSound p → length p.store.cells < 2 ^ 32 - 1 + length p.store.free
-few_cells p sound = omega (arith, sound.few_cells, inserted-le-accepted p.history, updated-le-accepted p.history, sound.legal.limited, sound.limited.1)
+few_cells p sound = omega (arith, sound.few_cells, inserted-le-accepted p.past.tail, updated-le-accepted p.past.tail, accepted-le-limit p sound)
 
 few_freed : (p : Part) → IsSound p → MayFree p.store
-few_freed p sound = omega (arith, sound.few_freed, deleted-le-accepted p.history, updated-le-accepted p.history, sound.legal.limited, sound.limited.1)
+few_freed p sound = omega (arith, sound.few_freed, deleted-le-accepted p.past.tail, updated-le-accepted p.past.tail, accepted-le-limit p sound)
 
 -- a row that is placed may be admitted
 IsAdmissible-placed : (p : Part) (key : Key) (payload : Payload) → IsSound p → IsIn p.keys key.0 → IsAdmissible (placed p.next key payload) p.store
@@ -79,6 +89,7 @@ pub IsSound-kept : (p : Part) (t : State) → IsSound p → Keeps p.store t → 
 IsSound-kept p t sound keeps intact = record {
   limited = sound.limited;
   legal = sound.legal;
+  begun = sound.begun;
   ends = keeps.ends ∙ sound.ends;
   intact = intact;
   faithful = record { rows = rw keeps.live sound.faithful.rows; serial = sound.faithful.serial };
@@ -177,11 +188,16 @@ Spends-served policy p command t sound within served =
     let spends = Spends-performed p.next (state_of p) command served.ready t before.intact before.faithful.rows may served.performed in
     record { keys = spends.keys ∙ keeps.ends; cells = omega (arith, spends.cells, keeps.cells); freed = omega (arith, spends.freed, keeps.freed) }
 
+-- a limit of a history, and the greatest of the others
+pub AreLimits-of_history : (limit : ℕ) → IsLimit limit → AreLimits (of_history limit)
+AreLimits-of_history limit limited = record { history = limited; cells = (omega arith, omega arith); life = (omega arith, omega arith) }
+
 -- the start
-pub IsSound-opened : (keys : Range) (limit : ℕ) (store : State) → store ≡ no_cells keys store.column_room store.in_room → IsLimit limit → IsIntact store [] → IsSound (record { keys = keys; limit = limit; history = []; next = 0; store = store })
-IsSound-opened keys limit store is limited intact = record {
+pub IsSound-opened : (keys : Range) (limits : Limits) (store : State) → store ≡ no_cells keys store.column_room store.in_room → AreLimits limits → IsIntact store [] → IsSound (record { keys = keys; limits = limits; past = no_past; next = 0; store = store })
+IsSound-opened keys limits store is limited intact = record {
   limited = limited;
-  legal = record { replies = tt; within = All-nil _; limited = omega arith };
+  legal = IsLegal-no_past keys limits;
+  begun = refl;
   ends = ap (λ (s : State). s.keys) is;
   intact = intact;
   faithful = record { rows = subst (λ (rows : List Row). IsPermutation rows []) (sym (ap live_rows is)) (IsPermutation-refl []); serial = refl };
@@ -190,15 +206,16 @@ IsSound-opened keys limit store is limited intact = record {
 }
 
 -- one more entry
-pub IsSound-served : (p : Part) (e : Entry) (next : ℕ) (t : State) → IsSound p → length p.history < p.limit → IsWithin p.keys e.command → e.reply ≡ reply_to (state_of p) e.command → IsIntact t [] → IsFaithful t next (after (state_of p) e.command) → Spends (made (reply_to (state_of p) e.command)) (spent (reply_to (state_of p) e.command)) p.store t → IsSound (record p { history = p.history ++ e ∷ []; next = next; store = t })
+pub IsSound-served : (p : Part) (e : Entry) (next : ℕ) (t : State) → IsSound p → length p.past.tail < p.limits.history → IsWithin p.keys e.command → e.reply ≡ reply_to (state_of p) e.command → IsIntact t [] → IsFaithful t next (after (state_of p) e.command) → Spends (made (reply_to (state_of p) e.command)) (spent (reply_to (state_of p) e.command)) p.store t → IsSound (record p { past = with_entry p.past e; next = next; store = t })
 IsSound-served p e next t sound room within said intact faithful spends =
     let tells = rw (← said) at spends in
     record {
       limited = sound.limited;
-      legal = IsLegal-push p.keys p.limit p.history e sound.legal room within said;
+      legal = IsLegal-push p.keys p.limits p.past e sound.legal room within said;
+      begun = sound.begun;
       ends = spends.keys ∙ sound.ends;
       intact = intact;
-      faithful = subst (λ (s : PlainState). IsFaithful t next s) (sym (replay-push p.history e)) faithful;
-      few_cells = omega (arith, tells.cells, sound.few_cells, inserted-push p.history e, updated-push p.history e);
-      few_freed = omega (arith, tells.freed, sound.few_freed, deleted-push p.history e, updated-push p.history e);
+      faithful = subst (λ (s : PlainState). IsFaithful t next s) (sym (state_after-push p.past e)) faithful;
+      few_cells = omega (arith, tells.cells, sound.few_cells, inserted-push p.past.tail e, updated-push p.past.tail e);
+      few_freed = omega (arith, tells.freed, sound.few_freed, deleted-push p.past.tail e, updated-push p.past.tail e);
     }

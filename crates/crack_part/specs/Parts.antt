@@ -13,8 +13,10 @@ use Rattle.crack_row.specs.declared.command.Change.TheVariants.{Place, Remove, R
 use Rattle.crack_row.specs.declared.command.Command.{Command}
 use Rattle.crack_row.specs.declared.command.Policy.{Policy}
 use Rattle.crack_row.specs.declared.command.Policy.TheVariants.{Complete, Gradual, Ripple}
-use Rattle.crack_row.specs.declared.command.Entry.{Entry}
-use Rattle.crack_plain.specs.Plain.{PlainState, replay, IsLegal}
+use Rattle.crack_row.specs.Limits.{AreLimits}
+use Rattle.crack_row.specs.declared.limit.Limits.{Limits}
+use Rattle.crack_plain.specs.Past.{Past, no_base, state_after, IsLegal}
+use Rattle.crack_plain.specs.Plain.{PlainState}
 use Rattle.crack_plain.specs.Totals.{inserted, deleted, updated}
 use Rattle.crack_state.specs.State.{State, IsIntact, live_rows, freed_of}
 use Rattle.crack_state.specs.Steps.{admitted, SameButRoom}
@@ -23,17 +25,17 @@ use Rattle.crack_state.specs.Merge.{Refines, Merges, Tallies}
 use Rattle.crack_merge.specs.Merges.{Stops}
 use Rattle.crack_ripple.specs.Near.{MergesNear}
 
--- its keys, how many entries its history may have, its history, the serial of the next row, and the store of its rows
+-- its keys, its limits, what it lived through, the serial of the next row, and the store of its rows
 pub record Part : Type 0 where
   pub keys : Range
-  pub limit : ℕ
-  pub history : List Entry
+  pub limits : Limits
+  pub past : Past
   pub next : ℕ
   pub store : State
 
 -- the plain rows that it stands for
 abbrev pub state_of : Part → PlainState
-state_of part = replay part.history
+state_of part = state_after part.past
 
 -- a history may be limited to so many entries
 abbrev pub IsLimit : ℕ → Type 0
@@ -44,17 +46,18 @@ pub record IsFaithful (store : State) (next : ℕ) (plain : PlainState) : Type 0
   pub rows : IsPermutation (live_rows store) plain.rows
   pub serial : next ≡ plain.next
 
--- the partition's fact: each kept reply is that of the plain rows, every cell stands in one place and every bound is obeyed,
--- the live rows are the plain rows, and there are no more cells than rows placed and changed, nor more freed or doomed than rows gone
--- and changed
+-- the partition's fact: each kept reply is that of the plain rows, no command is folded yet, every cell stands in one place and every
+-- bound is obeyed, the live rows are the plain rows, and there are no more cells than commands folded and rows placed and changed since,
+-- nor more freed or doomed than commands folded and rows gone and changed since
 pub record IsSound (part : Part) : Type 0 where
-  pub limited : IsLimit part.limit
-  pub legal : IsLegal part.keys part.limit part.history
+  pub limited : AreLimits part.limits
+  pub legal : IsLegal part.keys part.limits part.past
+  pub begun : part.past.base ≡ no_base
   pub ends : part.store.keys ≡ part.keys
   pub intact : IsIntact part.store []
   pub faithful : IsFaithful part.store part.next (state_of part)
-  pub few_cells : length part.store.cells ≤ inserted part.history + updated part.history
-  pub few_freed : freed_of part.store.cells + length part.store.pending_out ≤ deleted part.history + updated part.history
+  pub few_cells : length part.store.cells ≤ part.past.base.folded + inserted part.past.tail + updated part.past.tail
+  pub few_freed : freed_of part.store.cells + length part.store.pending_out ≤ part.past.base.folded + deleted part.past.tail + updated part.past.tail
 
 -- a row as a change places it
 abbrev pub placed : ℕ → Key → Payload → Row

@@ -6,7 +6,9 @@ ghost use Rattle.crack_row.specs.Ranges.{Range, IsIn, in_range};
 ghost use Rattle.crack_row.specs.Replies.{IsFlat};
 ghost use Rattle.crack_row.specs.Rows.{is_other, replaced, sum_of};
 ghost use Rattle.crack_row.specs.Layouts.{IsLayout};
-ghost use Rattle.crack_plain.specs.Plain.{PlainState, IsNumbered, reply_to, row_in, rows_in, after, IsSmall, IsWithin, IsLegal};
+ghost use Rattle.crack_row.specs.Limits.{AreLimits, of_history};
+ghost use Rattle.crack_plain.specs.Plain.{PlainState, IsNumbered, reply_to, row_in, rows_in, after, IsSmall, IsWithin};
+ghost use Rattle.crack_plain.specs.Past.{no_base, no_past, with_entry, accepted_in, IsLegal};
 ghost use Rattle.crack_plain.specs.Inside.{gone, rewritten};
 ghost use Rattle.crack_state.specs.State.{State, IsIntact, live_rows};
 ghost use Rattle.crack_state.specs.Steps.{SameButRoom, admitted, IsAdmissible};
@@ -20,8 +22,8 @@ ghost use Rattle.crack_part.specs.Inside.{IsCommon, AreCommon, MayPerform};
 use crack_merge::{merge_complete, merge_gradual};
 use crack_ripple::merge_ripple;
 use crack_row::{
-    Command, Entry, GREATEST_LIMIT, Key, KeyRange, Layout, Payload, Policy, Refusal, Reply, Row,
-    RowList, Serial,
+    Command, Entry, GREATEST_LIMIT, Key, KeyRange, Layout, Limits, Payload, Policy, Refusal, Reply,
+    Row, RowList, Serial,
 };
 use crack_store::{MergeReport, Store};
 use std::alloc::Global;
@@ -38,27 +40,28 @@ const FIRST_ENTRIES: usize = 2048;
 pub struct Partition {
     alloc: Global,
     keys: KeyRange,
-    limit: u64,
+    limits: Limits,
     next: u64,
     store: Store,
     history: Vec<Entry>,
 }
 
 impl Model for Partition {
+    ghost use Rattle.crack_plain.specs.Past.{no_base};
     ghost use Rattle.crack_part.specs.Parts.{Part, IsSound};
 
     ghost Value = { Part };
 
-    ghost view = { λ p. record { keys = p.keys; limit = p.limit; history = p.history.items; next = p.next; store = p.store } };
+    ghost view = { λ p. record { keys = p.keys; limits = p.limits; past = record { base = no_base; tail = p.history.items }; next = p.next; store = p.store } };
 
-    ghost invariant = { λ p. let part : Part = record { keys = p.keys; limit = p.limit; history = p.history.items; next = p.next; store = p.store } in IsSound part };
+    ghost invariant = { λ p. let part : Part = record { keys = p.keys; limits = p.limits; past = record { base = no_base; tail = p.history.items }; next = p.next; store = p.store } in IsSound part };
 }
 
 impl Partition {
     /// A partition without rows, for these keys and a history of at most `limit` entries. Takes no memory.
     /// Refused with 14 where the limit isn't 1 to `GREATEST_LIMIT`.
     pub fn open(alloc: Global, keys: KeyRange, limit: u64) -> Result<Partition, Refusal>
-        ensures ok { IfOk result (λ p. (p.keys ≡ keys) × (p.limit ≡ limit) × (p.history ≡ [])) }
+        ensures ok { IfOk result (λ p. (p.keys ≡ keys) × (p.limits ≡ of_history limit) × (p.past ≡ no_past)) }
         ensures empty { IfOk result (λ p. p.store ≡ no_cells keys p.store.column_room p.store.in_room) }
         ensures opens { IsLimit limit → IsOk result }
         ensures bad_limit { (IsLimit limit → ⊥) → result ≡ Err Refusal.BadLimit }
@@ -71,7 +74,7 @@ impl Partition {
         Ok(Partition {
             alloc,
             keys,
-            limit,
+            limits: Limits::of_history(limit),
             next: 0,
             store,
             history: Vec::new(alloc),
@@ -87,10 +90,18 @@ impl Partition {
 
     /// Every command that was answered, in order: reads and commands that found no row among them.
     pub fn history(&self) -> &[Entry]
-        ensures value { result.now ≡ self.now.history }
-        ensures legal { IsLegal self.now.keys self.now.limit self.now.history }
+        ensures value { result.now ≡ self.now.past.tail }
+        ensures legal { IsLegal self.now.keys self.now.limits self.now.past }
+        ensures begun { self.now.past.base ≡ no_base }
     {
         self.history.as_slice()
+    }
+
+    /// How many commands it accepted since it was opened.
+    pub fn accepted(&self) -> u64
+        ensures { result ≡ accepted_in self.now.past }
+    {
+        self.history.len() as u64
     }
 
     /// The keys that its rows may have.
@@ -102,10 +113,18 @@ impl Partition {
 
     /// How many entries its history may have.
     pub fn limit(&self) -> u64
-        ensures value { result ≡ self.now.limit }
-        ensures limited { IsLimit self.now.limit }
+        ensures value { result ≡ self.now.limits.history }
+        ensures limited { IsLimit self.now.limits.history }
     {
-        self.limit
+        self.limits.history
+    }
+
+    /// What bounds it.
+    pub fn limits(&self) -> Limits
+        ensures value { result ≡ self.now.limits }
+        ensures limited { AreLimits self.now.limits }
+    {
+        self.limits
     }
 
     /// What its merges did since it was opened. Takes no memory.
@@ -142,17 +161,17 @@ impl Partition {
     ) -> Result<(Reply, Reply), Refusal>
         ensures replies { IfOk result (λ replies. (replies.0 ≡ reply_to (state_of self.old) command) × (replies.1 ≡ replies.0)) }
         ensures small { IfOk result (λ replies. IsSmall replies.0) }
-        ensures kept { IfOk result (λ replies. self.new.history ≡ self.old.history ++ record { worker = worker; command = command; reply = replies.0 } ∷ []) }
+        ensures kept { IfOk result (λ replies. self.new.past ≡ with_entry self.old.past (record { worker = worker; command = command; reply = replies.0 })) }
         ensures state { OnOk result (state_of self.new ≡ after (state_of self.old) command) }
         ensures store { OnOk result (Serves policy self.old.keys self.old.next command self.old.store self.new.store) }
-        ensures opened { (self.new.keys ≡ self.old.keys) × (self.new.limit ≡ self.old.limit) }
+        ensures opened { (self.new.keys ≡ self.old.keys) × (self.new.limits ≡ self.old.limits) }
 
-        ensures err { OnErr result (self.new.history ≡ self.old.history) }
+        ensures err { OnErr result (self.new.past ≡ self.old.past) }
         ensures spared { OnErr result (Spares policy self.old.keys (range_of command) self.old.store self.new.store) }
-        ensures same { (IsWithin self.old.keys command → ⊥) ⊎ (self.old.limit ≤ length self.old.history) → self.new ≡ self.old }
+        ensures same { (IsWithin self.old.keys command → ⊥) ⊎ (self.old.limits.history ≤ length self.old.past.tail) → self.new ≡ self.old }
         ensures outside { (IsWithin self.old.keys command → ⊥) → result ≡ Err Refusal.KeyOutside }
-        ensures full { IsWithin self.old.keys command → self.old.limit ≤ length self.old.history → result ≡ Err (Refusal.HistoryFull self.old.limit) }
-        ensures room { IsWithin self.old.keys command → length self.old.history < self.old.limit → IfErr result (λ e. e ≡ Refusal.OutOfMemory) }
+        ensures full { IsWithin self.old.keys command → self.old.limits.history ≤ length self.old.past.tail → result ≡ Err (Refusal.HistoryFull self.old.limits.history) }
+        ensures room { IsWithin self.old.keys command → length self.old.past.tail < self.old.limits.history → IfErr result (λ e. e ≡ Refusal.OutOfMemory) }
     {
         self.may_keep(&command)?;
         make_room(&mut self.history)?;
@@ -178,16 +197,18 @@ impl Partition {
     /// Refuses, in this order, a command that brings a key that isn't the partition's, and any where the history is full.
     #[inline(always)]
     fn may_keep(&self, command: &Command) -> Result<(), Refusal>
-        ensures ok { OnOk result (IsWithin self.now.keys command.now × (length self.now.history < self.now.limit)) }
-        ensures err { OnErr result ((IsWithin self.now.keys command.now → ⊥) ⊎ (self.now.limit ≤ length self.now.history)) }
+        ensures ok { OnOk result (IsWithin self.now.keys command.now × (length self.now.past.tail < self.now.limits.history)) }
+        ensures err { OnErr result ((IsWithin self.now.keys command.now → ⊥) ⊎ (self.now.limits.history ≤ length self.now.past.tail)) }
         ensures outside { (IsWithin self.now.keys command.now → ⊥) → result ≡ Err Refusal.KeyOutside }
-        ensures full { IsWithin self.now.keys command.now → self.now.limit ≤ length self.now.history → result ≡ Err (Refusal.HistoryFull self.now.limit) }
+        ensures full { IsWithin self.now.keys command.now → self.now.limits.history ≤ length self.now.past.tail → result ≡ Err (Refusal.HistoryFull self.now.limits.history) }
     {
         if !allows(self.keys, command) {
             return Err(Refusal::KeyOutside);
         }
-        if self.history.len() as u64 >= self.limit {
-            return Err(Refusal::HistoryFull { length: self.limit });
+        if self.history.len() as u64 >= self.limits.history {
+            return Err(Refusal::HistoryFull {
+                length: self.limits.history,
+            });
         }
         Ok(())
     }

@@ -8,7 +8,7 @@ use Rattle.crack_row.specs.Ranges.{Range}
 use Rattle.crack_row.specs.declared.Row.{Row}
 use Rattle.crack_arena.specs.Arena.{Cell, Handle}
 use Rattle.crack_arena.specs.Rows.{unknown}
-use Rattle.crack_pending.specs.Spots.{KnowKeys, AreKnown, Lies, IsMissed}
+use Rattle.crack_pending.specs.Inside.{KnowKeys, AreKnown, Lies, IsMissed}
 
 -- where no flag was set, the last wasn't
 pub no_flag : (any : ℕ) (b : Bool) → bit_or any (bool_byte b) ≡ 0 → (any ≡ 0) × (b ≡ false)

@@ -1,10 +1,19 @@
 -- Laws of closing holes up.
+use Rattle.std.specs.Prelude.{slice_index_or}
 use Rattle.std.proofs.Common.{◌≡◌, ℕ, ◌+◌, ◌<◌, ◌≤◌, Bool, false, ◌≢◌, List, length, get_or, set, take, All, refl, sym, ap, ◌∙◌, inl, inr, arith, length-set}
 use Rattle.std.proofs.lemmas.Bool.{cases_eq}
 use Rattle.std.proofs.lemmas.List.{get_or-set_same, get_or-set_other, get_or_default, get_or-take, length-take-le, ext_get_or}
 use Rattle.crack_arena.specs.Arena.{Handle, no_handle}
-use Rattle.crack_pending.specs.Spots.{kept, place_at, HasRow, AreMoved, AreLed, AreApart, LeadBack}
+use Rattle.crack_pending.specs.Spots.{kept, place_at, HasRow, LeadBack}
+use Rattle.crack_pending.specs.Inside.{AreLed, AreApart}
 use Rattle.crack_pending.proofs.Kept.{place_at-more, place_at-few, length-kept, kept-at, kept-at_place, spot_of, Stands-within}
+
+-- so far the rows of the first spots have moved to the front, and the spots behind are as they were
+pub record AreMoved {X : Type 0} (stands : List Bool) (old new : List X) (spot low : ℕ) : Type 0 where
+  pub long : length new ≡ length old
+  pub low_is : low ≡ place_at stands spot
+  pub front : (k : ℕ) (d : X) → k < low → slice_index_or new k d ≡ slice_index_or (kept stands old) k d
+  pub rest : (k : ℕ) (d : X) → spot ≤ k → slice_index_or new k d ≡ slice_index_or old k d
 
 module _ {X : Type 0} where
   pub moved_none : (bs : List Bool) (old : List X) → AreMoved bs old old 0 0

@@ -2,7 +2,7 @@
 ghost use Rattle.std.specs.Prelude.{◌≡◌, ◌≢◌, ◌+◌, ◌<◌, ◌≤◌, ◌⊎◌, ℕ, length, slice_index, MatchOption, IsTrue, IsFalse};
 ghost use Rattle.std.specs.Bool.{OnFalse};
 ghost use Rattle.crack_arena.specs.Rows.{key_at, unknown};
-ghost use Rattle.crack_pending.specs.Spots.{Lies, AreKnown, IsMissed, IsHit, KnowKeys};
+ghost use Rattle.crack_pending.specs.Inside.{Lies, AreKnown, IsMissed, IsHit, KnowKeys};
 
 use crate::spots::{StoredKey, UNKNOWN};
 use crack_arena::{Arena, Handle, key_of};

@@ -4,7 +4,8 @@ ghost use Rattle.std.specs.List.{remove};
 ghost use Rattle.crack_arena.specs.Rows.{keys_at, unknown, RemembersKeys};
 ghost use Rattle.crack_arena.specs.Arena.{StandsAt, IsFirstAt, IsAbsent, times, slots, place_in, no_handle};
 ghost use Rattle.crack_pending.specs.Pending.{Finds, StillRemembersKeys, RemembersOneMore, RemembersAnew};
-ghost use Rattle.crack_pending.specs.Spots.{place_at, HasRow, LeadBack, IsNowhere, IsSpotWith};
+ghost use Rattle.crack_pending.specs.Spots.{place_at, HasRow, LeadBack};
+ghost use Rattle.crack_pending.specs.Inside.{IsNowhere, IsSpotWith};
 ghost use Rattle.crack_pending.specs.Bits.{Has};
 
 use crate::bits::BitSet;

@@ -1,7 +1,6 @@
 -- What follows from the definitions of the plain table.
-use Rattle.std.specs.Prelude.{◌≢◌, ◌≡◌, ℕ, ◌+◌, ◌<◌, ◌≤◌, ◌==◌, not, cond, fold, true, false, List, [], ◌∷◌, ◌++◌, length, map, filter, All, AllPairs, if◌then◌else◌, Option, Some, None, Bool, pos, ◌-ℤ◌}
+use Rattle.std.specs.Prelude.{◌≢◌, ◌≡◌, ℕ, ◌+◌, ◌<◌, ◌≤◌, ◌==◌, not, cond, true, false, List, [], ◌∷◌, ◌++◌, length, map, filter, All, AllPairs, if◌then◌else◌, Option, Some, None, Bool}
 use Rattle.std.proofs.Common.{suc, get_or, arith, length-append, ap, refl, sym, subst, ◌∙◌}
-use Rattle.std.proofs.Math.IntN.{+ℤ-neg_ℤ_cancel}
 use Rattle.std.proofs.lemmas.List.Elements.{All-nil, All-push, All-filter, All-map, All-head, All-tail}
 use Rattle.std.proofs.lemmas.List.Kept.{AllPairs-filter}
 use Rattle.std.proofs.lemmas.List.{get_or-map, length-map}
@@ -19,14 +18,10 @@ use Rattle.crack_row.specs.declared.command.Change.TheVariants.{Place, Remove, R
 use Rattle.crack_row.specs.declared.command.Command.{Command}
 use Rattle.crack_row.specs.declared.command.Command.TheVariants.{Insert, Delete, Update, Count, Sum, Select}
 use Rattle.crack_row.specs.declared.command.Entry.{Entry}
-use Rattle.crack_plain.specs.Plain.{PlainState, no_rows, IsNumbered, reply_to, row_in, after, replay, AreReplies, changed, places_row, IsWithin, BringWithin, IsLegal}
+use Rattle.crack_plain.specs.Plain.{PlainState, no_rows, IsNumbered, reply_to, row_in, after, replay_from, AreReplies, changed, places_row, IsWithin, BringWithin}
 use Rattle.crack_plain.specs.Inside.{gone, rewritten}
-use Rattle.crack_plain.specs.Totals.{is_placed, is_gone, accepted, inserted, deleted, held}
-use Rattle.crack_plain.proofs.TotalLaws.{inserted-cons, deleted-cons, inserted-le-accepted}
-
--- the state after answering the commands of these entries, in order, from any state on
-abbrev pub replay_from : PlainState → List Entry → PlainState
-replay_from s es = fold (λ s e. after s e.command) s es
+use Rattle.crack_plain.specs.Totals.{is_placed, is_gone, inserted, deleted}
+use Rattle.crack_plain.proofs.TotalLaws.{inserted-cons, deleted-cons}
 
 -- one list of entries after another
 pub replay_from-append : (s : PlainState) (xs ys : List Entry) → replay_from s (xs ++ ys) ≡ replay_from (replay_from s xs) ys
@@ -37,22 +32,12 @@ replay_from-append s (x ∷ xs) ys = replay_from-append (after s x.command) xs y
 pub replay_from-push : (s : PlainState) (es : List Entry) (e : Entry) → replay_from s (es ++ e ∷ []) ≡ after (replay_from s es) e.command
 replay_from-push s es e = replay_from-append s es (e ∷ [])
 
-pub replay-push : (es : List Entry) (e : Entry) → replay (es ++ e ∷ []) ≡ after (replay es) e.command
-replay-push es e = replay_from-push no_rows es e
-
 pub AreReplies-push : (s : PlainState) (es : List Entry) (e : Entry) → AreReplies s es → e.reply ≡ reply_to (replay_from s es) e.command → AreReplies s (es ++ e ∷ [])
 AreReplies-push s [] e replies reply = (reply, tt)
 AreReplies-push s (x ∷ es) e replies reply = (replies.0, AreReplies-push (after s x.command) es e replies.1 reply)
 
 pub BringWithin-push : (keys : Range) (es : List Entry) (e : Entry) → BringWithin keys es → IsWithin keys e.command → BringWithin keys (es ++ e ∷ [])
 BringWithin-push keys es e within new = All-push (λ (x : Entry). IsWithin keys x.command) es e within new
-
-pub IsLegal-push : (keys : Range) (limit : ℕ) (es : List Entry) (e : Entry) → IsLegal keys limit es → length es < limit → IsWithin keys e.command → e.reply ≡ reply_to (replay es) e.command → IsLegal keys limit (es ++ e ∷ [])
-IsLegal-push keys limit es e legal room within reply = record {
-  replies = AreReplies-push no_rows es e legal.replies reply;
-  within = BringWithin-push keys es e legal.within within;
-  limited = omega (arith, length-append es (e ∷ []));
-}
 
 -- no row
 pub IsNumbered-no_rows : IsNumbered no_rows
@@ -100,9 +85,6 @@ IsNumbered-after s command numbered = IsNumbered-changed s (change_of command) n
 pub IsNumbered-replay_from : (s : PlainState) (es : List Entry) → IsNumbered s → IsNumbered (replay_from s es)
 IsNumbered-replay_from s [] numbered = numbered
 IsNumbered-replay_from s (e ∷ es) numbered = IsNumbered-replay_from (after s e.command) es (IsNumbered-after s e.command numbered)
-
-pub IsNumbered-replay : (es : List Entry) → IsNumbered (replay es)
-IsNumbered-replay es = IsNumbered-replay_from no_rows es IsNumbered-no_rows
 
 -- a reply says that a row was placed where the command places one
 pub is_placed-reply_to : (s : PlainState) (command : Command) → is_placed (reply_to s command) ≡ places_row (change_of command)
@@ -152,10 +134,6 @@ next-replay_from s (e ∷ es) replies =
     let now = next-after s e.command in
     let first : inserted (e ∷ es) ≡ (if is_placed (reply_to s e.command) then 1 else 0) + inserted es = inserted-cons e es ∙ ap (λ reply. (if is_placed reply then 1 else 0) + inserted es) replies.0 in
     omega (arith, later, now, first)
-
--- the next serial is the number of rows that were placed
-pub next-replay : (es : List Entry) → AreReplies no_rows es → (replay es).next ≡ inserted es
-next-replay es replies = omega (arith, next-replay_from no_rows es replies)
 
 -- where all rows have another serial, none is taken out and none is found
 others-all : (serial : ℕ) (rows : List Row) → All (λ (r : Row). serial < r.serial.0) rows → length (filter (is_other serial) rows) ≡ length rows
@@ -224,21 +202,3 @@ length_rows-replay_from s (e ∷ es) numbered replies =
     let placed : inserted (e ∷ es) ≡ (if is_placed (reply_to s e.command) then 1 else 0) + inserted es = inserted-cons e es ∙ ap (λ reply. (if is_placed reply then 1 else 0) + inserted es) replies.0 in
     let gone : deleted (e ∷ es) ≡ (if is_gone (reply_to s e.command) then 1 else 0) + deleted es = deleted-cons e es ∙ ap (λ reply. (if is_gone reply then 1 else 0) + deleted es) replies.0 in
     omega (arith, later, now, placed, gone)
-
--- the rows are those that were placed, less those that went
-pub length_rows-replay : (es : List Entry) → AreReplies no_rows es → length (replay es).rows + deleted es ≡ inserted es
-length_rows-replay es replies = omega (arith, length_rows-replay_from no_rows es IsNumbered-no_rows replies)
-
-pub held-replay : (es : List Entry) → AreReplies no_rows es → pos (length (replay es).rows) ≡ held es
-held-replay es replies =
-    let left : ℕ = length (replay es).rows in
-    let gone : ℕ = deleted es in
-    sym (ap (λ (n : ℕ). pos n -ℤ pos gone) (sym (length_rows-replay es replies)) ∙ +ℤ-neg_ℤ_cancel (pos left) (pos gone))
-
--- there are no more rows than entries
-pub length_rows-le-accepted : (es : List Entry) → AreReplies no_rows es → length (replay es).rows ≤ accepted es
-length_rows-le-accepted es replies = omega (arith, length_rows-replay es replies, inserted-le-accepted es)
-
--- the next serial is at most the number of entries
-pub next-le-accepted : (es : List Entry) → AreReplies no_rows es → (replay es).next ≤ accepted es
-next-le-accepted es replies = omega (arith, next-replay es replies, inserted-le-accepted es)

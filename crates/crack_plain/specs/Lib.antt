@@ -1,3 +1,4 @@
 pub mod Inside
+pub mod Past
 pub mod Plain
 pub mod Totals

@@ -1,5 +1,5 @@
 -- The plain table: rows changed by commands and filtered by ranges, with no piece, handle, pending row, policy or lock.
-use Rattle.std.specs.Prelude.{◌≡◌, ℕ, ◌+◌, ◌<◌, ◌≤◌, ◌^◌, List, [], ◌∷◌, ◌++◌, length, map, filter, find, fold, count_by, unwrap_or, option_map, All, AllPairs, Option, Some, None, IfSome, Bool, true, false}
+use Rattle.std.specs.Prelude.{◌≡◌, ℕ, ◌+◌, ◌<◌, ◌^◌, List, [], ◌∷◌, ◌++◌, length, map, filter, find, fold, count_by, unwrap_or, option_map, All, AllPairs, Option, Some, None, IfSome, Bool, true, false}
 use Rattle.crack_row.specs.Ranges.{Range, IsIn, in_range}
 use Rattle.crack_row.specs.Commands.{change_of, key_of}
 use Rattle.crack_row.specs.Replies.{IsFlat}
@@ -81,9 +81,9 @@ pub record TakesNoMemory (s : PlainState) (command : Command) : Type 0 where
 abbrev pub answer : PlainState → Command → Reply × PlainState
 answer s command = (reply_to s command, after s command)
 
--- the state after answering the commands of these entries, in order, from the start
-abbrev pub replay : List Entry → PlainState
-replay es = fold (λ s e. after s e.command) no_rows es
+-- the state after answering the commands of these entries, in order, from a state on
+abbrev pub replay_from : PlainState → List Entry → PlainState
+replay_from s es = fold (λ s e. after s e.command) s es
 
 -- each entry has the reply of the state that the entries before it leave
 abbrev pub AreReplies : PlainState → List Entry → Type 0
@@ -97,12 +97,6 @@ IsWithin keys command = IfSome (key_of command) (λ (key : Key). IsIn keys key.0
 -- each key that an entry brings is one of these
 abbrev pub BringWithin : Range → List Entry → Type 0
 BringWithin keys entries = All (λ (e : Entry). IsWithin keys e.command) entries
-
--- what a partition of these keys, whose history may have so many entries, may have answered
-pub record IsLegal (keys : Range) (limit : ℕ) (history : List Entry) : Type 0 where
-  pub replies : AreReplies no_rows history
-  pub within : BringWithin keys history
-  pub limited : length history ≤ limit
 
 -- a plain table: its state, and how many commands it accepted
 pub record PlainView : Type 0 where

@@ -1,5 +1,5 @@
--- How many commands, insertions, deletions and updates a history has, and how many rows it leaves.
-use Rattle.std.specs.Prelude.{ℕ, ℤ, pos, ◌-ℤ◌, Bool, true, false, List, length, count_by}
+-- How many commands, insertions, deletions and updates a history has.
+use Rattle.std.specs.Prelude.{ℕ, Bool, true, false, List, length, count_by}
 use Rattle.crack_row.specs.declared.command.Reply.{Reply}
 use Rattle.crack_row.specs.declared.command.Reply.TheVariants.{Placed, Gone, Changed}
 use Rattle.crack_row.specs.declared.command.Entry.{Entry}
@@ -34,7 +34,3 @@ deleted es = count_by (λ (e : Entry). is_gone e.reply) es
 -- how often a row was changed
 abbrev pub updated : List Entry → ℕ
 updated es = count_by (λ (e : Entry). is_changed e.reply) es
-
--- how many rows are left: a whole number, which may be below 0 where the entries are those of one worker alone
-abbrev pub held : List Entry → ℤ
-held es = pos (inserted es) -ℤ pos (deleted es)

@@ -1,5 +1,6 @@
 mod Carrying
 mod EdgeLaws
+mod Filling
 mod Merging
 mod Putting
 mod Rippling

@@ -1,24 +1,26 @@
 -- What the carries of a range do under ripple.
-use Rattle.std.proofs.Common.{◌≡◌, ℕ, zero, suc, ◌+◌, ◌<◌, ◌≤◌, List, [], ◌∷◌, ◌++◌, length, get_or, take, drop, arith, Option, ◌-◌, Some, None, refl, sym, ap, ◌∙◌, inl, inr, length-append}
+use Rattle.std.proofs.Common.{◌≡◌, ℕ, zero, suc, ◌+◌, ◌<◌, ◌≤◌, Bool, true, false, cond, filter, List, [], ◌∷◌, ◌++◌, length, get_or, take, drop, arith, Option, ◌-◌, Some, None, refl, sym, ap, ◌∙◌, inl, inr, length-append}
+use Rattle.std.specs.Prelude.{not}
 use Rattle.std.specs.List.{All, remove}
 use Rattle.std.proofs.lemmas.List.{take-take, take_more, get_or-drop, length-map, length-drop, get_or-map, map-append, append-nil, append_assoc, take-append-drop}
 use Rattle.std.proofs.lemmas.List.Elements.{All-nil, All-cons, All-head, All-tail, All-map}
 use Rattle.std.proofs.lemmas.List.Edits.{remove-append_left}
-use Rattle.crack_row.specs.Ranges.{Range}
+use Rattle.crack_row.specs.Ranges.{Range, is_in}
+use Rattle.crack_row.specs.declared.Row.{Row}
 use Rattle.crack_row.specs.declared.command.Policy.TheVariants.{Ripple}
-use Rattle.crack_arena.specs.Arena.{Handle, no_handle}
+use Rattle.crack_arena.specs.Arena.{Cell, Handle, no_handle}
 use Rattle.crack_arena.specs.Rows.{key_at, keys_at}
 use Rattle.crack_index.specs.Marks.{bounds_of}
 use Rattle.crack_pending.specs.Pending.{Finds}
 use Rattle.crack_state.specs.State.{State, IsIntact}
-use Rattle.crack_state.specs.Merge.{SomeOf, nothing, left_out, kept, edge, IsExact, outside_of}
-use Rattle.crack_state.proofs.OutsideLaws.{SomeOf-none, SomeOf-trans, LacksFirst, LacksFirst-none, length-outside}
+use Rattle.crack_state.specs.Merge.{SomeOf, nothing, left_out, kept, Fills, edge, IsExact, outside_of, without_first}
+use Rattle.crack_state.proofs.OutsideLaws.{SomeOf-none, SomeOf-refl, SomeOf-trans, LacksFirst, LacksFirst-none, length-outside}
 use Rattle.crack_state.specs.Steps.{SameButRoom}
 use Rattle.crack_state.proofs.AdvanceLaws.{keys_still}
 use Rattle.crack_state.proofs.FollowLaws.{IsExact-before}
 use Rattle.crack_state.proofs.StepLaws.{IsIntact-room}
 use Rattle.crack_merge.specs.Loops.{PutsIn}
-use Rattle.crack_merge.specs.Merges.{CarriesIn, begins, carries, Stops}
+use Rattle.crack_merge.specs.Merges.{BuriesFew, CarriesIn, begins, carries, EvictsFirst, Stops}
 use Rattle.crack_merge.proofs.CarryLaws.{PutsIn-room, PutsIn-trans, Stops-Advances}
 use Rattle.crack_merge.proofs.RangeLaws.{LacksFirst-found, LacksFirst-missed, Finds-front}
 use Rattle.crack_ripple.proofs.EdgeLaws.{IsRangeOf, high_divides, IsRangeOf-follows, high_within, StaysOutside, StaysOutside-same, StaysOutside-trans, row_at_end, length-StaysOutside}
@@ -45,6 +47,22 @@ pub SomeOf-push : (some all : List Handle) (n k : ℕ) (h : Handle) → n ≤ k 
 SomeOf-push some all n k h order within is of =
     let front = SomeOf-front some (take k all) n (rw (take-take n k all order) of) in
     rw (take_more all k h within, is) (SomeOf-append some (take k all) (h ∷ []) (h ∷ []) front (kept h [] [] nothing))
+
+-- those of the handles that pass a test
+SomeOf-filter : (test : Handle → Bool) (hs : List Handle) → SomeOf (filter test hs) hs
+SomeOf-filter test [] = nothing
+SomeOf-filter test (h ∷ hs) = by_test (test h) (SomeOf-filter test hs)
+  where
+    by_test : (b : Bool) → SomeOf (filter test hs) hs → SomeOf (cond b (h ∷ filter test hs) (filter test hs)) (h ∷ hs)
+    by_test true some = kept h (filter test hs) hs some
+    by_test false some = left_out h (filter test hs) hs some
+
+-- without the first ones of a range are some
+pub SomeOf-without : (cells : List (Cell Row)) (r : Range) (passed : ℕ) (hs : List Handle) → SomeOf (without_first cells r passed hs) hs
+SomeOf-without cells r passed hs =
+    let front = take passed hs in
+    let back = drop passed hs in
+    rw (take-append-drop passed hs) at (SomeOf-append (outside_of cells r front) front back back (SomeOf-filter (λ h. not (is_in r (key_at cells h))) front) (SomeOf-refl back))
 
 -- what holds of all holds of some
 pub All-SomeOf : (P : Handle → Type 0) (some all : List Handle) → SomeOf some all → All P all → All P some
@@ -79,6 +97,16 @@ pub record EvictsUpTo (s t : State) (r : Range) (evicted : List Handle) : Type 0
   pub count : ℕ
   pub before : edge s r.high + count ≤ edge t r.high
   pub some : SomeOf evicted (take count (drop (edge s r.high) s.column))
+
+-- all that a call has to say that puts in, where it is refused
+pub record StopsIn (s t : State) (r : Range) : Type 0 where
+  pub stops : Stops Ripple s t r
+  pub unfilled : EvictsFirst s r t.pending_in
+  pub few : BuriesFew s t
+
+-- no filler is gone
+pub Fills-none : (s t : State) (r : Range) → Fills s t r t.pending_in
+Fills-none s t r = record { count = 0; few = omega arith; loses = record { passed = 0; left_are = refl; count_is = refl } }
 
 -- pending insertions of the range up to some place were carried, and the search goes on from `from`
 pub record PutsNear (s t : State) (r : Range) (from : ℕ) : Type 0 where
@@ -212,18 +240,25 @@ module _ (s : State) (r : Range) (of : IsRangeOf s r) (intact : IsIntact s []) w
         }
 
     -- no memory was found for the next
-    pub Stops-PutsNear : Stops Ripple s t r
-    Stops-PutsNear =
+    EvictsFirst-PutsNear : EvictsFirst s r t.pending_in
+    EvictsFirst-PutsNear =
         let passed = was.lacks.passed in
         let front = take passed s.pending_in in
         let back = drop passed s.pending_in in
         let split : length front + length back ≡ length s.pending_in = sym (length-append front back) ∙ ap length (take-append-drop passed s.pending_in) in
         let left : length was.left ≡ length (outside_of s.cells r front) + length back = ap length was.lacks.left_are ∙ length-append (outside_of s.cells r front) back in
-        Stops-Advances Ripple s t r was.puts.advances was.intact (record {
+        record {
           passed = passed;
           within = was.lacks.within;
           evicted = was.evicted;
           pending_in = was.pending_in ∙ ap (λ hs. hs ++ was.evicted) was.lacks.left_are;
           some = evicted_some;
           few = omega (arith, was.puts.few, fewer_out, long_in, left, split, length-outside s.cells r front);
-        })
+        }
+
+    pub StopsIn-PutsNear : StopsIn s t r
+    StopsIn-PutsNear = record {
+      stops = Stops-Advances Ripple s t r was.puts.advances was.intact (t.pending_in, EvictsFirst-PutsNear, Fills-none s t r);
+      unfilled = EvictsFirst-PutsNear;
+      few = was.puts.few;
+    }

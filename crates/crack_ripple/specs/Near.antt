@@ -1,9 +1,9 @@
 -- What ripple leaves where it stands, and what it counts.
-use Rattle.std.specs.Prelude.{◌≡◌, ℕ, ◌+◌, ◌*◌, ◌≤◌, ◌&&◌, nat_lt, max, length, take, drop, count_by, []}
+use Rattle.std.specs.Prelude.{◌≡◌, ℕ, ◌+◌, ◌*◌, ◌≤◌, ◌&&◌, nat_lt, max, min, length, take, drop, count_by, []}
 use Rattle.crack_row.specs.Ranges.{Range}
 use Rattle.crack_index.specs.Marks.{bounds_of}
 use Rattle.crack_state.specs.State.{State, IsIntact}
-use Rattle.crack_state.specs.Merge.{Follows, StillReads, SomeOf, Evicts, IsExact, edge, outside_of, count_inside}
+use Rattle.crack_state.specs.Merge.{Follows, StillReads, SomeOf, Evicts, LosesFirst, IsExact, beyond, edge, outside_of, count_inside}
 
 -- the pending insertions of a range are put in, near it: the column is the same before the range's low end, and from the place of its high
 -- end on, where that place is after the rows were put in; the rows that made way behind the range are evicted, or buried where they were
@@ -11,7 +11,7 @@ use Rattle.crack_state.specs.Merge.{Follows, StillReads, SomeOf, Evicts, IsExact
 pub record PutsInNear (s t : State) (r : Range) : Type 0 where
   pub follows : Follows s t
   pub intact : IsIntact t []
-  pub evicts : Evicts s t r
+  pub evicts : Evicts s r t.pending_in
   pub pending_out : SomeOf t.pending_out s.pending_out
   pub few : length s.pending_out ≤ length t.pending_out + count_inside s.cells r s.pending_in
   pub reads : StillReads s.cells t.cells
@@ -19,14 +19,20 @@ pub record PutsInNear (s t : State) (r : Range) : Type 0 where
   pub behind : drop (edge t r.high) t.column ≡ drop (edge t r.high) s.column
   pub long : length t.column ≡ max (length s.column) (edge t r.high)
 
--- the pending deletions of a range are taken out, and no other; the column is shorter by one for each
+-- how many fillers there are for the doomed rows of a range: one for each, or as many as pending insertions from the range's end up to the next bound
+abbrev pub fillers_of : State → Range → ℕ
+fillers_of s r = min (count_inside s.cells (beyond s r) s.pending_in) (count_inside s.cells r s.pending_out)
+
+-- the pending deletions of a range are taken out, and no other; the fillers, which are the first, go from the pending insertions, and the column
+-- is shorter by one for each row that had none; where each had one, the column is the same from the place of the range's high end on
 pub record TakesOutNear (s t : State) (r : Range) : Type 0 where
   pub follows : Follows s t
   pub intact : IsIntact t []
-  pub pending_in : t.pending_in ≡ s.pending_in
+  pub pending_in : LosesFirst s.cells (beyond s r) (fillers_of s r) s.pending_in t.pending_in
   pub pending_out : t.pending_out ≡ outside_of s.cells r s.pending_out
   pub reads : StillReads s.cells t.cells
-  pub long : length t.column + length s.pending_out ≡ length s.column + length t.pending_out
+  pub long : length t.column + length s.pending_out ≡ length s.column + length t.pending_out + fillers_of s r
+  pub behind : fillers_of s r ≡ count_inside s.cells r s.pending_out → drop (edge s r.high) t.column ≡ drop (edge s r.high) s.column
 
 -- near: first the pending insertions of the range are put in, and then the pending deletions of the range that are left are taken out
 pub record MergesNear (s t : State) (r : Range) : Type 0 where

@@ -3,6 +3,7 @@
 
 pub mod command;
 pub mod layout;
+pub mod limit;
 pub mod range;
 pub mod refusal;
 pub mod rows;
@@ -10,6 +11,7 @@ pub mod watched;
 
 pub use command::{Change, Command, Entry, Policy, Reply};
 pub use layout::{Layout, PieceList, PieceSize};
+pub use limit::Limits;
 pub use range::KeyRange;
 pub use refusal::Refusal;
 pub use rows::RowList;
@@ -26,6 +28,12 @@ pub const GREATEST_PAYLOAD: u32 = 4294967295;
 
 /// The greatest number of entries that a partition's history may be limited to.
 pub const GREATEST_LIMIT: u64 = 1000000;
+
+/// The greatest number of cells that a partition's rows may be limited to.
+pub const GREATEST_CELLS: u64 = 1048576;
+
+/// The greatest number of commands that a partition may be limited to accept in all.
+pub const GREATEST_LIFE: u64 = 1099511627776;
 
 /// What a row is found by: 0 to `GREATEST_KEY`.
 #[derive(Clone, Copy, PartialEq, Eq, PartialOrd, Ord, Hash, Debug)]

@@ -1,7 +1,7 @@
 //! A core as a desk, asked by worker 0.
 ghost use Rattle.std.specs.Prelude.{◌≡◌, ◌+◌, [], ◌∷◌, is_ok, IfOk, if◌then◌else◌};
 ghost use Rattle.crack_plain.specs.Plain.{IsSmall};
-ghost use Rattle.crack_core.specs.Steps.{expected_at, IsOutcome, tables_of, tables_after, histories_of, accepted_by, KeepsEntries};
+ghost use Rattle.crack_core.specs.Steps.{expected_at, IsOutcome, tables_of, tables_after, pasts_of, accepted_by, KeepsEntries};
 
 use crate::desk::Desk;
 use crack_core::{Core, Step};
@@ -13,7 +13,7 @@ impl Desk for Core {
 
     ghost tables = { λ c. Some (tables_of c.parts) };
 
-    ghost limit = { λ c. c.limit };
+    ghost limit = { λ c. c.limits.history };
 
     ghost splits = { λ c. c.splits };
 
@@ -22,11 +22,11 @@ impl Desk for Core {
     #[inline(always)]
     fn ask(&mut self, part: u32, command: Command, policy: Policy) -> Result<Reply, Refusal>
         // It is one step of worker 0, whose entry the partition keeps.
-        ensures kept { KeepsEntries (histories_of self.old.parts) (record { worker = 0; part = part; command = command; policy = policy } ∷ []) (result ∷ []) (histories_of self.new.parts) }
-        ensures outcome { IsOutcome (expected_at self.old.limit self.old.splits (tables_of self.old.parts) part command) result }
+        ensures kept { KeepsEntries (pasts_of self.old.parts) (record { worker = 0; part = part; command = command; policy = policy } ∷ []) (result ∷ []) (pasts_of self.new.parts) }
+        ensures outcome { IsOutcome (expected_at self.old.limits.history self.old.splits (tables_of self.old.parts) part command) result }
         ensures after { tables_of self.new.parts ≡ tables_after (tables_of self.old.parts) part command result }
         ensures small { IfOk result IsSmall }
-        ensures opened { (self.new.splits ≡ self.old.splits) × (self.new.limit ≡ self.old.limit) }
+        ensures opened { (self.new.splits ≡ self.old.splits) × (self.new.limits ≡ self.old.limits) }
         ensures accepted { accepted_by self.new.parts ≡ (if is_ok result then accepted_by self.old.parts + 1 else accepted_by self.old.parts) }
     {
         self.step(Step {

@@ -1,8 +1,8 @@
 //! A partition: each call once, with ample memory, and each refusal but that for want of memory.
 use crack_part::Partition;
 use crack_row::{
-    Command, Entry, GREATEST_BOUND, GREATEST_LIMIT, Key, KeyRange, Payload, Policy, Refusal, Reply,
-    Serial,
+    Command, Entry, GREATEST_BOUND, GREATEST_CELLS, GREATEST_LIFE, GREATEST_LIMIT, Key, KeyRange,
+    Limits, Payload, Policy, Refusal, Reply, Serial,
 };
 use std::process::Abort;
 
@@ -37,9 +37,15 @@ fn is_first_insert(entry: &Entry) -> bool {
         && matches!(entry.reply, Reply::Placed(Serial(0)))
 }
 
-/// Asserts that the partition has all keys, the greatest limit and no history.
+/// Asserts that the partition has all keys, the greatest limits and no history.
 fn assert_opened(rt: &impl Abort, partition: &Partition) {
+    let greatest = Limits {
+        history: GREATEST_LIMIT,
+        cells: GREATEST_CELLS,
+        life: GREATEST_LIFE,
+    };
     assert_eq!(rt; partition.limit(), GREATEST_LIMIT);
+    assert!(rt; partition.limits() == greatest);
     assert_eq!(rt; partition.keys().low().0, 0);
     assert_eq!(rt; partition.keys().high().0, GREATEST_BOUND);
     assert!(rt; partition.history().is_empty());
@@ -66,6 +72,7 @@ fn answer_and_keep(rt: &impl Abort, partition: &mut Partition) -> Result<(), Ref
     insert_first(rt, partition)?;
     count_first(rt, partition)?;
     assert_eq!(rt; partition.history().len(), 2);
+    assert_eq!(rt; partition.accepted(), 2);
     assert!(rt; is_first_insert(&partition.history()[0]));
     Ok(())
 }

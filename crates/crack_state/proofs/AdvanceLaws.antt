@@ -1,5 +1,5 @@
 -- What each carry and each pull of a merge keeps, and so any list of them.
-use Rattle.std.proofs.Common.{◌≡◌, ℕ, ◌+◌, ◌<◌, ◌≤◌, List, [], ◌∷◌, length, get_or, None, refl, sym, ap, ◌∙◌, inl, inr, arith}
+use Rattle.std.proofs.Common.{◌≡◌, ℕ, ◌+◌, ◌<◌, ◌≤◌, List, [], ◌∷◌, length, get_or, None, refl, sym, ap, ◌∙◌, inl, inr, arith, ◌-◌, length-set}
 use Rattle.std.specs.Prelude.{nat_le}
 use Rattle.std.specs.List.{All, remove}
 use Rattle.std.proofs.lemmas.Bool.{cases_eq, true≢false}
@@ -23,7 +23,7 @@ use Rattle.crack_state.proofs.Counters.{Rises, Rises-none, Rises-one, raised_cou
 use Rattle.crack_state.proofs.OutsideLaws.{SomeOf-refl, SomeOf-trans, SomeOf-remove, outside_of-reads}
 use Rattle.crack_state.proofs.PullLaws.{Follows-lifted_last, Follows-pulled_back, bounds_up_to-pulled_back}
 use Rattle.crack_state.proofs.BuryLaws.{doomed_stands, read-set_none, Follows-buried}
-use Rattle.crack_state.proofs.FollowLaws.{Pushes, Follows-trans, Follows-kept, Follows-room, Follows-appended, length_marks-Follows, Tallies-trans, Tallies-room, Tallies-step, Tallies-carried}
+use Rattle.crack_state.proofs.FollowLaws.{Pushes, Follows-trans, Follows-kept, Follows-room, Follows-lifted, Follows-appended, length_marks-Follows, Tallies-trans, Tallies-room, Tallies-step, Tallies-carried}
 
 pub StillReads-refl : (cells : List (Cell Row)) → StillReads cells cells
 StillReads-refl cells = λ h reads. refl
@@ -98,18 +98,54 @@ CarriedIn-buried s i c inside intact pushes doomed now =
     let place = place_in c.store.pending_out c.hand.slot in
     carried_in s (buried c) i 1 c inside intact pushes refl refl (Follows-buried c doomed now) (StillReads-buried c now) (SomeOf-remove c.store.pending_out place) (Rises-one taken (buried c).tally.taken_out taken refl refl now.counted.taken_out) (omega (arith, length-remove c.store.pending_out place (doomed_stands c doomed now).within)) (omega arith)
 
--- what the steps of a pull keep, from the column's last row on: each brings the hand nearer to the column's front
+-- a pending insertion was lifted
+pub Advances-lifted : (policy : Policy) (i : ℕ) (s : State) → i < length s.pending_in → IsIntact s [] → Advances policy s (lifted i s).store
+Advances-lifted policy i s inside intact = record {
+  follows = Follows-lifted i s;
+  tallies = Tallies-step policy s (lifted i s).store 1 0
+      (Rises-one s.tally.put_in (lifted i s).store.tally.put_in s.tally.put_in refl refl intact.counted.put_in)
+      (Rises-none s.tally.taken_out s.tally.taken_out refl)
+      refl
+      (omega arith)
+      (omega arith)
+      (omega arith)
+      (omega arith)
+      (omega (arith, length-remove s.pending_in i inside))
+      (omega arith);
+  reads = StillReads-refl s.cells;
+  pending_out = SomeOf-refl s.pending_out;
+}
+
+-- the column's last row was lifted
+pub Advances-lifted_last : (policy : Policy) (s : State) → Advances policy s (lifted_last s).store
+Advances-lifted_last policy s = record {
+  follows = Follows-lifted_last s;
+  tallies = Tallies-step policy s (lifted_last s).store 0 0
+      (Rises-none s.tally.put_in s.tally.put_in refl)
+      (Rises-none s.tally.taken_out s.tally.taken_out refl)
+      refl
+      (omega arith)
+      (omega arith)
+      (omega arith)
+      (omega arith)
+      (omega arith)
+      (omega arith);
+  reads = StillReads-refl s.cells;
+  pending_out = SomeOf-refl s.pending_out;
+}
+
+-- what the steps of a pull keep, from the hand with which it begins: each brings the hand nearer to the column's front
 pub record Draws (s : State) (c : Carried) : Type 0 where
-  pub same : c.store ≡ record s { column = c.store.column; marks = c.store.marks; tally = record s.tally { pulled = c.store.tally.pulled }; column_room = c.store.column_room }
+  pub same : c.store ≡ record s { column = c.store.column; marks = c.store.marks; tally = record s.tally { pulled = c.store.tally.pulled } }
   pub bounds : bounds_of c.store.marks ≡ bounds_of s.marks
+  pub long : length c.store.column ≡ length s.column
   pub pulled_rises : s.tally.pulled ≤ c.store.tally.pulled
   pub pulled : c.store.tally.pulled + bounds_up_to (hand_key c) c.store.marks ≤ s.tally.pulled + length s.marks
 
-pub Draws-lifted_last : (s : State) → Draws s (lifted_last s)
-Draws-lifted_last s =
-    let bounds = (Follows-lifted_last s).bounds in
-    let few : bounds_up_to (hand_key (lifted_last s)) (lifted_last s).store.marks ≤ length (lifted_last s).store.marks = count_by-le-length (λ (m : Mark). nat_le m.bound.0 (hand_key (lifted_last s))) (lifted_last s).store.marks in
-    record { same = refl; bounds = bounds; pulled_rises = omega arith; pulled = omega (arith, few, length_marks-Follows s (lifted_last s).store (Follows-lifted_last s)) }
+pub Draws-refl : (c : Carried) → Draws c.store c
+Draws-refl c =
+    let few : bounds_up_to (hand_key c) c.store.marks ≤ length c.store.marks = count_by-le-length (λ (m : Mark). nat_le m.bound.0 (hand_key c)) c.store.marks in
+    record { same = refl; bounds = refl; long = refl; pulled_rises = omega arith; pulled = omega (arith, few) }
 
 pub Draws-pulled_back : (s : State) (c : Carried) → 0 < piece_start c.store (hand_key c) → IsIntact c.store (c.hand ∷ []) → Draws s c → Draws s (pulled_back c)
 Draws-pulled_back s c some intact draws =
@@ -119,20 +155,22 @@ Draws-pulled_back s c some intact draws =
     record {
       same = ap (λ (x : State). let y : State = record x { column = next.column; marks = next.marks; tally = record x.tally { pulled = next.tally.pulled } } in y) draws.same;
       bounds = (Follows-pulled_back c).bounds ∙ draws.bounds;
+      long = length-set c.store.column (piece_start c.store (hand_key c) - 1) c.hand ∙ draws.long;
       pulled_rises = omega (arith, draws.pulled_rises, counter.rises intact.counted.pulled);
       pulled = omega (arith, draws.pulled, nearer, counter.most);
     }
 
--- a pull from the column's last row on, right before it buries
+-- a pull, right before it buries
 pub record Drawn (s : State) (e : Carried) : Type 0 where
-  pub same : e.store ≡ record s { column = e.store.column; marks = e.store.marks; tally = record s.tally { pulled = e.store.tally.pulled }; column_room = e.store.column_room }
+  pub same : e.store ≡ record s { column = e.store.column; marks = e.store.marks; tally = record s.tally { pulled = e.store.tally.pulled } }
   pub bounds : bounds_of e.store.marks ≡ bounds_of s.marks
+  pub long : length e.store.column ≡ length s.column
   pub pulled_rises : s.tally.pulled ≤ e.store.tally.pulled
   pub pulled : e.store.tally.pulled ≤ s.tally.pulled + (length s.marks + 1)
 
 -- the doomed row came into hand
 pub Drawn-reached : (s : State) (c : Carried) → Draws s c → Drawn s c
-Drawn-reached s c draws = record { same = draws.same; bounds = draws.bounds; pulled_rises = draws.pulled_rises; pulled = omega (arith, draws.pulled) }
+Drawn-reached s c draws = record { same = draws.same; bounds = draws.bounds; long = draws.long; pulled_rises = draws.pulled_rises; pulled = omega (arith, draws.pulled) }
 
 -- the hand took its place
 pub Drawn-exchanged : (s : State) (c : Carried) (place : ℕ) → IsIntact c.store (c.hand ∷ []) → Draws s c → Drawn s (exchanged place c)
@@ -142,6 +180,7 @@ Drawn-exchanged s c place intact draws =
     record {
       same = ap (λ (x : State). let y : State = record x { column = next.column; tally = record x.tally { pulled = next.tally.pulled } } in y) draws.same;
       bounds = draws.bounds;
+      long = length-set c.store.column place c.hand ∙ draws.long;
       pulled_rises = omega (arith, draws.pulled_rises, counter.rises intact.counted.pulled);
       pulled = omega (arith, draws.pulled, counter.most);
     }

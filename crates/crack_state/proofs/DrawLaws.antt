@@ -25,7 +25,7 @@ piece_end-least s key place rising within behind = cases_Option (λ o. place ≤
     All-contains (λ (n : Mark). key < n.bound.0 → place ≤ n.position) s.marks m behind is_next.listed is_next.above)
 
 -- a piece begins at or before a place where each bound at or below its key stands there or before it
-piece_start-most : (s : State) (key place : ℕ) → Rising s.marks → All (λ (m : Mark). m.bound.0 ≤ key → m.position ≤ place) s.marks → piece_start s key ≤ place
+pub piece_start-most : (s : State) (key place : ℕ) → Rising s.marks → All (λ (m : Mark). m.bound.0 ≤ key → m.position ≤ place) s.marks → piece_start s key ≤ place
 piece_start-most s key place rising before = cases_Option (λ o. start_of o ≤ place) (last_mark key s.marks) (λ none. omega arith) (λ m found.
     let is_last = last_mark-is key s.marks m rising found in
     All-contains (λ (n : Mark). n.bound.0 ≤ key → n.position ≤ place) s.marks m before is_last.listed is_last.below)
@@ -40,6 +40,11 @@ mark_behind s hand k place d met intact listed within read above =
           let high = (intact.obeyed k d listed).above place l (omega (arith, within, length-map s.column (key_at s.cells))) in
           absurd (omega (arith, high, at, above))
     ]
+
+-- the piece of a key ends behind each row of this key or a lower one
+pub piece_end-behind : (s : State) (hand : List Handle) (key place : ℕ) (met : Handle) → IsIntact s hand → place < length s.column → met ≡ get_or s.column place met → key_at s.cells met ≤ key → place < piece_end s key
+piece_end-behind s hand key place met intact within read below =
+    piece_end-least s key (suc place) intact.rising (omega arith) (λ k d listed above. mark_behind s hand k place d met intact listed within read (omega arith))
 
 -- where the row that came into hand stood lies its own piece
 pub record MetAt (c : Carried) (place : ℕ) : Type 0 where

@@ -1,5 +1,5 @@
 -- What a refinement and a merge may change of a store, and what they leave.
-use Rattle.std.specs.Prelude.{◌≡◌, ◌⊎◌, ℕ, Bool, ◌+◌, ◌-◌, ◌*◌, ◌<◌, ◌≤◌, ◌||◌, not, nat_le, if◌then◌else◌, List, [], ◌∷◌, ◌++◌, length, take, drop, map, filter, count_by, Contains}
+use Rattle.std.specs.Prelude.{◌≡◌, ◌⊎◌, ℕ, Bool, Option, Some, None, ◌+◌, ◌-◌, ◌*◌, ◌<◌, ◌≤◌, ◌||◌, not, nat_le, if◌then◌else◌, List, [], ◌∷◌, ◌++◌, length, take, drop, map, filter, count_by, Contains}
 use Rattle.std.specs.List.{All, filter_map, between, list_any}
 use Rattle.std.specs.List.Sorted.{IsPermutation}
 use Rattle.crack_row.specs.Ranges.{Range, is_in, in_range}
@@ -8,7 +8,7 @@ use Rattle.crack_row.specs.declared.command.Policy.{Policy}
 use Rattle.crack_row.specs.declared.command.Policy.TheVariants.{Complete, Gradual, Ripple}
 use Rattle.crack_arena.specs.Arena.{Cell, Handle, read}
 use Rattle.crack_index.specs.declared.mark.Mark.{Mark}
-use Rattle.crack_index.specs.Marks.{HasBound, bounds_of, position_of}
+use Rattle.crack_index.specs.Marks.{HasBound, bounds_of, position_of, next_mark}
 use Rattle.crack_arena.specs.Rows.{key_at}
 use Rattle.crack_state.specs.declared.MergeReport.{MergeReport}
 use Rattle.crack_state.specs.State.{State, Reads, IsIntact, live_rows, freed_of, greatest}
@@ -123,19 +123,45 @@ pub record LeavesOutside (s t : State) (r : Range) : Type 0 where
   pub some : SomeOf t.pending_out (outside_of s.cells r s.pending_out)
   pub few : length (outside_of s.cells r s.pending_out) ≤ length t.pending_out + count_inside s.cells r s.pending_in
 
--- the pending insertions that ripple leaves: those outside the range, in their order, and then the evicted, which are some of the column's
--- rows from the place of the range's end on, in their order, at most as many as the pending insertions in the range
-pub record Evicts (s t : State) (r : Range) : Type 0 where
+-- the pending insertions of a store where those of a range were put in under ripple: those outside the range, in their order, and then the
+-- evicted, which are some of the column's rows from the place of the range's end on, in their order, at most as many as the pending
+-- insertions in the range
+pub record Evicts (s : State) (r : Range) (left : List Handle) : Type 0 where
   pub evicted : List Handle
-  pub pending_in : t.pending_in ≡ outside_of s.cells r s.pending_in ++ evicted
+  pub pending_in : left ≡ outside_of s.cells r s.pending_in ++ evicted
   pub some : SomeOf evicted (drop (edge s r.high) s.column)
   pub few : length evicted ≤ count_inside s.cells r s.pending_in
+
+-- the bound of a mark, or another where there is none
+abbrev pub bound_or : ℕ → Option Mark → ℕ
+bound_or end None = end
+bound_or end (Some m) = m.bound.0
+
+-- the next bound above a number, or the partition's high end
+abbrev pub bound_above : State → ℕ → ℕ
+bound_above s bound = bound_or s.keys.high (next_mark bound s.marks)
+
+-- the keys from a range's end up to the next bound: pending insertions of these keys are fillers under ripple
+abbrev pub beyond : State → Range → Range
+beyond s r = record { low = r.high; high = bound_above s r.high }
+
+-- the handles without so many of those whose key is in the range, the first ones
+pub record LosesFirst (cells : List (Cell Row)) (r : Range) (count : ℕ) (hs left : List Handle) : Type 0 where
+  pub passed : ℕ
+  pub left_are : left ≡ without_first cells r passed hs
+  pub count_is : count_inside cells r (take passed hs) ≡ count
+
+-- of these pending insertions t has all but the first fillers, at most as many as the pending deletions in the range
+pub record Fills (s t : State) (r : Range) (hs : List Handle) : Type 0 where
+  pub count : ℕ
+  pub few : count ≤ count_inside s.cells r s.pending_out
+  pub loses : LosesFirst s.cells (beyond s r) count hs t.pending_in
 
 -- which pending rows are left by a merge of this policy: complete takes all or none of both, gradual and ripple those of the range
 abbrev pub Leaves : Policy → State → State → Range → Type 0
 Leaves Complete s t r = (t.pending_in ≡ (if is_touched s r then [] else s.pending_in)) × (t.pending_out ≡ (if is_touched s r then [] else s.pending_out))
 Leaves Gradual s t r = (t.pending_in ≡ outside_of s.cells r s.pending_in) × LeavesOutside s t r
-Leaves Ripple s t r = Evicts s t r × LeavesOutside s t r
+Leaves Ripple s t r = (hs : List Handle) × Evicts s r hs × Fills s t r hs × LeavesOutside s t r
 
 -- merged: the range is settled, the pending rows that the policy takes are gone, and commands see the same rows as before
 pub record Merges (policy : Policy) (s t : State) (r : Range) : Type 0 where

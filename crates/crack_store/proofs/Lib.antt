@@ -1,7 +1,7 @@
 mod NextLemmas
 mod EdgeLemmas
 mod AdmitLemmas
-mod MissingLemmas
+mod CrackLemmas
 mod HandLemmas
 mod RememberLemmas
 mod PointLemmas

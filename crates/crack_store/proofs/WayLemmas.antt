@@ -2,9 +2,7 @@
 use Rattle.std.proofs.Common.{◌≡◌, ℕ, ◌-◌, ◌<◌, ◌≤◌, ◌∷◌, [], List, map, length, Option, Some, None, refl, sym, ap, subst, ◌∙◌, inl, inr, arith}
 use Rattle.std.proofs.lemmas.Bool.{cases_lt}
 use Rattle.crack_row.specs.declared.Bound.{Bound}
-use Rattle.crack_arena.specs.Arena.{Handle, times, slots}
-use Rattle.crack_arena.specs.Rows.{key_at}
-use Rattle.crack_column.specs.Column.{Memory, Agrees, first_aside, exchanged_aside}
+use Rattle.crack_column.specs.Column.{Memory, Agrees, first_aside}
 use Rattle.crack_index.specs.declared.mark.Mark.{Mark}
 use Rattle.crack_index.specs.declared.near.NearBound.{NearBound}
 use Rattle.crack_index.specs.Marks.{Index, near_mark, next_mark, last_mark, first_behind, last_before, raised, lowered, start_of}
@@ -18,7 +16,7 @@ use Rattle.crack_store.specs.declared.ascent.Ascent.{Ascent}
 use Rattle.crack_store.specs.declared.ascent.Descent.{Descent}
 use Rattle.crack_store.specs.declared.carrying.Near.TheVariants.{Above, Below}
 use Rattle.crack_store.specs.Inside.{lists_of}
-use Rattle.crack_store.specs.Hand.{hand_of, carried_of, IsNear, HasHand, KeepsHand}
+use Rattle.crack_store.specs.Hand.{hand_of, carried_of, HasHand, KeepsHand}
 use Rattle.crack_store.specs.Ways.{IsKnownBelow, TakesUp, Ascends, TakesDown, Draws}
 use Rattle.crack_store.proofs.HandLemmas.{IsMade, exchanged_to}
 use Rattle.crack_store.proofs.NextLemmas.{is_up, is_down}

@@ -1,9 +1,8 @@
 -- What a contract sees of the inside of a store.
-use Rattle.std.specs.Prelude.{◌≡◌, ◌<◌, ◌≤◌, ◌+◌, ◌-◌, ℕ, List, [], length, Option, Some, None}
+use Rattle.std.specs.Prelude.{◌≡◌, ◌≤◌, ◌+◌, ◌-◌, ℕ, List, [], length}
 use Rattle.crack_row.specs.Ranges.{Range}
 use Rattle.crack_row.specs.declared.layout.Layout.{Layout}
-use Rattle.crack_index.specs.declared.mark.Mark.{Mark}
-use Rattle.crack_index.specs.Marks.{HasBound, next_mark, pieces_from}
+use Rattle.crack_index.specs.Marks.{pieces_from}
 use Rattle.crack_arena.specs.Arena.{Handle}
 use Rattle.crack_arena.specs.Rows.{RemembersKeys}
 use Rattle.crack_column.specs.Column.{Remembers}
@@ -37,12 +36,6 @@ pub record KeepsIntact (p : Inside) (hand : List Handle) : Type 0 where
   pub room : p.in_room ≤ p.pending_in.room
   pub covered : length p.arena.cells ≤ p.pending_in.covered
 
--- the bound lies strictly between the partition's ends, and doesn't stand in the index
-pub record IsMissing (s : State) (bound : ℕ) : Type 0 where
-  pub low : s.keys.low < bound
-  pub high : bound < s.keys.high
-  pub apart : HasBound s.marks bound → ⊥
-
 -- nothing was counted
 abbrev pub no_report : MergeReport
 no_report = record { put_in = 0; taken_out = 0; evicted = 0; moved = 0; pulled = 0 }
@@ -62,15 +55,6 @@ no_cells keys column_room in_room = record {
   column_room = column_room;
   in_room = in_room;
 }
-
--- the bound of a mark, or another where there is none
-abbrev pub bound_or : ℕ → Option Mark → ℕ
-bound_or end None = end
-bound_or end (Some m) = m.bound.0
-
--- the next bound above a number, or the partition's high end
-abbrev pub bound_above : State → ℕ → ℕ
-bound_above s bound = bound_or s.keys.high (next_mark bound s.marks)
 
 -- a layout tells the lengths of a store's lists, and its pieces by the index
 pub record IsLayoutOf (s : State) (layout : Layout) : Type 0 where

@@ -6,10 +6,12 @@
 
 mod ascent;
 pub mod carrying;
+mod cracking;
 mod inside;
 mod notes;
 pub mod onward;
 pub mod points;
+pub mod ranges;
 pub mod reads;
 mod search;
 pub mod serial_hash;

@@ -7,12 +7,13 @@ ghost use Rattle.crack_arena.specs.Arena.{StandsAt};
 ghost use Rattle.crack_pending.specs.Pending.{Finds};
 ghost use Rattle.crack_state.specs.State.{State, IsIntact, live_rows, handle_of};
 ghost use Rattle.crack_state.specs.Steps.{lifted, lifted_last, admitted, IsAdmissible, SameButRoom};
-ghost use Rattle.crack_state.specs.Merge.{Refines, Stands, IsCracked, edge};
+ghost use Rattle.crack_state.specs.Merge.{Refines, Stands, IsCracked, edge, bound_above};
 ghost use Rattle.crack_state.specs.Points.{pending_by};
-ghost use Rattle.crack_store.specs.Inside.{no_cells, bound_above, IsLayoutOf};
+ghost use Rattle.crack_store.specs.Inside.{no_cells, IsLayoutOf};
 
 use crate::Carrying;
-use crate::inside::{Inside, crack_at, in_turn, is_missing};
+use crate::cracking::{crack_at_ends, missing_ends};
+use crate::inside::Inside;
 use crate::notes::Notes;
 use crate::serial_hash::SerialHashing;
 use crate::steps::{take_in, take_last};
@@ -129,12 +130,9 @@ impl Store {
         ensures spare { IsCracked self.old range → IsOk result }
         ensures err { IfErr result (λ e. e ≡ Refusal.OutOfMemory) }
     {
-        let low = is_missing(&self.inside, range.low());
-        let high = is_missing(&self.inside, range.high());
-        self.inside.index.reserve(low as usize + high as usize)?;
-        let (first, second) = in_turn(&self.inside, range);
-        crack_at(&mut self.inside, first);
-        crack_at(&mut self.inside, second);
+        let missing = missing_ends(&self.inside, range);
+        self.inside.index.reserve(missing.bounds())?;
+        crack_at_ends(&mut self.inside, range, missing);
         Ok(())
     }
 

@@ -1,10 +1,11 @@
 //! The way of a hand from place to place, as one walk over the bounds.
-ghost use Rattle.std.specs.Prelude.{◌≤◌, IsTrue, IsFalse, MatchOption};
+ghost use Rattle.std.specs.Prelude.{◌≡◌, ◌≤◌, IsTrue, IsFalse, IfSome, MatchOption};
 ghost use Rattle.crack_state.specs.Steps.{hand_key, piece_start, ceiling_of, IsBelow, PushesOn, PullsBack};
 ghost use Rattle.crack_store.specs.Ends.{EndsBy, GoesOn};
 
 use crate::Carrying;
 use crate::ascent::{ascend, descend};
+use crate::carrying::Near;
 use crack_row::Bound;
 
 /// The rule that ends a carry.
@@ -25,6 +26,9 @@ impl Carrying {
         ensures pushes { PushesOn (ceiling_of ceiling) self.old self.new }
         ensures ends { EndsBy (ceiling_of ceiling) result self.new }
     {
+        if let Some(end) = self.end_at_once(ceiling) {
+            return end;
+        }
         'walks: loop {
             self.facts();
             self.ascend(ceiling);
@@ -45,6 +49,19 @@ impl Carrying {
         self.near = descend(&mut self.inside, place);
     }
 
+    /// The rule that ends a carry before its first step, where that is known without a look at any bound: where there is none. O(1).
+    #[inline(always)]
+    fn end_at_once(&mut self, ceiling: Option<Bound>) -> Option<CarryEnd>
+        ensures ends { IfSome result (λ end. EndsBy (ceiling_of ceiling) end self.old) }
+        ensures same { self.new ≡ self.old }
+    {
+        if !self.inside.index.is_empty() {
+            return None;
+        }
+        self.near = Near::Above(None);
+        self.carry_end(ceiling)
+    }
+
     /// Pushes the hand on as long as it is sure by its tag that no rule ends its carry.
     #[inline(always)]
     fn ascend(&mut self, ceiling: Option<Bound>)
@@ -54,6 +71,7 @@ impl Carrying {
     }
 
     /// The first rule that holds of those that end a carry, if one does. O(1) on the way up, else O(log bounds).
+    #[inline(always)]
     fn carry_end(&self, ceiling: Option<Bound>) -> Option<CarryEnd>
         ensures { MatchOption result (GoesOn (ceiling_of ceiling) self.now) (λ end. EndsBy (ceiling_of ceiling) end self.now) }
     {

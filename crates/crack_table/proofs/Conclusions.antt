@@ -9,19 +9,20 @@ use Rattle.std.proofs.lemmas.List.Folds.{Any-from_list_any}
 use Rattle.std.proofs.lemmas.List.{get_or_append_left, get_or_at, get_or_default}
 use Rattle.std.proofs.lemmas.List.Quantifiers.{all_pairs_push}
 use Rattle.crack_row.specs.declared.command.Entry.{Entry}
+use Rattle.crack_plain.specs.Past.{Past}
 use Rattle.crack_core.specs.declared.receipt.Receipt.{Receipt}
 use Rattle.crack_core.specs.Receipts.{entry_of}
 use Rattle.crack_table.specs.declared.marks.Naming.{Naming}
 use Rattle.crack_table.specs.declared.marks.Naming.TheVariants.{Unnamed, Met, Failed}
-use Rattle.crack_table.specs.Cover.{at, names, has_place, AllMet, IsLeastUnmet, first_stranger, first_late, is_late, Rises, IsFault, Covers}
-use Rattle.crack_table.specs.Marks.{named_place, MarkIs, MarkIsAt, Marked, IsFirstOpen}
+use Rattle.crack_table.specs.Cover.{entry_in, names, has_place, AllMet, IsLeastUnmet, first_stranger, first_late, is_late, Rises, IsFault, Covers}
+use Rattle.crack_table.specs.Marks.{at, named_place, MarkIs, MarkIsAt, Marked, IsFirstOpen}
 
 met_at : (e : Entry) (o : Option Naming) (named : List Receipt) → MarkIsAt (Some e) o named → ((k : Naming) → o ≡ Some k → k ≡ Met) → map entry_of named ≡ e ∷ []
 met_at e None named is all = absurd is
 met_at e (Some m) named is all = let P : Naming → Type 0 = λ k. MarkIs k e named in subst P (all m refl) is
 
-pub met_all : (hs : List (List Entry)) (ms : List (List Naming)) (rs : List Receipt) → Marked hs ms rs → ((q n : ℕ) (k : Naming) → at ms q n ≡ Some k → k ≡ Met) → AllMet hs rs
-met_all hs ms rs marked all p n e is = met_at e (at ms p n) (filter (names p n) rs) (rw is at (marked p n)) (all p n)
+pub met_all : (pasts : List Past) (ms : List (List Naming)) (rs : List Receipt) → Marked pasts ms rs → ((q n : ℕ) (k : Naming) → at ms q n ≡ Some k → k ≡ Met) → AllMet pasts rs
+met_all pasts ms rs marked all p n e is = met_at e (at ms p n) (filter (names p n) rs) (rw is at (marked p n)) (all p n)
 
 entry_there : (o : Option Entry) (m : Naming) (named : List Receipt) → MarkIsAt o (Some m) named → m ≢ Met → (e : Entry) × (o ≡ Some e) × (map entry_of named ≢ e ∷ [])
 entry_there None m named is ne = absurd is
@@ -33,9 +34,9 @@ entry_there (Some e) Unnamed named is ne = (e, refl, λ h. no_empty named e is h
 entry_there (Some e) Met named is ne = absurd (ne refl)
 entry_there (Some e) Failed named is ne = (e, refl, is.1)
 
-pub unmet_least : (hs : List (List Entry)) (ms : List (List Naming)) (rs : List Receipt) (place : ℕ × ℕ) → Marked hs ms rs → IsFirstOpen ms place → IsLeastUnmet hs rs place.0 place.1
-unmet_least hs ms rs place marked first =
-    let there = entry_there (at hs place.0 place.1) first.0 (filter (names place.0 place.1) rs) (rw first.1 at (marked place.0 place.1)) first.2 in (
+pub unmet_least : (pasts : List Past) (ms : List (List Naming)) (rs : List Receipt) (place : ℕ × ℕ) → Marked pasts ms rs → IsFirstOpen ms place → IsLeastUnmet pasts rs place.0 place.1
+unmet_least pasts ms rs place marked first =
+    let there = entry_there (entry_in pasts place.0 place.1) first.0 (filter (names place.0 place.1) rs) (rw first.1 at (marked place.0 place.1)) first.2 in (
       there.0,
       there.1,
       there.2,
@@ -46,11 +47,11 @@ tail_none : (b : Bool) (r : Receipt) (o : Option Receipt) → cond (not b) (Some
 tail_none true r o is = (refl, is)
 tail_none false r o is = cc
 
-pub all_placed : (hs : List (List Entry)) (rs : List Receipt) → first_stranger hs rs ≡ None → All (λ r. has_place hs r ≡ true) rs
-all_placed hs [] none = All-nil (λ r. has_place hs r ≡ true)
-all_placed hs (r ∷ rs) none =
-    let t = tail_none (has_place hs r) r (first_stranger hs rs) none in
-    All-cons (λ r. has_place hs r ≡ true) r rs t.0 (all_placed hs rs t.1)
+pub all_placed : (pasts : List Past) (rs : List Receipt) → first_stranger pasts rs ≡ None → All (λ r. has_place pasts r ≡ true) rs
+all_placed pasts [] none = All-nil (λ r. has_place pasts r ≡ true)
+all_placed pasts (r ∷ rs) none =
+    let t = tail_none (has_place pasts r) r (first_stranger pasts rs) none in
+    All-cons (λ r. has_place pasts r ≡ true) r rs t.0 (all_placed pasts rs t.1)
 
 or_parts : (a b : Bool) → (a || b) ≡ false → (a ≡ false) × (b ≡ false)
 or_parts true b is = cc
@@ -82,20 +83,20 @@ from_map : (o : Option Receipt) (place : ℕ × ℕ) → Some place ≡ option_m
 from_map None place is = cc
 from_map (Some r) place is = let e : place ≡ named_place r = cc in (r, refl, sym (ap (λ p. p.0) e), sym (ap (λ p. p.1) e))
 
-pub stranger_fault : (hs : List (List Entry)) (rs : List Receipt) (place : ℕ × ℕ) → AllMet hs rs → Some place ≡ option_map named_place (first_stranger hs rs) → IsFault hs rs place.0 place.1
-stranger_fault hs rs place met is = inr (inl (met, from_map (first_stranger hs rs) place is))
+pub stranger_fault : (pasts : List Past) (rs : List Receipt) (place : ℕ × ℕ) → AllMet pasts rs → Some place ≡ option_map named_place (first_stranger pasts rs) → IsFault pasts rs place.0 place.1
+stranger_fault pasts rs place met is = inr (inl (met, from_map (first_stranger pasts rs) place is))
 
-pub late_fault : (hs : List (List Entry)) (rs : List Receipt) (place : ℕ × ℕ) → AllMet hs rs → first_stranger hs rs ≡ None → Some place ≡ option_map named_place (first_late [] rs) → IsFault hs rs place.0 place.1
-late_fault hs rs place met none is = inr (inr (met, none, from_map (first_late [] rs) place is))
+pub late_fault : (pasts : List Past) (rs : List Receipt) (place : ℕ × ℕ) → AllMet pasts rs → first_stranger pasts rs ≡ None → Some place ≡ option_map named_place (first_late [] rs) → IsFault pasts rs place.0 place.1
+late_fault pasts rs place met none is = inr (inr (met, none, from_map (first_late [] rs) place is))
 
 found_absurd : (b : Bool) (r s : Receipt) (o : Option Receipt) → b ≡ true → cond (not b) (Some s) o ≡ Some r → o ≡ Some r
 found_absurd true r s o b_is is = is
 found_absurd false r s o b_is is = cc
 
-stranger_absurd : (hs : List (List Entry)) (rs : List Receipt) (r : Receipt) → first_stranger hs rs ≡ Some r → All (λ r. has_place hs r ≡ true) rs → ⊥
-stranger_absurd hs [] r is all = cc
-stranger_absurd hs (s ∷ ss) r is all =
-    stranger_absurd hs ss r (found_absurd (has_place hs s) r s (first_stranger hs ss) (All-head (λ r. has_place hs r ≡ true) s ss all) is) (All-tail (λ r. has_place hs r ≡ true) s ss all)
+stranger_absurd : (pasts : List Past) (rs : List Receipt) (r : Receipt) → first_stranger pasts rs ≡ Some r → All (λ r. has_place pasts r ≡ true) rs → ⊥
+stranger_absurd pasts [] r is all = cc
+stranger_absurd pasts (s ∷ ss) r is all =
+    stranger_absurd pasts ss r (found_absurd (has_place pasts s) r s (first_stranger pasts ss) (All-head (λ r. has_place pasts r ≡ true) s ss all) is) (All-tail (λ r. has_place pasts r ≡ true) s ss all)
 
 late_positions : (a x : Receipt) → is_late a x ≡ true → Rises a x → ⊥
 late_positions a x late rises =
@@ -127,13 +128,13 @@ late_absurd done (x ∷ rs) r is rises =
     (λ later. late_absurd (done ++ x ∷ []) rs r later (subst P (sym (append_assoc done (x ∷ []) rs)) rises))
     (if_some (list_any (λ a. is_late a x) done) r x (first_late (done ++ x ∷ []) rs) is)
 
--- where a place is at fault the receipts don't cover the histories
-pub fault_uncovered : (hs : List (List Entry)) (rs : List Receipt) (p n : ℕ) → IsFault hs rs p n → Covers hs rs → ⊥
-fault_uncovered hs rs p n fault covers =
+-- where a place is at fault the receipts don't cover the pasts
+pub fault_uncovered : (pasts : List Past) (rs : List Receipt) (p n : ℕ) → IsFault pasts rs p n → Covers pasts rs → ⊥
+fault_uncovered pasts rs p n fault covers =
     ⊎_elim
     (λ unmet. unmet.2 (covers.met p n unmet.0 unmet.1))
     (λ other. ⊎_elim
-    (λ strange. stranger_absurd hs rs strange.1.0 strange.1.1 covers.placed)
+    (λ strange. stranger_absurd pasts rs strange.1.0 strange.1.1 covers.placed)
     (λ late. late_absurd [] rs late.2.0 late.2.1 covers.rising)
     other)
     fault

@@ -9,8 +9,9 @@ use Rattle.std.proofs.lemmas.Option.{slice_get_within}
 use Rattle.crack_row.specs.declared.command.Entry.{Entry}
 use Rattle.crack_core.specs.declared.receipt.Receipt.{Receipt}
 use Rattle.crack_core.specs.Receipts.{entry_of}
-use Rattle.crack_table.specs.Cover.{at, names, has_place, IsMetBy, Covers}
-use Rattle.crack_table.proofs.Places.{row_of}
+use Rattle.crack_table.specs.Cover.{unfolded, names, has_place, IsMetBy, Covers}
+use Rattle.crack_table.specs.Marks.{at}
+use Rattle.crack_table.proofs.Places.{row_of, entry_in-unfolded}
 
 -- g 0 + .. + g (n - 1)
 abbrev pub sum_upto : (ℕ → ℕ) → ℕ → ℕ
@@ -89,18 +90,33 @@ some_of : {X : Type 0} (o : Option X) → is_some o ≡ true → (x : X) × (o �
 some_of None is = cc
 some_of (Some x) is = (x, refl)
 
-place_row : (hs : List (List Entry)) (r : Receipt) → has_place hs r ≡ true → (row : List Entry) × (slice_get hs r.part ≡ Some row) × (r.position < length row)
+-- whether a receipt names a place of these tails
+abbrev is_there : List (List Entry) → Receipt → Bool
+is_there hs r = is_some (at hs r.part r.position)
+
+-- what a cover says of tails before which nothing was folded
+record AreMet (hs : List (List Entry)) (rs : List Receipt) : Type 0 where
+  met : (p n : ℕ) (e : Entry) → at hs p n ≡ Some e → IsMetBy rs p n e
+  placed : All (λ r. is_there hs r ≡ true) rs
+
+AreMet-covers : (hs : List (List Entry)) (rs : List Receipt) → Covers (map unfolded hs) rs → AreMet hs rs
+AreMet-covers hs rs covers = record {
+  met = λ p n e is. covers.met p n e (entry_in-unfolded hs p n ∙ is);
+  placed = All-weaker (λ r. has_place (map unfolded hs) r ≡ true) (λ r. is_there hs r ≡ true) (λ r is. sym (ap is_some (entry_in-unfolded hs r.part r.position)) ∙ is) rs covers.placed;
+}
+
+place_row : (hs : List (List Entry)) (r : Receipt) → is_there hs r ≡ true → (row : List Entry) × (slice_get hs r.part ≡ Some row) × (r.position < length row)
 place_row hs r is =
     let e = some_of (at hs r.part r.position) is in
     let row = row_of (slice_get hs r.part) r.position e.0 e.1 in (row.0, row.1, slice_get_within row.0 r.position e.0 row.2)
 
-parts_within : (hs : List (List Entry)) (rs : List Receipt) → All (λ r. has_place hs r ≡ true) rs → All (λ r. nat_lt r.part (length hs) ≡ true) rs
+parts_within : (hs : List (List Entry)) (rs : List Receipt) → All (λ r. is_there hs r ≡ true) rs → All (λ r. nat_lt r.part (length hs) ≡ true) rs
 parts_within hs rs all =
-    All-weaker (λ r. has_place hs r ≡ true) (λ r. nat_lt r.part (length hs) ≡ true)
+    All-weaker (λ r. is_there hs r ≡ true) (λ r. nat_lt r.part (length hs) ≡ true)
     (λ r is. let row = place_row hs r is in let lt = slice_get_within hs r.part row.0 row.1 in grind (arith, nat_tests, lt))
     rs all
 
-position_within : (hs : List (List Entry)) (p : ℕ) (h : List Entry) (r : Receipt) → slice_get hs p ≡ Some h → has_place hs r ≡ true → (r.part == p) ≡ true → nat_lt r.position (length h) ≡ true
+position_within : (hs : List (List Entry)) (p : ℕ) (h : List Entry) (r : Receipt) → slice_get hs p ≡ Some h → is_there hs r ≡ true → (r.part == p) ≡ true → nat_lt r.position (length h) ≡ true
 position_within hs p h r h_is is same =
     let row = place_row hs r is in
     let e : r.part ≡ p = grind (arith, nat_tests) in
@@ -109,24 +125,25 @@ position_within hs p h r h_is is same =
     let lt : r.position < length h = rw (← one) row.2 in
     grind (arith, nat_tests, lt)
 
-positions_within : (hs : List (List Entry)) (p : ℕ) (h : List Entry) → slice_get hs p ≡ Some h → (rs : List Receipt) → All (λ r. has_place hs r ≡ true) rs → All (λ r. nat_lt r.position (length h) ≡ true) (filter (λ r. r.part == p) rs)
+positions_within : (hs : List (List Entry)) (p : ℕ) (h : List Entry) → slice_get hs p ≡ Some h → (rs : List Receipt) → All (λ r. is_there hs r ≡ true) rs → All (λ r. nat_lt r.position (length h) ≡ true) (filter (λ r. r.part == p) rs)
 positions_within hs p h h_is [] all = All-nil (λ r. nat_lt r.position (length h) ≡ true)
 positions_within hs p h h_is (r ∷ rs) all =
     all_cond (λ r. nat_lt r.position (length h) ≡ true) (r.part == p) r (filter (λ r. r.part == p) rs)
-    (position_within hs p h r h_is (All-head (λ r. has_place hs r ≡ true) r rs all))
-    (positions_within hs p h h_is rs (All-tail (λ r. has_place hs r ≡ true) r rs all))
+    (position_within hs p h r h_is (All-head (λ r. is_there hs r ≡ true) r rs all))
+    (positions_within hs p h h_is rs (All-tail (λ r. is_there hs r ≡ true) r rs all))
 
 place_counted : (f : Entry → ℕ) (rs : List Receipt) (p n : ℕ) (e : Entry) → IsMetBy rs p n e → sum_by (λ r. f (entry_of r)) (filter (λ r. r.position == n) (filter (λ r. r.part == p) rs)) ≡ f e
 place_counted f rs p n e met =
     ap (λ l. sum_by (λ r. f (entry_of r)) l) (filter_filter (λ r. r.part == p) (λ r. r.position == n) rs)
     ∙ (sum_entries f (filter (names p n) rs) ∙ rw met (sum_by-cons f e [] ∙ add-zero (f e)))
 
-part_counted : (f : Entry → ℕ) (hs : List (List Entry)) (rs : List Receipt) → Covers hs rs → (p : ℕ) (h : List Entry) → slice_get hs p ≡ Some h → sum_by (λ r. f (entry_of r)) (filter (λ r. r.part == p) rs) ≡ sum_by f h
+part_counted : (f : Entry → ℕ) (hs : List (List Entry)) (rs : List Receipt) → AreMet hs rs → (p : ℕ) (h : List Entry) → slice_get hs p ≡ Some h → sum_by (λ r. f (entry_of r)) (filter (λ r. r.part == p) rs) ≡ sum_by f h
 part_counted f hs rs covers p h h_is =
     by_key (λ r. r.position) (λ r. f (entry_of r)) (filter (λ r. r.part == p) rs) (length h) (positions_within hs p h h_is rs covers.placed)
     ∙ sum_list f h (λ n. sum_by (λ r. f (entry_of r)) (filter (λ r. r.position == n) (filter (λ r. r.part == p) rs))) (λ n e e_is. place_counted f rs p n e (covers.met p n e (rw h_is e_is)))
 
-pub counted : (f : Entry → ℕ) (hs : List (List Entry)) (rs : List Receipt) → Covers hs rs → sum_by (λ r. f (entry_of r)) rs ≡ sum_by (λ h. sum_by f h) hs
+pub counted : (f : Entry → ℕ) (hs : List (List Entry)) (rs : List Receipt) → Covers (map unfolded hs) rs → sum_by (λ r. f (entry_of r)) rs ≡ sum_by (λ h. sum_by f h) hs
 counted f hs rs covers =
-    by_key (λ r. r.part) (λ r. f (entry_of r)) rs (length hs) (parts_within hs rs covers.placed)
-    ∙ sum_list (λ h. sum_by f h) hs (λ p. sum_by (λ r. f (entry_of r)) (filter (λ r. r.part == p) rs)) (part_counted f hs rs covers)
+    let are = AreMet-covers hs rs covers in
+    by_key (λ r. r.part) (λ r. f (entry_of r)) rs (length hs) (parts_within hs rs are.placed)
+    ∙ sum_list (λ h. sum_by f h) hs (λ p. sum_by (λ r. f (entry_of r)) (filter (λ r. r.part == p) rs)) (part_counted f hs rs are)

@@ -11,12 +11,13 @@ use Rattle.std.proofs.lemmas.Option.{slice_get_within, slice_get_read}
 use Rattle.std.proofs.lemmas.List.{append-nil, take_more}
 use Rattle.std.proofs.lemmas.List.Elements.{filter-append}
 use Rattle.crack_row.specs.declared.command.Entry.{Entry}
+use Rattle.crack_plain.specs.Past.{Past}
 use Rattle.crack_core.specs.declared.receipt.Receipt.{Receipt}
 use Rattle.crack_core.specs.Receipts.{entry_of}
 use Rattle.crack_table.specs.declared.marks.Naming.{Naming}
 use Rattle.crack_table.specs.declared.marks.Naming.TheVariants.{Unnamed, Met, Failed}
-use Rattle.crack_table.specs.Cover.{at, names, first_stranger}
-use Rattle.crack_table.specs.Marks.{named_place, mark_after, MarkIs, MarkIsAt, Marked}
+use Rattle.crack_table.specs.Cover.{entry_in, names, first_stranger}
+use Rattle.crack_table.specs.Marks.{at, named_place, mark_after, MarkIs, MarkIsAt, Marked}
 use Rattle.crack_table.proofs.Places.{at_set_same, at_set_other, row_of}
 
 two_long : (x r : Receipt) (xs : List Receipt) (e : Entry) → map entry_of ((x ∷ xs) ++ r ∷ []) ≡ e ∷ [] → ⊥
@@ -45,25 +46,25 @@ filter_same p n done r same = filter-append (names p n) done (r ∷ []) ∙ rw s
 itself : (r : Receipt) → names r.part r.position r ≡ true
 itself r = grind (arith, nat_tests)
 
-noted_here : (hs : List (List Entry)) (ms : List (List Naming)) (done : List Receipt) (r : Receipt) (e : Entry) (row : List Naming) (m : Naming) (b : Bool)
-    → at hs r.part r.position ≡ Some e → slice_get ms r.part ≡ Some row → slice_get row r.position ≡ Some m → Decides b (entry_of r ≡ e)
-    → Marked hs ms done
-    → MarkIsAt (at hs r.part r.position) (at (set ms r.part (set row r.position (mark_after m b))) r.part r.position) (filter (names r.part r.position) (done ++ r ∷ []))
-noted_here hs ms done r e row m b e_is row_is m_is same marked =
+noted_here : (pasts : List Past) (ms : List (List Naming)) (done : List Receipt) (r : Receipt) (e : Entry) (row : List Naming) (m : Naming) (b : Bool)
+    → entry_in pasts r.part r.position ≡ Some e → slice_get ms r.part ≡ Some row → slice_get row r.position ≡ Some m → Decides b (entry_of r ≡ e)
+    → Marked pasts ms done
+    → MarkIsAt (entry_in pasts r.part r.position) (at (set ms r.part (set row r.position (mark_after m b))) r.part r.position) (filter (names r.part r.position) (done ++ r ∷ []))
+noted_here pasts ms done r e row m b e_is row_is m_is same marked =
     let was : MarkIs m e (filter (names r.part r.position) done) = rw (e_is, row_is, m_is) at (marked r.part r.position) in
     rw (e_is, at_set_same ms r.part r.position row m (mark_after m b) row_is m_is, filter_same r.part r.position done r (itself r)) (mark_more m e (filter (names r.part r.position) done) r b same was)
 
-noted_at : (hs : List (List Entry)) (ms : List (List Naming)) (done : List Receipt) (r : Receipt) (e : Entry) (row : List Naming) (m : Naming) (b : Bool)
-    → at hs r.part r.position ≡ Some e → slice_get ms r.part ≡ Some row → slice_get row r.position ≡ Some m → Decides b (entry_of r ≡ e)
-    → Marked hs ms done → (p n : ℕ) (t : Bool) → names p n r ≡ t
-    → MarkIsAt (at hs p n) (at (set ms r.part (set row r.position (mark_after m b))) p n) (filter (names p n) (done ++ r ∷ []))
-noted_at hs ms done r e row m b e_is row_is m_is same marked p n true named =
+noted_at : (pasts : List Past) (ms : List (List Naming)) (done : List Receipt) (r : Receipt) (e : Entry) (row : List Naming) (m : Naming) (b : Bool)
+    → entry_in pasts r.part r.position ≡ Some e → slice_get ms r.part ≡ Some row → slice_get row r.position ≡ Some m → Decides b (entry_of r ≡ e)
+    → Marked pasts ms done → (p n : ℕ) (t : Bool) → names p n r ≡ t
+    → MarkIsAt (entry_in pasts p n) (at (set ms r.part (set row r.position (mark_after m b))) p n) (filter (names p n) (done ++ r ∷ []))
+noted_at pasts ms done r e row m b e_is row_is m_is same marked p n true named =
     let x : r.part ≡ p = grind (arith, nat_tests) in
     let y : r.position ≡ n = grind (arith, nat_tests) in
-    let P : ℕ → Type 0 = λ q. MarkIsAt (at hs q n) (at (set ms r.part (set row r.position (mark_after m b))) q n) (filter (names q n) (done ++ r ∷ [])) in
-    let Q : ℕ → Type 0 = λ k. MarkIsAt (at hs r.part k) (at (set ms r.part (set row r.position (mark_after m b))) r.part k) (filter (names r.part k) (done ++ r ∷ [])) in
-    subst P x (subst Q y (noted_here hs ms done r e row m b e_is row_is m_is same marked))
-noted_at hs ms done r e row m b e_is row_is m_is same marked p n false other =
+    let P : ℕ → Type 0 = λ q. MarkIsAt (entry_in pasts q n) (at (set ms r.part (set row r.position (mark_after m b))) q n) (filter (names q n) (done ++ r ∷ [])) in
+    let Q : ℕ → Type 0 = λ k. MarkIsAt (entry_in pasts r.part k) (at (set ms r.part (set row r.position (mark_after m b))) r.part k) (filter (names r.part k) (done ++ r ∷ [])) in
+    subst P x (subst Q y (noted_here pasts ms done r e row m b e_is row_is m_is same marked))
+noted_at pasts ms done r e row m b e_is row_is m_is same marked p n false other =
     rw (at_set_other ms r.part r.position p n row (mark_after m b) row_is other, filter_other p n done r other) (marked p n)
 
 -- where there is an entry there is a mark
@@ -71,54 +72,54 @@ mark_there : (e : Entry) (o : Option Naming) (rs : List Receipt) → MarkIsAt (S
 mark_there e None rs h = absurd h
 mark_there e (Some m) rs h = (m, refl)
 
-pub marked_some : (hs : List (List Entry)) (ms : List (List Naming)) (done : List Receipt) (p n : ℕ) (e : Entry) → Marked hs ms done → at hs p n ≡ Some e → (m : Naming) × (at ms p n ≡ Some m)
-marked_some hs ms done p n e marked is = mark_there e (at ms p n) _ (rw is at (marked p n))
+pub marked_some : (pasts : List Past) (ms : List (List Naming)) (done : List Receipt) (p n : ℕ) (e : Entry) → Marked pasts ms done → entry_in pasts p n ≡ Some e → (m : Naming) × (at ms p n ≡ Some m)
+marked_some pasts ms done p n e marked is = mark_there e (at ms p n) _ (rw is at (marked p n))
 
 -- one receipt more, whose entry is or isn't that of its place
-pub noted : (hs : List (List Entry)) (ms : List (List Naming)) (done : List Receipt) (r : Receipt) (e : Entry) (row after : List Naming) (b : Bool)
-    → at hs r.part r.position ≡ Some e → slice_get ms r.part ≡ Some row → ((m : Naming) → slice_get row r.position ≡ Some m → after ≡ set row r.position (mark_after m b)) → Decides b (entry_of r ≡ e)
-    → Marked hs ms done → Marked hs (set ms r.part after) (done ++ r ∷ [])
-noted hs ms done r e row after b e_is row_is after_is same marked p n =
-    let there = marked_some hs ms done r.part r.position e marked e_is in
+pub noted : (pasts : List Past) (ms : List (List Naming)) (done : List Receipt) (r : Receipt) (e : Entry) (row after : List Naming) (b : Bool)
+    → entry_in pasts r.part r.position ≡ Some e → slice_get ms r.part ≡ Some row → ((m : Naming) → slice_get row r.position ≡ Some m → after ≡ set row r.position (mark_after m b)) → Decides b (entry_of r ≡ e)
+    → Marked pasts ms done → Marked pasts (set ms r.part after) (done ++ r ∷ [])
+noted pasts ms done r e row after b e_is row_is after_is same marked p n =
+    let there = marked_some pasts ms done r.part r.position e marked e_is in
     let m_is : slice_get row r.position ≡ Some there.0 = rw row_is at there.1 in
-    rw (after_is there.0 m_is) (noted_at hs ms done r e row there.0 b e_is row_is m_is same marked p n (names p n r) refl)
+    rw (after_is there.0 m_is) (noted_at pasts ms done r e row there.0 b e_is row_is m_is same marked p n (names p n r) refl)
 
 none_still : (o : Option Naming) (rs ss : List Receipt) → MarkIsAt None o rs → MarkIsAt None o ss
 none_still None rs ss h = tt
 none_still (Some m) rs ss h = absurd h
 
-unnoted_at : (hs : List (List Entry)) (ms : List (List Naming)) (done : List Receipt) (r : Receipt)
-    → at hs r.part r.position ≡ None → Marked hs ms done → (p n : ℕ) (t : Bool) → names p n r ≡ t
-    → MarkIsAt (at hs p n) (at ms p n) (filter (names p n) (done ++ r ∷ []))
-unnoted_at hs ms done r none marked p n true named =
+unnoted_at : (pasts : List Past) (ms : List (List Naming)) (done : List Receipt) (r : Receipt)
+    → entry_in pasts r.part r.position ≡ None → Marked pasts ms done → (p n : ℕ) (t : Bool) → names p n r ≡ t
+    → MarkIsAt (entry_in pasts p n) (at ms p n) (filter (names p n) (done ++ r ∷ []))
+unnoted_at pasts ms done r none marked p n true named =
     let x : r.part ≡ p = grind (arith, nat_tests) in
     let y : r.position ≡ n = grind (arith, nat_tests) in
-    let none_there : at hs p n ≡ None = rw (← x, ← y) none in
+    let none_there : entry_in pasts p n ≡ None = rw (← x, ← y) none in
     rw none_there (none_still (at ms p n) _ (filter (names p n) (done ++ r ∷ [])) (rw none_there at (marked p n)))
-unnoted_at hs ms done r none marked p n false other = rw (filter_other p n done r other) (marked p n)
+unnoted_at pasts ms done r none marked p n false other = rw (filter_other p n done r other) (marked p n)
 
-pub unnoted : (hs : List (List Entry)) (ms : List (List Naming)) (done : List Receipt) (r : Receipt)
-    → at hs r.part r.position ≡ None → Marked hs ms done → Marked hs ms (done ++ r ∷ [])
-unnoted hs ms done r none marked p n = unnoted_at hs ms done r none marked p n (names p n r) refl
+pub unnoted : (pasts : List Past) (ms : List (List Naming)) (done : List Receipt) (r : Receipt)
+    → entry_in pasts r.part r.position ≡ None → Marked pasts ms done → Marked pasts ms (done ++ r ∷ [])
+unnoted pasts ms done r none marked p n = unnoted_at pasts ms done r none marked p n (names p n r) refl
 
-pub within_rows : (hs : List (List Entry)) (ms : List (List Naming)) (done : List Receipt) (p n : ℕ) (e : Entry) → Marked hs ms done → at hs p n ≡ Some e → p < length ms
-within_rows hs ms done p n e marked is =
-    let h = marked_some hs ms done p n e marked is in
+pub within_rows : (pasts : List Past) (ms : List (List Naming)) (done : List Receipt) (p n : ℕ) (e : Entry) → Marked pasts ms done → entry_in pasts p n ≡ Some e → p < length ms
+within_rows pasts ms done p n e marked is =
+    let h = marked_some pasts ms done p n e marked is in
     let row = row_of (slice_get ms p) n h.0 h.1 in
     slice_get_within ms p row.0 row.1
 
-pub within_row : (hs : List (List Entry)) (ms : List (List Naming)) (done : List Receipt) (p n : ℕ) (e : Entry) → Marked hs ms done → at hs p n ≡ Some e → (row : List Naming) → slice_get ms p ≡ Some row → n < length row
-within_row hs ms done p n e marked is row row_is =
-    let h = marked_some hs ms done p n e marked is in
+pub within_row : (pasts : List Past) (ms : List (List Naming)) (done : List Receipt) (p n : ℕ) (e : Entry) → Marked pasts ms done → entry_in pasts p n ≡ Some e → (row : List Naming) → slice_get ms p ≡ Some row → n < length row
+within_row pasts ms done p n e marked is row row_is =
+    let h = marked_some pasts ms done p n e marked is in
     let found = row_of (slice_get ms p) n h.0 h.1 in
     let same : row ≡ found.0 = cc in
     rw same (slice_get_within found.0 n h.0 found.2)
 
-pub row_read : (hs : List (List Entry)) (ms : List (List Naming)) (done : List Receipt) (p n : ℕ) (e : Entry) (row : List Naming) → Marked hs ms done → at hs p n ≡ Some e → row ≡ get_or ms p row → slice_get ms p ≡ Some row
-row_read hs ms done p n e row marked is read = slice_get_read ms (length ms) p row refl (within_rows hs ms done p n e marked is) read
+pub row_read : (pasts : List Past) (ms : List (List Naming)) (done : List Receipt) (p n : ℕ) (e : Entry) (row : List Naming) → Marked pasts ms done → entry_in pasts p n ≡ Some e → row ≡ get_or ms p row → slice_get ms p ≡ Some row
+row_read pasts ms done p n e row marked is read = slice_get_read ms (length ms) p row refl (within_rows pasts ms done p n e marked is) read
 
-pub within_read : (hs : List (List Entry)) (ms : List (List Naming)) (done : List Receipt) (p n : ℕ) (e : Entry) (row : List Naming) → Marked hs ms done → at hs p n ≡ Some e → row ≡ get_or ms p row → n < length row
-within_read hs ms done p n e row marked is read = within_row hs ms done p n e marked is row (row_read hs ms done p n e row marked is read)
+pub within_read : (pasts : List Past) (ms : List (List Naming)) (done : List Receipt) (p n : ℕ) (e : Entry) (row : List Naming) → Marked pasts ms done → entry_in pasts p n ≡ Some e → row ≡ get_or ms p row → n < length row
+within_read pasts ms done p n e row marked is read = within_row pasts ms done p n e marked is row (row_read pasts ms done p n e row marked is read)
 
 pub take_read : {X : Type 0} (done xs : List X) (i : ℕ) (x : X) → i < length xs → x ≡ get_or xs i x → done ++ take (i + 1) xs ≡ (done ++ take i xs) ++ x ∷ []
 take_read done xs i x lt read = rw (take_more xs i x lt, ← read, append_assoc) refl
@@ -130,5 +131,5 @@ option_map_or : {X Y : Type 0} (f : X → Y) (a b : Option X) → option_map f (
 option_map_or f None b = refl
 option_map_or f (Some x) b = refl
 
-pub stranger_more : (hs : List (List Entry)) (xs ys : List Receipt) → option_map named_place (first_stranger hs (xs ++ ys)) ≡ option_or (option_map named_place (first_stranger hs xs)) (option_map named_place (first_stranger hs ys))
-stranger_more hs xs ys = rw (find-append) (option_map_or named_place (first_stranger hs xs) (first_stranger hs ys))
+pub stranger_more : (pasts : List Past) (xs ys : List Receipt) → option_map named_place (first_stranger pasts (xs ++ ys)) ≡ option_or (option_map named_place (first_stranger pasts xs)) (option_map named_place (first_stranger pasts ys))
+stranger_more pasts xs ys = rw (find-append) (option_map_or named_place (first_stranger pasts xs) (first_stranger pasts ys))

@@ -7,17 +7,18 @@ use denote.Ref.{Bor}
 use Rattle.crack_row.specs.declared.command.Entry.{Entry}
 use Rattle.crack_table.specs.declared.marks.Naming.{Naming}
 use Rattle.crack_table.specs.declared.marks.Naming.TheVariants.{Unnamed, Met}
-use Rattle.crack_table.specs.Cover.{at}
-use Rattle.crack_table.specs.Marks.{MarkIsAt, Marked, IsOpenIn, IsFirstOpen}
-use Rattle.crack_table.proofs.Places.{row_of}
+use Rattle.crack_plain.specs.Past.{Past}
+use Rattle.crack_table.specs.Cover.{unfolded}
+use Rattle.crack_table.specs.Marks.{at, MarkIsAt, Marked, IsOpenIn, IsFirstOpen}
+use Rattle.crack_table.proofs.Places.{row_of, entry_at-unfolded}
 
 blank_row : (h : List Entry) (n : ℕ) → MarkIsAt (slice_get h n) (slice_get (replicate (length h) Unnamed) n) []
 blank_row [] n = tt
 blank_row (e ∷ es) zero = refl
 blank_row (e ∷ es) (suc n) = blank_row es n
 
-pub blank_more : (hs : List (List Entry)) (ms : List (List Naming)) (h : List Entry) → length hs ≡ length ms → Marked hs ms [] → Marked (hs ++ h ∷ []) (ms ++ replicate (length h) Unnamed ∷ []) []
-blank_more [] [] h long marked zero n = blank_row h n
+pub blank_more : (pasts : List Past) (ms : List (List Naming)) (h : List Entry) → length pasts ≡ length ms → Marked pasts ms [] → Marked (pasts ++ unfolded h ∷ []) (ms ++ replicate (length h) Unnamed ∷ []) []
+blank_more [] [] h long marked zero n = rw (entry_at-unfolded h n) (blank_row h n)
 blank_more [] [] h long marked (suc p) n = tt
 blank_more [] (y ∷ ys) h long marked p n = absurd (cc)
 blank_more (x ∷ xs) [] h long marked p n = absurd (cc)
@@ -58,7 +59,7 @@ all_met mss l long met q n k is =
     let w = slice_get_within mss q row.0 row.1 in
     met q n k (omega (arith, w)) is
 
-pub blank_read : (hs : List (Bor (List Entry))) (ms : List (List Naming)) (i : ℕ) (h : Bor (List Entry)) → i < length hs → length ms ≡ i → h ≡ get_or hs i h → Marked (map (λ h. h.now) (take i hs)) ms [] → Marked (map (λ h. h.now) (take (i + 1) hs)) (ms ++ replicate (length h.now) Unnamed ∷ []) []
+pub blank_read : (hs : List (Bor (List Entry))) (ms : List (List Naming)) (i : ℕ) (h : Bor (List Entry)) → i < length hs → length ms ≡ i → h ≡ get_or hs i h → Marked (map (λ h. unfolded h.now) (take i hs)) ms [] → Marked (map (λ h. unfolded h.now) (take (i + 1) hs)) (ms ++ replicate (length h.now) Unnamed ∷ []) []
 blank_read hs ms i h lt long read marked =
-    let l : length (map (λ h. h.now) (take i hs)) ≡ length ms = simp (length-map, length-take) (omega arith) in
-    rw (take_more hs i h lt, ← read, map-append) (blank_more (map (λ h. h.now) (take i hs)) ms h.now l marked)
+    let l : length (map (λ h. unfolded h.now) (take i hs)) ≡ length ms = simp (length-map, length-take) (omega arith) in
+    rw (take_more hs i h lt, ← read, map-append) (blank_more (map (λ h. unfolded h.now) (take i hs)) ms h.now l marked)

@@ -1,9 +1,12 @@
--- Places in a list of lists.
-use Rattle.std.proofs.Common.{◌≡◌, ◌≢◌, ℕ, List, [], ◌∷◌, set, zero, suc, Bool, true, false, ◌==◌, ◌&&◌, Option, Some, None, refl, ap, arith, subst}
+-- Places in a list of lists, and in a list of pasts.
+use Rattle.std.proofs.Common.{◌≡◌, ◌≢◌, ℕ, ◌-◌, List, [], ◌∷◌, set, zero, suc, Bool, true, false, ◌==◌, ◌&&◌, Option, Some, None, refl, ap, arith, subst}
 use Rattle.std.specs.List.{slice_get}
 use Rattle.std.specs.Option.{option_and_then}
 use Rattle.std.proofs.lemmas.Bool.Decides.{nat_tests}
-use Rattle.crack_table.specs.Cover.{at}
+use Rattle.std.specs.Prelude.{map, nat_lt}
+use Rattle.crack_row.specs.declared.command.Entry.{Entry}
+use Rattle.crack_table.specs.Cover.{unfolded, entry_at, entry_in}
+use Rattle.crack_table.specs.Marks.{at}
 
 pub get_set_same : {X : Type 0} (xs : List X) (k : ℕ) (x y : X) → slice_get xs k ≡ Some x → slice_get (set xs k y) k ≡ Some y
 get_set_same [] k x y is = cc
@@ -40,3 +43,15 @@ at_set_by xss p n q m row y row_is false is other =
 
 pub at_set_other : {X : Type 0} (xss : List (List X)) (p n q m : ℕ) (row : List X) (y : X) → slice_get xss p ≡ Some row → ((p == q) && (n == m)) ≡ false → at (set xss p (set row n y)) q m ≡ at xss q m
 at_set_other xss p n q m row y row_is other = at_set_by xss p n q m row y row_is (p == q) refl other
+
+-- where nothing was folded positions count from the tail's first entry
+pub entry_at-unfolded : (tail : List Entry) (n : ℕ) → entry_at (unfolded tail) n ≡ slice_get tail n
+entry_at-unfolded tail n =
+    let none : nat_lt n 0 ≡ false = grind (arith, nat_tests) in
+    let same : n - 0 ≡ n = omega arith in
+    rw (none, same) refl
+
+pub entry_in-unfolded : (tails : List (List Entry)) (p n : ℕ) → entry_in (map unfolded tails) p n ≡ at tails p n
+entry_in-unfolded [] p n = refl
+entry_in-unfolded (tail ∷ tails) zero n = entry_at-unfolded tail n
+entry_in-unfolded (tail ∷ tails) (suc p) n = entry_in-unfolded tails p n

@@ -2,16 +2,22 @@
 -- What is noted of the receipts on the way to a cover.
 use Rattle.std.specs.Prelude.{ℕ, Bool, true, false, List, [], ◌∷◌, map, ◌≡◌, ◌≢◌, ◌<◌, nat_le, Option, Some, None, filter, slice_get}
 use Rattle.std.specs.List.{list_any}
+use Rattle.std.specs.Option.{option_and_then}
 use Rattle.std.specs.Ordering.{nat_cmp, ordering_then}
 use Rattle.std.specs.declared.cmp.Ordering.{Ordering}
 use Rattle.crack_row.specs.declared.command.Entry.{Entry}
+use Rattle.crack_plain.specs.Past.{Past}
 use Rattle.crack_core.specs.declared.receipt.Receipt.{Receipt}
 use Rattle.crack_core.specs.Receipts.{entry_of}
 use Rattle.crack_table.specs.declared.marks.Naming.{Naming}
 use Rattle.crack_table.specs.declared.marks.Naming.TheVariants.{Unnamed, Met, Failed}
-use Rattle.crack_table.specs.Cover.{at, names, is_late, IsBefore}
+use Rattle.crack_table.specs.Cover.{entry_in, names, is_late, IsBefore}
 use Rattle.crack_row.specs.declared.refusal.Refusal.{Refusal}
 use Rattle.crack_row.specs.declared.refusal.Refusal.TheVariants.{HistoryFull}
+
+-- what stands at a place of a list of lists, if there is such a place
+abbrev pub at : {X : Type 0} → List (List X) → ℕ → ℕ → Option X
+at lists part position = option_and_then (λ list. slice_get list position) (slice_get lists part)
 
 -- the mark of a place after one more receipt that names it, by whether its entry is the place's
 abbrev pub mark_after : Naming → Bool → Naming
@@ -34,8 +40,8 @@ MarkIsAt None (Some mark) named = ⊥
 MarkIsAt (Some entry) None named = ⊥
 
 -- the marks are those of these receipts
-abbrev pub Marked : List (List Entry) → List (List Naming) → List Receipt → Type 0
-Marked histories marks receipts = (part position : ℕ) → MarkIsAt (at histories part position) (at marks part position) (filter (names part position) receipts)
+abbrev pub Marked : List Past → List (List Naming) → List Receipt → Type 0
+Marked pasts marks receipts = (part position : ℕ) → MarkIsAt (entry_in pasts part position) (at marks part position) (filter (names part position) receipts)
 
 -- the first place of a row whose mark isn't Met
 abbrev pub IsOpenIn : List Naming → ℕ → Type 0

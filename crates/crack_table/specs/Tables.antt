@@ -2,29 +2,30 @@
 use Rattle.std.specs.Prelude.{ℕ, ◌≡◌, ◌+◌, ◌<◌, ◌≤◌, List, [], ◌∷◌, ◌++◌, length, Some, Result, Err, IsSome, IfOk, IfErr, OnErr, OnOk, slice_get}
 use Rattle.crack_row.specs.Commands.{key_of}
 use Rattle.crack_row.specs.Layouts.{IsLayout}
+use Rattle.crack_row.specs.Limits.{AreLimits}
 use Rattle.crack_row.specs.Ranges.{Range}
 use Rattle.crack_row.specs.declared.Bound.{Bound}
+use Rattle.crack_row.specs.declared.limit.Limits.{Limits}
 use Rattle.crack_row.specs.declared.command.Command.{Command}
 use Rattle.crack_row.specs.declared.command.Reply.{Reply}
 use Rattle.crack_row.specs.declared.layout.Layout.{Layout}
 use Rattle.crack_row.specs.declared.refusal.Refusal.{Refusal}
 use Rattle.crack_row.specs.declared.refusal.Refusal.TheVariants.{KeyOutside, NoSuchPartition, HistoryFull, GateGaveUp, OutOfMemory}
 use Rattle.crack_plain.specs.Plain.{IsSmall}
-use Rattle.crack_part.specs.Parts.{IsLimit}
 use Rattle.crack_core.specs.Receipts.{BookState}
 use Rattle.crack_core.specs.Routes.{AreSplits}
 use Rattle.crack_table.specs.declared.TheConstants.{MOST_WORKERS, GATE_TURNS}
 
--- where one partition ends and the next begins, how many entries a history may have, and how many workers there are
+-- where one partition ends and the next begins, the limits of each partition, and how many workers there are
 pub record TableState : Type 0 where
   pub splits : List Bound
-  pub limit : ℕ
+  pub limits : Limits
   pub workers : ℕ
 
 -- what holds of each table: there is a lock for each partition
-pub record IsTable (splits : List Bound) (limit workers locks : ℕ) : Type 0 where
+pub record IsTable (splits : List Bound) (limits : Limits) (workers locks : ℕ) : Type 0 where
   pub rising : AreSplits splits
-  pub limited : IsLimit limit
+  pub limited : AreLimits limits
   pub few : workers ≤ MOST_WORKERS
   pub all : locks ≡ length splits + 1
 
@@ -36,7 +37,7 @@ AreNew books = (number : ℕ) (book : BookState) → slice_get books number ≡ 
 abbrev pub MayRefuse : TableState → (ℕ → Type 0) → ℕ → Command → Refusal → Type 0
 MayRefuse table may_refuse part command KeyOutside = IsSome (key_of command)
 MayRefuse table may_refuse part command NoSuchPartition = length table.splits < part
-MayRefuse table may_refuse part command (HistoryFull entries) = entries ≡ table.limit
+MayRefuse table may_refuse part command (HistoryFull entries) = entries ≡ table.limits.history
 MayRefuse table may_refuse part command GateGaveUp = (turn : ℕ) → turn < GATE_TURNS → may_refuse turn
 MayRefuse table may_refuse part command OutOfMemory = Unit {0}
 MayRefuse table may_refuse part command _ = ⊥

@@ -6,15 +6,15 @@ ghost use Rattle.crack_part.specs.Parts.{IsSound};
 ghost use Rattle.crack_core.specs.Receipts.{BookState, AreShares, entries_of};
 ghost use Rattle.crack_core.specs.Opening.{AreParts};
 ghost use Rattle.crack_core.specs.Routes.{AreSplits};
-ghost use Rattle.crack_core.specs.Steps.{histories_of};
-ghost use Rattle.crack_table.specs.Cover.{Covers};
+ghost use Rattle.crack_core.specs.Steps.{pasts_of};
+ghost use Rattle.crack_table.specs.Cover.{unfolded, Covers};
 ghost use Rattle.crack_table.specs.Gather.{receipts_of, IsTables, IsFirstOther, AreTotals, MayNotAgree};
 
 use crate::covering::cover;
 use crate::worker::Worker;
 use crack_core::{Receipt, keys_of_part};
 use crack_part::Partition;
-use crack_row::{Bound, Entry, Refusal};
+use crack_row::{Bound, Entry, Limits, Refusal};
 use std::alloc::{AllocError, Global};
 
 /// The sums of the workers' shares, and how many rows are left.
@@ -26,25 +26,25 @@ pub(crate) struct Sums {
     pub(crate) held: u64,
 }
 
-/// The sums where the partitions are those of the splits and the limit, and the workers' receipts cover their histories.
+/// The sums where the partitions are those of the splits and the limits, and the workers' receipts cover their histories.
 /// Refused with 16 at the first partition that is another, or as `cover` is; with 8 where it finds no memory.
 pub(crate) fn account(
     alloc: Global,
     splits: &[Bound],
-    limit: u64,
+    limits: Limits,
     parts: &Vec<Partition>,
     workers: &Vec<Worker>,
 ) -> Result<Sums, Refusal>
     requires count { length parts.now.items ≡ length splits.now + 1 }
     requires rising { AreSplits splits.now }
-    ensures parts { OnOk result (AreParts splits.now limit parts.now.items) }
-    ensures covered { OnOk result (Covers (histories_of parts.now.items) (receipts_of workers.now.items)) }
+    ensures parts { OnOk result (AreParts splits.now limits parts.now.items) }
+    ensures covered { OnOk result (Covers (pasts_of parts.now.items) (receipts_of workers.now.items)) }
     ensures shares { IfOk result (λ s. AreShares (receipts_of workers.now.items) s.accepted s.inserted s.deleted) }
     ensures totals { IfOk result (λ s. AreTotals parts.now.items s.accepted s.inserted s.deleted s.held) }
-    ensures causes { IfErr result (MayNotAgree splits.now limit workers.now.items) }
+    ensures causes { IfErr result (MayNotAgree splits.now limits workers.now.items) }
 {
     facts(parts);
-    if let Some(part) = first_other(splits, limit, parts) {
+    if let Some(part) = first_other(splits, limits, parts) {
         return Err(Refusal::StrangeReceipt { part, position: 0 });
     }
     let histories = histories_in(alloc, parts)?;
@@ -64,29 +64,29 @@ fn facts(parts: &Vec<Partition>)
     }
 }
 
-/// The first partition whose keys or limit are others.
-fn first_other(splits: &[Bound], limit: u64, parts: &Vec<Partition>) -> Option<u32>
+/// The first partition whose keys or limits are others.
+fn first_other(splits: &[Bound], limits: Limits, parts: &Vec<Partition>) -> Option<u32>
     requires count { length parts.now.items ≡ length splits.now + 1 }
     requires rising { AreSplits splits.now }
     requires sound { All IsSound parts.now.items }
-    ensures none { IfNone result (AreParts splits.now limit parts.now.items) }
-    ensures some { IfSome result (IsFirstOther splits.now limit parts.now.items) }
+    ensures none { IfNone result (AreParts splits.now limits parts.now.items) }
+    ensures some { IfSome result (IsFirstOther splits.now limits parts.now.items) }
 {
     'parts: for (part, partition) in parts.iter().enumerate() {
-        if !is_tables(splits, limit, part, partition) {
+        if !is_tables(splits, limits, part, partition) {
             return Some(part as u32);
         }
     }
     None
 }
 
-/// Whether a partition has the keys of its number and this limit.
-fn is_tables(splits: &[Bound], limit: u64, part: usize, partition: &Partition) -> bool
+/// Whether a partition has the keys of its number and these limits.
+fn is_tables(splits: &[Bound], limits: Limits, part: usize, partition: &Partition) -> bool
     requires rising { AreSplits splits.now }
     requires there { part ≤ length splits.now }
-    ensures { IsTrue result ↔ IsTables splits.now limit part partition.now }
+    ensures { IsTrue result ↔ IsTables splits.now limits part partition.now }
 {
-    partition.keys() == keys_of_part(splits, part) && partition.limit() == limit
+    partition.keys() == keys_of_part(splits, part) && partition.limits() == limits
 }
 
 /// The histories of partitions.
@@ -94,7 +94,8 @@ fn histories_in<'a>(
     alloc: Global,
     parts: &'a Vec<Partition>,
 ) -> Result<Vec<&'a [Entry]>, AllocError>
-    ensures { IfOk result (λ v. map (λ h. h.now) v.items ≡ histories_of parts.now.items) }
+    requires sound { All IsSound parts.now.items }
+    ensures { IfOk result (λ v. map (λ h. unfolded h.now) v.items ≡ pasts_of parts.now.items) }
 {
     let mut histories = Vec::with_capacity(alloc, parts.len())?;
     'parts: for part in parts {
@@ -119,7 +120,7 @@ fn receipts_in<'a>(
 
 /// The sums of the shares of workers whose receipts cover the histories of partitions: O(workers).
 fn sums_of(parts: &Vec<Partition>, workers: &Vec<Worker>) -> Sums
-    requires covered { Covers (histories_of parts.now.items) (receipts_of workers.now.items) }
+    requires covered { Covers (pasts_of parts.now.items) (receipts_of workers.now.items) }
     requires sound { All IsSound parts.now.items }
     requires few { length parts.now.items ≤ 64 }
     ensures shares { AreShares (receipts_of workers.now.items) result.accepted result.inserted result.deleted }

@@ -2,13 +2,13 @@
 ghost use Rattle.std.specs.Prelude.{◌≡◌, ◌<◌, ◌≤◌, ◌^◌, ℕ, List, [], ◌∷◌, ◌++◌, map, length, IfOk, IfErr, OnOk, IsTrue, ◌↔◌, IfSome, IfNone, Some, vec_len};
 ghost use Rattle.std.specs.List.{flat_map};
 ghost use Rattle.std.specs.Option.{option_map, option_copied};
-ghost use Rattle.crack_row.specs.declared.command.Entry.{Entry};
+ghost use Rattle.crack_plain.specs.Past.{Past};
 ghost use Rattle.crack_core.specs.declared.receipt.Receipt.{Receipt};
 ghost use Rattle.crack_core.specs.Receipts.{entry_of};
 ghost use Rattle.crack_table.specs.declared.marks.Naming.{Naming};
 ghost use Rattle.crack_table.specs.declared.marks.Naming.TheVariants.{Met};
-ghost use Rattle.crack_table.specs.Cover.{at, first_stranger, Covers, IsFault, MayNotCover};
-ghost use Rattle.crack_table.specs.Marks.{named_place, Marked, IsFirstOpen};
+ghost use Rattle.crack_table.specs.Cover.{unfolded, entry_in, first_stranger, Covers, IsFault, MayNotCover};
+ghost use Rattle.crack_table.specs.Marks.{at, named_place, Marked, IsFirstOpen};
 
 use crate::marks::MarkRow;
 use crate::order::first_late;
@@ -25,8 +25,8 @@ use std::alloc::{AllocError, Global};
 /// The histories are at most as many as 32 bits number, since a refusal names one of them by its number.
 pub fn cover(alloc: Global, histories: &[&[Entry]], receipts: &[&[Receipt]]) -> Result<(), Refusal>
     requires few { length histories.now ≤ 2 ^ 32 }
-    ensures covers { OnOk result (Covers (map (λ h. h.now) histories.now) (flat_map (λ r. r.now) receipts.now)) }
-    ensures fault { IfErr result (MayNotCover (map (λ h. h.now) histories.now) (flat_map (λ r. r.now) receipts.now)) }
+    ensures covers { OnOk result (Covers (map (λ h. unfolded h.now) histories.now) (flat_map (λ r. r.now) receipts.now)) }
+    ensures fault { IfErr result (MayNotCover (map (λ h. unfolded h.now) histories.now) (flat_map (λ r. r.now) receipts.now)) }
 {
     let mut marks = blank(alloc, histories)?;
     let stranger = note_lists(histories, &mut marks, receipts);
@@ -42,15 +42,15 @@ pub fn cover(alloc: Global, histories: &[&[Entry]], receipts: &[&[Receipt]]) -> 
     Ok(())
 }
 
-/// States that receipts with a fault don't cover the histories, so that `cover` answers Ok exactly where they do, and does nothing.
+/// States that receipts with a fault don't cover what partitions lived through, so that `cover` answers Ok exactly where they do, and does nothing.
 pub fn a_fault_is_no_cover()
-    ensures { (histories : List (List Entry)) (receipts : List Receipt) (part position : ℕ) → IsFault histories receipts part position → ¬ Covers histories receipts }
+    ensures { (pasts : List Past) (receipts : List Receipt) (part position : ℕ) → IsFault pasts receipts part position → ¬ Covers pasts receipts }
 {}
 
 /// A mark for each entry, which no receipt names yet.
 fn blank(alloc: Global, histories: &[&[Entry]]) -> Result<Vec<MarkRow>, AllocError>
     ensures long { IfOk result (λ v. vec_len v ≡ length histories.now) }
-    ensures marked { IfOk result (λ v. Marked (map (λ h. h.now) histories.now) v.items []) }
+    ensures marked { IfOk result (λ v. Marked (map (λ h. unfolded h.now) histories.now) v.items []) }
 {
     let mut marks = Vec::with_capacity(alloc, histories.len())?;
     'histories: for history in histories {
@@ -66,10 +66,10 @@ fn note_lists(
     marks: &mut Vec<MarkRow>,
     receipts: &[&[Receipt]],
 ) -> Option<(u32, u64)>
-    requires { Marked (map (λ h. h.now) histories.now) marks.old.items [] }
+    requires { Marked (map (λ h. unfolded h.now) histories.now) marks.old.items [] }
     ensures long { vec_len marks.new ≡ vec_len marks.old }
-    ensures marked { Marked (map (λ h. h.now) histories.now) marks.new.items (flat_map (λ r. r.now) receipts.now) }
-    ensures stranger { result ≡ option_map named_place (first_stranger (map (λ h. h.now) histories.now) (flat_map (λ r. r.now) receipts.now)) }
+    ensures marked { Marked (map (λ h. unfolded h.now) histories.now) marks.new.items (flat_map (λ r. r.now) receipts.now) }
+    ensures stranger { result ≡ option_map named_place (first_stranger (map (λ h. unfolded h.now) histories.now) (flat_map (λ r. r.now) receipts.now)) }
 {
     let mut stranger = None;
     'lists: for list in receipts {
@@ -85,10 +85,10 @@ fn note_all(
     marks: &mut Vec<MarkRow>,
     list: &[Receipt],
 ) -> Option<(u32, u64)>
-    requires { (done : List Receipt) × Marked (map (λ h. h.now) histories.now) marks.old.items done }
+    requires { (done : List Receipt) × Marked (map (λ h. unfolded h.now) histories.now) marks.old.items done }
     ensures long { vec_len marks.new ≡ vec_len marks.old }
-    ensures marked { (done : List Receipt) → Marked (map (λ h. h.now) histories.now) marks.old.items done → Marked (map (λ h. h.now) histories.now) marks.new.items (done ++ list.now) }
-    ensures stranger { result ≡ option_map named_place (first_stranger (map (λ h. h.now) histories.now) list.now) }
+    ensures marked { (done : List Receipt) → Marked (map (λ h. unfolded h.now) histories.now) marks.old.items done → Marked (map (λ h. unfolded h.now) histories.now) marks.new.items (done ++ list.now) }
+    ensures stranger { result ≡ option_map named_place (first_stranger (map (λ h. unfolded h.now) histories.now) list.now) }
 {
     let mut stranger = None;
     'list: for receipt in list {
@@ -100,10 +100,10 @@ fn note_all(
 
 /// Notes one receipt, and answers its place if there is none such.
 fn note(histories: &[&[Entry]], marks: &mut Vec<MarkRow>, receipt: &Receipt) -> Option<(u32, u64)>
-    requires { (done : List Receipt) × Marked (map (λ h. h.now) histories.now) marks.old.items done }
+    requires { (done : List Receipt) × Marked (map (λ h. unfolded h.now) histories.now) marks.old.items done }
     ensures long { vec_len marks.new ≡ vec_len marks.old }
-    ensures marked { (done : List Receipt) → Marked (map (λ h. h.now) histories.now) marks.old.items done → Marked (map (λ h. h.now) histories.now) marks.new.items (done ++ receipt.now ∷ []) }
-    ensures stranger { result ≡ option_map named_place (first_stranger (map (λ h. h.now) histories.now) (receipt.now ∷ [])) }
+    ensures marked { (done : List Receipt) → Marked (map (λ h. unfolded h.now) histories.now) marks.old.items done → Marked (map (λ h. unfolded h.now) histories.now) marks.new.items (done ++ receipt.now ∷ []) }
+    ensures stranger { result ≡ option_map named_place (first_stranger (map (λ h. unfolded h.now) histories.now) (receipt.now ∷ [])) }
 {
     let Some(entry) = entry_at(histories, receipt) else {
         return Some((receipt.part, receipt.position));
@@ -116,7 +116,7 @@ fn note(histories: &[&[Entry]], marks: &mut Vec<MarkRow>, receipt: &Receipt) -> 
 
 /// The entry at the place that a receipt names.
 fn entry_at<'a>(histories: &[&'a [Entry]], receipt: &Receipt) -> Option<&'a Entry>
-    ensures { option_copied result ≡ at (map (λ h. h.now) histories.now) receipt.now.part receipt.now.position }
+    ensures { option_copied result ≡ entry_in (map (λ h. unfolded h.now) histories.now) receipt.now.part receipt.now.position }
 {
     let history: &'a [Entry] = histories.get(receipt.part as usize)?;
     history.get(receipt.position as usize)

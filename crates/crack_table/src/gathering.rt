@@ -4,7 +4,7 @@ ghost use Rattle.std.specs.List.{list_any};
 ghost use Rattle.crack_core.specs.Receipts.{AreShares, BookState};
 ghost use Rattle.crack_core.specs.Opening.{AreParts};
 ghost use Rattle.crack_core.specs.Routes.{AreSplits};
-ghost use Rattle.crack_core.specs.Steps.{histories_of};
+ghost use Rattle.crack_core.specs.Steps.{pasts_of};
 ghost use Rattle.crack_table.specs.Cover.{Covers};
 ghost use Rattle.crack_table.specs.Gather.{missing_below, receipts_of, AreTotals, MayNotAgree, MayNotGather};
 
@@ -13,7 +13,7 @@ use crate::locks::{lock, unlock};
 use crate::table::Table;
 use crate::worker::Worker;
 use crack_part::Partition;
-use crack_row::{Bound, Refusal};
+use crack_row::{Bound, Limits, Refusal};
 use std::alloc::Global;
 use std::sync::Mutex;
 
@@ -46,8 +46,8 @@ pub struct GatherRefused {
 /// O(entries + receipts), but for a logarithm of the workers and partitions.
 pub fn gather(alloc: Global, table: Table, workers: Vec<Worker>) -> Result<Closed, GatherRefused>
     ensures all { OnOk result (missing_below workers.items table.workers ≡ 0) }
-    ensures parts { IfOk result (λ c. AreParts table.splits table.limit c.parts.items) }
-    ensures covered { IfOk result (λ c. Covers (histories_of c.parts.items) (receipts_of workers.items)) }
+    ensures parts { IfOk result (λ c. AreParts table.splits table.limits c.parts.items) }
+    ensures covered { IfOk result (λ c. Covers (pasts_of c.parts.items) (receipts_of workers.items)) }
     ensures shares { IfOk result (λ c. AreShares (receipts_of workers.items) c.accepted c.inserted c.deleted) }
     ensures totals { IfOk result (λ c. AreTotals c.parts.items c.accepted c.inserted c.deleted c.held) }
 
@@ -66,17 +66,17 @@ pub fn gather(alloc: Global, table: Table, workers: Vec<Worker>) -> Result<Close
     let Table {
         mut locks,
         splits,
-        limit,
+        limits,
         workers: count,
     } = table;
-    match close(alloc, &mut locks, &splits, limit, &workers) {
+    match close(alloc, &mut locks, &splits, limits, &workers) {
         Ok(closed) => Ok(closed),
         Err(refusal) => Err(GatherRefused {
             refusal,
             table: Table {
                 locks,
                 splits,
-                limit,
+                limits,
                 workers: count,
             },
             workers,
@@ -90,21 +90,21 @@ fn close(
     alloc: Global,
     locks: &mut Vec<Mutex<Partition>>,
     splits: &[Bound],
-    limit: u64,
+    limits: Limits,
     workers: &Vec<Worker>,
 ) -> Result<Closed, Refusal>
     requires all { vec_len locks.old ≡ length splits.now + 1 }
     requires rising { AreSplits splits.now }
-    ensures parts { IfOk result (λ c. AreParts splits.now limit c.parts.items) }
-    ensures covered { IfOk result (λ c. Covers (histories_of c.parts.items) (receipts_of workers.now.items)) }
+    ensures parts { IfOk result (λ c. AreParts splits.now limits c.parts.items) }
+    ensures covered { IfOk result (λ c. Covers (pasts_of c.parts.items) (receipts_of workers.now.items)) }
     ensures shares { IfOk result (λ c. AreShares (receipts_of workers.now.items) c.accepted c.inserted c.deleted) }
     ensures totals { IfOk result (λ c. AreTotals c.parts.items c.accepted c.inserted c.deleted c.held) }
     ensures locked { OnErr result (vec_len locks.new ≡ vec_len locks.old) }
-    ensures causes { IfErr result (MayNotAgree splits.now limit workers.now.items) }
+    ensures causes { IfErr result (MayNotAgree splits.now limits workers.now.items) }
 {
     let mut parts = Vec::with_capacity(alloc, locks.len())?;
     unlock(locks, &mut parts);
-    match settle(alloc, splits, limit, parts, workers) {
+    match settle(alloc, splits, limits, parts, workers) {
         Ok(closed) => Ok(closed),
         Err((refusal, mut back)) => {
             lock(&mut back, locks);
@@ -118,21 +118,21 @@ fn close(
 fn settle(
     alloc: Global,
     splits: &[Bound],
-    limit: u64,
+    limits: Limits,
     parts: Vec<Partition>,
     workers: &Vec<Worker>,
 ) -> Result<Closed, (Refusal, Vec<Partition>)>
     requires all { length parts.items ≡ length splits.now + 1 }
     requires rising { AreSplits splits.now }
     ensures taken { IfOk result (λ c. c.parts.items ≡ parts.items) }
-    ensures parts { IfOk result (λ c. AreParts splits.now limit c.parts.items) }
-    ensures covered { IfOk result (λ c. Covers (histories_of c.parts.items) (receipts_of workers.now.items)) }
+    ensures parts { IfOk result (λ c. AreParts splits.now limits c.parts.items) }
+    ensures covered { IfOk result (λ c. Covers (pasts_of c.parts.items) (receipts_of workers.now.items)) }
     ensures shares { IfOk result (λ c. AreShares (receipts_of workers.now.items) c.accepted c.inserted c.deleted) }
     ensures totals { IfOk result (λ c. AreTotals c.parts.items c.accepted c.inserted c.deleted c.held) }
     ensures back { IfErr result (λ e. e.1.items ≡ parts.items) }
-    ensures causes { IfErr result (λ e. MayNotAgree splits.now limit workers.now.items e.0) }
+    ensures causes { IfErr result (λ e. MayNotAgree splits.now limits workers.now.items e.0) }
 {
-    match account(alloc, splits, limit, &parts, workers) {
+    match account(alloc, splits, limits, &parts, workers) {
         Ok(sums) => Ok(Closed {
             accepted: sums.accepted,
             inserted: sums.inserted,

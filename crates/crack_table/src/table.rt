@@ -1,6 +1,6 @@
 //! Tables.
 ghost use Rattle.std.specs.Prelude.{◌≡◌, ◌+◌, ◌<◌, ◌≤◌, length, IfOk, IfErr, OnOk, vec_len, None, Some};
-ghost use Rattle.crack_part.specs.Parts.{IsLimit};
+ghost use Rattle.crack_row.specs.Limits.{AreLimits, of_history};
 ghost use Rattle.crack_core.specs.Routes.{AreSplits};
 ghost use Rattle.crack_table.specs.Opening.{table_fault, MayNotOpen};
 ghost use Rattle.crack_table.specs.Tables.{AreNew};
@@ -10,7 +10,7 @@ use crate::locks::lock;
 use crate::worker::Worker;
 use crack_core::{limit_fault, open_partitions, splits_fault};
 use crack_part::Partition;
-use crack_row::{Bound, Refusal};
+use crack_row::{Bound, Limits, Refusal};
 use std::alloc::{AllocError, Global};
 use std::marker::Model;
 use std::sync::Mutex;
@@ -21,7 +21,7 @@ use std::sync::Mutex;
 pub struct Table {
     pub(crate) locks: Vec<Mutex<Partition>>,
     pub(crate) splits: Vec<Bound>,
-    pub(crate) limit: u64,
+    pub(crate) limits: Limits,
     pub(crate) workers: u64,
 }
 
@@ -31,9 +31,9 @@ impl Model for Table {
 
     ghost Value = { TableState };
 
-    ghost view = { λ t. record { splits = t.splits.items; limit = t.limit; workers = t.workers } };
+    ghost view = { λ t. record { splits = t.splits.items; limits = t.limits; workers = t.workers } };
 
-    ghost invariant = { λ t. IsTable t.splits.items t.limit t.workers (vec_len t.locks) };
+    ghost invariant = { λ t. IsTable t.splits.items t.limits t.workers (vec_len t.locks) };
 }
 
 impl Table {
@@ -47,7 +47,7 @@ impl Table {
         limit: u64,
         workers: u64,
     ) -> Result<(Table, Vec<Worker>), Refusal>
-        ensures table { IfOk result (λ opened. opened.0 ≡ record { splits = splits.now; limit = limit; workers = workers }) }
+        ensures table { IfOk result (λ opened. opened.0 ≡ record { splits = splits.now; limits = of_history limit; workers = workers }) }
         ensures count { IfOk result (λ opened. vec_len opened.1 ≡ workers) }
         ensures workers { IfOk result (λ opened. AreNew opened.1.items) }
         ensures none { OnOk result (table_fault splits.now limit workers ≡ None) }
@@ -62,7 +62,7 @@ impl Table {
         let table = Table {
             locks,
             splits,
-            limit,
+            limits: Limits::of_history(limit),
             workers,
         };
         Ok((table, hands))
@@ -88,7 +88,7 @@ impl Table {
 /// The first fault of an opening.
 fn fault(splits: &[Bound], limit: u64, workers: u64) -> Option<Refusal>
     ensures value { result ≡ table_fault splits.now limit workers }
-    ensures good { result ≡ None → AreSplits splits.now × IsLimit limit × (workers ≤ 64) }
+    ensures good { result ≡ None → AreSplits splits.now × AreLimits (of_history limit) × (workers ≤ 64) }
 {
     if let Some(refusal) = splits_fault(splits) {
         return Some(refusal);
@@ -102,7 +102,7 @@ fn fault(splits: &[Bound], limit: u64, workers: u64) -> Option<Refusal>
 /// The partitions of splits, each behind a lock.
 fn locks_of(alloc: Global, splits: &[Bound], limit: u64) -> Result<Vec<Mutex<Partition>>, Refusal>
     requires splits { AreSplits splits.now }
-    requires limit { IsLimit limit }
+    requires limit { AreLimits (of_history limit) }
     ensures all { IfOk result (λ locks. vec_len locks ≡ length splits.now + 1) }
     ensures err { IfErr result (λ e. e ≡ Refusal.OutOfMemory) }
 {

@@ -66,7 +66,7 @@ impl Worker {
         pass(gate, part)?;
         self.book
             .ask(part, &mut partition, command, policy)
-            .map_err(|refusal| with_limit(refusal, table.limit))
+            .map_err(|refusal| with_limit(refusal, table.limits.history))
     }
 
     /// What stands where in partition `part` of a table, read under its lock, which it may wait for. It cracks and merges nothing, and isn't kept.

@@ -364,3 +364,20 @@ fn ripple_buries_the_doomed_row_in_the_way(rt: HostRuntime) {
     assert_layout(&rt, &store, [3, 0], &[1, 2, 0]);
     drop(store);
 }
+
+#[test]
+fn ripple_fills_the_place_of_a_doomed_row(rt: HostRuntime) {
+    let mut store = cracked(&rt, rt.alloc());
+    doom(&rt, &mut store, 1);
+    insert(&rt, &mut store, 27);
+    let (store, report) = ripple_at(&rt, store, KeyRange::new(15, 25).expect(&rt, "a range"));
+    let counted = MergeReport {
+        put_in: 1,
+        taken_out: 1,
+        pulled: 1,
+        ..NONE_COUNTED
+    };
+    assert_eq!(rt; report, counted);
+    assert_layout(&rt, &store, [3, 0], &[1, 0, 2]);
+    drop(store);
+}

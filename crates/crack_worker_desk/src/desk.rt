@@ -45,7 +45,7 @@ impl<'a, R: Wait, G: Gate> Desk for WorkerDesk<'a, R, G> {
 
     ghost tables = { λ d. None };
 
-    ghost limit = { λ d. d.table.now.limit };
+    ghost limit = { λ d. d.table.now.limits.history };
 
     ghost splits = { λ d. d.table.now.splits };
 

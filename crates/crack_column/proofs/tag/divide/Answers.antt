@@ -1,6 +1,6 @@
 use Rattle.std.proofs.Common.{◌≡◌, ◌<◌, ◌+◌, length, arith, refl, get_or, inl, inr, add-zero}
 use Rattle.std.proofs.lemmas.Bool.{cases_lt, lt-ltb, le-ltb}
-use Rattle.crack_column.specs.Tickets.{no_tag}
+use Rattle.crack_column.specs.Inside.{no_tag}
 use Rattle.crack_column.proofs.Passes.{IsPartway, IsPartway-step, permuted_all, divided_all}
 use Rattle.crack_column.proofs.tag.divide.Goals as goal
 

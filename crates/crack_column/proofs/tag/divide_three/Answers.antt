@@ -1,6 +1,6 @@
 use Rattle.std.proofs.Common.{◌≡◌, ◌<◌, ◌+◌, length, arith, get_or, cond, ltb}
 use mir.Val.{bool_byte}
-use Rattle.crack_column.specs.Tickets.{no_tag}
+use Rattle.crack_column.specs.Inside.{no_tag}
 use Rattle.crack_column.proofs.Thirds.{turned, IsThirdway, IsThirds, Belongs-is, IsThirdway-step, IsThirds-last}
 use Rattle.crack_column.proofs.tag.divide_three.Goals as goal
 use Rattle.crack_column.proofs.tag.divide_three.Goals.{After-tags-3-1}

@@ -2,7 +2,8 @@ use Rattle.std.proofs.Common.{◌≡◌, ◌∙◌, get_or, map, false, sym, ap,
 use Rattle.std.proofs.lemmas.List.{get_or-map}
 use Rattle.std.proofs.lemmas.Bool.{cases_eq, false≢true}
 use Rattle.crack_arena.specs.Arena.{Handle, same_handle}
-use Rattle.crack_column.specs.Tickets.{no_tag, tag_handle}
+use Rattle.crack_column.specs.Tickets.{tag_handle}
+use Rattle.crack_column.specs.Inside.{no_tag}
 use Rattle.crack_column.proofs.Passes.{same_handle-refl}
 use Rattle.crack_column.proofs.tag.find.Goals as goal
 use Rattle.crack_column.proofs.tag.find.Goals.{else-tags-i-via-then-tags-i+else-eq, else-tags-i-via-else-tags-i}

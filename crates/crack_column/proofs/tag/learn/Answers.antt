@@ -2,7 +2,8 @@ use Rattle.std.proofs.Common.{◌≡◌, arith, ap, sym, ◌∙◌, refl, inl, i
 use Rattle.std.proofs.lemmas.Bool.{cases_eq, eq-eqb, ne_eqb}
 use Rattle.crack_arena.specs.Rows.{unknown}
 use Rattle.crack_column.specs.Column.{memory_at}
-use Rattle.crack_column.specs.Tickets.{no_tag, tag_handle}
+use Rattle.crack_column.specs.Tickets.{tag_handle}
+use Rattle.crack_column.specs.Inside.{no_tag}
 use Rattle.crack_column.proofs.Passes.{IsLearned-read, IsLearned-known, drawn-IsLearned, learned_all}
 use Rattle.crack_column.proofs.tag.learn.Goals as goal
 use Rattle.crack_column.proofs.tag.learn.Goals.{then-tags-i, else-tags-i}

@@ -1,11 +1,11 @@
-use Rattle.std.proofs.Common.{◌≡◌, ◌≢◌, ◌<◌, ◌++◌, ◌∷◌, [], length, get_or, set, arith, ap, ◌∙◌, Result, Ok, Err, IfErr}
+use Rattle.std.proofs.Common.{◌≡◌, ◌≢◌, ◌<◌, ◌∷◌, [], length, get_or, set, arith, ap, ◌∙◌, Result, Ok, Err, IfErr}
 use Rattle.std.proofs.lemmas.List.{set-get_or}
 use Rattle.crack_row.specs.Commands.{range_of}
 use Rattle.crack_row.specs.declared.command.Reply.{Reply}
 use Rattle.crack_row.specs.declared.refusal.Refusal.{Refusal}
 use Rattle.crack_row.specs.declared.refusal.Refusal.TheVariants.{OutOfMemory}
 use Rattle.crack_part.specs.Parts.{Part, Serves, Spares}
-use Rattle.crack_core.specs.Steps.{entries_at}
+use Rattle.crack_core.specs.Steps.{entries_at, with_entries}
 use Rattle.crack_core.proofs.StepLaws.{Gives, outcome-given, kept-given, small-given, same-given, ok_given, err_given, outcome-at, Keeps-set, tables-set, accepted-set, AreParts-set, get-set_other, replaced-at}
 use Rattle.crack_core.proofs.cores.ask_at.Goals as goal
 
@@ -17,19 +17,19 @@ gives c = record { ok = c.without_receipt.ensures.ok; err = c.without_receipt.en
 abbrev asked : (c : goal.After-without_receipt) → Part
 asked c = get_or c.args.partitions.now c.args.step.part c.index-partitions-part.result
 
--- its history has the step's entry, if it was answered
-kept : (c : goal.After-without_receipt) → c.apply-answered.new.self.history ≡ (asked c).history ++ entries_at c.args.step.part (c.args.step ∷ []) (c.without_receipt.result ∷ [])
-kept c = kept-given (asked c).history c.apply-answered.new.self.history c.args.step c.apply-answered.result c.without_receipt.result (gives c) c.apply-answered.ensures.kept c.apply-answered.ensures.err
+-- its past has the step's entry, if it was answered
+kept : (c : goal.After-without_receipt) → c.apply-answered.new.self.past ≡ with_entries (asked c).past (entries_at c.args.step.part (c.args.step ∷ []) (c.without_receipt.result ∷ []))
+kept c = kept-given (asked c).past c.apply-answered.new.self.past c.args.step c.apply-answered.result c.without_receipt.result (gives c) c.apply-answered.ensures.kept c.apply-answered.ensures.err
 
 if_err : (r : Result Reply Refusal) (P Q : Refusal → Type 0) → ((e : Refusal) → P e → Q e) → IfErr r P → IfErr r Q
 if_err (Ok reply) P Q f h = tt
 if_err (Err e) P Q f h = f e h
 
 pub returns-clause-outcome : goal.returns-clause-outcome
-returns-clause-outcome c = λ splits limit are.
+returns-clause-outcome c = λ splits limits are.
     let e = c.apply-answered.ensures in
     let within : c.args.step.part < length c.args.partitions.now = omega arith in
-    outcome-at splits limit c.args.partitions.now c.args.step c.without_receipt.result c.index-partitions-part.result are within (outcome-given (asked c) c.args.step.command c.apply-answered.result c.without_receipt.result (gives c) e.replies e.outside e.full e.room)
+    outcome-at splits limits c.args.partitions.now c.args.step c.without_receipt.result c.index-partitions-part.result are within (outcome-given (asked c) c.args.step.command c.apply-answered.result c.without_receipt.result (gives c) e.replies e.outside e.full e.room)
 
 pub returns-clause-after : goal.returns-clause-after
 returns-clause-after c =
@@ -47,10 +47,10 @@ returns-clause-accepted c =
     accepted-set c.args.partitions.now c.apply-answered.new.self c.index-partitions-part.result c.args.step c.without_receipt.result within (kept c)
 
 pub returns-clause-parts : goal.returns-clause-parts
-returns-clause-parts c = λ splits limit are.
+returns-clause-parts c = λ splits limits are.
     let opened = c.apply-answered.ensures.opened in
     let within : c.args.step.part < length c.args.partitions.now = omega arith in
-    AreParts-set splits limit c.args.partitions.now c.args.step.part c.apply-answered.new.self c.index-partitions-part.result within are opened.0 opened.1 c.facts.ensures
+    AreParts-set splits limits c.args.partitions.now c.args.step.part c.apply-answered.new.self c.index-partitions-part.result within are opened.0 opened.1 c.facts.ensures
 
 pub returns-clause-small : goal.returns-clause-small
 returns-clause-small c = small-given c.apply-answered.result c.without_receipt.result (gives c) c.apply-answered.ensures.small

@@ -3,7 +3,7 @@ use Rattle.std.proofs.lemmas.List.{take_more}
 use Rattle.crack_plain.specs.Plain.{PlainView}
 use Rattle.crack_core.specs.declared.step.Step.{Step}
 use Rattle.crack_core.specs.Routes.{keys_of_part}
-use Rattle.crack_core.specs.Steps.{expected, IsOutcome, tables_of, histories_of}
+use Rattle.crack_core.specs.Steps.{expected, IsOutcome, tables_of, pasts_of}
 use Rattle.crack_core.proofs.StepLaws.{Keeps-push, AreExpectedReplies-push, MakesAll-push, table_at-kept}
 use Rattle.crack_core.proofs.cores.run_all.Goals as goal
 
@@ -24,26 +24,26 @@ steps-preserved c =
     record {
       room = omega (arith, before.room, c.push_reserved.ensures.capacity);
       count = omega (arith, before.count, ap length c.push_reserved.ensures.items, length-append results (r ∷ []));
-      replies = λ splits limit are. rw (grown, c.push_reserved.ensures.items) (AreExpectedReplies-push limit splits (tables_of old) front results s r (before.replies splits limit are)
-          (subst (λ (t : Option PlainView). IsOutcome (expected limit (keys_of_part splits s.part) t s.command) r) (table_at-kept old now s.part front results before.kept) (c.ask_at-result.ensures.outcome splits limit (before.parts splits limit are))));
-      kept = rw (grown, c.push_reserved.ensures.items) (Keeps-push (histories_of old) (histories_of now) (histories_of c.ask_at-result.new.partitions) front results s r long before.kept c.ask_at-result.ensures.kept);
-      stores = λ splits limit are. rw (grown, c.push_reserved.ensures.items) (MakesAll-push splits limit front results s r old now c.ask_at-result.new.partitions (before.stores splits limit are) (record {
-        parts = c.ask_at-result.ensures.parts splits limit (before.parts splits limit are);
+      replies = λ splits limits are. rw (grown, c.push_reserved.ensures.items) (AreExpectedReplies-push limits.history splits (tables_of old) front results s r (before.replies splits limits are)
+          (subst (λ (t : Option PlainView). IsOutcome (expected limits.history (keys_of_part splits s.part) t s.command) r) (table_at-kept old now s.part front results before.kept) (c.ask_at-result.ensures.outcome splits limits (before.parts splits limits are))));
+      kept = rw (grown, c.push_reserved.ensures.items) (Keeps-push (pasts_of old) (pasts_of now) (pasts_of c.ask_at-result.new.partitions) front results s r long before.kept c.ask_at-result.ensures.kept);
+      stores = λ splits limits are. rw (grown, c.push_reserved.ensures.items) (MakesAll-push splits limits front results s r old now c.ask_at-result.new.partitions (before.stores splits limits are) (record {
+        parts = c.ask_at-result.ensures.parts splits limits (before.parts splits limits are);
         kept = c.ask_at-result.ensures.kept;
         others = c.ask_at-result.ensures.others;
         store = c.ask_at-result.ensures.store;
         spared = c.ask_at-result.ensures.spared;
         same = c.ask_at-result.ensures.same;
       }));
-      parts = λ splits limit are. c.ask_at-result.ensures.parts splits limit (before.parts splits limit are);
+      parts = λ splits limits are. c.ask_at-result.ensures.parts splits limits (before.parts splits limits are);
     }
 
 pub returns-clause-replies : goal.returns-clause-replies
-returns-clause-replies c = λ splits limit are.
+returns-clause-replies c = λ splits limits are.
     let all : take c.steps.step-index c.args.steps.now ≡ c.args.steps.now = take_all c.steps.step-index c.args.steps.now (omega arith) in
-    rw all at (c.steps.invariant.replies splits limit are)
+    rw all at (c.steps.invariant.replies splits limits are)
 
 pub returns-clause-stores : goal.returns-clause-stores
-returns-clause-stores c = λ splits limit are.
+returns-clause-stores c = λ splits limits are.
     let all : take c.steps.step-index c.args.steps.now ≡ c.args.steps.now = take_all c.steps.step-index c.args.steps.now (omega arith) in
-    rw all at (c.steps.invariant.stores splits limit are)
+    rw all at (c.steps.invariant.stores splits limits are)

@@ -14,7 +14,7 @@ lift_last-requires c = rw c.seek_out.ensures (column_some c.deletions.store (ome
 pub pull-store-requires-clause-ahead : goal.pull-store-requires-clause-ahead
 pull-store-requires-clause-ahead c = rw (c.lift_last.ensures.after, c.seek_out.ensures) (ahead_of_last c.deletions.store 0 c.doomed-doomed.result c.facts.ensures (rw c.seek_out.ensures at c.doomed-doomed.ensures))
 
-taken : (c : goal.After-pull-store) → TakesAt c.deletions.store c.pull-store.result 0
+taken : (c : goal.After-pull-store) → TakesAt c.deletions.store c.pull-store.result
 taken c = TakesAt-Pulls c.deletions.store 0 c.doomed-doomed.result c.facts.ensures (rw c.seek_out.ensures at c.doomed-doomed.ensures) c.pull-store.result (rw (c.lift_last.ensures.after, c.seek_out.ensures) at c.pull-store.ensures)
 
 pub deletions-smaller : goal.deletions-smaller

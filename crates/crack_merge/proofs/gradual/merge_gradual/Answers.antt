@@ -7,7 +7,7 @@ use Rattle.crack_state.proofs.AdvanceLaws.{Advances-trans, keys_still}
 use Rattle.crack_state.proofs.GradualLaws.{Merges-gradual}
 use Rattle.crack_state.proofs.StepLaws.{IsIntact-room}
 use Rattle.crack_merge.specs.Merges.{BuriesFew, Stops}
-use Rattle.crack_merge.proofs.RangeLaws.{CarriesAll-outside, CarriesSome-outside, PullsAll-outside, LacksFirst-missed}
+use Rattle.crack_merge.proofs.RangeLaws.{CarriesAll-outside, CarriesSome-outside, PullsAll-outside, LacksFirst-missed, LacksFirst-empty}
 use Rattle.crack_merge.proofs.gradual.merge_gradual.Goals.{After-pull_range-merged, In-Err}
 use Rattle.crack_merge.proofs.CarryLaws.{PutsIn-room, PutsIn-trans, Stops-Advances, PutsInside-CarriesIn}
 use Rattle.crack_merge.proofs.PullLaws.{TakesInside-PullsOut}
@@ -23,12 +23,13 @@ merged c =
     let carried = c.in-Ok.ensures.ok in
     let pulled = c.pull_range-merged.ensures in
     let was = PutsInside-CarriesIn s r carried.from u c.facts.ensures carried.carries in
-    let now = TakesInside-PullsOut Gradual u r pulled.from t was.intact pulled.pulls in
+    let now = TakesInside-PullsOut Gradual r c.default.result u pulled.from pulled.seen t was.intact pulled.pulls in
     let puts = was.puts.advances in
-    let takes = now.takes.advances in
+    let takes = now.advances in
+    let same_in : t.pending_in ≡ u.pending_in = LacksFirst-empty u.cells c.default.result u.pending_in t.pending_in pulled.seen (omega arith) now.first.lacks in
     let left_in = LacksFirst-missed s.cells r s.pending_in u.pending_in carried.from was.lacks (rw (keys_still s.cells u.cells u.pending_in puts.reads was.intact.owned.pending_reads) at carried.none) in
     let left_out = LacksFirst-missed u.cells r u.pending_out t.pending_out pulled.from now.lacks (rw (keys_still u.cells t.cells t.pending_out takes.reads now.intact.owned.doomed_reads) at pulled.none) in (
-      Merges-gradual s u t r (omega (arith, c.requires.some)) c.requires.low c.requires.high c.requires.cracked puts left_in was.puts.few was.intact takes now.takes.pending_in left_out now.intact,
+      Merges-gradual s u t r (omega (arith, c.requires.some)) c.requires.low c.requires.high c.requires.cracked puts left_in was.puts.few was.intact takes same_in left_out now.intact,
       (Advances-trans Gradual s u t puts takes).tallies,
     )
 
@@ -54,7 +55,7 @@ pub returns-in-Ok-clause-untouched : goal.returns-in-Ok-clause-untouched
 returns-in-Ok-clause-untouched c = λ untouched.
     let outside = outside-untouched c.args.store c.args.range untouched in
     let filled : c.in-Ok.filled ≡ c.args.store = CarriesAll-outside None c.args.range c.args.store c.in-Ok.filled c.in-Ok.ensures.ok outside.0 in
-    let merged : c.pull_range-merged.result ≡ c.in-Ok.filled = PullsAll-outside c.args.range c.in-Ok.filled c.pull_range-merged.result c.pull_range-merged.ensures (rw filled outside.1) in
+    let merged : c.pull_range-merged.result ≡ c.in-Ok.filled = PullsAll-outside c.args.range c.default.result c.in-Ok.filled c.pull_range-merged.result c.pull_range-merged.ensures (rw filled outside.1) in
     rw (c.counted_between.ensures, c.tally-before.ensures, c.tally-after.ensures, merged, filled) refl
 
 pub returns-in-Err-clause-untouched : goal.returns-in-Err-clause-untouched

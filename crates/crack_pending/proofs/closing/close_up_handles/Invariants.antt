@@ -1,5 +1,5 @@
 use Rattle.std.proofs.Common.{◌≡◌, vec_capacity}
-use Rattle.crack_pending.specs.Spots.{AreMoved}
+use Rattle.crack_pending.proofs.Moves.{AreMoved}
 use Rattle.crack_pending.proofs.closing.close_up_handles.Given as goal
 
 abbrev pub invariant-spots : goal.invariant-spots

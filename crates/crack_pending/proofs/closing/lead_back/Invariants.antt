@@ -1,5 +1,5 @@
 use Rattle.std.proofs.Common.{◌≡◌, vec_len}
-use Rattle.crack_pending.specs.Spots.{AreLed}
+use Rattle.crack_pending.specs.Inside.{AreLed}
 use Rattle.crack_pending.proofs.closing.lead_back.Given as goal
 
 abbrev pub invariant-spots : goal.invariant-spots

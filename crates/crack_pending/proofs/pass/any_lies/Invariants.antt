@@ -1,6 +1,6 @@
 use Rattle.std.proofs.Common.{◌≡◌, ◌<◌, ℕ}
 use Rattle.std.specs.Prelude.{slice_index}
-use Rattle.crack_pending.specs.Spots.{Lies}
+use Rattle.crack_pending.specs.Inside.{Lies}
 use Rattle.crack_pending.proofs.pass.any_lies.Given as goal
 
 abbrev pub invariant-keys : goal.invariant-keys

@@ -1,4 +1,4 @@
-use Rattle.crack_pending.specs.Spots.{IsMissed}
+use Rattle.crack_pending.specs.Inside.{IsMissed}
 use Rattle.crack_pending.proofs.pass.hit_between.Given as goal
 
 abbrev pub invariant-spots : goal.invariant-spots

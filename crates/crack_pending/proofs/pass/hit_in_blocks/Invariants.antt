@@ -1,5 +1,5 @@
 use Rattle.std.proofs.Common.{◌-◌, ◌≤◌, length}
-use Rattle.crack_pending.specs.Spots.{IsMissed}
+use Rattle.crack_pending.specs.Inside.{IsMissed}
 use Rattle.crack_pending.proofs.pass.hit_in_blocks.Given as goal
 
 abbrev pub invariant-far : goal.invariant-far

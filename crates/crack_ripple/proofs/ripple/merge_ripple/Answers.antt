@@ -3,7 +3,7 @@ use Rattle.std.proofs.lemmas.Bool.{true≢false}
 use Rattle.crack_row.specs.declared.command.Policy.TheVariants.{Ripple}
 use Rattle.crack_state.proofs.FollowLaws.{IsExact-before, Tallies-trans, length_marks-Follows}
 use Rattle.crack_state.proofs.MergeLaws.{IsCracked-follows, outside-untouched}
-use Rattle.crack_ripple.proofs.Merging.{Merges-near}
+use Rattle.crack_ripple.proofs.Merging.{Merges-near, StopsIn-filled, fillers_none}
 use Rattle.crack_ripple.proofs.Putting.{MovesNear-trans}
 use Rattle.crack_ripple.proofs.ripple.merge_ripple.Goals as goal
 
@@ -36,4 +36,32 @@ pub returns-in-Err-clause-untouched : goal.returns-in-Err-clause-untouched
 returns-in-Err-clause-untouched c = λ untouched. absurd (true≢false (sym (c.in-Err.ensures.spare (outside-untouched c.args.store c.args.range untouched).0)))
 
 pub returns-in-Err-clause-spare : goal.returns-in-Err-clause-spare
-returns-in-Err-clause-spare c = λ outside. absurd (true≢false (sym (c.in-Err.ensures.spare outside)))
+returns-in-Err-clause-spare c = λ outside none. absurd (true≢false (sym (c.in-Err.ensures.spare outside)))
+
+-- no memory was found for the fillers
+pub returns-in-Err-ripple_out-clause-stops : goal.returns-in-Err-ripple_out-clause-stops
+returns-in-Err-ripple_out-clause-stops c =
+    (StopsIn-filled c.args.store c.in-Ok.filled c.in-Err-ripple_out.stopped.0 c.args.range (record { near = c.in-Ok.ensures.near; tallies = c.in-Ok.ensures.tallies; moves = c.in-Ok.ensures.moves; few = c.in-Ok.ensures.buries }) c.in-Err-ripple_out.ensures.same).stops
+
+pub returns-in-Err-ripple_out-clause-unfilled : goal.returns-in-Err-ripple_out-clause-unfilled
+returns-in-Err-ripple_out-clause-unfilled c =
+    (StopsIn-filled c.args.store c.in-Ok.filled c.in-Err-ripple_out.stopped.0 c.args.range (record { near = c.in-Ok.ensures.near; tallies = c.in-Ok.ensures.tallies; moves = c.in-Ok.ensures.moves; few = c.in-Ok.ensures.buries }) c.in-Err-ripple_out.ensures.same).unfilled
+
+pub returns-in-Err-ripple_out-clause-few : goal.returns-in-Err-ripple_out-clause-few
+returns-in-Err-ripple_out-clause-few c =
+    (StopsIn-filled c.args.store c.in-Ok.filled c.in-Err-ripple_out.stopped.0 c.args.range (record { near = c.in-Ok.ensures.near; tallies = c.in-Ok.ensures.tallies; moves = c.in-Ok.ensures.moves; few = c.in-Ok.ensures.buries }) c.in-Err-ripple_out.ensures.same).few
+
+pub returns-in-Err-ripple_out-clause-still_cracked : goal.returns-in-Err-ripple_out-clause-still_cracked
+returns-in-Err-ripple_out-clause-still_cracked c =
+    IsCracked-follows c.args.store c.in-Err-ripple_out.stopped.0 c.args.range (StopsIn-filled c.args.store c.in-Ok.filled c.in-Err-ripple_out.stopped.0 c.args.range (record { near = c.in-Ok.ensures.near; tallies = c.in-Ok.ensures.tallies; moves = c.in-Ok.ensures.moves; few = c.in-Ok.ensures.buries }) c.in-Err-ripple_out.ensures.same).stops.follows c.requires.cracked
+
+pub returns-in-Err-ripple_out-clause-spare : goal.returns-in-Err-ripple_out-clause-spare
+returns-in-Err-ripple_out-clause-spare c = λ outside none.
+    let filled : c.in-Ok.filled ≡ c.args.store = c.in-Ok.ensures.untouched outside in
+    absurd (true≢false (sym (c.in-Err-ripple_out.ensures.spare (rw filled none))))
+
+pub returns-in-Err-ripple_out-clause-untouched : goal.returns-in-Err-ripple_out-clause-untouched
+returns-in-Err-ripple_out-clause-untouched c = λ untouched.
+    let outside = outside-untouched c.args.store c.args.range untouched in
+    let filled : c.in-Ok.filled ≡ c.args.store = c.in-Ok.ensures.untouched outside.0 in
+    absurd (true≢false (sym (c.in-Err-ripple_out.ensures.spare (rw filled (fillers_none c.args.store c.args.range outside.1)))))

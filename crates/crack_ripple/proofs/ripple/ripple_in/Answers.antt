@@ -3,7 +3,8 @@ use Rattle.std.proofs.lemmas.Result.{IfOk-weaker, IfErr-weaker}
 use Rattle.crack_state.proofs.MergeLaws.{IsCracked-follows}
 use Rattle.crack_merge.proofs.RangeLaws.{CarriesAll-outside, carried_spare}
 use Rattle.crack_ripple.proofs.EdgeLaws.{IsRangeOf}
-use Rattle.crack_ripple.proofs.Merging.{PutIn, PutIn-carried, StopsIn, StopsIn-carried}
+use Rattle.crack_ripple.proofs.Merging.{PutIn, PutIn-carried, StopsIn-carried}
+use Rattle.crack_ripple.proofs.Putting.{StopsIn}
 use Rattle.crack_ripple.proofs.ripple.ripple_in.Goals as goal
 use Rattle.crack_ripple.proofs.ripple.ripple_in.Goals.{After-carry_range}
 
@@ -40,3 +41,9 @@ returns-clause-few c = IfErr-weaker c.carry_range.result _ _ (λ e stops. stops.
 
 pub returns-clause-still_cracked : goal.returns-clause-still_cracked
 returns-clause-still_cracked c = IfErr-weaker c.carry_range.result _ _ (λ e stops. IsCracked-follows c.args.store e.0 c.args.range stops.stops.follows c.requires.cracked) (stopped c)
+
+pub returns-clause-buries : goal.returns-clause-buries
+returns-clause-buries c = IfOk-weaker c.carry_range.result _ _ (λ t was. was.few) (put c)
+
+pub returns-clause-unfilled : goal.returns-clause-unfilled
+returns-clause-unfilled c = IfErr-weaker c.carry_range.result _ _ (λ e stops. stops.unfilled) (stopped c)

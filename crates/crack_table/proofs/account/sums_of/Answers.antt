@@ -18,15 +18,15 @@ overflow_sub-result c =
 
 pub returns-clause-totals : goal.returns-clause-totals
 returns-clause-totals c =
-    let a = accepted_are c.args.parts.now.items c.args.workers.now.items c.requires.covered in
-    let i = inserted_are c.args.parts.now.items c.args.workers.now.items c.requires.covered in
-    let d = deleted_are c.args.parts.now.items c.args.workers.now.items c.requires.covered in
+    let a = accepted_are c.args.parts.now.items c.args.workers.now.items c.requires.covered c.requires.sound in
+    let i = inserted_are c.args.parts.now.items c.args.workers.now.items c.requires.covered c.requires.sound in
+    let d = deleted_are c.args.parts.now.items c.args.workers.now.items c.requires.covered c.requires.sound in
     let h = held_difference c.args.parts.now.items c.requires.sound in record {
       accepted_is = c.accepted_by.ensures ∙ a;
       inserted_is = c.inserted_by-inserted.ensures ∙ i;
       deleted_is = c.deleted_by-deleted.ensures ∙ d;
       rows_are = omega (arith, i, d, h, c.inserted_by-inserted.ensures, c.deleted_by-deleted.ensures);
-      held_is = held_are c.args.parts.now.items _ (omega (arith, i, d, h, c.inserted_by-inserted.ensures, c.deleted_by-deleted.ensures));
+      held_is = held_are c.inserted_by-inserted.result c.deleted_by-deleted.result _ (omega (arith, i, d, h, c.inserted_by-inserted.ensures, c.deleted_by-deleted.ensures));
     }
 
 pub returns-clause-shares : goal.returns-clause-shares

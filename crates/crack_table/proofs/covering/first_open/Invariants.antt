@@ -1,7 +1,7 @@
 use Rattle.std.proofs.Common.{◌≡◌, ◌<◌, ℕ, Some}
 use Rattle.crack_table.specs.declared.marks.Naming.{Naming}
 use Rattle.crack_table.specs.declared.marks.Naming.TheVariants.{Met}
-use Rattle.crack_table.specs.Cover.{at}
+use Rattle.crack_table.specs.Marks.{at}
 use Rattle.crack_table.proofs.covering.first_open.Given as goal
 
 abbrev pub invariant-rows : goal.invariant-rows

@@ -5,7 +5,8 @@ use Rattle.crack_arena.proofs.Times.{times-le-length}
 use Rattle.crack_arena.specs.Rows.{unknown}
 use Rattle.crack_column.specs.declared.tag.Tag.{Tag}
 use Rattle.crack_column.specs.Column.{Agrees, nothing}
-use Rattle.crack_column.specs.Tickets.{no_tag, remembered_key, tag_handle, memory_of, handles_in, remembered_in, unread_in}
+use Rattle.crack_column.specs.Tickets.{remembered_key, tag_handle, memory_of, handles_in, remembered_in, unread_in}
+use Rattle.crack_column.specs.Inside.{no_tag}
 use Rattle.crack_column.proofs.Remembering.{Remembers-set}
 use Rattle.crack_column.proofs.TicketLaws.{length-in, length-aside, first-aside, handle_in, memory_in, unread-le, AreDrawn-exchange, length-exchange, handles-exchange, remembered-exchange, unread-exchange, aside-exchange}
 use Rattle.crack_column.proofs.column.CrackerColumn.exchange.Goals as goal

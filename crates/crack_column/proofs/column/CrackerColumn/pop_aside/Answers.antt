@@ -2,7 +2,8 @@ use Rattle.std.proofs.Common.{◌≡◌, ◌<◌, ◌+◌, ◌-◌, length, take
 use Rattle.std.proofs.lemmas.List.{get_or_default}
 use Rattle.crack_arena.specs.Arena.{times}
 use Rattle.crack_arena.specs.Rows.{unknown}
-use Rattle.crack_column.specs.Tickets.{no_tag, remembered_key, unread_in}
+use Rattle.crack_column.specs.Tickets.{remembered_key, unread_in}
+use Rattle.crack_column.specs.Inside.{no_tag}
 use Rattle.crack_column.proofs.TicketLaws.{length-in, unread-last}
 use Rattle.crack_column.proofs.column.CrackerColumn.pop_aside.Goals as goal
 use Rattle.crack_column.proofs.column.CrackerColumn.pop_aside.Goals.{After-unread}

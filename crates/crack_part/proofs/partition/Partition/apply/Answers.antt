@@ -3,10 +3,11 @@ use Rattle.std.proofs.lemmas.Bool.{false≢true}
 use Rattle.crack_row.specs.Commands.{range_of}
 use Rattle.crack_row.specs.declared.command.Entry.{Entry}
 use Rattle.crack_row.specs.declared.command.Reply.{Reply}
-use Rattle.crack_plain.specs.Plain.{replay, IsSmall}
-use Rattle.crack_plain.proofs.Laws.{replay-push, IsNumbered-replay, length_rows-le-accepted}
+use Rattle.crack_plain.specs.Past.{state_after}
+use Rattle.crack_plain.specs.Plain.{IsSmall}
+use Rattle.crack_plain.proofs.PastLaws.{state_after-push, IsNumbered-after_past, length_rows-le-accepted}
 use Rattle.crack_part.proofs.KeepLemmas.{Keeps-spared, IsIntact-spared, Keeps-prepared, Spares-prepared}
-use Rattle.crack_part.proofs.SoundLemmas.{next-le-limit, MayPerform-prepared, IsSound-kept, IsSound-served, Spends-served}
+use Rattle.crack_part.proofs.SoundLemmas.{unfolded, accepted-le-limit, next-le-limit, MayPerform-prepared, IsSound-kept, IsSound-served, Spends-served}
 use Rattle.crack_part.proofs.PointLemmas.{on_err}
 use Rattle.crack_part.proofs.partition.Partition.apply.Goals as goal
 
@@ -45,8 +46,9 @@ pub invariant_of-self-2 : goal.invariant_of-self-2
 invariant_of-self-2 c =
     let e : Entry = record { worker = c.args.worker; command = c.args.command; reply = c.in_ok-copies.copies.kept } in
     let kept = rw (← c.self.view_is) at c.in_ok-may_keep.ensures.ok in
-    let plain = replay c.self.inside.history.items in
-    let said = c.in_ok-reply.ensures.replies plain (IsNumbered-replay c.self.inside.history.items) c.self.invariant.faithful in
+    let past = unfolded c.self.inside.history.items in
+    let plain = state_after past in
+    let said = c.in_ok-reply.ensures.replies plain (IsNumbered-after_past past c.self.invariant.legal.base) c.self.invariant.faithful in
     let faithful = c.in_ok-reply.ensures.faithful plain c.self.invariant.faithful in
     let spends = Spends-served c.args.policy _ c.args.command c.answer.new.store c.self.invariant kept.0 c.in_ok-reply.ensures.served in
     let grown = c.push_reserved.ensures ∙ ap (λ (h : List Entry). h ++ e ∷ []) c.make_room.ensures.same in
@@ -56,24 +58,26 @@ pub returns-clause-state : goal.returns-clause-state
 returns-clause-state c =
     let e : Entry = record { worker = c.args.worker; command = c.args.command; reply = c.in_ok-copies.copies.kept } in
     let grown = c.push_reserved.ensures ∙ ap (λ (h : List Entry). h ++ e ∷ []) c.make_room.ensures.same in
-    rw (← c.self.view_is) (ap replay grown ∙ replay-push c.self.inside.history.items e)
+    rw (← c.self.view_is) (ap (λ (h : List Entry). state_after (unfolded h)) grown ∙ state_after-push (unfolded c.self.inside.history.items) e)
 
 pub returns-clause-replies : goal.returns-clause-replies
 returns-clause-replies c =
-    let said = c.in_ok-reply.ensures.replies (replay c.self.inside.history.items) (IsNumbered-replay c.self.inside.history.items) c.self.invariant.faithful in
+    let past = unfolded c.self.inside.history.items in
+    let said = c.in_ok-reply.ensures.replies (state_after past) (IsNumbered-after_past past c.self.invariant.legal.base) c.self.invariant.faithful in
     rw (← c.self.view_is) (c.in_ok-copies.ensures.ok.0 ∙ said, c.in_ok-copies.ensures.ok.1 ∙ sym c.in_ok-copies.ensures.ok.0)
 
 pub returns-clause-kept : goal.returns-clause-kept
 returns-clause-kept c =
     let entry : Reply → Entry = λ r. record { worker = c.args.worker; command = c.args.command; reply = r } in
     let grown = c.push_reserved.ensures ∙ ap (λ (h : List Entry). h ++ entry c.in_ok-copies.copies.kept ∷ []) c.make_room.ensures.same in
-    rw (← c.self.view_is) (grown ∙ ap (λ r. c.self.inside.history.items ++ entry r ∷ []) (c.in_ok-copies.ensures.ok.2 ∙ sym c.in_ok-copies.ensures.ok.0))
+    rw (← c.self.view_is) (ap unfolded (grown ∙ ap (λ r. c.self.inside.history.items ++ entry r ∷ []) (c.in_ok-copies.ensures.ok.2 ∙ sym c.in_ok-copies.ensures.ok.0)))
 
 pub returns-clause-store : goal.returns-clause-store
 returns-clause-store c = rw (← c.self.view_is) c.in_ok-reply.ensures.served
 
 pub returns-clause-small : goal.returns-clause-small
 returns-clause-small c =
-    let rows = length_rows-le-accepted c.self.inside.history.items c.self.invariant.legal.replies in
-    let few : length (replay c.self.inside.history.items).rows < 2 ^ 32 = omega (arith, rows, c.self.invariant.legal.limited, c.self.invariant.limited.1) in
-    subst IsSmall (sym c.in_ok-copies.ensures.ok.0) (c.in_ok-reply.ensures.small (replay c.self.inside.history.items) (IsNumbered-replay c.self.inside.history.items) c.self.invariant.faithful few)
+    let past = unfolded c.self.inside.history.items in
+    let rows = length_rows-le-accepted past c.self.invariant.legal.base c.self.invariant.legal.replies in
+    let few : length (state_after past).rows < 2 ^ 32 = omega (arith, rows, accepted-le-limit _ c.self.invariant) in
+    subst IsSmall (sym c.in_ok-copies.ensures.ok.0) (c.in_ok-reply.ensures.small (state_after past) (IsNumbered-after_past past c.self.invariant.legal.base) c.self.invariant.faithful few)

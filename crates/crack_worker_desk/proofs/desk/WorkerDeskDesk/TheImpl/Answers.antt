@@ -1,6 +1,7 @@
 -- A desk's clauses of a table that is known say nothing here: it isn't known.
 use Rattle.std.proofs.Common.{◌≡◌, Some, None, is_some, ap}
 use Rattle.std.proofs.lemmas.Bool.{false≢true}
+use Rattle.crack_table.specs.Tables.{TableState}
 use Rattle.crack_worker_desk.proofs.desk.WorkerDeskDesk.TheImpl.Goals as goal
 
 unknown : {X : Type 0} {P : Type 0} (x : X) → None ≡ Some x → P
@@ -12,7 +13,7 @@ ask-tells g c = record {
   after = λ tables known. unknown tables known;
   small = c.ensures.asks.small;
   splits = ap (λ t. t.splits) c.ensures.table;
-  limit = ap (λ t. t.limit) c.ensures.table;
+  limit = ap (λ (t : TableState). t.limits.history) c.ensures.table;
   receipts = c.ensures.receipts;
 }
 

@@ -1,0 +1,9 @@
+-- What private clauses alone cite.
+-- How a list of cells is written as a value of the logic.
+use Rattle.std.specs.Prelude.{ℕ, List, refl}
+use Rattle.std.specs.Coded.{Coded, code_by, coded×, coded_ℕ, coded_list}
+use Rattle.crack_arena.specs.Listed.{Listed}
+
+abbrev pub listed_code : {C : Type 0} → Coded C → Coded (Listed C)
+listed_code {C} code =
+    code_by (List C × ℕ) (coded× (coded_list code) coded_ℕ) (λ l. (l.items, l.room)) (λ p. record { items = p.0; room = p.1 }) (λ _. refl)

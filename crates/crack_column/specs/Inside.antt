@@ -1,0 +1,49 @@
+-- What private clauses alone cite.
+use Rattle.std.specs.Prelude.{◌≡◌, ℕ, ◌+◌, ◌-◌, ◌≤◌, List, ◌++◌, map, take, drop, All, slice_index_or, slice_set}
+use Rattle.std.specs.List.{between}
+use Rattle.std.specs.List.Sorted.{IsPermutation}
+use Rattle.crack_arena.specs.Arena.{Cell, Handle}
+use Rattle.crack_arena.specs.Rows.{unknown}
+use Rattle.crack_row.specs.declared.Row.{Row}
+use Rattle.crack_column.specs.declared.tag.Tag.{Tag}
+use Rattle.crack_column.specs.Column.{Memory, memory_at, Agrees, IsDividedAt}
+use Rattle.crack_column.specs.Tickets.{remembered_key, memory_of, tag_handle, unread_in}
+
+-- what the tag remembers is right of its handle's row
+abbrev pub Knows : List (Cell Row) → List ℕ → Tag → Type 0
+Knows cells generations t = Agrees cells (tag_handle generations t) (memory_of t)
+
+-- the tag bears key and payload of its handle's row
+abbrev pub Read : List (Cell Row) → List ℕ → Tag → Type 0
+Read cells generations t = memory_of t ≡ memory_at cells (tag_handle generations t)
+
+-- the tag of a ticket, for a handle of whose row this is remembered
+abbrev pub tag_for : ℕ → Handle → Memory → Tag
+tag_for ticket h m = record { key = m.key; ticket = ticket; payload = m.payload; slot = h.slot }
+
+-- the tag without what it remembers
+abbrev pub forgotten : Tag → Tag
+forgotten t = record t { key = unknown; payload = 0 }
+
+abbrev pub no_tag : Tag
+no_tag = record { key = 0; ticket = 0; payload = 0; slot = 0 }
+
+-- the handle is kept at the place now, under the ticket there, with what is remembered of its row; the one that was kept there
+-- comes out, with what was remembered
+pub record Kept (generations : List ℕ) (tags : List Tag) (place : ℕ) (handle : Handle) (memory : Memory) (generations' : List ℕ) (tags' : List Tag) (out : Handle) (known : Memory) : Type 0 where
+  pub generations_are : generations' ≡ slice_set generations (slice_index_or tags place no_tag).ticket handle.generation
+  pub tags_are : tags' ≡ slice_set tags place (tag_for (slice_index_or tags place no_tag).ticket handle memory)
+  pub out_is : out ≡ tag_handle generations (slice_index_or tags place no_tag)
+  pub known_is : known ≡ memory_of (slice_index_or tags place no_tag)
+
+-- from `from` up to `to` the same tickets and slots stand in some order, divided by the bound at the place, their rows read, so many of
+-- which weren't known; all else is as it was
+pub record Turns (cells : List (Cell Row)) (generations : List ℕ) (bound from to : ℕ) (tags tags' : List Tag) (place learned : ℕ) : Type 0 where
+  pub stretch : List Tag
+  pub are : tags' ≡ take from tags ++ stretch ++ drop to tags
+  pub kept : IsPermutation (map forgotten (between from to tags)) (map forgotten stretch)
+  pub read : All (Read cells generations) stretch
+  pub low : from ≤ place
+  pub high : place ≤ to
+  pub divided : IsDividedAt bound (map remembered_key stretch) (place - from)
+  pub fewer : unread_in stretch + learned ≡ unread_in (between from to tags)

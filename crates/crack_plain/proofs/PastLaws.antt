@@ -1,0 +1,64 @@
+-- What follows of what a partition lived through, from any base on.
+use Rattle.std.specs.Prelude.{◌≡◌, ℕ, ◌+◌, ◌<◌, ◌≤◌, [], ◌∷◌, length, pos, ◌-ℤ◌}
+use Rattle.std.proofs.Common.{arith, length-append, ap, refl, sym, ◌∙◌}
+use Rattle.std.proofs.Math.IntN.{+ℤ-neg_ℤ_cancel}
+use Rattle.std.proofs.lemmas.List.Elements.{All-nil}
+use Rattle.crack_row.specs.Ranges.{Range}
+use Rattle.crack_row.specs.declared.command.Entry.{Entry}
+use Rattle.crack_row.specs.declared.limit.Limits.{Limits}
+use Rattle.crack_plain.specs.Plain.{IsNumbered, reply_to, after, AreReplies, IsWithin}
+use Rattle.crack_plain.specs.Past.{IsBase, no_base, Past, no_past, with_entry, state_after, accepted_in, inserted_in, deleted_in, IsLegal}
+use Rattle.crack_plain.proofs.Laws.{replay_from-push, AreReplies-push, BringWithin-push, IsNumbered-no_rows, IsNumbered-replay_from, next-replay_from, length_rows-replay_from}
+use Rattle.crack_plain.proofs.TotalLaws.{inserted-le-accepted}
+
+pub IsBase-no_base : IsBase no_base
+IsBase-no_base = record { numbered = IsNumbered-no_rows; serial = refl; held = refl; few = omega arith }
+
+-- nothing was answered
+pub IsLegal-no_past : (keys : Range) (limits : Limits) → IsLegal keys limits no_past
+IsLegal-no_past keys limits = record { base = IsBase-no_base; replies = tt; within = All-nil _; limited = omega arith }
+
+-- one more entry
+pub state_after-push : (past : Past) (e : Entry) → state_after (with_entry past e) ≡ after (state_after past) e.command
+state_after-push past e = replay_from-push past.base.state past.tail e
+
+pub accepted_in-push : (past : Past) (e : Entry) → accepted_in (with_entry past e) ≡ accepted_in past + 1
+accepted_in-push past e = omega (arith, length-append past.tail (e ∷ []))
+
+pub IsLegal-push : (keys : Range) (limits : Limits) (past : Past) (e : Entry) → IsLegal keys limits past → length past.tail < limits.history → IsWithin keys e.command → e.reply ≡ reply_to (state_after past) e.command → IsLegal keys limits (with_entry past e)
+IsLegal-push keys limits past e legal room within reply = record {
+  base = legal.base;
+  replies = AreReplies-push past.base.state past.tail e legal.replies reply;
+  within = BringWithin-push keys past.tail e legal.within within;
+  limited = omega (arith, length-append past.tail (e ∷ []));
+}
+
+-- the serials of the rows that are left rise, below the next one
+pub IsNumbered-after_past : (past : Past) → IsBase past.base → IsNumbered (state_after past)
+IsNumbered-after_past past base = IsNumbered-replay_from past.base.state past.tail base.numbered
+
+-- the next serial is the number of rows that were placed
+pub next-after_past : (past : Past) → IsBase past.base → AreReplies past.base.state past.tail → (state_after past).next ≡ inserted_in past
+next-after_past past base replies = omega (arith, next-replay_from past.base.state past.tail replies, base.serial)
+
+-- the rows are those that were placed, less those that went
+pub length_rows-after_past : (past : Past) → IsBase past.base → AreReplies past.base.state past.tail → length (state_after past).rows + deleted_in past ≡ inserted_in past
+length_rows-after_past past base replies = omega (arith, length_rows-replay_from past.base.state past.tail base.numbered replies, base.held)
+
+pub held-after_past : (past : Past) → IsBase past.base → AreReplies past.base.state past.tail → pos (length (state_after past).rows) ≡ pos (inserted_in past) -ℤ pos (deleted_in past)
+held-after_past past base replies =
+    let left : ℕ = length (state_after past).rows in
+    let gone : ℕ = deleted_in past in
+    sym (ap (λ (n : ℕ). pos n -ℤ pos gone) (sym (length_rows-after_past past base replies)) ∙ +ℤ-neg_ℤ_cancel (pos left) (pos gone))
+
+-- no more rows were placed than commands were accepted
+pub inserted_in-le-accepted : (past : Past) → IsBase past.base → inserted_in past ≤ accepted_in past
+inserted_in-le-accepted past base = omega (arith, base.few, inserted-le-accepted past.tail)
+
+-- there are no more rows than commands were accepted
+pub length_rows-le-accepted : (past : Past) → IsBase past.base → AreReplies past.base.state past.tail → length (state_after past).rows ≤ accepted_in past
+length_rows-le-accepted past base replies = omega (arith, length_rows-after_past past base replies, inserted_in-le-accepted past base)
+
+-- the next serial is at most the number of commands that were accepted
+pub next-le-accepted : (past : Past) → IsBase past.base → AreReplies past.base.state past.tail → (state_after past).next ≤ accepted_in past
+next-le-accepted past base replies = omega (arith, next-after_past past base replies, inserted_in-le-accepted past base)

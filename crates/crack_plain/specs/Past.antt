@@ -1,0 +1,59 @@
+-- What a partition lived through: the base that it begins at, and the commands that it answered since.
+use Rattle.std.specs.Prelude.{◌≡◌, ℕ, ◌+◌, ◌≤◌, List, [], ◌∷◌, ◌++◌, length}
+use Rattle.crack_row.specs.Ranges.{Range}
+use Rattle.crack_row.specs.declared.command.Entry.{Entry}
+use Rattle.crack_row.specs.declared.limit.Limits.{Limits}
+use Rattle.crack_plain.specs.Plain.{PlainState, no_rows, IsNumbered, replay_from, AreReplies, BringWithin}
+use Rattle.crack_plain.specs.Totals.{accepted, inserted, deleted}
+
+-- what commands that are kept no more left: the plain rows, how many commands these were, and how many rows they placed and took out
+pub record Base : Type 0 where
+  pub state : PlainState
+  pub folded : ℕ
+  pub placed : ℕ
+  pub gone : ℕ
+
+-- a base that commands may leave: its next serial is the number of rows placed, and its rows are those placed, less those gone
+pub record IsBase (base : Base) : Type 0 where
+  pub numbered : IsNumbered base.state
+  pub serial : base.state.next ≡ base.placed
+  pub held : length base.state.rows + base.gone ≡ base.placed
+  pub few : base.placed + base.gone ≤ base.folded
+
+-- the base of a partition that has folded no command
+abbrev pub no_base : Base
+no_base = record { state = no_rows; folded = 0; placed = 0; gone = 0 }
+
+-- its base, and its tail: the entries since, in order
+pub record Past : Type 0 where
+  pub base : Base
+  pub tail : List Entry
+
+-- the past of a partition that has answered nothing
+abbrev pub no_past : Past
+no_past = record { base = no_base; tail = [] }
+
+-- the past with one entry more
+abbrev pub with_entry : Past → Entry → Past
+with_entry past entry = record past { tail = past.tail ++ entry ∷ [] }
+
+-- the plain rows that it left
+abbrev pub state_after : Past → PlainState
+state_after past = replay_from past.base.state past.tail
+
+-- how many commands were accepted since the opening, how many rows were placed, and how many went
+abbrev pub accepted_in : Past → ℕ
+accepted_in past = past.base.folded + accepted past.tail
+
+abbrev pub inserted_in : Past → ℕ
+inserted_in past = past.base.placed + inserted past.tail
+
+abbrev pub deleted_in : Past → ℕ
+deleted_in past = past.base.gone + deleted past.tail
+
+-- what a partition of these keys and limits may have lived through: the history's limit is the tail's
+pub record IsLegal (keys : Range) (limits : Limits) (past : Past) : Type 0 where
+  pub base : IsBase past.base
+  pub replies : AreReplies past.base.state past.tail
+  pub within : BringWithin keys past.tail
+  pub limited : length past.tail ≤ limits.history

@@ -1,0 +1,14 @@
+-- What bounds a partition.
+use Rattle.std.specs.Prelude.{ℕ, ◌≤◌}
+use Rattle.crack_row.specs.declared.TheConstants.{GREATEST_LIMIT, GREATEST_CELLS, GREATEST_LIFE}
+use Rattle.crack_row.specs.declared.limit.Limits.{Limits}
+
+-- each limit is at least 1 and at most the greatest of its kind
+pub record AreLimits (limits : Limits) : Type 0 where
+  pub history : (1 ≤ limits.history) × (limits.history ≤ GREATEST_LIMIT)
+  pub cells : (1 ≤ limits.cells) × (limits.cells ≤ GREATEST_CELLS)
+  pub life : (1 ≤ limits.life) × (limits.life ≤ GREATEST_LIFE)
+
+-- this limit of a history, and the greatest of the others
+abbrev pub of_history : ℕ → Limits
+of_history history = record { history = history; cells = GREATEST_CELLS; life = GREATEST_LIFE }

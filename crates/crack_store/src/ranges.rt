@@ -1,0 +1,24 @@
+//! Ranges of keys that the bounds of a store make.
+ghost use Rattle.std.specs.Prelude.{◌≡◌, ◌≤◌};
+ghost use Rattle.crack_state.specs.Merge.{beyond};
+
+use crate::Store;
+use crack_row::KeyRange;
+
+impl Store {
+    /// The keys from a range's end up to the next bound above it, or to the partition's high end. O(log bounds).
+    pub fn keys_beyond(&self, range: KeyRange) -> KeyRange
+        requires { range.high ≤ self.now.keys.high }
+        ensures { result ≡ beyond self.now range }
+    {
+        self.facts();
+        let _ = &self.inside;
+        let _ = self.inside.keys.high();
+        let low = range.high();
+        let high = self.next_bound(low);
+        match KeyRange::new(low.0 as u128, high.0 as u128) {
+            Ok(keys) => keys,
+            Err(_) => unreachable!(),
+        }
+    }
+}
