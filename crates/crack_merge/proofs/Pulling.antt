@@ -85,9 +85,9 @@ module _ (r fillers : Range) (s : State) (from seen : ℕ) (c : Carried) (on : I
       key_behind k after within =
           let less : k < length (remove d.store.pending_out from) = omega (arith, within, one.fewer, ap length one.pending_out) in
           rw keys_out (
-            get_or-map (key_at d.store.cells) (remove d.store.pending_out from) k no_handle 0 less
-              ∙ ap (key_at d.store.cells) (get_or-remove_above d.store.pending_out from no_handle k after in_hand.within)
-              ∙ sym (get_or-map (key_at d.store.cells) d.store.pending_out (k + 1) no_handle 0 within)
+          get_or-map (key_at d.store.cells) (remove d.store.pending_out from) k no_handle 0 less
+          ∙ ap (key_at d.store.cells) (get_or-remove_above d.store.pending_out from no_handle k after in_hand.within)
+          ∙ sym (get_or-map (key_at d.store.cells) d.store.pending_out (k + 1) no_handle 0 within)
           )
 
       long : length (keys_at (buried d).cells (buried d).pending_out) + 1 ≡ length d.store.pending_out

@@ -77,8 +77,10 @@ fn bury_and_begin(carrying: &mut Carrying, fillers: KeyRange, seen: usize) -> us
     }
 }
 
-/// Takes a doomed row out of the column, by the cell in hand, as `draw` does, and buries it.
-/// It costs what that does. Takes no memory.
+/// Takes a doomed row out of the column, by the cell in hand, which goes down through the pieces to fill its place: the hand takes
+/// the last place before its own piece, and the row that stood there is in hand. Another doomed row that comes into hand is drawn
+/// on like any other. The cell in hand may come from anywhere behind the doomed row.
+/// O(log bounds) and O(1) for each piece, and the bounds at its place; one search for the doomed row's place. Takes no memory.
 pub fn pull(mut carrying: Carrying, doomed: Handle<Row>) -> Store
     requires pending { Contains carrying.store.pending_out doomed }
     requires ahead { (place : ℕ) → StandsAt carrying.store.column place doomed → place < piece_end carrying.store (hand_key carrying) }
@@ -88,10 +90,7 @@ pub fn pull(mut carrying: Carrying, doomed: Handle<Row>) -> Store
     carrying.bury()
 }
 
-/// Draws a doomed row into the hand, by the cell in hand, which goes down through the pieces to fill its place: the hand takes
-/// the last place before its own piece, and the row that stood there is in hand. Another doomed row that comes into hand is drawn
-/// on like any other. The cell in hand may come from anywhere behind the doomed row.
-/// O(log bounds) and O(1) for each piece, and the bounds at its place; one search for the doomed row's place. Takes no memory.
+/// Draws a doomed row into the hand: all that `pull` does before it buries it. Takes no memory.
 fn draw(carrying: &mut Carrying, doomed: Handle<Row>)
     requires pending { Contains carrying.old.store.pending_out doomed }
     requires ahead { (place : ℕ) → StandsAt carrying.old.store.column place doomed → place < piece_end carrying.old.store (hand_key carrying.old) }

@@ -1,4 +1,4 @@
-use Rattle.std.proofs.Common.{length, arith}
+use Rattle.std.proofs.Common.{arith}
 use Rattle.std.proofs.lemmas.List.{length-map}
 use Rattle.crack_arena.specs.Rows.{key_at}
 use Rattle.crack_merge.specs.Merges.{fills, takes_last}

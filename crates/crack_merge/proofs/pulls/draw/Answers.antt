@@ -1,4 +1,4 @@
-use Rattle.std.proofs.Common.{◌<◌, ◌≤◌, sym, ◌∙◌, arith, ◌≡◌, ◌≢◌, ℕ, true, false, List, ◌∷◌, [], refl, inl, inr}
+use Rattle.std.proofs.Common.{◌<◌, ◌≤◌, sym, ◌∙◌, arith, ◌≡◌, ◌≢◌, ℕ, true, false, ◌∷◌, [], refl, inl, inr}
 use Rattle.std.specs.Prelude.{◌==◌}
 use Rattle.std.specs.List.{Contains}
 use Rattle.std.proofs.lemmas.Bool.{and_parts, true≢false, eqb-true, eq-eqb}
@@ -10,7 +10,7 @@ use Rattle.crack_state.specs.State.{State, Carried, IsIntact}
 use Rattle.crack_state.proofs.CellLaws.{handle_same}
 use Rattle.crack_merge.specs.Merges.{Pulls, reaches, exchanges, draws}
 use Rattle.crack_merge.proofs.PullLaws.{exchanged_hand}
-use Rattle.crack_merge.proofs.Pulling.{contained_stands, hand_doomed}
+use Rattle.crack_merge.proofs.Pulling.{contained_stands}
 use Rattle.crack_merge.proofs.pulls.draw.Goals as goal
 use Rattle.crack_merge.proofs.pulls.draw.Goals.{After-pull_down}
 
