@@ -1,4 +1,5 @@
 mod Ending
+mod Pulling
 pub mod CarryLaws
 pub mod PullLaws
 pub mod RangeLaws

@@ -1,9 +1,9 @@
 //! The pull.
-ghost use Rattle.std.specs.Prelude.{◌<◌, ◌≤◌, ◌⊎◌, ℕ, length, Contains};
+ghost use Rattle.std.specs.Prelude.{◌≡◌, ◌<◌, ◌≤◌, ◌⊎◌, ℕ, length, Contains};
 ghost use Rattle.crack_arena.specs.Arena.{StandsAt};
 ghost use Rattle.crack_arena.specs.Rows.{keys_at};
 ghost use Rattle.crack_pending.specs.Pending.{NoneIn};
-ghost use Rattle.crack_state.specs.Steps.{hand_key, piece_end};
+ghost use Rattle.crack_state.specs.Steps.{hand_key, piece_end, buried, IsDoomed};
 ghost use Rattle.crack_merge.specs.Merges.{Begins, Pulls, PullsAll};
 
 use crack_arena::Handle;
@@ -15,24 +15,30 @@ use crack_store::{Carrying, Store};
 /// stands before `seen`; pending insertions are passed over once.
 /// O(1) for each pending row that it passes; for each that it takes out O(log bounds) and the pieces on its way, and one search for its
 /// place. Takes no memory.
-pub fn pull_range(mut store: Store, range: KeyRange, fillers: KeyRange, mut seen: usize) -> Store
+pub fn pull_range(mut store: Store, range: KeyRange, fillers: KeyRange, seen: usize) -> Store
     requires behind { fillers.low < fillers.high → range.high ≤ fillers.low }
     requires within { seen ≤ length store.pending_in }
     requires none { NoneIn fillers (keys_at store.cells store.pending_in) 0 seen }
     requires room { (length store.pending_in ≤ seen) ⊎ (0 < store.column_room) }
     ensures { PullsAll range fillers store result }
 {
-    let mut from = 0;
-    'deletions: while let Some(place) = store.next_out(range, from) {
-        store.facts();
-        store.seek_out(place);
-        let doomed = store.doomed(place);
-        let (carrying, next) = begin(store, fillers, seen);
-        store = pull(carrying, doomed);
-        from = place;
-        seen = next;
+    store.facts();
+    let Some(first) = store.next_out(range, 0) else {
+        return store;
+    };
+    store.seek_out(first);
+    let (mut carrying, mut seen) = begin(store, fillers, seen);
+    let mut from = first;
+    'deletions: loop {
+        let doomed = carrying.doomed(from);
+        draw(&mut carrying, doomed);
+        carrying.facts();
+        let Some(place) = carrying.seek_out(range, from + 1) else {
+            return carrying.bury();
+        };
+        seen = bury_and_begin(&mut carrying, fillers, seen);
+        from = place - 1;
     }
-    store
 }
 
 /// Takes the first filler from the place `seen` on into the hand, and where there is none the column's last row; tells from where the next
@@ -51,6 +57,26 @@ fn begin(store: Store, fillers: KeyRange, seen: usize) -> (Carrying, usize)
     }
 }
 
+/// Buries the hand, and begins the next pull as `begin` does, with the store where it is.
+fn bury_and_begin(carrying: &mut Carrying, fillers: KeyRange, seen: usize) -> usize
+    requires doomed { IsDoomed carrying.old }
+    requires some { 0 < length carrying.old.store.column }
+    ensures { Begins fillers (buried carrying.old) seen result carrying.new }
+{
+    carrying.facts();
+    match carrying.seek_in(fillers, seen) {
+        Some(place) => {
+            carrying.bury_and_lift(place);
+            place
+        }
+        None => {
+            let behind = carrying.pending_in();
+            carrying.bury_and_lift_last();
+            behind
+        }
+    }
+}
+
 /// Takes a doomed row out of the column, by the cell in hand, which goes down through the pieces to fill its place: the hand takes
 /// the last place before its own piece, and the row that stood there is in hand. Another doomed row that comes into hand is drawn
 /// on like any other. The cell in hand may come from anywhere behind the doomed row.
@@ -60,16 +86,27 @@ pub fn pull(mut carrying: Carrying, doomed: Handle<Row>) -> Store
     requires ahead { (place : ℕ) → StandsAt carrying.store.column place doomed → place < piece_end carrying.store (hand_key carrying) }
     ensures { Pulls doomed carrying result }
 {
+    draw(&mut carrying, doomed);
+    carrying.bury()
+}
+
+/// Draws a doomed row into the hand: all that `pull` does before it buries it. Takes no memory.
+fn draw(carrying: &mut Carrying, doomed: Handle<Row>)
+    requires pending { Contains carrying.old.store.pending_out doomed }
+    requires ahead { (place : ℕ) → StandsAt carrying.old.store.column place doomed → place < piece_end carrying.old.store (hand_key carrying.old) }
+    ensures pulls { Pulls doomed carrying.old (buried carrying.new) }
+    ensures hand { carrying.new.hand ≡ doomed }
+    ensures pending_out { carrying.new.store.pending_out ≡ carrying.old.store.pending_out }
+{
     carrying.facts();
     // its place can't change before a step reaches it
     let Some(place) = carrying.find(doomed) else {
-        return carrying.bury();
+        return;
     };
     carrying.pull_down(place);
     carrying.facts();
     if carrying.holds(doomed) {
-        return carrying.bury();
+        return;
     }
     carrying.exchange(place);
-    carrying.bury()
 }

@@ -1,14 +1,15 @@
 //! From one row in hand to the next: what ends the way of the one and begins that of the other, with the store where it is.
 ghost use Rattle.std.specs.Prelude.{◌≡◌, ◌<◌, ◌≤◌, length, OnOk, IfErr};
-ghost use Rattle.crack_arena.specs.Arena.{times, slots};
+ghost use Rattle.crack_arena.specs.Arena.{times, slots, StandsAt};
 ghost use Rattle.crack_arena.specs.Rows.{keys_at};
 ghost use Rattle.crack_pending.specs.Pending.{Finds};
 ghost use Rattle.crack_state.specs.State.{live_rows};
-ghost use Rattle.crack_state.specs.Steps.{hand_key, piece_end, IsDoomed, lifted, appended, buried, SameButRoom, returned};
+ghost use Rattle.crack_state.specs.Steps.{hand_key, piece_end, IsDoomed, lifted, lifted_last, appended, buried, SameButRoom, returned};
 
 use crate::Carrying;
-use crate::steps::{free_hand, give_back, put_last, take_in};
-use crack_row::{KeyRange, Refusal};
+use crate::steps::{free_hand, give_back, put_last, take_in, take_last};
+use crack_arena::Handle;
+use crack_row::{KeyRange, Refusal, Row};
 
 impl Carrying {
     /// Makes room for two more places in the column and two more pending insertions: for the hand and for one row more.
@@ -58,6 +59,19 @@ impl Carrying {
         self.near = take_in(&mut self.inside, place);
     }
 
+    /// Ends the way of the hand as `bury` does, and takes the column's last row into the hand, as `lift_last` does.
+    /// It costs what the two do, and moves no store.
+    pub fn bury_and_lift_last(&mut self)
+        requires doomed { IsDoomed self.old }
+        requires some { 0 < length self.old.store.column }
+        ensures after { self.new ≡ lifted_last (buried self.old) }
+        ensures live { live_rows self.new.store ≡ live_rows self.old.store }
+    {
+        let inside = &mut self.inside;
+        free_hand(inside);
+        self.near = take_last(inside);
+    }
+
     /// Ends the way of the hand as `put_back` does, and takes the pending insertion at this place into the hand, as `lift` does; the hand
     /// itself stands behind all others.
     /// It costs what the two do, and moves no store.
@@ -88,5 +102,29 @@ impl Carrying {
             return None;
         }
         inside.pending_in.seek_in(range, from, &inside.arena)
+    }
+
+    /// The first pending deletion at or behind the place with its key in the range, from which the next look goes on; O(1) for each that it passes.
+    pub fn seek_out(&mut self, range: KeyRange, from: usize) -> Option<usize>
+        ensures finds { Finds range (keys_at self.old.store.cells self.old.store.pending_out) from result }
+        ensures same { self.new ≡ self.old }
+    {
+        let inside = &mut self.inside;
+        inside.pending_out.seek_in(range, from, &inside.arena)
+    }
+
+    /// The pending deletion at this place of the order of arrival. O(1) at the place that was sought last.
+    pub fn doomed(&self, place: usize) -> Handle<Row>
+        requires { place < length self.now.store.pending_out }
+        ensures { StandsAt self.now.store.pending_out place result }
+    {
+        self.inside.pending_out.at(place)
+    }
+
+    /// The number of pending insertions.
+    pub fn pending_in(&self) -> usize
+        ensures { result ≡ length self.now.store.pending_in }
+    {
+        self.inside.pending_in.len()
     }
 }

@@ -1,60 +1,64 @@
-use Rattle.std.proofs.Common.{◌<◌, length, sym, ap, arith}
-use Rattle.crack_arena.specs.Arena.{StandsAt}
+use Rattle.std.proofs.Common.{arith}
+use Rattle.std.proofs.lemmas.List.{length-map}
+use Rattle.crack_arena.specs.Rows.{key_at}
 use Rattle.crack_state.proofs.DrawLaws.{column_some}
-use Rattle.crack_merge.specs.Merges.{Begins, begins, pulls}
-use Rattle.crack_merge.proofs.PullLaws.{BeginsAt, BeginsAt-Begins, PullsAt, PullsAt-Pulls, HasRoomFor-Begins, ahead_of_begun}
+use Rattle.crack_merge.specs.Merges.{begins}
+use Rattle.crack_merge.proofs.Pulling.{pulling_within, pulling_ahead, IsDrawn, IsDrawn-Pulls}
 use Rattle.crack_merge.proofs.pulls.pull_range.Goals as goal
-use Rattle.crack_merge.proofs.pulls.pull_range.Goals.{After-doomed-doomed, After-begin-carrying, After-pull-store}
+use Rattle.crack_merge.proofs.pulls.pull_range.Goals.{After-facts-in-deletions}
 
-pub deletions-init : goal.deletions-init
-deletions-init c = (begins c.args.seen c.requires.within c.requires.none, c.requires.room)
-
--- the doomed row is one of the pending deletions, so the column has rows
-stands : (c : After-doomed-doomed) → StandsAt c.deletions.store.pending_out c.in-Some.place c.doomed-doomed.result
-stands c = rw c.seek_out.ensures at c.doomed-doomed.ensures
-
-some : (c : After-doomed-doomed) → 0 < length c.deletions.store.column
-some c = column_some c.deletions.store (omega (arith, (stands c).within)) c.facts.ensures
+pub returns-in_default : goal.returns-in_default
+returns-in_default c = record { from = 0; seen = c.args.seen; pulls = begins c.args.seen c.requires.within c.requires.none; none = c.in_default.ensures }
 
 pub begin-carrying-requires-clause-some : goal.begin-carrying-requires-clause-some
-begin-carrying-requires-clause-some c = rw c.seek_out.ensures (some (goal.at.begin-carrying-requires-clause-some c).After-doomed-doomed)
+begin-carrying-requires-clause-some c =
+    let store = c.args.store in
+    rw c.seek_out.ensures (column_some store (omega (arith, c.in-Some.ensures.within, length-map store.pending_out (key_at store.cells))) c.facts.ensures)
 
--- its pull has begun
-begun : (c : After-begin-carrying) → Begins c.args.fillers c.deletions.store c.deletions.seen c.begin-carrying.result.1 c.begin-carrying.result.0
-begun c = rw c.seek_out.ensures at c.begin-carrying.ensures
+pub deletions-init : goal.deletions-init
+deletions-init c = record {
+  before = 0;
+  at = c.args.seen;
+  store = c.args.store;
+  intact = c.facts.ensures;
+  pulls = begins c.args.seen c.requires.within c.requires.none;
+  finds = c.in-Some.ensures;
+  begun = rw c.seek_out.ensures at c.begin-carrying.ensures;
+}
 
-begins_at : (c : After-begin-carrying) → 0 < length c.deletions.store.column → BeginsAt c.deletions.store c.begin-carrying.result.0
-begins_at c some = BeginsAt-Begins c.args.fillers c.deletions.store c.deletions.seen c.begin-carrying.result.1 c.begin-carrying.result.0 c.facts.ensures some (begun c)
+pub doomed-doomed-requires : goal.doomed-doomed-requires
+doomed-doomed-requires c = pulling_within c.args.range c.args.fillers c.args.store c.deletions.from c.deletions.seen c.deletions.carrying c.deletions.invariant
 
-pub pull-store-requires-clause-pending : goal.pull-store-requires-clause-pending
-pull-store-requires-clause-pending c =
-    let at = stands (goal.at.pull-store-requires-clause-pending c).After-doomed-doomed in
-    let begin = begins_at (goal.at.pull-store-requires-clause-pending c).After-begin-carrying (some (goal.at.pull-store-requires-clause-pending c).After-doomed-doomed) in
-    rw begin.pending_out (c.in-Some.place, at.within, sym at.is)
+pub draw-requires-clause-ahead : goal.draw-requires-clause-ahead
+draw-requires-clause-ahead c =
+    pulling_ahead c.args.range c.args.fillers c.args.store c.deletions.from c.deletions.seen c.deletions.carrying c.deletions.invariant c.doomed-doomed.result c.doomed-doomed.ensures c.requires.behind
 
-pub pull-store-requires-clause-ahead : goal.pull-store-requires-clause-ahead
-pull-store-requires-clause-ahead c =
-    ahead_of_begun c.args.range c.args.fillers c.deletions.store c.deletions.from c.in-Some.place c.deletions.seen c.begin-carrying.result.1 c.doomed-doomed.result c.begin-carrying.result.0 c.requires.behind c.facts.ensures c.in-Some.ensures (stands (goal.at.pull-store-requires-clause-ahead c).After-doomed-doomed) (begun (goal.at.pull-store-requires-clause-ahead c).After-begin-carrying)
+-- the doomed row has come into hand
+drawn : (c : After-facts-in-deletions) → IsDrawn c.args.range c.args.fillers c.args.store c.deletions.from c.deletions.seen c.deletions.carrying c.draw.new.carrying
+drawn c =
+    IsDrawn-Pulls c.args.range c.args.fillers c.args.store c.deletions.from c.deletions.seen c.deletions.carrying c.deletions.invariant c.doomed-doomed.result c.doomed-doomed.ensures c.draw.new.carrying c.draw.ensures.pulls c.draw.ensures.hand c.draw.ensures.pending_out c.facts-in-deletions.ensures
 
--- it is done
-one : (c : After-pull-store) → StandsAt c.deletions.store.pending_out c.in-Some.place c.doomed-doomed.result → BeginsAt c.deletions.store c.begin-carrying.result.0 → PullsAt c.begin-carrying.result.0 c.pull-store.result c.in-Some.place
-one c at begin = PullsAt-Pulls c.begin-carrying.result.0 c.in-Some.place c.doomed-doomed.result begin.intact (rw begin.pending_out at) c.pull-store.result c.pull-store.ensures
+pub bury-requires : goal.bury-requires
+bury-requires c = rw c.seek_out-in-deletions.ensures.same (drawn (goal.at.bury-requires c).After-facts-in-deletions).doomed
+
+pub returns-in_default-seek_out : goal.returns-in_default-seek_out
+returns-in_default-seek_out c =
+    let at = drawn (goal.at.returns-in_default-seek_out c).After-facts-in-deletions in
+    rw (c.bury.ensures.after, c.seek_out-in-deletions.ensures.same) (record { from = c.deletions.from; seen = c.deletions.seen; pulls = at.done; none = at.none c.in_default-seek_out.ensures.finds })
+
+pub bury_and_begin-seen-requires-clause-doomed : goal.bury_and_begin-seen-requires-clause-doomed
+bury_and_begin-seen-requires-clause-doomed c = rw c.seek_out-in-deletions.ensures.same (drawn (goal.at.bury_and_begin-seen-requires-clause-doomed c).After-facts-in-deletions).doomed
+
+pub bury_and_begin-seen-requires-clause-some : goal.bury_and_begin-seen-requires-clause-some
+bury_and_begin-seen-requires-clause-some c =
+    rw c.seek_out-in-deletions.ensures.same ((drawn (goal.at.bury_and_begin-seen-requires-clause-some c).After-facts-in-deletions).some c.in-Some-seek_out.place c.in-Some-seek_out.ensures.finds)
 
 pub deletions-smaller : goal.deletions-smaller
 deletions-smaller c =
-    let at = stands (goal.at.deletions-smaller c).After-doomed-doomed in
-    let begin = begins_at (goal.at.deletions-smaller c).After-begin-carrying (some (goal.at.deletions-smaller c).After-doomed-doomed) in
-    let less : length c.pull-store.result.pending_out < length c.deletions.store.pending_out = omega (arith, (one (goal.at.deletions-smaller c).After-pull-store at begin).fewer, ap length begin.pending_out) in
-    less
+    let begun = rw c.seek_out-in-deletions.ensures.same at c.bury_and_begin-seen.ensures in
+    (drawn (goal.at.deletions-smaller c).After-facts-in-deletions).smaller c.in-Some-seek_out.place c.bury_and_begin-seen.result c.bury_and_begin-seen.new.carrying c.in-Some-seek_out.ensures.finds begun
 
 pub deletions-preserved : goal.deletions-preserved
 deletions-preserved c =
-    let at = stands (goal.at.deletions-preserved c).After-doomed-doomed in
-    let begin = begins_at (goal.at.deletions-preserved c).After-begin-carrying (some (goal.at.deletions-preserved c).After-doomed-doomed) in
-    let way = begun (goal.at.deletions-preserved c).After-begin-carrying in (
-      pulls c.deletions.from c.in-Some.place c.deletions.seen c.begin-carrying.result.1 c.doomed-doomed.result c.deletions.store c.pull-store.result c.begin-carrying.result.0 c.deletions.invariant.0 c.in-Some.ensures at way c.pull-store.ensures,
-      HasRoomFor-Begins c.args.fillers c.deletions.store c.pull-store.result c.deletions.seen c.begin-carrying.result.1 c.in-Some.place c.begin-carrying.result.0 way (one (goal.at.deletions-preserved c).After-pull-store at begin) c.deletions.invariant.1,
-    )
-
-pub returns : goal.returns
-returns c = record { from = c.deletions.from; seen = c.deletions.seen; pulls = c.deletions.invariant.0; none = c.in_default.ensures }
+    let begun = rw c.seek_out-in-deletions.ensures.same at c.bury_and_begin-seen.ensures in
+    (drawn (goal.at.deletions-preserved c).After-facts-in-deletions).on c.in-Some-seek_out.place c.bury_and_begin-seen.result c.bury_and_begin-seen.new.carrying c.in-Some-seek_out.ensures.finds begun

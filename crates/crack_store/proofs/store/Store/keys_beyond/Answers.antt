@@ -1,4 +1,4 @@
-use Rattle.std.proofs.Common.{◌≡◌, ◌≤◌, [], arith}
+use Rattle.std.proofs.Common.{rules, ◌≡◌, ◌≤◌, [], arith}
 use Rattle.crack_state.proofs.BeyondLaws.{bound_above-between}
 use Rattle.crack_store.proofs.store.Store.keys_beyond.Goals as goal
 
@@ -9,3 +9,6 @@ unreachable-requires c =
     let high = rw low at c.next_bound-high.ensures in
     let keys : c.args.self.now.keys.high ≤ 4294967296 = rw (← c.self.view_is) c.high.ensures.bounded in
     c.in-Err.ensures.err.1 (omega (arith, low, high, between.0), omega (arith, high, between.1, keys))
+
+pub returns : goal.returns
+returns c = search rules
