@@ -1,5 +1,5 @@
 //! Measures the arena, the cracker column and a partition that merges by a policy: `crack_bench arena STEPS ROWS`, `crack_bench cells ROWS GETS`,
-//! `crack_bench column ROWS`, `crack_bench counts POLICY ROWS RANGES`, `crack_bench sums POLICY ROWS RANGES`, `crack_bench each POLICY ROWS RANGES`,
+//! `crack_bench column ROWS`, `crack_bench index BOUNDS`, `crack_bench counts POLICY ROWS RANGES`, `crack_bench sums POLICY ROWS RANGES`, `crack_bench each POLICY ROWS RANGES`,
 //! `crack_bench cold POLICY ROWS RANGES`, `crack_bench pass POLICY ROWS RANGES`, `crack_bench updates POLICY ROWS BATCHES SIZE`,
 //! `crack_bench merge POLICY ROWS PIECES PENDING`, `crack_bench pulls POLICY ROWS PIECES DELETES`, or `crack_bench all STEPS ROWS RANGES`.
 //!
@@ -7,16 +7,19 @@
 //! `NAME NUMBER` each, and for `cold`, `updates`, `merge` and `pulls` what the merges did, likewise.
 #![tactic(auto)]
 
+ghost use Rattle.std.specs.Prelude.{◌<◌, All};
 ghost use Rattle.crack_column.specs.Column.{Remembers};
 
 mod arena;
 mod column;
+mod index;
 mod numbers;
 mod partition;
 
 use arena::Filled;
 use crack_arena::Arena;
 use crack_column::CrackerColumn;
+use crack_index::CrackerIndex;
 use crack_part::Partition;
 use crack_row::{GREATEST_LIMIT, KeyRange, Policy, Row};
 use numbers::Numbers;
@@ -131,6 +134,45 @@ fn measure_column(
     report(rt, "later", start)?;
     let sum = column::sum(column);
     println!(rt; "column {first} {later} sum {sum}")?;
+    Ok(())
+}
+
+fn run_index(rt: &HostRuntime, bounds: u32) -> anyhow::Result<()> {
+    let mut index = CrackerIndex::new(rt.alloc());
+    let told = measure_index(rt, &mut index, bounds);
+    drop(index);
+    told
+}
+
+fn measure_index(rt: &HostRuntime, index: &mut CrackerIndex, bounds: u32) -> anyhow::Result<()>
+    requires { All (λ m. m.position < usize.MAX) index.old.marks }
+{
+    let start = Instant::now(rt)?;
+    index::fill(index, bounds)?;
+    report(rt, "add", start)?;
+    let start = Instant::now(rt)?;
+    let found = index::look_up(index, bounds);
+    report(rt, "position", start)?;
+    let start = Instant::now(rt)?;
+    let above = index::look_above(index, bounds);
+    report(rt, "above", start)?;
+    measure_walks(rt, index)?;
+    let len = index.len();
+    println!(rt; "index {len} found {found} above {above}")?;
+    Ok(())
+}
+
+/// A walk up over all bounds, and one down.
+fn measure_walks(rt: &HostRuntime, index: &mut CrackerIndex) -> anyhow::Result<()>
+    requires { All (λ m. m.position < usize.MAX) index.old.marks }
+{
+    let start = Instant::now(rt)?;
+    let up = index::walk_up(index);
+    report(rt, "climb", start)?;
+    let start = Instant::now(rt)?;
+    let down = index::walk_down(index);
+    report(rt, "descend", start)?;
+    println!(rt; "walks {up} {down}")?;
     Ok(())
 }
 
@@ -422,6 +464,7 @@ fn run(rt: &HostRuntime, words: &[&str]) -> anyhow::Result<()> {
         [_, "arena", steps, rows] => run_arena(rt, steps.parse()?, rows.parse()?),
         [_, "cells", rows, count] => run_cells(rt, rows.parse()?, count.parse()?),
         [_, "column", rows] => run_column(rt, rows.parse()?),
+        [_, "index", bounds] => run_index(rt, bounds.parse()?),
         [_, "all", steps, rows, ranges] => {
             run_all(rt, steps.parse()?, rows.parse()?, ranges.parse()?)
         }
@@ -430,7 +473,7 @@ fn run(rt: &HostRuntime, words: &[&str]) -> anyhow::Result<()> {
             run_partition(rt, policy_of(policy)?, rows.parse()?, work)
         }
         _ => Err(anyhow::anyhow!(
-            "arena, cells, column or all, or counts, sums, each, cold, pass, updates, merge or pulls with a policy"
+            "arena, cells, column, index or all, or counts, sums, each, cold, pass, updates, merge or pulls with a policy"
         )),
     }
 }

@@ -9,7 +9,12 @@ use Rattle.crack_row.specs.declared.Bound.{Bound}
 use Rattle.crack_row.specs.declared.layout.PieceSize.{PieceSize}
 use Rattle.crack_row.specs.Layouts.{AreJoined}
 use Rattle.crack_index.specs.declared.mark.Mark.{Mark}
-use Rattle.crack_index.specs.Marks.{no_mark, InOrder, Rising, Fits, bounds_of, HasBound, position_of, next_mark, last_mark, first_behind, last_before, start_of, end_of, size_between, pieces_from, added, one_up, one_down, raised, lowered, lowered_at}
+use Rattle.crack_index.specs.Marks.{InOrder, Rising, Fits, bounds_of, HasBound, position_of, next_mark, last_mark, first_behind, last_before, start_of, end_of, size_between, pieces_from, added, raised, lowered, lowered_at}
+use Rattle.crack_index.specs.Steps.{one_up, one_down}
+
+-- what stands beyond the last mark, where a list has to answer something
+abbrev pub no_mark : Mark
+no_mark = record { bound = record { 0 = 0 }; position = 0 }
 
 -- Rising
 

@@ -1,139 +1,289 @@
--- What a step of a walk leaves of the marks, and how a walk is made of its steps.
-use Rattle.std.proofs.Common.{◌≡◌, ℕ, zero, suc, ◌+◌, ◌-◌, ◌<◌, ◌≤◌, List, [], ◌∷◌, ◌++◌, map, take, drop, length, get_or, Some, None, refl, sym, ap, ◌∙◌, arith}
-use Rattle.std.specs.Prelude.{Option, Bool, true, false, IfSome}
-use Rattle.std.specs.List.{Contains, between, slice_get}
-use Rattle.std.specs.List.Sorted.{IsPartitionPoint}
-use Rattle.std.proofs.lemmas.Option.{slice_get-get_or}
-use Rattle.std.proofs.lemmas.List.Elements.{Contains-get_or}
+-- How the steps of a walk over marks make up the walk, and what they keep.
+use Rattle.std.proofs.Common.{◌≡◌, ◌⊎◌, ℕ, zero, suc, ◌-◌, ◌<◌, ◌≤◌, Bool, true, false, List, [], ◌∷◌, ◌++◌, reverse, length, get_or, Some, None, refl, sym, ap, subst, ◌∙◌, inl, inr, append_assoc, arith}
+use Rattle.std.specs.Prelude.{Option, All, AllPairs, is_some}
+use Rattle.std.specs.declared.alloc.Global.{Global}
+use Rattle.std.proofs.Common.{Box}
+use Rattle.std.proofs.lemmas.List.{reverse-append, reverse-reverse, length-reverse, get_or-reverse}
+use Rattle.std.proofs.lemmas.List.Elements.{All-nil, All-cons, All-head, All-tail}
 use Rattle.crack_index.specs.declared.mark.Mark.{Mark}
-use Rattle.crack_index.specs.declared.near.NearBound.{NearBound}
-use Rattle.crack_index.specs.Marks.{no_mark, near_mark, Rising, first_behind, last_before, raised, lowered, one_up, one_down}
-use Rattle.crack_index.specs.Walks.{Climbs, Descends}
-use Rattle.crack_index.proofs.MarkLaws.{Rising-raised, Rising-lowered}
-use Rattle.crack_index.proofs.MarkLemmas.{of_found, first_behind-split, last_before-split, slice_get-begin, raised_apart, lowered_apart, Moves-raised_at, Moves-lowered_from}
+use Rattle.crack_index.specs.declared.walk.Way.{Way}
+use Rattle.crack_index.specs.Marks.{InOrder, Rising}
+use Rattle.crack_index.specs.Steps.{StepsUp, StepsDown, Goes, one_up, one_down}
+use Rattle.crack_index.specs.Trees.{Grown, marks_of, height_of, IsBalanced}
+use Rattle.crack_index.proofs.Sides.{Rising-before, Rising-behind}
 
--- a change that leaves a mark leaves what is found there
-slice_get-kept : (f : Mark → Mark) (marks : List Mark) (at : ℕ) → (at < length marks → f (get_or marks at no_mark) ≡ get_or marks at no_mark) → slice_get (map f marks) at ≡ slice_get marks at
-slice_get-kept f [] at same = refl
-slice_get-kept f (m ∷ ms) zero same = ap (λ (n : Mark). Some n) (same (omega arith))
-slice_get-kept f (m ∷ ms) (suc n) same = slice_get-kept f ms n (λ h. same (omega arith))
+-- Steps over a list
 
-slice_get-past : (marks : List Mark) (at : ℕ) → length marks ≤ at → slice_get marks at ≡ None
-slice_get-past [] at h = refl
-slice_get-past (m ∷ ms) zero h = absurd (omega arith)
-slice_get-past (m ∷ ms) (suc n) h = slice_get-past ms n (omega arith)
+-- those over one list, and then those over another
+pub Goes-append : {V : Type 0} (step : Mark → Way → V → Mark → Way → V → Type 0) (xs xs' ys ys' : List Mark) (a b c : Way) (u v w : V) → Goes step xs a u xs' b v → Goes step ys b v ys' c w → Goes step (xs ++ ys) a u (xs' ++ ys') c w
+Goes-append step xs xs' ys ys' a b c u v w (Goes.here way x) rest = rest
+Goes-append step xs xs' ys ys' a b c u v w (Goes.more m m' ms ms' d e f x y z first onward) rest =
+    Goes.more m m' (ms ++ ys) (ms' ++ ys') d e c x y w first (Goes-append step ms ms' ys ys' e f c y z w onward rest)
 
--- the marks from one on that stand at its place moved up
-pub record IsLevelUp (marks : List Mark) (start end : ℕ) (new : List Mark) : Type 0 where
-  pub moved : new ≡ map (raised (get_or marks start no_mark).bound.0 (get_or marks start no_mark).position) marks
-  pub next : slice_get new end ≡ first_behind (get_or marks start no_mark).position marks
-  pub rising : Rising new
+-- those that leave all as it is
+pub Goes-stay : {V : Type 0} (step : Mark → Way → V → Mark → Way → V → Type 0) (xs : List Mark) (a : Way) (u : V) → All (λ m. step m a u m a u) xs → Goes step xs a u xs a u
+Goes-stay step [] a u all = Goes.here a u
+Goes-stay step (m ∷ ms) a u all = Goes.more m m ms ms a a a u u u (All-head (λ x. step x a u x a u) m ms all) (Goes-stay step ms a u (All-tail (λ x. step x a u x a u) m ms all))
 
-pub level_up : (marks : List Mark) (start end : ℕ) (mid : List Mark) → Rising marks → start < length marks → end ≤ length marks
-    → IsPartitionPoint (λ (n : Mark). n.position ≤ (get_or marks start no_mark).position) (λ n. (get_or marks start no_mark).position < n.position) marks end
-    → mid ≡ map one_up (between start end marks)
-    → IsLevelUp marks start end (take start marks ++ (mid ++ drop (end - start) (drop start marks)))
-level_up marks start end mid rising inside within split is =
-    let m = get_or marks start no_mark in
-    let moves = Moves-raised_at marks m start end rising (record { within = inside; is = refl }) within split in
-    let moved : take start marks ++ (mid ++ drop (end - start) (drop start marks)) ≡ map (raised m.bound.0 m.position) marks = rw is (sym moves.moved) in
-    let stays = slice_get-kept (raised m.bound.0 m.position) marks end (λ h. raised_apart m.bound.0 m.position (get_or marks end no_mark) (λ e. absurd (let past = split.1 end no_mark (omega arith) h in omega (arith, e)))) in
+pub Goes-length : {V : Type 0} (step : Mark → Way → V → Mark → Way → V → Type 0) (xs xs' : List Mark) (a b : Way) (u v : V) → Goes step xs a u xs' b v → length xs' ≡ length xs
+Goes-length step xs xs' a b u v (Goes.here way x) = refl
+Goes-length step xs xs' a b u v (Goes.more m m' ms ms' d e f x y z first onward) = ap suc (Goes-length step ms ms' e f y z onward)
+
+-- on the nearer side of a mark, at it, and on the farther side
+pub Goes-node : {V : Type 0} (step : Mark → Way → V → Mark → Way → V → Type 0) (xs xs' : List Mark) (m m' : Mark) (ys ys' : List Mark) (a b c d : Way) (u v w x : V) → Goes step xs a u xs' b v → step m b v m' c w → Goes step ys c w ys' d x → Goes step (xs ++ m ∷ ys) a u (xs' ++ m' ∷ ys') d x
+Goes-node step xs xs' m m' ys ys' a b c d u v w x near at far =
+    Goes-append step xs xs' (m ∷ ys) (m' ∷ ys') a b d u v x near (Goes.more m m' ys ys' b c d v w x at far)
+
+-- on the farther side alone
+pub Goes-far : {V : Type 0} (step : Mark → Way → V → Mark → Way → V → Type 0) (xs : List Mark) (m : Mark) (ys ys' : List Mark) (a b : Way) (u v : V) → All (λ n. step n a u n a u) xs → step m a u m a u → Goes step ys a u ys' b v → Goes step (xs ++ m ∷ ys) a u (xs ++ m ∷ ys') b v
+Goes-far step xs m ys ys' a b u v near at far = Goes-node step xs xs m m ys ys' a a a b u u u v (Goes-stay step xs a u near) at far
+
+-- on the nearer side and no further
+pub Goes-near : {V : Type 0} (step : Mark → Way → V → Mark → Way → V → Type 0) (xs xs' : List Mark) (m : Mark) (ys : List Mark) (a b : Way) (u v : V) → Goes step xs a u xs' b v → ((n : Mark) → step n b v n b v) → Goes step (xs ++ m ∷ ys) a u (xs' ++ m ∷ ys) b v
+Goes-near step xs xs' m ys a b u v near over = Goes-node step xs xs' m m ys ys a b b b u v v v near (over m) (Goes-stay step ys b v (λ k n h. over (get_or ys k n)))
+
+-- as far as the mark, and no further
+pub Goes-middle : {V : Type 0} (step : Mark → Way → V → Mark → Way → V → Type 0) (xs xs' : List Mark) (m m' : Mark) (ys : List Mark) (a b c : Way) (u v w : V) → Goes step xs a u xs' b v → step m b v m' c w → ((n : Mark) → step n c w n c w) → Goes step (xs ++ m ∷ ys) a u (xs' ++ m' ∷ ys) c w
+Goes-middle step xs xs' m m' ys a b c u v w near at over = Goes-node step xs xs' m m' ys ys a b c c u v w w near at (Goes-stay step ys c w (λ k n h. over (get_or ys k n)))
+
+-- The other way round
+
+pub reverse-more : (m : Mark) (ms ns : List Mark) → reverse (m ∷ ms) ++ ns ≡ reverse ms ++ m ∷ ns
+reverse-more m ms ns = ap (λ (xs : List Mark). xs ++ ns) (reverse-append (m ∷ []) ms) ∙ append_assoc (reverse ms) (m ∷ []) ns
+
+pub reverse-node : (l : List Mark) (m : Mark) (r : List Mark) → reverse (l ++ m ∷ r) ≡ reverse r ++ m ∷ reverse l
+reverse-node l m r = reverse-append l (m ∷ r) ∙ reverse-more m r (reverse l)
+
+pub Goes-back : {V : Type 0} (step : Mark → Way → V → Mark → Way → V → Type 0) (l l' : List Mark) (m m' : Mark) (r r' : List Mark) (a b : Way) (u v : V) → Goes step (reverse r ++ m ∷ reverse l) a u (reverse r' ++ m' ∷ reverse l') b v → Goes step (reverse (l ++ m ∷ r)) a u (reverse (l' ++ m' ∷ r')) b v
+Goes-back step l l' m m' r r' a b u v goes = rw (reverse-node l m r, reverse-node l' m' r') goes
+
+All-reverse : (P : Mark → Type 0) (xs : List Mark) → All P xs → All P (reverse xs)
+All-reverse P xs all = λ k d h.
+    let long = length-reverse xs in
+    rw (get_or-reverse xs k d (omega arith)) (all (length xs - 1 - k) d (omega arith))
+
+pub All-unreverse : (P : Mark → Type 0) (xs : List Mark) → All P (reverse xs) → All P xs
+All-unreverse P xs all = subst (λ (ys : List Mark). All P ys) (reverse-reverse xs) (All-reverse P (reverse xs) all)
+
+-- Order
+
+-- pairs in order from the front are in order from the back
+AllPairs-reverse : (R : Mark → Mark → Type 0) (xs : List Mark) → AllPairs R xs → AllPairs (λ m n. R n m) (reverse xs)
+AllPairs-reverse R xs pairs = λ i j d h k.
+    let long = length-reverse xs in
+    rw (get_or-reverse xs i d (omega arith), get_or-reverse xs j d (omega arith)) (pairs (length xs - 1 - j) (length xs - 1 - i) d (omega arith) (omega arith))
+
+AllPairs-cons : (R : Mark → Mark → Type 0) (m : Mark) (ms : List Mark) → All (R m) ms → AllPairs R ms → AllPairs R (m ∷ ms)
+AllPairs-cons R m ms first rest zero zero d h k = absurd (omega arith)
+AllPairs-cons R m ms first rest zero (suc j) d h k = first j d (omega arith)
+AllPairs-cons R m ms first rest (suc i) zero d h k = absurd (omega arith)
+AllPairs-cons R m ms first rest (suc i) (suc j) d h k = rest i j d (omega arith) (omega arith)
+
+AllPairs-tail : (R : Mark → Mark → Type 0) (m : Mark) (ms : List Mark) → AllPairs R (m ∷ ms) → AllPairs R ms
+AllPairs-tail R m ms pairs = λ i j d h k. pairs (suc i) (suc j) d (omega arith) (omega arith)
+
+-- steps that keep two neighbours in order keep all
+module _ {V : Type 0} (step : Mark → Way → V → Mark → Way → V → Type 0) (R : Mark → Mark → Type 0) (trans : (k m n : Mark) → R k m → R m n → R k n)
+    (keeps : (m m' n n' : Mark) (a b c : Way) (u v w : V) → step m a u m' b v → step n b v n' c w → R m n → R m' n') where
+  Goes-ordered : (xs xs' : List Mark) (a b : Way) (u v : V) → Goes step xs a u xs' b v → AllPairs R xs → AllPairs R xs'
+  Goes-ordered xs xs' a b u v (Goes.here way x) pairs = pairs
+  Goes-ordered xs xs' a b u v (Goes.more m m' ms ms' d e f x y z first (Goes.here way o)) pairs = AllPairs-cons R m' [] (All-nil (R m')) (λ i j t h k. absurd (omega arith))
+  Goes-ordered xs xs' a b u v (Goes.more m m' ms ms' d e f x y z first (Goes.more n n' ns ns' g h i o p q second rest)) pairs =
+      let tail = Goes-ordered (n ∷ ns) (n' ∷ ns') g i o q (Goes.more n n' ns ns' g h i o p q second rest) (AllPairs-tail R m (n ∷ ns) pairs) in
+      let next : R m' n' = keeps m m' n n' d g h x o p first second (pairs zero (suc zero) n (omega arith) (omega arith)) in
+      AllPairs-cons R m' (n' ∷ ns') (All-cons (R m') n' ns' next (λ k t l. trans m' n' (get_or ns' k t) next (tail zero (suc k) t (omega arith) (omega arith)))) tail
+
+InOrder-trans : (k m n : Mark) → InOrder k m → InOrder m n → InOrder k n
+InOrder-trans k m n first second = record { bounds = omega (arith, first.bounds, second.bounds); positions = omega (arith, first.positions, second.positions) }
+
+-- what a step up leaves of a mark: it, or it moved, which is what the next one sees
+up-moves : {V : Type 0} (visits : V → ℕ → Bool → V → Type 0) (number : ℕ) (m m' : Mark) (a b : Way) (u v : V) → StepsUp visits number m a u m' b v → (m' ≡ m) ⊎ ((m' ≡ one_up m) × (number < m.bound.0) × (b.ended ≡ None) × (b.last ≡ m.position))
+up-moves visits number m m' a b u v (StepsUp.apart n way x below) = inl refl
+up-moves visits number m m' a b u v (StepsUp.over n e way x is) = inl refl
+up-moves visits number m m' a b u v (StepsUp.along n way x above going at) = inr (refl, above, going, sym at)
+up-moves visits number m m' a b u v (StepsUp.goes_on n way x y above going apart told) = inr (refl, above, going, refl)
+up-moves visits number m m' a b u v (StepsUp.stops n way x y above going apart told) = inl refl
+
+up-bound : {V : Type 0} (visits : V → ℕ → Bool → V → Type 0) (number : ℕ) (m m' : Mark) (a b : Way) (u v : V) → StepsUp visits number m a u m' b v → (m'.bound.0 ≡ m.bound.0) × (m.position ≤ m'.position)
+up-bound visits number m m' a b u v (StepsUp.apart n way x below) = (refl, omega arith)
+up-bound visits number m m' a b u v (StepsUp.over n e way x is) = (refl, omega arith)
+up-bound visits number m m' a b u v (StepsUp.along n way x above going at) = (refl, omega arith)
+up-bound visits number m m' a b u v (StepsUp.goes_on n way x y above going apart told) = (refl, omega arith)
+up-bound visits number m m' a b u v (StepsUp.stops n way x y above going apart told) = (refl, omega arith)
+
+-- behind a mark that moved, a mark at its place moves, too
+up-behind : {V : Type 0} (visits : V → ℕ → Bool → V → Type 0) (number : ℕ) (m m' : Mark) (a b : Way) (u v : V) → StepsUp visits number m a u m' b v → number < m.bound.0 → a.ended ≡ None → a.last ≤ m.position → a.last < m'.position
+up-behind visits number m m' a b u v (StepsUp.apart n way x below) above going behind = absurd (omega arith)
+up-behind visits number m m' a b u v (StepsUp.over n e way x is) above going behind = absurd (let both : Some e ≡ None = sym is ∙ going in cc)
+up-behind visits number m m' a b u v (StepsUp.along n way x above' going' at) above going behind = omega arith
+up-behind visits number m m' a b u v (StepsUp.goes_on n way x y above' going' apart told) above going behind = omega arith
+up-behind visits number m m' a b u v (StepsUp.stops n way x y above' going' apart told) above going behind = omega (arith, apart)
+
+up-order : {V : Type 0} (visits : V → ℕ → Bool → V → Type 0) (number : ℕ) (m m' n n' : Mark) (a b c : Way) (u v w : V) → StepsUp visits number m a u m' b v → StepsUp visits number n b v n' c w → InOrder m n → InOrder m' n'
+up-order visits number m m' n n' a b c u v w first second order =
+    let at : Mark → ℕ = λ x. x.position in
+    let one = up-bound visits number m m' a b u v first in
+    let two = up-bound visits number n n' b c v w second in
     record {
-      moved = moved;
-      next = rw moved (stays ∙ sym (first_behind-split marks m.position end within split));
-      rising = rw moved (Rising-raised m.bound.0 m.position marks rising);
+      bounds = omega (arith, one.0, two.0, order.bounds);
+      positions = elim (up-moves visits number m m' a b u v first) [
+        | inl same ↦ omega (arith, ap at same, two.1, order.positions)
+        | inr moved ↦ omega (arith, ap at moved.0, moved.3, up-behind visits number n n' b c v w second (omega (arith, moved.1, order.bounds)) moved.2 (omega (arith, moved.3, order.positions)))
+      ];
     }
 
--- the marks up to one that stand at its place moved down
-pub record IsLevelDown (marks : List Mark) (start last : ℕ) (new : List Mark) : Type 0 where
-  pub moved : new ≡ map (lowered (get_or marks last no_mark).bound.0 (get_or marks last no_mark).position) marks
-  pub next : slice_get (take start new) (start - 1) ≡ last_before (get_or marks last no_mark).position marks
-  pub rising : Rising new
+pub Rising-up : {V : Type 0} (visits : V → ℕ → Bool → V → Type 0) (number : ℕ) (xs xs' : List Mark) (a b : Way) (u v : V) → Goes (StepsUp visits number) xs a u xs' b v → Rising xs → Rising xs'
+Rising-up visits number xs xs' a b u v goes rising = Goes-ordered (StepsUp visits number) InOrder InOrder-trans (up-order visits number) xs xs' a b u v goes rising
 
--- the last of the first marks, so many
-abbrev before : List Mark → ℕ → Option Mark
-before marks start = slice_get (take start marks) (start - 1)
+-- likewise down
+down-moves : {V : Type 0} (visits : V → ℕ → Bool → V → Type 0) (number : ℕ) (m m' : Mark) (a b : Way) (u v : V) → StepsDown visits number m a u m' b v → (m' ≡ m) ⊎ ((m' ≡ one_down m) × (m.bound.0 ≤ number) × (b.ended ≡ None) × (b.last ≡ m.position))
+down-moves visits number m m' a b u v (StepsDown.apart n way x above) = inl refl
+down-moves visits number m m' a b u v (StepsDown.over n e way x is) = inl refl
+down-moves visits number m m' a b u v (StepsDown.front n way x below going at) = inl refl
+down-moves visits number m m' a b u v (StepsDown.along n way x below going some at) = inr (refl, below, going, sym at)
+down-moves visits number m m' a b u v (StepsDown.goes_on n way x y below going some apart told) = inr (refl, below, going, refl)
+down-moves visits number m m' a b u v (StepsDown.stops n way x y below going some apart told) = inl refl
 
-before-kept : (f : Mark → Mark) (marks : List Mark) (start : ℕ) → (0 < start → start - 1 < length marks → f (get_or marks (start - 1) no_mark) ≡ get_or marks (start - 1) no_mark) → before (map f marks) start ≡ before marks start
-before-kept f marks zero same = refl
-before-kept f marks (suc n) same =
-    let end : suc n - 1 ≡ n = omega arith in
-    rw (end, slice_get-begin (map f marks) (suc n) n (omega arith), slice_get-begin marks (suc n) n (omega arith)) (slice_get-kept f marks n (λ h. rw end at (same (omega arith)) (omega arith)))
+down-bound : {V : Type 0} (visits : V → ℕ → Bool → V → Type 0) (number : ℕ) (m m' : Mark) (a b : Way) (u v : V) → StepsDown visits number m a u m' b v → (m'.bound.0 ≡ m.bound.0) × (m'.position ≤ m.position)
+down-bound visits number m m' a b u v (StepsDown.apart n way x above) = (refl, omega arith)
+down-bound visits number m m' a b u v (StepsDown.over n e way x is) = (refl, omega arith)
+down-bound visits number m m' a b u v (StepsDown.front n way x below going at) = (refl, omega arith)
+down-bound visits number m m' a b u v (StepsDown.along n way x below going some at) = (refl, omega arith)
+down-bound visits number m m' a b u v (StepsDown.goes_on n way x y below going some apart told) = (refl, omega arith)
+down-bound visits number m m' a b u v (StepsDown.stops n way x y below going some apart told) = (refl, omega arith)
 
-pub level_down : (marks : List Mark) (start last : ℕ) (mid : List Mark) → Rising marks → last < length marks → start ≤ last
-    → IsPartitionPoint (λ (n : Mark). n.position < (get_or marks last no_mark).position) (λ n. (get_or marks last no_mark).position ≤ n.position) marks start
-    → mid ≡ map one_down (between start (last + 1) marks)
-    → IsLevelDown marks start last (take start marks ++ (mid ++ drop (last + 1 - start) (drop start marks)))
-level_down marks start last mid rising inside order split is =
-    let m = get_or marks last no_mark in
-    let moves = Moves-lowered_from marks m start last rising (record { within = inside; is = refl }) split in
-    let moved : take start marks ++ (mid ++ drop (last + 1 - start) (drop start marks)) ≡ map (lowered m.bound.0 m.position) marks = rw is (sym moves.moved) in
-    let stays = before-kept (lowered m.bound.0 m.position) marks start (λ h k. lowered_apart m.bound.0 m.position (get_or marks (start - 1) no_mark) (λ e. absurd (let under = split.0 (start - 1) no_mark (omega arith) (omega arith) in omega (arith, e)))) in
+down-before : {V : Type 0} (visits : V → ℕ → Bool → V → Type 0) (number : ℕ) (m m' : Mark) (a b : Way) (u v : V) → StepsDown visits number m a u m' b v → m.bound.0 ≤ number → a.ended ≡ None → m.position ≤ a.last → m'.position ≤ a.last - 1
+down-before visits number m m' a b u v (StepsDown.apart n way x above) below going before = absurd (omega arith)
+down-before visits number m m' a b u v (StepsDown.over n e way x is) below going before = absurd (let both : Some e ≡ None = sym is ∙ going in cc)
+down-before visits number m m' a b u v (StepsDown.front n way x below' going' at) below going before = omega (arith, at)
+down-before visits number m m' a b u v (StepsDown.along n way x below' going' some at) below going before = omega arith
+down-before visits number m m' a b u v (StepsDown.goes_on n way x y below' going' some apart told) below going before = omega arith
+down-before visits number m m' a b u v (StepsDown.stops n way x y below' going' some apart told) below going before = omega (arith, apart)
+
+down-order : {V : Type 0} (visits : V → ℕ → Bool → V → Type 0) (number : ℕ) (m m' n n' : Mark) (a b c : Way) (u v w : V) → StepsDown visits number m a u m' b v → StepsDown visits number n b v n' c w → InOrder n m → InOrder n' m'
+down-order visits number m m' n n' a b c u v w first second order =
+    let at : Mark → ℕ = λ x. x.position in
+    let one = down-bound visits number m m' a b u v first in
+    let two = down-bound visits number n n' b c v w second in
     record {
-      moved = moved;
-      next = rw moved (stays ∙ sym (last_before-split marks m.position start (omega arith) split));
-      rising = rw moved (Rising-lowered m.bound.0 m.position marks rising);
+      bounds = omega (arith, one.0, two.0, order.bounds);
+      positions = elim (down-moves visits number m m' a b u v first) [
+        | inl same ↦ omega (arith, ap at same, two.1, order.positions)
+        | inr moved ↦ omega (arith, ap at moved.0, moved.3, down-before visits number n n' b c v w second (omega (arith, moved.1, order.bounds)) moved.2 (omega (arith, moved.3, order.positions)))
+      ];
     }
 
--- a walk up that goes on from one of the marks
-pub climbs_on : {V : Type 0} (visits : V → ℕ → Bool → V → Type 0) (marks new : List Mark) (at next : ℕ) (last : Option Mark) (marks' : List Mark) (v w x : V) → at < length marks
-    → visits v (get_or marks at no_mark).position true w
-    → new ≡ map (raised (get_or marks at no_mark).bound.0 (get_or marks at no_mark).position) marks
-    → slice_get new next ≡ first_behind (get_or marks at no_mark).position marks
-    → Climbs visits (slice_get new next) new w last marks' x
-    → Climbs visits (slice_get marks at) marks v last marks' x
-climbs_on visits marks new at next last marks' v w x h told is_new is_next rest =
-    rw (slice_get-get_or marks at no_mark h) (Climbs.goes_on (get_or marks at no_mark) last marks marks' v w x told (rw (is_next, is_new) at rest))
+pub Rising-down : {V : Type 0} (visits : V → ℕ → Bool → V → Type 0) (number : ℕ) (xs xs' : List Mark) (a b : Way) (u v : V) → Goes (StepsDown visits number) (reverse xs) a u (reverse xs') b v → Rising xs → Rising xs'
+Rising-down visits number xs xs' a b u v goes rising =
+    let falling = Goes-ordered (StepsDown visits number) (λ m n. InOrder n m) (λ k m n first second. InOrder-trans n m k second first) (down-order visits number) (reverse xs) (reverse xs') a b u v goes (AllPairs-reverse InOrder xs rising) in
+    subst (λ (ys : List Mark). Rising ys) (reverse-reverse xs') (AllPairs-reverse (λ m n. InOrder n m) (reverse xs') falling)
 
--- a walk up that ends at one of the marks
-pub climbs_stop : {V : Type 0} (visits : V → ℕ → Bool → V → Type 0) (marks : List Mark) (at : ℕ) (v w : V) → at < length marks
-    → visits v (get_or marks at no_mark).position false w
-    → Climbs visits (slice_get marks at) marks v (slice_get marks at) marks w
-climbs_stop visits marks at v w h told = rw (slice_get-get_or marks at no_mark h) (Climbs.stops (get_or marks at no_mark) marks v w told)
+-- Where a walk has ended
 
--- a walk up that comes to the end of the marks
-pub climbs_end : {V : Type 0} (visits : V → ℕ → Bool → V → Type 0) (marks : List Mark) (at : ℕ) (v : V) → length marks ≤ at → Climbs visits (slice_get marks at) marks v None marks v
-climbs_end visits marks at v h = rw (slice_get-past marks at h) (Climbs.ends marks v)
+pub up-over : {V : Type 0} (visits : V → ℕ → Bool → V → Type 0) (number : ℕ) (m m' e : Mark) (a b : Way) (u v : V) → StepsUp visits number m a u m' b v → a.ended ≡ Some e → (m' ≡ m) × (b ≡ a) × (v ≡ u)
+up-over visits number m m' e a b u v (StepsUp.apart n way x below) is = (refl, refl, refl)
+up-over visits number m m' e a b u v (StepsUp.over n f way x at) is = (refl, refl, refl)
+up-over visits number m m' e a b u v (StepsUp.along n way x above going at) is = absurd (let both : Some e ≡ None = sym is ∙ going in cc)
+up-over visits number m m' e a b u v (StepsUp.goes_on n way x y above going apart told) is = absurd (let both : Some e ≡ None = sym is ∙ going in cc)
+up-over visits number m m' e a b u v (StepsUp.stops n way x y above going apart told) is = absurd (let both : Some e ≡ None = sym is ∙ going in cc)
 
--- the mark that was found is one of the marks
-pub found_there : (found : Option NearBound) (marks : List Mark) (at : ℕ) → at < length marks → near_mark found ≡ slice_get marks at → IfSome found (λ n. Contains marks n.mark)
-found_there found marks at h is = of_found (λ m. Contains marks m) found (slice_get marks at) is (λ m e.
-    let same : Some (get_or marks at no_mark) ≡ Some m = sym (slice_get-get_or marks at no_mark h) ∙ e in
-    let one : get_or marks at no_mark ≡ m = cc in
-    rw one at (Contains-get_or marks at no_mark h))
+pub down-over : {V : Type 0} (visits : V → ℕ → Bool → V → Type 0) (number : ℕ) (m m' e : Mark) (a b : Way) (u v : V) → StepsDown visits number m a u m' b v → a.ended ≡ Some e → (m' ≡ m) × (b ≡ a) × (v ≡ u)
+down-over visits number m m' e a b u v (StepsDown.apart n way x above) is = (refl, refl, refl)
+down-over visits number m m' e a b u v (StepsDown.over n f way x at) is = (refl, refl, refl)
+down-over visits number m m' e a b u v (StepsDown.front n way x below going at) is = absurd (let both : Some e ≡ None = sym is ∙ going in cc)
+down-over visits number m m' e a b u v (StepsDown.along n way x below going some at) is = absurd (let both : Some e ≡ None = sym is ∙ going in cc)
+down-over visits number m m' e a b u v (StepsDown.goes_on n way x y below going some apart told) is = absurd (let both : Some e ≡ None = sym is ∙ going in cc)
+down-over visits number m m' e a b u v (StepsDown.stops n way x y below going some apart told) is = absurd (let both : Some e ≡ None = sym is ∙ going in cc)
 
--- where the last of so many marks is
-before-at : (marks : List Mark) (end : ℕ) → 0 < end → end - 1 < length marks → before marks end ≡ Some (get_or marks (end - 1) no_mark)
-before-at marks end h k = slice_get-begin marks end (end - 1) (omega arith) ∙ slice_get-get_or marks (end - 1) no_mark k
+-- steps that leave all as it is leave all lists so
+module _ {V : Type 0} (step : Mark → Way → V → Mark → Way → V → Type 0) (a : Way) (u : V) (stays : (m m' : Mark) (b : Way) (v : V) → step m a u m' b v → (m' ≡ m) × (b ≡ a) × (v ≡ u)) where
+  pub Goes-over : (xs xs' : List Mark) (c b : Way) (w v : V) → Goes step xs c w xs' b v → c ≡ a → w ≡ u → (xs' ≡ xs) × (b ≡ a) × (v ≡ u)
+  Goes-over xs xs' c b w v (Goes.here way x) is_way is_visitor = (refl, is_way, is_visitor)
+  Goes-over xs xs' c b w v (Goes.more m m' ms ms' d e f x y z first onward) is_way is_visitor =
+      let one = stays m m' e y (rw (is_way, is_visitor) at first) in
+      let rest = Goes-over ms ms' e f y z onward one.1 one.2 in
+      (rw (one.0, rest.0) refl, rest.1, rest.2)
 
--- a walk down that goes on from one of the marks
-pub descends_on : {V : Type 0} (visits : V → ℕ → Bool → V → Type 0) (marks new : List Mark) (end next : ℕ) (last : Option Mark) (marks' : List Mark) (v w x : V) → 0 < end → end - 1 < length marks
-    → 0 < (get_or marks (end - 1) no_mark).position
-    → visits v ((get_or marks (end - 1) no_mark).position - 1) true w
-    → new ≡ map (lowered (get_or marks (end - 1) no_mark).bound.0 (get_or marks (end - 1) no_mark).position) marks
-    → slice_get (take next new) (next - 1) ≡ last_before (get_or marks (end - 1) no_mark).position marks
-    → Descends visits (slice_get (take next new) (next - 1)) new w last marks' x
-    → Descends visits (slice_get (take end marks) (end - 1)) marks v last marks' x
-descends_on visits marks new end next last marks' v w x h k above told is_new is_next rest =
-    rw (before-at marks end h k) (Descends.goes_on (get_or marks (end - 1) no_mark) last marks marks' v w x above told (rw (is_next, is_new) at rest))
+-- A walk over a node
 
--- a walk down that ends at one of the marks
-pub descends_stop : {V : Type 0} (visits : V → ℕ → Bool → V → Type 0) (marks : List Mark) (end : ℕ) (v w : V) → 0 < end → end - 1 < length marks
-    → 0 < (get_or marks (end - 1) no_mark).position
-    → visits v ((get_or marks (end - 1) no_mark).position - 1) false w
-    → Descends visits (slice_get (take end marks) (end - 1)) marks v (slice_get (take end marks) (end - 1)) marks w
-descends_stop visits marks end v w h k above told = rw (before-at marks end h k) (Descends.stops (get_or marks (end - 1) no_mark) marks v w above told)
+pub All-left : (P : Mark → Type 0) (l : List Mark) (m : Mark) (r : List Mark) → All P (l ++ m ∷ r) → All P l
+All-left P [] m r all = All-nil P
+All-left P (x ∷ l) m r all = All-cons P x l (All-head P x (l ++ m ∷ r) all) (All-left P l m r (All-tail P x (l ++ m ∷ r) all))
 
--- a walk down that ends at one that stands at the front
-pub descends_front : {V : Type 0} (visits : V → ℕ → Bool → V → Type 0) (marks : List Mark) (end : ℕ) (v : V) → 0 < end → end - 1 < length marks
-    → (get_or marks (end - 1) no_mark).position ≡ 0
-    → Descends visits (slice_get (take end marks) (end - 1)) marks v (slice_get (take end marks) (end - 1)) marks v
-descends_front visits marks end v h k at = rw (before-at marks end h k) (Descends.front (get_or marks (end - 1) no_mark) marks v at)
+pub All-here : (P : Mark → Type 0) (l : List Mark) (m : Mark) (r : List Mark) → All P (l ++ m ∷ r) → P m
+All-here P [] m r all = All-head P m r all
+All-here P (x ∷ l) m r all = All-here P l m r (All-tail P x (l ++ m ∷ r) all)
 
--- a walk down that comes to the front of the marks
-pub descends_end : {V : Type 0} (visits : V → ℕ → Bool → V → Type 0) (marks : List Mark) (end : ℕ) (v : V) → end ≡ 0 → Descends visits (slice_get (take end marks) (end - 1)) marks v None marks v
-descends_end visits marks end v h = rw h (Descends.ends marks v)
+pub All-right : (P : Mark → Type 0) (l : List Mark) (m : Mark) (r : List Mark) → All P (l ++ m ∷ r) → All P r
+All-right P [] m r all = All-tail P m r all
+All-right P (x ∷ l) m r all = All-right P l m r (All-tail P x (l ++ m ∷ r) all)
 
--- the last of so many marks is one of the marks
-pub before_there : (found : Option NearBound) (marks : List Mark) (end : ℕ) → 0 < end → end - 1 < length marks → near_mark found ≡ slice_get (take end marks) (end - 1) → IfSome found (λ n. Contains marks n.mark)
-before_there found marks end h k is = found_there found marks (end - 1) k (is ∙ slice_get-begin marks end (end - 1) (omega arith))
+some-is : (o : Option Mark) → is_some o ≡ true → (e : Mark) × (o ≡ Some e)
+some-is None is = absurd (cc)
+some-is (Some e) is = (e, refl)
+
+pub none-is : (o : Option Mark) → is_some o ≡ false → o ≡ None
+none-is None is = refl
+none-is (Some e) is = absurd (cc)
+
+module _ {V : Type 0} (visits : V → ℕ → Bool → V → Type 0) (number : ℕ) (whole l : List Mark) (m : Mark) (r : List Mark) (is : l ++ m ∷ r ≡ whole) where
+  -- up: to the right of the node alone, to the left and no further, as far as the mark, and all the way
+  pub up-far : (r' : List Mark) (a b : Way) (u v : V) → Rising (l ++ m ∷ r) → m.bound.0 ≤ number → Goes (StepsUp visits number) r a u r' b v → Goes (StepsUp visits number) whole a u (l ++ m ∷ r') b v
+  up-far r' a b u v rising below goes =
+      rw (← is) (Goes-far (StepsUp visits number) l m r r' a b u v (λ k d h. StepsUp.apart (get_or l k d) a u (omega (arith, (Rising-before l m r rising k d h).bounds, below))) (StepsUp.apart m a u below) goes)
+
+  pub up-near : (l' : List Mark) (a b : Way) (u v : V) → Goes (StepsUp visits number) l a u l' b v → is_some b.ended ≡ true → Goes (StepsUp visits number) whole a u (l' ++ m ∷ r) b v
+  up-near l' a b u v goes ended =
+      let e = some-is b.ended ended in
+      rw (← is) (Goes-near (StepsUp visits number) l l' m r a b u v goes (λ n. StepsUp.over n e.0 b v e.1))
+
+  pub up-middle : (l' : List Mark) (m' : Mark) (a b c : Way) (u v w : V) → Goes (StepsUp visits number) l a u l' b v → StepsUp visits number m b v m' c w → is_some c.ended ≡ true → Goes (StepsUp visits number) whole a u (l' ++ m' ∷ r) c w
+  up-middle l' m' a b c u v w goes at ended =
+      let e = some-is c.ended ended in
+      rw (← is) (Goes-middle (StepsUp visits number) l l' m m' r a b c u v w goes at (λ n. StepsUp.over n e.0 c w e.1))
+
+  pub up-all : (l' : List Mark) (m' : Mark) (r' : List Mark) (a b c d : Way) (u v w x : V) → Goes (StepsUp visits number) l a u l' b v → StepsUp visits number m b v m' c w → Goes (StepsUp visits number) r c w r' d x → Goes (StepsUp visits number) whole a u (l' ++ m' ∷ r') d x
+  up-all l' m' r' a b c d u v w x near at far = rw (← is) (Goes-node (StepsUp visits number) l l' m m' r r' a b c d u v w x near at far)
+
+  -- down, likewise
+  pub down-far : (l' : List Mark) (a b : Way) (u v : V) → Rising (l ++ m ∷ r) → number < m.bound.0 → Goes (StepsDown visits number) (reverse l) a u (reverse l') b v → Goes (StepsDown visits number) (reverse whole) a u (reverse (l' ++ m ∷ r)) b v
+  down-far l' a b u v rising above goes =
+      rw (← is) (Goes-back (StepsDown visits number) l l' m m r r a b u v
+      (Goes-far (StepsDown visits number) (reverse r) m (reverse l) (reverse l') a b u v (All-reverse (λ n. StepsDown visits number n a u n a u) r (λ k d h. StepsDown.apart (get_or r k d) a u (omega (arith, (Rising-behind l m r rising k d h).bounds, above)))) (StepsDown.apart m a u above) goes))
+
+  pub down-near : (r' : List Mark) (a b : Way) (u v : V) → Goes (StepsDown visits number) (reverse r) a u (reverse r') b v → is_some b.ended ≡ true → Goes (StepsDown visits number) (reverse whole) a u (reverse (l ++ m ∷ r')) b v
+  down-near r' a b u v goes ended =
+      let e = some-is b.ended ended in
+      rw (← is) (Goes-back (StepsDown visits number) l l m m r r' a b u v (Goes-near (StepsDown visits number) (reverse r) (reverse r') m (reverse l) a b u v goes (λ n. StepsDown.over n e.0 b v e.1)))
+
+  pub down-middle : (r' : List Mark) (m' : Mark) (a b c : Way) (u v w : V) → Goes (StepsDown visits number) (reverse r) a u (reverse r') b v → StepsDown visits number m b v m' c w → is_some c.ended ≡ true → Goes (StepsDown visits number) (reverse whole) a u (reverse (l ++ m' ∷ r')) c w
+  down-middle r' m' a b c u v w goes at ended =
+      let e = some-is c.ended ended in
+      rw (← is) (Goes-back (StepsDown visits number) l l m m' r r' a c u w (Goes-middle (StepsDown visits number) (reverse r) (reverse r') m m' (reverse l) a b c u v w goes at (λ n. StepsDown.over n e.0 c w e.1)))
+
+  pub down-all : (l' : List Mark) (m' : Mark) (r' : List Mark) (a b c d : Way) (u v w x : V) → Goes (StepsDown visits number) (reverse r) a u (reverse r') b v → StepsDown visits number m b v m' c w → Goes (StepsDown visits number) (reverse l) c w (reverse l') d x → Goes (StepsDown visits number) (reverse whole) a u (reverse (l' ++ m' ∷ r')) d x
+  down-all l' m' r' a b c d u v w x near at far =
+      rw (← is) (Goes-back (StepsDown visits number) l l' m m' r r' a d u x (Goes-node (StepsDown visits number) (reverse r) (reverse r') m m' (reverse l) (reverse l') a b c d u v w x near at far))
+
+-- the node is as balanced as before
+pub IsBalanced-walked : (l l2 : Option (Box Grown Global)) (m m2 : Mark) (r r2 : Option (Box Grown Global)) (h : ℕ) → Rising (marks_of l2 ++ m2 ∷ marks_of r2) → length (marks_of l2 ++ m2 ∷ marks_of r2) ≡ length (marks_of l ++ m ∷ marks_of r)
+    → height_of l2 ≡ height_of l → height_of r2 ≡ height_of r → IsBalanced l m r h → IsBalanced l2 m2 r2 h
+IsBalanced-walked l l2 m m2 r r2 h rising long left right balanced = record {
+  rising = rising;
+  high = rw (left, right) balanced.high;
+  even = rw (left, right) balanced.even;
+  tall = rw long balanced.tall;
+}
+
+pub IsBalanced-up : {V : Type 0} (visits : V → ℕ → Bool → V → Type 0) (number : ℕ) (l l2 : Option (Box Grown Global)) (m m2 : Mark) (r r2 : Option (Box Grown Global)) (h : ℕ) (a b : Way) (u v : V) → Goes (StepsUp visits number) (marks_of l ++ m ∷ marks_of r) a u (marks_of l2 ++ m2 ∷ marks_of r2) b v
+    → height_of l2 ≡ height_of l → height_of r2 ≡ height_of r → IsBalanced l m r h → IsBalanced l2 m2 r2 h
+IsBalanced-up visits number l l2 m m2 r r2 h a b u v goes left right balanced =
+    IsBalanced-walked l l2 m m2 r r2 h (Rising-up visits number (marks_of l ++ m ∷ marks_of r) (marks_of l2 ++ m2 ∷ marks_of r2) a b u v goes balanced.rising) (Goes-length (StepsUp visits number) (marks_of l ++ m ∷ marks_of r) (marks_of l2 ++ m2 ∷ marks_of r2) a b u v goes) left right balanced
+
+pub length-down : {V : Type 0} (visits : V → ℕ → Bool → V → Type 0) (number : ℕ) (xs xs' : List Mark) (a b : Way) (u v : V) → Goes (StepsDown visits number) (reverse xs) a u (reverse xs') b v → length xs' ≡ length xs
+length-down visits number xs xs' a b u v goes = omega (arith, Goes-length (StepsDown visits number) (reverse xs) (reverse xs') a b u v goes, length-reverse xs, length-reverse xs')
+
+pub IsBalanced-down : {V : Type 0} (visits : V → ℕ → Bool → V → Type 0) (number : ℕ) (l l2 : Option (Box Grown Global)) (m m2 : Mark) (r r2 : Option (Box Grown Global)) (h : ℕ) (a b : Way) (u v : V) → Goes (StepsDown visits number) (reverse (marks_of l ++ m ∷ marks_of r)) a u (reverse (marks_of l2 ++ m2 ∷ marks_of r2)) b v
+    → height_of l2 ≡ height_of l → height_of r2 ≡ height_of r → IsBalanced l m r h → IsBalanced l2 m2 r2 h
+IsBalanced-down visits number l l2 m m2 r r2 h a b u v goes left right balanced =
+    IsBalanced-walked l l2 m m2 r r2 h (Rising-down visits number (marks_of l ++ m ∷ marks_of r) (marks_of l2 ++ m2 ∷ marks_of r2) a b u v goes balanced.rising) (length-down visits number (marks_of l ++ m ∷ marks_of r) (marks_of l2 ++ m2 ∷ marks_of r2) a b u v goes) left right balanced

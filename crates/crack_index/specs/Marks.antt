@@ -12,10 +12,6 @@ pub record Index : Type 0 where
   pub marks : List Mark
   pub room : ℕ
 
--- what stands beyond the last mark, where a list has to answer something
-abbrev pub no_mark : Mark
-no_mark = record { bound = record { 0 = 0 }; position = 0 }
-
 -- the first mark's bound is below the second's, and its place isn't behind the second's
 pub record InOrder (m n : Mark) : Type 0 where
   pub bounds : m.bound.0 < n.bound.0
@@ -101,14 +97,6 @@ pieces_from low from (m ∷ ms) high to = size_between low from m.bound m.positi
 abbrev pub added : Mark → List Mark → List Mark
 added m [] = m ∷ []
 added m (n ∷ ns) = cond (nat_lt m.bound.0 n.bound.0) (m ∷ n ∷ ns) (n ∷ added m ns)
-
--- the mark one place further up
-abbrev pub one_up : Mark → Mark
-one_up m = record m { position = m.position + 1 }
-
--- the mark one place further down
-abbrev pub one_down : Mark → Mark
-one_down m = record m { position = m.position - 1 }
 
 -- a bound at or above `low` that stands at the place moves up by one
 abbrev pub raised : ℕ → ℕ → Mark → Mark

@@ -2,10 +2,12 @@
 ghost use Rattle.std.specs.Prelude.{◌≡◌, ℕ, ◌+◌, ◌-◌, ◌<◌, ◌≤◌, ◌==◌, ◌↔◌, [], map, length, All, Contains, sum_by, IsOk, IsSome, IfSome, IfOk, IfErr, OnOk, IsTrue};
 ghost use Rattle.std.specs.Option.{option_map};
 ghost use Rattle.crack_row.specs.Layouts.{AreJoined};
+ghost use Rattle.crack_index.specs.Heights.{least, most};
 ghost use Rattle.crack_index.specs.Walks.{Climbs, Descends};
 ghost use Rattle.crack_index.specs.Marks.{Rising, Fits, HasBound, position_of, next_mark, last_mark, near_mark, first_behind, last_before, pair_of, added, raised, lowered, lowered_at, piece_at, pieces_from};
 
-use crate::{Mark, NearBound, Visitor, sorted, walk};
+use crate::tree::{self, Link, Node};
+use crate::{Mark, NearBound, Visitor, walk};
 use crack_row::{Bound, Key, KeyRange, PieceSize, Refusal};
 use std::alloc::Global;
 use std::marker::Model;
@@ -25,20 +27,24 @@ pub struct Piece {
 
 /// The bounds that divide a cracked column, in rising order ("Database Cracking", CIDR 2007).
 /// Contracts see the list of its marks, and for how many more it has room.
+/// They stand in a balanced tree, whose nodes come from a stock of spare ones.
 #[derive(Drop)]
 pub struct CrackerIndex {
-    marks: Vec<Mark>,
+    root: Link,
+    spare: Vec<Box<Node>>,
+    len: usize,
 }
 
 impl Model for CrackerIndex {
-    ghost use Rattle.std.specs.Prelude.{◌-◌, vec_len, vec_capacity};
-    ghost use Rattle.crack_index.specs.Marks.{Index, Rising};
+    ghost use Rattle.std.specs.Prelude.{vec_len};
+    ghost use Rattle.crack_index.specs.Marks.{Index};
+    ghost use Rattle.crack_index.specs.Trees.{marks_of, IsKept};
 
     ghost Value = { Index };
 
-    ghost view = { λ i. record { marks = i.marks.items; room = vec_capacity i.marks - vec_len i.marks } };
+    ghost view = { λ i. record { marks = marks_of i.root; room = vec_len i.spare } };
 
-    ghost invariant = { λ i. Rising i.marks.items };
+    ghost invariant = { λ i. IsKept (marks_of i.root) (vec_len i.spare) i.len };
 }
 
 impl CrackerIndex {
@@ -48,11 +54,13 @@ impl CrackerIndex {
         ensures room { result.room ≡ 0 }
     {
         CrackerIndex {
-            marks: Vec::new(alloc),
+            root: None,
+            spare: Vec::new(alloc),
+            len: 0,
         }
     }
 
-    /// Makes room for `n` more bounds; refused with 8 where it finds no memory.
+    /// Makes room for `n` more bounds; refused with 8 where it finds no memory. Then it keeps what it found.
     pub fn reserve(&mut self, n: usize) -> Result<(), Refusal>
         ensures marks { self.new.marks ≡ self.old.marks }
         ensures ok { OnOk result (n ≤ self.new.room) }
@@ -60,8 +68,13 @@ impl CrackerIndex {
         ensures succeeds { n ≤ self.old.room → IsOk result }
         ensures err { IfErr result (λ e. e ≡ Refusal.OutOfMemory) }
     {
-        self.marks.reserve(n)?;
-        Ok(())
+        if n <= self.spare.len() {
+            return Ok(());
+        }
+        if n >= usize::MAX - self.len {
+            return Err(Refusal::OutOfMemory);
+        }
+        tree::fill(&mut self.spare, n)
     }
 
     /// The number of bounds.
@@ -69,17 +82,25 @@ impl CrackerIndex {
         ensures value { result ≡ length self.now.marks }
         ensures rising { Rising self.now.marks }
     {
-        self.marks.len()
+        self.len
     }
 
     /// Whether there is no bound.
     pub fn is_empty(&self) -> bool
         ensures { IsTrue result ↔ (self.now.marks ≡ []) }
     {
-        self.marks.is_empty()
+        self.len == 0
     }
 
-    /// Adds a bound that stands at the place. Takes no memory. O(bounds).
+    /// The height of the tree in which the bounds stand: 0 for none. O(1).
+    pub fn height(&self) -> u32
+        ensures least { least result ≤ length self.now.marks }
+        ensures most { length self.now.marks < most result }
+    {
+        tree::height(&self.root)
+    }
+
+    /// Adds a bound that stands at the place. Takes no memory. O(log bounds).
     pub fn add(&mut self, bound: Bound, position: usize)
         requires room { 0 < self.old.room }
         requires absent { HasBound self.old.marks bound.0 → ⊥ }
@@ -88,7 +109,12 @@ impl CrackerIndex {
         ensures room { self.new.room + 1 ≡ self.old.room }
         ensures rising { Rising self.new.marks }
     {
-        sorted::insert(&mut self.marks, Mark { bound, position });
+        let Some(node) = self.spare.pop() else {
+            unreachable!()
+        };
+        let root = self.root.take();
+        self.root = Some(tree::insert(root, Mark { bound, position }, node));
+        self.len += 1;
     }
 
     /// Where the bound stands, if it is there. O(log bounds).
@@ -97,7 +123,7 @@ impl CrackerIndex {
         ensures place { IfSome result (λ place. place ≡ position_of bound.0 self.now.marks) }
         ensures rising { Rising self.now.marks }
     {
-        match sorted::neighbours(&self.marks, bound.0).0 {
+        match tree::last_at(&self.root, bound.0) {
             Some(mark) if mark.bound.0 == bound.0 => Some(mark.position),
             _ => None,
         }
@@ -108,8 +134,7 @@ impl CrackerIndex {
         ensures value { result ≡ option_map pair_of (next_mark bound.0 self.now.marks) }
         ensures rising { Rising self.now.marks }
     {
-        let (_, above) = sorted::neighbours(&self.marks, bound.0);
-        above.map(|mark| (mark.bound, mark.position))
+        tree::next_above(&self.root, bound.0).map(|mark| (mark.bound, mark.position))
     }
 
     /// The least bound above this key. O(log bounds).
@@ -118,7 +143,7 @@ impl CrackerIndex {
         ensures there { IfSome result (λ n. Contains self.now.marks n.mark) }
         ensures rising { Rising self.now.marks }
     {
-        sorted::mark_above(&self.marks, u64::from(key.0))
+        NearBound::of(tree::next_above(&self.root, u64::from(key.0)))
     }
 
     /// The greatest bound at or below this key. O(log bounds).
@@ -127,7 +152,7 @@ impl CrackerIndex {
         ensures there { IfSome result (λ n. Contains self.now.marks n.mark) }
         ensures rising { Rising self.now.marks }
     {
-        sorted::mark_below(&self.marks, u64::from(key.0))
+        NearBound::of(tree::last_at(&self.root, u64::from(key.0)))
     }
 
     /// The piece whose keys hold this key, in a column of `len` rows. O(log bounds).
@@ -137,7 +162,7 @@ impl CrackerIndex {
         ensures fits { (p : ℕ) → result.from ≤ p → p ≤ result.to → Fits (record { bound = record { 0 = key.0 }; position = p }) self.now.marks }
         ensures rising { Rising self.now.marks }
     {
-        let (below, above) = sorted::neighbours(&self.marks, u64::from(key.0));
+        let (below, above) = tree::neighbours(&self.root, u64::from(key.0));
         Piece {
             low: below.map(|mark| mark.bound),
             high: above.map(|mark| mark.bound),
@@ -154,7 +179,7 @@ impl CrackerIndex {
         ensures sizes { All (λ m. m.position ≤ len) self.now.marks → IfOk result (λ v. sum_by (λ (p : PieceSize). p.size) v.items ≡ len) }
         ensures err { IfErr result (λ e. e ≡ Refusal.OutOfMemory) }
     {
-        sorted::piece_sizes(*self.marks.allocator(), &self.marks, keys, len)
+        tree::piece_sizes(*self.spare.allocator(), &self.root, self.len, keys, len)
     }
 
     /// Each bound at or above this one that stands where it stands moves up by one.
@@ -166,7 +191,9 @@ impl CrackerIndex {
         ensures room { self.new.room ≡ self.old.room }
         ensures rising { Rising self.new.marks }
     {
-        sorted::raise_from(&mut self.marks, bound.0);
+        if let Some(place) = self.position(bound) {
+            tree::raise(&mut self.root, bound.0, place);
+        }
     }
 
     /// Each bound at or below this one that stands where it stands moves down by one.
@@ -178,7 +205,9 @@ impl CrackerIndex {
         ensures room { self.new.room ≡ self.old.room }
         ensures rising { Rising self.new.marks }
     {
-        sorted::lower_to(&mut self.marks, bound.0);
+        if let Some(place) = self.position(bound) {
+            tree::lower(&mut self.root, bound.0, place);
+        }
     }
 
     /// Each bound that stands at the place moves down by one.
@@ -189,12 +218,13 @@ impl CrackerIndex {
         ensures room { self.new.room ≡ self.old.room }
         ensures rising { Rising self.new.marks }
     {
-        sorted::lower_at(&mut self.marks, position);
+        if position > 0 {
+            tree::lower_at(&mut self.root, position);
+        }
     }
 
     /// Each bound at or above this one that stands where it stands moves up by one, and the answer is the first bound that
-    /// stood behind that place. O(1) and the bounds at that place where nothing was added since this one was found, else
-    /// O(log bounds) more.
+    /// stood behind that place. O(log bounds) and the bounds at that place.
     pub fn raise_past(&mut self, near: NearBound) -> Option<NearBound>
         requires there { Contains self.old.marks near.mark }
         requires small { near.mark.position < usize.MAX }
@@ -204,12 +234,14 @@ impl CrackerIndex {
         ensures room { self.new.room ≡ self.old.room }
         ensures rising { Rising self.new.marks }
     {
-        sorted::raise_past(&mut self.marks, near)
+        let Mark { bound, position } = near.mark;
+        let next = tree::first_behind(&self.root, position);
+        tree::raise(&mut self.root, bound.0, position);
+        NearBound::of(next)
     }
 
     /// Each bound at or below this one that stands where it stands moves down by one, and the answer is the last bound that
-    /// stood before that place. O(1) and the bounds at that place where nothing was added since this one was found, else
-    /// O(log bounds) more.
+    /// stood before that place. O(log bounds) and the bounds at that place.
     pub fn lower_past(&mut self, near: NearBound) -> Option<NearBound>
         requires there { Contains self.old.marks near.mark }
         requires above_zero { 0 < near.mark.position }
@@ -219,7 +251,10 @@ impl CrackerIndex {
         ensures room { self.new.room ≡ self.old.room }
         ensures rising { Rising self.new.marks }
     {
-        sorted::lower_past(&mut self.marks, near)
+        let Mark { bound, position } = near.mark;
+        let next = tree::last_before(&self.root, position);
+        tree::lower(&mut self.root, bound.0, position);
+        NearBound::of(next)
     }
 
     /// Walks up from the least bound above the key: the visitor is told the place of the bound, and where it says so, that bound and those
@@ -235,7 +270,7 @@ impl CrackerIndex {
         ensures room { self.new.room ≡ self.old.room }
         ensures rising { Rising self.new.marks }
     {
-        walk::climb(&mut self.marks, u64::from(key.0), visitor)
+        NearBound::of(walk::climb(&mut self.root, u64::from(key.0), visitor))
     }
 
     /// Walks down from the greatest bound at or below the key: the visitor is told the last place before the bound, and where it says so,
@@ -251,6 +286,6 @@ impl CrackerIndex {
         ensures room { self.new.room ≡ self.old.room }
         ensures rising { Rising self.new.marks }
     {
-        walk::descend(&mut self.marks, u64::from(key.0), visitor)
+        NearBound::of(walk::descend(&mut self.root, u64::from(key.0), visitor))
     }
 }

@@ -5,7 +5,7 @@
 pub mod index;
 pub mod mark;
 pub mod near;
-mod sorted;
+mod tree;
 pub mod visitor;
 mod walk;
 

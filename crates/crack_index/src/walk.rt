@@ -1,99 +1,164 @@
-//! Walks over marks in rising order in a slice, from place to place.
-ghost use Rattle.std.specs.Prelude.{◌≡◌, ◌<◌, ◌≤◌, ◌-◌, ℕ, map, take, length, get_or, slice_get, All, Contains, IfSome};
-ghost use Rattle.crack_index.specs.Marks.{no_mark, Rising, next_mark, last_mark, near_mark, first_behind, last_before, raised, lowered};
+//! Walks over the marks of a tree in order, from place to place, each one recursion over the tree: a bound at the place that was just
+//! told moves along, and at a bound behind it the visitor is told the next place.
+ghost use Rattle.std.specs.Prelude.{◌≡◌, ◌<◌, ◌≤◌, reverse, length, All, Contains, IfSome, None};
+ghost use Rattle.crack_index.specs.Marks.{Rising, next_mark, last_mark};
+ghost use Rattle.crack_index.specs.Steps.{Goes, StepsUp, StepsDown};
+ghost use Rattle.crack_index.specs.Trees.{marks_of, height_of};
 ghost use Rattle.crack_index.specs.Walks.{Climbs, Descends};
 
-use crate::sorted::{
-    bounds_up_to, level_end, level_start, lower_all, near_at, near_before, raise_all,
-};
-use crate::{Mark, NearBound, Visitor};
+use crate::tree::{Link, Node};
+use crate::{Mark, Visitor};
 
-/// Walks up from the first mark above the number. O(log marks) and the marks at the places on its way.
+/// How far a walk has come.
+#[derive(Clone, Copy)]
+struct Way {
+    /// Where the bounds stood that moved last; before any did a place at which none can move.
+    last: usize,
+    /// The bound at which the walk ended, once it has.
+    ended: Option<Mark>,
+}
+
+/// Walks up from the first mark above the number. The mark at which it ended. O(log marks) and the marks at the places on its way.
 #[inline(always)]
-pub(crate) fn climb<V: Visitor>(
-    marks: &mut [Mark],
-    number: u64,
-    visitor: &mut V,
-) -> Option<NearBound>
-    requires rising { Rising marks.old }
-    requires small { All (λ m. m.position < usize.MAX) marks.old }
+pub(crate) fn climb<V: Visitor>(link: &mut Link, number: u64, visitor: &mut V) -> Option<Mark>
+    requires rising { Rising (marks_of link.old) }
+    requires small { All (λ m. m.position < usize.MAX) (marks_of link.old) }
     requires ready { V.is_ready visitor.old }
-    ensures climbs { Climbs V.visits (next_mark number marks.old) marks.old visitor.old (near_mark result) marks.new visitor.new }
+    ensures climbs { Climbs V.visits (next_mark number (marks_of link.old)) (marks_of link.old) visitor.old result (marks_of link.new) visitor.new }
     ensures ready { V.is_ready visitor.new }
-    ensures there { IfSome result (λ n. Contains marks.new n.mark) }
-    ensures rising { Rising marks.new }
-    ensures long { length marks.new ≡ length marks.old }
+    ensures there { IfSome result (λ m. Contains (marks_of link.new) m) }
+    ensures rising { Rising (marks_of link.new) }
+    ensures long { length (marks_of link.new) ≡ length (marks_of link.old) }
 {
-    let mut at = bounds_up_to(marks, number);
-    'places: while at < marks.len() {
-        if !visitor.visit(marks[at].position) {
-            return near_at(marks, at);
-        }
-        at = raise_level(marks, at);
-    }
-    None
+    let mut way = Way {
+        last: usize::MAX,
+        ended: None,
+    };
+    raise_along(link, number, &mut way, visitor);
+    way.ended
 }
 
-/// Walks down from the last mark at or below the number. O(log marks) and the marks at the places on its way.
+/// Walks down from the last mark at or below the number. The mark at which it ended. O(log marks) and the marks at the places on its way.
 #[inline(always)]
-pub(crate) fn descend<V: Visitor>(
-    marks: &mut [Mark],
-    number: u64,
-    visitor: &mut V,
-) -> Option<NearBound>
-    requires rising { Rising marks.old }
+pub(crate) fn descend<V: Visitor>(link: &mut Link, number: u64, visitor: &mut V) -> Option<Mark>
+    requires rising { Rising (marks_of link.old) }
     requires ready { V.is_ready visitor.old }
-    ensures descends { Descends V.visits (last_mark number marks.old) marks.old visitor.old (near_mark result) marks.new visitor.new }
+    ensures descends { Descends V.visits (last_mark number (marks_of link.old)) (marks_of link.old) visitor.old result (marks_of link.new) visitor.new }
     ensures ready { V.is_ready visitor.new }
-    ensures there { IfSome result (λ n. Contains marks.new n.mark) }
-    ensures rising { Rising marks.new }
-    ensures long { length marks.new ≡ length marks.old }
+    ensures there { IfSome result (λ m. Contains (marks_of link.new) m) }
+    ensures rising { Rising (marks_of link.new) }
+    ensures long { length (marks_of link.new) ≡ length (marks_of link.old) }
 {
-    let mut end = bounds_up_to(marks, number);
-    'places: while 0 < end {
-        let position = marks[end - 1].position;
-        if position == 0 {
-            return near_before(marks, end);
-        }
-        if !visitor.visit(position - 1) {
-            return near_before(marks, end);
-        }
-        end = lower_level(marks, end - 1);
+    let mut way = Way {
+        last: 0,
+        ended: None,
+    };
+    lower_along(link, number, &mut way, visitor);
+    way.ended
+}
+
+/// The part of a walk up that is in this tree.
+fn raise_along<V: Visitor>(link: &mut Link, number: u64, way: &mut Way, visitor: &mut V)
+    requires going { way.old.ended ≡ None }
+    requires small { All (λ m. m.position < usize.MAX) (marks_of link.old) }
+    requires ready { V.is_ready visitor.old }
+    ensures goes { Goes (StepsUp V.visits number) (marks_of link.old) way.old visitor.old (marks_of link.new) way.new visitor.new }
+    ensures height { height_of link.new ≡ height_of link.old }
+    ensures ready { V.is_ready visitor.new }
+{
+    let Some(node) = link else {
+        return;
+    };
+    let Node {
+        mark,
+        left,
+        right,
+        ..
+    } = &mut **node;
+    if mark.bound.0 <= number {
+        raise_along(right, number, way, visitor);
+        return;
     }
-    None
+    raise_along(left, number, way, visitor);
+    if way.ended.is_some() {
+        return;
+    }
+    step_up(mark, number, way, visitor);
+    if way.ended.is_some() {
+        return;
+    }
+    raise_along(right, number, way, visitor);
 }
 
-/// Each mark from this one on that stands at its place moves up by one; where the marks behind that place begin.
-#[inline(always)]
-fn raise_level(marks: &mut [Mark], start: usize) -> usize
-    requires rising { Rising marks.old }
-    requires start { start < length marks.old }
-    requires small { (get_or marks.old start no_mark).position < usize.MAX }
-    ensures marks { marks.new ≡ map (raised (get_or marks.old start no_mark).bound.0 (get_or marks.old start no_mark).position) marks.old }
-    ensures next { slice_get marks.new result ≡ first_behind (get_or marks.old start no_mark).position marks.old }
-    ensures kept { (k : ℕ) → result ≤ k → get_or marks.new k no_mark ≡ get_or marks.old k no_mark }
-    ensures further { start < result }
-    ensures rising { Rising marks.new }
-    ensures long { length marks.new ≡ length marks.old }
+/// The part of a walk down that is in this tree.
+fn lower_along<V: Visitor>(link: &mut Link, number: u64, way: &mut Way, visitor: &mut V)
+    requires going { way.old.ended ≡ None }
+    requires ready { V.is_ready visitor.old }
+    ensures goes { Goes (StepsDown V.visits number) (reverse (marks_of link.old)) way.old visitor.old (reverse (marks_of link.new)) way.new visitor.new }
+    ensures height { height_of link.new ≡ height_of link.old }
+    ensures ready { V.is_ready visitor.new }
 {
-    let end = level_end(marks, start);
-    raise_all(&mut marks[start..end]);
-    end
+    let Some(node) = link else {
+        return;
+    };
+    let Node {
+        mark,
+        left,
+        right,
+        ..
+    } = &mut **node;
+    if mark.bound.0 > number {
+        lower_along(left, number, way, visitor);
+        return;
+    }
+    lower_along(right, number, way, visitor);
+    if way.ended.is_some() {
+        return;
+    }
+    step_down(mark, number, way, visitor);
+    if way.ended.is_some() {
+        return;
+    }
+    lower_along(left, number, way, visitor);
 }
 
-/// Each mark up to this one that stands at its place moves down by one; where these begin.
+/// What a walk up does at a bound above the number where it began.
 #[inline(always)]
-fn lower_level(marks: &mut [Mark], last: usize) -> usize
-    requires rising { Rising marks.old }
-    requires last { last < length marks.old }
-    requires above_zero { 0 < (get_or marks.old last no_mark).position }
-    ensures marks { marks.new ≡ map (lowered (get_or marks.old last no_mark).bound.0 (get_or marks.old last no_mark).position) marks.old }
-    ensures next { slice_get (take result marks.new) (result - 1) ≡ last_before (get_or marks.old last no_mark).position marks.old }
-    ensures further { result ≤ last }
-    ensures rising { Rising marks.new }
-    ensures long { length marks.new ≡ length marks.old }
+fn step_up<V: Visitor>(mark: &mut Mark, number: u64, way: &mut Way, visitor: &mut V)
+    requires above { number < mark.old.bound.0 }
+    requires going { way.old.ended ≡ None }
+    requires small { mark.old.position < usize.MAX }
+    requires ready { V.is_ready visitor.old }
+    ensures steps { StepsUp V.visits number mark.old way.old visitor.old mark.new way.new visitor.new }
+    ensures ready { V.is_ready visitor.new }
 {
-    let start = level_start(marks, last);
-    lower_all(&mut marks[start..last + 1]);
-    start
+    if mark.position == way.last {
+        mark.position += 1;
+    } else if visitor.visit(mark.position) {
+        way.last = mark.position;
+        mark.position += 1;
+    } else {
+        way.ended = Some(*mark);
+    }
+}
+
+/// What a walk down does at a bound at or below the number where it began.
+#[inline(always)]
+fn step_down<V: Visitor>(mark: &mut Mark, number: u64, way: &mut Way, visitor: &mut V)
+    requires below { mark.old.bound.0 ≤ number }
+    requires going { way.old.ended ≡ None }
+    requires ready { V.is_ready visitor.old }
+    ensures steps { StepsDown V.visits number mark.old way.old visitor.old mark.new way.new visitor.new }
+    ensures ready { V.is_ready visitor.new }
+{
+    if mark.position == 0 {
+        way.ended = Some(*mark);
+    } else if mark.position == way.last {
+        mark.position -= 1;
+    } else if visitor.visit(mark.position - 1) {
+        way.last = mark.position;
+        mark.position -= 1;
+    } else {
+        way.ended = Some(*mark);
+    }
 }

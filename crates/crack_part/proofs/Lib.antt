@@ -3,3 +3,4 @@ pub mod IdleLemmas
 pub mod KeepLemmas
 pub mod PointLemmas
 pub mod SoundLemmas
+pub mod Crosses

@@ -6,3 +6,4 @@ mod HandLemmas
 mod RememberLemmas
 mod PointLemmas
 mod WayLemmas
+pub mod Crosses

@@ -24,7 +24,7 @@ use Rattle.crack_store.proofs.NextLemmas.{is_up, is_down}
 -- a mark as one that a search found
 abbrev found_of : Option Mark → Option NearBound
 found_of None = None
-found_of (Some m) = Some (record { mark = m; hint = 0 })
+found_of (Some m) = Some (record { mark = m })
 
 near_found_of : (o : Option Mark) → near_mark (found_of o) ≡ o
 near_found_of None = refl
@@ -63,7 +63,7 @@ taken p m marks v w out has next takes =
     let c : Carried = carried_of q in
     let found = found_of (Some m) in
     let room : piece_end c.store (hand_key c) < length c.store.column = rw next takes.within in
-    let up = is_up c found (record { mark = m; hint = 0 }) (near_found_of (Some m) ∙ sym next) refl room has.kept.intact in
+    let up = is_up c found (record { mark = m }) (near_found_of (Some m) ∙ sym next) refl room has.kept.intact in
     let behind = first_behind m.position marks in
     let near = Above (found_of behind) in
     let made : IsMade (climbing p w (map (raised m.bound.0 m.position) marks)) near (pushed_on c) = exchanged_to q w.column (record p.index { marks = map (raised m.bound.0 m.position) marks }) p.notes (record p.tally { moved = w.moved }) m.position near (pushed_on c) has takes.column takes.within (rw takes.moved up.after) up.intact (near_found_of behind ∙ sym up.next) in
@@ -146,7 +146,7 @@ drawn p m marks v w has next above takes =
     let q = descending p v marks in
     let c : Carried = carried_of q in
     let some : 0 < piece_start c.store (hand_key c) = rw next above in
-    let down = is_down c (found_of (Some m)) (record { mark = m; hint = 0 }) (near_found_of (Some m) ∙ sym next) refl some has.kept.intact in
+    let down = is_down c (found_of (Some m)) (record { mark = m }) (near_found_of (Some m) ∙ sym next) refl some has.kept.intact in
     let before = last_before m.position marks in
     let near = Below (found_of before) in
     let made : IsMade (descending p w (map (lowered m.bound.0 m.position) marks)) near (pulled_back c) = exchanged_to q w.column (record p.index { marks = map (lowered m.bound.0 m.position) marks }) w.notes (record p.tally { pulled = w.pulled }) (m.position - 1) near (pulled_back c) has takes.column takes.within (rw takes.pulled down.after) down.intact (near_found_of before ∙ sym down.next) in

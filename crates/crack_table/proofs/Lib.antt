@@ -8,3 +8,4 @@ mod Totals
 mod Missing
 mod Refusing
 mod Others
+pub mod Crosses

@@ -16,6 +16,8 @@ mod row;
 #[cfg(test)]
 mod serial_hash;
 #[cfg(test)]
+mod sorted_index;
+#[cfg(test)]
 mod store;
 #[cfg(test)]
 mod store_points;

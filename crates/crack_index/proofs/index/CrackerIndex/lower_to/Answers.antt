@@ -1,12 +1,11 @@
-use Rattle.std.proofs.Common.{List, length, arith, ap}
-use Rattle.crack_index.specs.declared.mark.Mark.{Mark}
-use Rattle.crack_index.specs.Marks.{lowered, position_of}
+use Rattle.crack_index.specs.Marks.{lowered}
+use Rattle.crack_index.specs.Trees.{marks_of}
 use Rattle.crack_index.proofs.MarkLaws.{Rising-lowered}
-use Rattle.crack_index.proofs.MarkLemmas.{with_slice}
+use Rattle.crack_index.proofs.Sides.{IsKept-moved}
 use Rattle.crack_index.proofs.index.CrackerIndex.lower_to.Goals as goal
 
 pub invariant_of-self : goal.invariant_of-self
-invariant_of-self c = with_slice c.self.inside.marks.items c.lower_to.new.marks _ (lowered c.args.bound.0 (position_of c.args.bound.0 c.self.inside.marks.items)) c.self.inside.marks.len (omega (arith, c.deref_mut.ensures.len, ap (λ (l : List Mark). length l) c.deref_mut.ensures.value)) (rw c.deref_mut.ensures.value at c.lower_to.ensures) (Rising-lowered c.args.bound.0 (position_of c.args.bound.0 c.self.inside.marks.items) c.self.inside.marks.items c.self.invariant)
+invariant_of-self c = IsKept-moved (lowered c.args.bound.0 c.in-Some.place) (marks_of c.self.inside.root) (marks_of c.lower.new.link) _ _ c.lower.ensures.marks (Rising-lowered c.args.bound.0 c.in-Some.place (marks_of c.self.inside.root) c.self.invariant.rising) c.self.invariant
 
-pub returns-clause-rising : goal.returns-clause-rising
-returns-clause-rising c = with_slice c.self.inside.marks.items c.lower_to.new.marks _ (lowered c.args.bound.0 (position_of c.args.bound.0 c.self.inside.marks.items)) c.self.inside.marks.len (omega (arith, c.deref_mut.ensures.len, ap (λ (l : List Mark). length l) c.deref_mut.ensures.value)) (rw c.deref_mut.ensures.value at c.lower_to.ensures) (Rising-lowered c.args.bound.0 (position_of c.args.bound.0 c.self.inside.marks.items) c.self.inside.marks.items c.self.invariant)
+pub returns-in-Some-clause-rising : goal.returns-in-Some-clause-rising
+returns-in-Some-clause-rising c = rw c.lower.ensures.marks (Rising-lowered c.args.bound.0 c.in-Some.place (marks_of c.self.inside.root) c.self.invariant.rising)

@@ -1,0 +1,108 @@
+//! The index by itself: bounds that are added in random order, look-ups of them, and walks over all of their places.
+ghost use Rattle.std.specs.Prelude.{◌<◌, All};
+
+use crate::numbers::{Numbers, mixed};
+use crack_index::{CrackerIndex, Visitor};
+use crack_row::{Bound, Key, Refusal};
+
+/// The numbers of an index's bounds begin here each time.
+pub const SEED: u64 = 11;
+
+/// Adds the bound at the place of its own number, where it isn't there.
+fn add(index: &mut CrackerIndex, key: u32) -> Result<(), Refusal>
+    requires { All (λ m. m.position < usize.MAX) index.old.marks }
+    ensures { All (λ m. m.position < usize.MAX) index.new.marks }
+{
+    index.reserve(1)?;
+    let bound = Bound(u64::from(key));
+    if index.position(bound).is_some() {
+        return Ok(());
+    }
+    let place = key as usize;
+    let piece = index.piece_of(Key(key), 4294967296);
+    if place < piece.from || piece.to < place {
+        return Ok(());
+    }
+    index.add(bound, place);
+    Ok(())
+}
+
+/// Adds so many bounds.
+pub fn fill(index: &mut CrackerIndex, bounds: u32) -> Result<(), Refusal>
+    requires { All (λ m. m.position < usize.MAX) index.old.marks }
+    ensures { All (λ m. m.position < usize.MAX) index.new.marks }
+{
+    let mut numbers = Numbers::new(SEED);
+    'bounds: for _ in 0..bounds {
+        add(index, numbers.word())?;
+    }
+    Ok(())
+}
+
+/// Looks each of so many bounds up. A checksum of their places.
+pub fn look_up(index: &CrackerIndex, bounds: u32) -> u64 {
+    let mut numbers = Numbers::new(SEED);
+    let mut sum = 0;
+    'bounds: for _ in 0..bounds {
+        if let Some(place) = index.position(Bound(u64::from(numbers.word()))) {
+            sum = mixed(sum, place as u64);
+        }
+    }
+    sum
+}
+
+/// Looks for the next bound behind each of so many keys. A checksum of their places.
+pub fn look_above(index: &CrackerIndex, keys: u32) -> u64 {
+    let mut numbers = Numbers::new(SEED + 1);
+    let mut sum = 0;
+    'keys: for _ in 0..keys {
+        if let Some(near) = index.bound_above(Key(numbers.word())) {
+            sum = mixed(sum, near.position() as u64);
+        }
+    }
+    sum
+}
+
+/// Goes along to the end of a walk, and adds up the places that it is told.
+#[derive(Clone, Copy)]
+pub struct Told {
+    pub sum: u64,
+}
+
+impl Visitor for Told {
+    ghost use Rattle.std.specs.Prelude.{⊤};
+
+    ghost is_ready = { λ _. ⊤ };
+
+    ghost visits = { λ _ _ _ _. ⊤ };
+
+    #[inline(always)]
+    fn visit(&mut self, place: usize) -> bool {
+        self.sum = self.sum.wrapping_add(place as u64);
+        true
+    }
+}
+
+/// Walks up over all bounds. The sum of their places.
+#[inline(never)]
+pub fn walk_up(index: &mut CrackerIndex) -> u64
+    requires { All (λ m. m.position < usize.MAX) index.old.marks }
+{
+    let mut told = Told { sum: 0 };
+    let end = index.climb(Key(0), &mut told);
+    match end {
+        Some(near) => told.sum.wrapping_add(near.position() as u64),
+        None => told.sum,
+    }
+}
+
+/// Walks down over all bounds. The sum of the places before them.
+#[inline(never)]
+pub fn walk_down(index: &mut CrackerIndex) -> u64 {
+    let mut told = Told { sum: 0 };
+    let end = index.descend(Key(4294967295), &mut told);
+    match end {
+        Some(near) => told.sum.wrapping_add(near.position() as u64),
+        None => told.sum,
+    }
+}

@@ -1,0 +1,483 @@
+//! An AVL tree of marks in rising order, whose nodes are handed in, and whose look-ups and moves take no memory
+//! ("An algorithm for the organization of information", 1962).
+ghost use Rattle.std.specs.Prelude.{◌≡◌, ◌+◌, ◌-◌, ◌^◌, ◌<◌, ◌≤◌, max, length, [], ◌∷◌, ◌++◌, map, List, ℕ, vec_len, vec_capacity, OnOk, IfOk, IfErr};
+ghost use Rattle.crack_index.specs.Marks.{Rising, added, last_mark, next_mark, first_behind, last_before, raised, lowered, lowered_at, size_between, pieces_from};
+ghost use Rattle.crack_index.specs.Trees.{Grown, marks_of, height_of, IsBalanced, IsTall, DifferByAtMost};
+ghost use Rattle.crack_index.specs.Rotations.{Settles};
+ghost use Rattle.crack_index.specs.declared.mark.Mark.{Mark};
+ghost use Rattle.crack_row.specs.declared.Bound.{Bound};
+
+use crate::Mark;
+use crack_row::{Bound, KeyRange, PieceSize, Refusal};
+use std::alloc::Global;
+use std::marker::Model;
+use std::mem;
+
+/// A tree of marks; none where there is no mark.
+pub(crate) type Link = Option<Box<Node>>;
+
+/// A mark between the trees of those before and behind it. Contracts see all marks in rising order, and the height.
+#[derive(Drop)]
+pub(crate) struct Node {
+    pub(crate) mark: Mark,
+    height: u32,
+    pub(crate) left: Link,
+    pub(crate) right: Link,
+}
+
+impl Model for Node {
+    ghost use Rattle.std.specs.Prelude.{◌∷◌, ◌++◌, length};
+    ghost use Rattle.crack_index.specs.Trees.{Grown, marks_of, IsBalanced};
+    ghost use Rattle.std.proofs.Common.{arith, length-append};
+
+    ghost Value = { Grown };
+
+    ghost view = { λ n. record { marks = marks_of n.left ++ n.mark ∷ marks_of n.right; height = n.height } };
+
+    ghost invariant = { λ n. IsBalanced n.left n.mark n.right n.height };
+
+    ghost size = { λ g. length g.marks };
+
+    ghost size_decreases = { λ n h. Prim.grind (arith, length-append) };
+}
+
+/// What a node is made of.
+#[derive(Drop)]
+struct Parts {
+    left: Link,
+    mark: Mark,
+    right: Link,
+}
+
+impl Node {
+    /// The tree of one mark.
+    pub(crate) fn leaf(mark: Mark) -> Node
+        ensures marks { result.marks ≡ mark ∷ [] }
+        ensures height { result.height ≡ 1 }
+    {
+        Node {
+            mark,
+            height: 1,
+            left: None,
+            right: None,
+        }
+    }
+
+    /// Takes the node apart: it is left without sides.
+    fn open(&mut self) -> Parts
+        ensures marks { self.old.marks ≡ marks_of result.left ++ result.mark ∷ marks_of result.right }
+        ensures balanced { IsBalanced result.left result.mark result.right self.old.height }
+    {
+        let kept = self.mark;
+        let Node {
+            mark,
+            left,
+            right,
+            ..
+        } = mem::replace(self, Node::leaf(kept));
+        Parts { left, mark, right }
+    }
+}
+
+/// The height of a tree: 0 for no mark. O(1).
+pub(crate) fn height(link: &Link) -> u32
+    ensures value { result ≡ height_of link.now }
+    ensures tall { IsTall (length (marks_of link.now)) (height_of link.now) }
+{
+    match link {
+        None => 0,
+        Some(node) => node.height,
+    }
+}
+
+/// The last mark whose bound is at or below the number. O(log marks), one comparison a level.
+pub(crate) fn last_at(link: &Link, number: u64) -> Option<Mark>
+    ensures { result ≡ last_mark number (marks_of link.now) }
+{
+    let mut found = None;
+    let mut here = link;
+    'down: while let Some(node) = here {
+        let Node {
+            mark,
+            left,
+            right,
+            ..
+        } = &**node;
+        if mark.bound.0 <= number {
+            found = Some(*mark);
+            here = right;
+        } else {
+            here = left;
+        }
+    }
+    found
+}
+
+/// The first mark whose bound is above the number. O(log marks), one comparison a level.
+pub(crate) fn next_above(link: &Link, number: u64) -> Option<Mark>
+    ensures { result ≡ next_mark number (marks_of link.now) }
+{
+    let mut found = None;
+    let mut here = link;
+    'down: while let Some(node) = here {
+        let Node {
+            mark,
+            left,
+            right,
+            ..
+        } = &**node;
+        if mark.bound.0 <= number {
+            here = right;
+        } else {
+            found = Some(*mark);
+            here = left;
+        }
+    }
+    found
+}
+
+/// The last mark whose bound is at or below the number, and the first above it. O(log marks), one comparison a level.
+pub(crate) fn neighbours(link: &Link, number: u64) -> (Option<Mark>, Option<Mark>)
+    ensures below { result.0 ≡ last_mark number (marks_of link.now) }
+    ensures above { result.1 ≡ next_mark number (marks_of link.now) }
+{
+    let mut below = None;
+    let mut above = None;
+    let mut here = link;
+    'down: while let Some(node) = here {
+        let Node {
+            mark,
+            left,
+            right,
+            ..
+        } = &**node;
+        if mark.bound.0 <= number {
+            below = Some(*mark);
+            here = right;
+        } else {
+            above = Some(*mark);
+            here = left;
+        }
+    }
+    (below, above)
+}
+
+/// The first mark that stands behind the place. O(log marks), one comparison a level.
+pub(crate) fn first_behind(link: &Link, place: usize) -> Option<Mark>
+    ensures { result ≡ first_behind place (marks_of link.now) }
+{
+    let mut found = None;
+    let mut here = link;
+    'down: while let Some(node) = here {
+        let Node {
+            mark,
+            left,
+            right,
+            ..
+        } = &**node;
+        if mark.position <= place {
+            here = right;
+        } else {
+            found = Some(*mark);
+            here = left;
+        }
+    }
+    found
+}
+
+/// The last mark that stands before the place. O(log marks), one comparison a level.
+pub(crate) fn last_before(link: &Link, place: usize) -> Option<Mark>
+    ensures { result ≡ last_before place (marks_of link.now) }
+{
+    let mut found = None;
+    let mut here = link;
+    'down: while let Some(node) = here {
+        let Node {
+            mark,
+            left,
+            right,
+            ..
+        } = &**node;
+        if mark.position < place {
+            found = Some(*mark);
+            here = right;
+        } else {
+            here = left;
+        }
+    }
+    found
+}
+
+/// The tree with one more mark, kept in the node that is handed in. O(log marks), takes no memory.
+pub(crate) fn insert(link: Link, mark: Mark, mut node: Box<Node>) -> Box<Node>
+    requires rising { Rising (added mark (marks_of link)) }
+    requires few { length (marks_of link) < 2 ^ 64 }
+    ensures marks { result.value.marks ≡ added mark (marks_of link) }
+    ensures not_lower { height_of link ≤ result.value.height }
+    ensures one_higher { result.value.height ≤ height_of link + 1 }
+{
+    let Some(mut here) = link else {
+        *node = Node::leaf(mark);
+        return node;
+    };
+    let parts = here.open();
+    if mark.bound.0 < parts.mark.bound.0 {
+        let left = insert(parts.left, mark, node);
+        join(Some(left), parts.mark, parts.right, here)
+    } else {
+        let right = insert(parts.right, mark, node);
+        join(parts.left, parts.mark, Some(right), here)
+    }
+}
+
+/// The tree of both sides and the mark between them, in this node. One side may be two levels higher than the other: then it is
+/// rotated. O(1).
+fn join(left: Link, mark: Mark, right: Link, node: Box<Node>) -> Box<Node>
+    requires rising { Rising (marks_of left ++ mark ∷ marks_of right) }
+    requires near { DifferByAtMost 2 (height_of left) (height_of right) }
+    requires fits { max (height_of left) (height_of right) ≤ 2 ^ 31 }
+    ensures marks { result.value.marks ≡ marks_of left ++ mark ∷ marks_of right }
+    ensures height { Settles (height_of left) (height_of right) result.value.height }
+{
+    let (high, low) = (height(&left), height(&right));
+    match (left, right) {
+        (Some(top), right) if high > low + 1 => lean_left(top, mark, right, node),
+        (left, Some(top)) if low > high + 1 => lean_right(left, mark, top, node),
+        (left, right) => settle(left, mark, right, node),
+    }
+}
+
+/// The tree of both sides and the mark between them, in this node, where neither side is more than a level higher. O(1).
+fn settle(left: Link, mark: Mark, right: Link, mut node: Box<Node>) -> Box<Node>
+    requires rising { Rising (marks_of left ++ mark ∷ marks_of right) }
+    requires even { DifferByAtMost 1 (height_of left) (height_of right) }
+    requires fits { max (height_of left) (height_of right) + 1 < 2 ^ 32 }
+    ensures marks { result.value.marks ≡ marks_of left ++ mark ∷ marks_of right }
+    ensures height { result.value.height ≡ max (height_of left) (height_of right) + 1 }
+{
+    let height = height(&left).max(height(&right)) + 1;
+    *node = Node {
+        mark,
+        height,
+        left,
+        right,
+    };
+    node
+}
+
+/// Rotates where the left side is two levels higher: `spare` becomes a node below the top.
+fn lean_left(mut top: Box<Node>, mark: Mark, right: Link, spare: Box<Node>) -> Box<Node>
+    requires rising { Rising (top.value.marks ++ mark ∷ marks_of right) }
+    requires two_higher { top.value.height ≡ height_of right + 2 }
+    requires fits { top.value.height ≤ 2 ^ 31 }
+    ensures marks { result.value.marks ≡ top.value.marks ++ mark ∷ marks_of right }
+    ensures not_lower { top.value.height ≤ result.value.height }
+    ensures one_higher { result.value.height ≤ top.value.height + 1 }
+{
+    let Parts {
+        left: outer,
+        mark: between,
+        right: inner,
+    } = top.open();
+    if height(&outer) >= height(&inner) {
+        let behind = settle(inner, mark, right, spare);
+        return settle(outer, between, Some(behind), top);
+    }
+    let Some(mut middle) = inner else {
+        unreachable!()
+    };
+    let parts = middle.open();
+    let before = settle(outer, between, parts.left, top);
+    let behind = settle(parts.right, mark, right, spare);
+    settle(Some(before), parts.mark, Some(behind), middle)
+}
+
+/// Rotates where the right side is two levels higher: `spare` becomes a node below the top.
+fn lean_right(left: Link, mark: Mark, mut top: Box<Node>, spare: Box<Node>) -> Box<Node>
+    requires rising { Rising (marks_of left ++ mark ∷ top.value.marks) }
+    requires two_higher { top.value.height ≡ height_of left + 2 }
+    requires fits { top.value.height ≤ 2 ^ 31 }
+    ensures marks { result.value.marks ≡ marks_of left ++ mark ∷ top.value.marks }
+    ensures not_lower { top.value.height ≤ result.value.height }
+    ensures one_higher { result.value.height ≤ top.value.height + 1 }
+{
+    let Parts {
+        left: inner,
+        mark: between,
+        right: outer,
+    } = top.open();
+    if height(&outer) >= height(&inner) {
+        let before = settle(left, mark, inner, spare);
+        return settle(Some(before), between, outer, top);
+    }
+    let Some(mut middle) = inner else {
+        unreachable!()
+    };
+    let parts = middle.open();
+    let before = settle(left, mark, parts.left, spare);
+    let behind = settle(parts.right, between, outer, top);
+    settle(Some(before), parts.mark, Some(behind), middle)
+}
+
+/// Each bound at or above `low` that stands at the place moves up by one. O(log marks) and the marks at that place.
+pub(crate) fn raise(link: &mut Link, low: u64, place: usize)
+    requires { place < usize.MAX }
+    ensures marks { marks_of link.new ≡ map (raised low place) (marks_of link.old) }
+    ensures height { height_of link.new ≡ height_of link.old }
+{
+    let Some(node) = link else {
+        return;
+    };
+    let Node {
+        mark,
+        left,
+        right,
+        ..
+    } = &mut **node;
+    if mark.bound.0 < low || mark.position < place {
+        raise(right, low, place);
+    } else if place < mark.position {
+        raise(left, low, place);
+    } else {
+        mark.position += 1;
+        raise(left, low, place);
+        raise(right, low, place);
+    }
+}
+
+/// Each bound at or below `high` that stands at the place moves down by one. O(log marks) and the marks at that place.
+pub(crate) fn lower(link: &mut Link, high: u64, place: usize)
+    requires { 0 < place }
+    ensures marks { marks_of link.new ≡ map (lowered high place) (marks_of link.old) }
+    ensures height { height_of link.new ≡ height_of link.old }
+{
+    let Some(node) = link else {
+        return;
+    };
+    let Node {
+        mark,
+        left,
+        right,
+        ..
+    } = &mut **node;
+    if high < mark.bound.0 || place < mark.position {
+        lower(left, high, place);
+    } else if mark.position < place {
+        lower(right, high, place);
+    } else {
+        mark.position -= 1;
+        lower(left, high, place);
+        lower(right, high, place);
+    }
+}
+
+/// Each bound that stands at the place moves down by one. O(log marks) and the marks at that place.
+pub(crate) fn lower_at(link: &mut Link, place: usize)
+    requires { 0 < place }
+    ensures marks { marks_of link.new ≡ map (lowered_at place) (marks_of link.old) }
+    ensures height { height_of link.new ≡ height_of link.old }
+{
+    let Some(node) = link else {
+        return;
+    };
+    let Node {
+        mark,
+        left,
+        right,
+        ..
+    } = &mut **node;
+    if place < mark.position {
+        lower_at(left, place);
+    } else if mark.position < place {
+        lower_at(right, place);
+    } else {
+        mark.position -= 1;
+        lower_at(left, place);
+        lower_at(right, place);
+    }
+}
+
+/// Adds the sizes of the pieces that end at the marks of the tree, in order. The first begins at `last`, which is the last mark then.
+/// O(marks), takes no memory.
+fn append_pieces(link: &Link, last: &mut Mark, pieces: &mut Vec<PieceSize>)
+    requires room { vec_len pieces.old + length (marks_of link.now) ≤ vec_capacity pieces.old }
+    ensures made { (rest : List Mark) (high : Bound) (to : ℕ)
+        → pieces.old.items ++ pieces_from last.old.bound last.old.position (marks_of link.now ++ rest) high to
+        ≡ pieces.new.items ++ pieces_from last.new.bound last.new.position rest high to }
+    ensures len { vec_len pieces.new ≡ vec_len pieces.old + length (marks_of link.now) }
+    ensures capacity { vec_capacity pieces.new ≡ vec_capacity pieces.old }
+{
+    let Some(node) = link else {
+        return;
+    };
+    let Node {
+        mark,
+        left,
+        right,
+        ..
+    } = &**node;
+    append_pieces(left, last, pieces);
+    pieces.push_reserved(piece_between(*last, *mark));
+    *last = *mark;
+    append_pieces(right, last, pieces);
+}
+
+/// The sizes of the pieces between the marks of a tree, so many, and at both ends; refused with 8 where it finds no memory. O(marks).
+pub(crate) fn piece_sizes(
+    alloc: Global,
+    link: &Link,
+    marks: usize,
+    keys: KeyRange,
+    len: usize,
+) -> Result<Vec<PieceSize>, Refusal>
+    requires counted { length (marks_of link.now) ≡ marks }
+    requires few { marks < usize.MAX }
+    ensures ok { IfOk result (λ v. v.items ≡ pieces_from (record { 0 = keys.low }) 0 (marks_of link.now) (record { 0 = keys.high }) len) }
+    ensures err { IfErr result (λ e. e ≡ Refusal.OutOfMemory) }
+{
+    let mut pieces = Vec::with_capacity(alloc, marks + 1)?;
+    let mut last = Mark {
+        bound: keys.low(),
+        position: 0,
+    };
+    append_pieces(link, &mut last, &mut pieces);
+    let end = Mark {
+        bound: keys.high(),
+        position: len,
+    };
+    pieces.push_reserved(piece_between(last, end));
+    Ok(pieces)
+}
+
+/// The size of the piece between two marks: 0 where the second stands before the first.
+fn piece_between(low: Mark, high: Mark) -> PieceSize
+    ensures { result ≡ size_between low.bound low.position high.bound high.position }
+{
+    PieceSize {
+        low: low.bound,
+        high: high.bound,
+        size: high.position.saturating_sub(low.position) as u64,
+    }
+}
+
+/// Fills the stock up to so many spare nodes, one box at a time; refused with 8 where it finds no memory: then it keeps those that it
+/// made.
+pub(crate) fn fill(spare: &mut Vec<Box<Node>>, nodes: usize) -> Result<(), Refusal>
+    requires { vec_len spare.old ≤ nodes }
+    ensures ok { OnOk result (nodes ≤ vec_len spare.new) }
+    ensures kept { vec_len spare.old ≤ vec_len spare.new }
+    ensures most { vec_len spare.new ≤ nodes }
+    ensures err { IfErr result (λ e. e ≡ Refusal.OutOfMemory) }
+{
+    spare.reserve(nodes - spare.len())?;
+    let alloc = *spare.allocator();
+    'nodes: while spare.len() < nodes {
+        let empty = Mark {
+            bound: Bound(0),
+            position: 0,
+        };
+        let node = Box::new(alloc, Node::leaf(empty))?;
+        spare.push_reserved(node);
+    }
+    Ok(())
+}

@@ -1,0 +1,30 @@
+-- An index may go to another thread, and threads may share one, by those of its nodes: a node has the law where what lies one level below has it.
+use denote.Model.{View}
+use denote.Model.Goals.{send, sync, has_of, part_has}
+use denote.Model.Local.{Parts, rows}
+use denote.Model.Marks.{tied_send, tied_sync}
+use denote.Param.Send.{IsSend, IsSync, sendable, view_send, view_sync}
+use Rattle.std.proofs.Crossing.{crosses}
+use Rattle.crack_index.specs.contracts.index.CrackerIndex as CrackerIndex
+use Rattle.crack_index.specs.contracts.tree.Node as Node
+use Rattle.crack_index.specs.contracts.tree.Node.TheKnot as knot
+use Rattle.crack_index.specs.declared.tree.Node as declared
+use Rattle.crack_index.specs.declared.tree.Node.TheDeep as deep
+use Rattle.crack_index.specs.declared.tree.Node.TheView as seen
+
+level-send : (p : Parts knot.frame) → IsSend (rows knot.frame p deep.member-Node) → IsSend (knot.at-Node p)
+level-send p h = search (sendable, crosses) depth 20
+
+keeps-send : (p : Parts knot.frame) → ((j : deep.the_members) → IsSend (rows knot.frame p j)) → (i : deep.the_members) → IsSend (rows knot.frame (knot.step p) i)
+keeps-send p h deep.member-Node =
+    let R = View (knot.at-Node p) declared.Node declared.the_code seen.view seen.invariant in
+    has_of knot.frame send (knot.step p) deep.member-Node (part_has send R (view_send (knot.at-Node p) declared.Node declared.the_code seen.view seen.invariant (level-send p (h deep.member-Node))))
+
+hole-send : IsSend knot.hole-Node
+hole-send = tied_send knot.frame knot.step knot.sizes keeps-send deep.member-Node
+
+node-send : IsSend Node.the_row
+node-send = let h = hole-send in search (sendable, crosses) depth 20
+
+pub index-send : IsSend CrackerIndex.the_row
+index-send = let n = node-send in search (sendable, crosses) depth 20

@@ -1,0 +1,6 @@
+use Rattle.std.proofs.Common.{◌<◌, ◌^◌, ◌-◌, ◌/◌, arith}
+use Rattle.crack_index.proofs.MarkLaws.{All-added}
+use Rattle.crack_tests.proofs.sorted_index.add_rising.Goals as goal
+
+pub returns : goal.returns
+returns g c = rw (c.add.ensures.marks, c.reserve.ensures.marks) (All-added (λ m. m.position < 2 ^ 64 - 1) (record { bound = record { 0 = c.from.result }; position = c.args.key / 4 }) c.args.index.now.marks (omega arith) c.requires)

@@ -1,0 +1,257 @@
+//! The index beside bounds in a sorted vector, over lists of calls that a seed gives.
+
+ghost use Rattle.std.specs.Prelude.{◌<◌, All};
+
+use crack_index::{CrackerIndex, Visitor};
+use crack_row::{Bound, Key};
+use std::alloc::Global;
+use std::process::Abort;
+use std::test::Fail;
+
+/// A bound's number, and its place.
+type Mark = (u64, usize);
+
+/// How many marks have a bound at or below the number.
+fn up_to(marks: &[Mark], number: u64) -> usize {
+    let mut count = 0;
+    'marks: for i in 0..marks.len() {
+        if marks[i].0 <= number {
+            count = i + 1;
+        }
+    }
+    count
+}
+
+/// Where the bound stands, if it is there.
+fn place_of(marks: &[Mark], number: u64) -> Option<usize> {
+    'marks: for i in 0..marks.len() {
+        if marks[i].0 == number {
+            return Some(marks[i].1);
+        }
+    }
+    None
+}
+
+/// Adds the bound at the place to both, where it isn't there.
+fn add(
+    rt: &impl Abort,
+    index: &mut CrackerIndex,
+    marks: &mut Vec<Mark>,
+    key: u32,
+) -> Result<(), Fail> {
+    index.reserve(1)?;
+    marks.reserve(1)?;
+    let bound = Bound(u64::from(key));
+    let there = index.position(bound);
+    if there.is_some() {
+        return Ok(());
+    }
+    let piece = index.piece_of(Key(key), 500);
+    assert!(rt; piece.from <= piece.to);
+    let place = piece.from;
+    index.add(bound, place);
+    let at = up_to(marks, bound.0);
+    assert!(rt; at <= marks.len());
+    marks.insert(at, (bound.0, place))?;
+    Ok(())
+}
+
+/// The bound and those above it that stand at its place move up, in both.
+fn raise(rt: &impl Abort, index: &mut CrackerIndex, marks: &mut [Mark], key: u32) {
+    let bound = Bound(u64::from(key));
+    let Some(place) = index.position(bound) else {
+        return;
+    };
+    assert!(rt; place < 100000);
+    index.raise_from(bound);
+    'marks: for i in 0..marks.len() {
+        if marks[i].0 >= bound.0 && marks[i].1 == place {
+            marks[i].1 = place + 1;
+        }
+    }
+}
+
+/// The bound and those below it that stand at its place move down, in both.
+fn lower(index: &mut CrackerIndex, marks: &mut [Mark], key: u32) {
+    let bound = Bound(u64::from(key));
+    let Some(place) = index.position(bound) else {
+        return;
+    };
+    if place == 0 {
+        return;
+    }
+    index.lower_to(bound);
+    'marks: for i in 0..marks.len() {
+        if marks[i].0 <= bound.0 && marks[i].1 == place {
+            marks[i].1 = place - 1;
+        }
+    }
+}
+
+/// Goes along on a walk for so many places.
+#[derive(Clone, Copy)]
+struct Places {
+    left: u64,
+}
+
+impl Visitor for Places {
+    ghost use Rattle.std.specs.Prelude.{⊤};
+
+    ghost is_ready = { λ _. ⊤ };
+
+    ghost visits = { λ _ _ _ _. ⊤ };
+
+    fn visit(&mut self, _place: usize) -> bool {
+        if self.left == 0 {
+            return false;
+        }
+        self.left -= 1;
+        true
+    }
+}
+
+/// A walk down from the number over so many places, in both.
+fn descend(index: &mut CrackerIndex, marks: &mut [Mark], key: u32, places: u64) {
+    let mut visitor = Places { left: places };
+    index.descend(Key(key), &mut visitor);
+    let mut left = places;
+    let mut last = 0;
+    let len = marks.len();
+    'marks: for k in 0..len {
+        let i = len - 1 - k;
+        let (bound, place) = marks[i];
+        if bound > u64::from(key) {
+            continue;
+        }
+        if place != last {
+            if left == 0 {
+                return;
+            }
+            left -= 1;
+            last = place;
+        }
+        if place == 0 {
+            return;
+        }
+        marks[i].1 = place - 1;
+    }
+}
+
+/// Asserts that the bounds below 64 stand at the same places in both.
+fn assert_same(rt: &impl Abort, index: &CrackerIndex, marks: &[Mark]) {
+    assert!(rt; index.len() == marks.len());
+    'bounds: for number in 0..64 {
+        let told = index.position(Bound(number));
+        assert!(rt; told == place_of(marks, number));
+    }
+}
+
+/// The next of the numbers that a seed gives.
+fn next(seed: u64) -> u64 {
+    seed.wrapping_mul(6364136223846793005)
+        .wrapping_add(1442695040888963407)
+}
+
+/// So many calls, after each of which both are the same.
+fn call(rt: &impl Abort, alloc: Global, seed: u64, calls: usize) -> Result<(), Fail> {
+    let mut index = CrackerIndex::new(alloc);
+    let mut marks: Vec<Mark> = Vec::new(alloc);
+    let mut seed = seed;
+    'calls: for _ in 0..calls {
+        seed = next(seed);
+        let key = ((seed >> 33) % 64) as u32;
+        match (seed >> 40) % 5 {
+            0 => raise(rt, &mut index, &mut marks, key),
+            1 => lower(&mut index, &mut marks, key),
+            2 => descend(&mut index, &mut marks, key, (seed >> 50) % 4),
+            _ => add(rt, &mut index, &mut marks, key)?,
+        }
+        assert_same(rt, &index, &marks);
+    }
+    assert!(rt; index.height() <= 8);
+    Ok(())
+}
+
+#[test]
+fn the_index_stands_as_a_sorted_vector_does(rt: HostRuntime) -> Result<(), Fail> {
+    call(&rt, rt.alloc(), 1, 1000)?;
+    call(&rt, rt.alloc(), 2, 1000)
+}
+
+/// Adds the bound at a place that rises with it, to both, where it isn't there.
+fn add_rising(
+    rt: &impl Abort,
+    index: &mut CrackerIndex,
+    marks: &mut Vec<Mark>,
+    key: u32,
+) -> Result<(), Fail>
+    requires { All (λ m. m.position < usize.MAX) index.old.marks }
+    ensures { All (λ m. m.position < usize.MAX) index.new.marks }
+{
+    index.reserve(1)?;
+    marks.reserve(1)?;
+    let bound = Bound(u64::from(key));
+    if index.position(bound).is_some() {
+        return Ok(());
+    }
+    let place = (key / 4) as usize;
+    let piece = index.piece_of(Key(key), 500);
+    assert!(rt; piece.from <= place && place <= piece.to);
+    index.add(bound, place);
+    let at = up_to(marks, bound.0);
+    assert!(rt; at <= marks.len());
+    marks.insert(at, (bound.0, place))?;
+    Ok(())
+}
+
+/// A walk up from the number over so many places, in both.
+fn climb(index: &mut CrackerIndex, marks: &mut [Mark], key: u32, places: u64)
+    requires { All (λ m. m.position < usize.MAX) index.old.marks }
+{
+    let mut visitor = Places { left: places };
+    index.climb(Key(key), &mut visitor);
+    let mut left = places;
+    let mut last = None;
+    'marks: for i in 0..marks.len() {
+        let (bound, place) = marks[i];
+        if bound <= u64::from(key) {
+            continue;
+        }
+        if last != Some(place) {
+            if left == 0 {
+                return;
+            }
+            left -= 1;
+            last = Some(place);
+        }
+        marks[i].1 = place.saturating_add(1);
+    }
+}
+
+/// A walk up over bounds that a seed gives, after which both are the same.
+fn climb_once(rt: &impl Abort, alloc: Global, seed: u64) -> Result<(), Fail> {
+    let mut index = CrackerIndex::new(alloc);
+    let mut marks: Vec<Mark> = Vec::new(alloc);
+    let mut seed = seed;
+    'bounds: for _ in 0..20 {
+        seed = next(seed);
+        add_rising(rt, &mut index, &mut marks, ((seed >> 33) % 64) as u32)?;
+    }
+    seed = next(seed);
+    climb(
+        &mut index,
+        &mut marks,
+        ((seed >> 33) % 64) as u32,
+        (seed >> 50) % 8,
+    );
+    assert_same(rt, &index, &marks);
+    Ok(())
+}
+
+#[test]
+fn walks_up_go_as_over_a_sorted_vector(rt: HostRuntime) -> Result<(), Fail> {
+    'seeds: for seed in 1..200 {
+        climb_once(&rt, rt.alloc(), seed)?;
+    }
+    Ok(())
+}
