@@ -49,7 +49,7 @@ abbrev pub last_mark : ℕ → List Mark → Option Mark
 last_mark number [] = None
 last_mark number (m ∷ ms) = cond (nat_le m.bound.0 number) (Some (unwrap_or (last_mark number ms) m)) None
 
--- the mark that a search found, without the hint of where it was found
+-- the mark that a search found, if any
 abbrev pub near_mark : Option NearBound → Option Mark
 near_mark found = option_map (λ (n : NearBound). n.mark) found
 
