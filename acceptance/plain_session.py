@@ -9,7 +9,7 @@ GREATEST = 2**32 - 1
 GREATEST_SERIAL = 2**64 - 1
 DIGITS = b"0123456789"
 BLANK = "blank"
-COUNTS_OF_NUMBERS = {b"insert": 2, b"count": 2, b"sum": 2, b"select": 2, b"layout": 1}
+COUNTS_OF_NUMBERS = {b"insert": 2, b"count": 2, b"sum": 2, b"select": 2, b"layout": 1, b"checkpoint": 1}
 
 
 def lines(given):
@@ -73,7 +73,7 @@ def read_words(words):
             found = read_row(rest, GREATEST, GREATEST)
         case b"count" | b"sum" | b"select":
             found = read_range(rest)
-        case b"layout":
+        case b"layout" | b"checkpoint":
             found = numbers(rest, GREATEST)
         case b"policy":
             found = rest if len(rest) == 1 and rest[0].decode("latin-1") in random_script.POLICIES else None
@@ -124,7 +124,7 @@ class Session:
         if isinstance(said, str) or said[0] in ("policy", "quit"):
             return 0
         kind, told = said
-        if kind in ("delete", "update", "layout"):
+        if kind in ("delete", "update", "layout", "checkpoint"):
             return int(told[0] < len(self.table.parts))
         if kind == "insert" or told[0] == told[1]:
             return 1
@@ -148,7 +148,7 @@ class Session:
 
     def is_refused_without_memory(self, said):
         """Whether what was said is refused for a cause that goes before want of memory, in the one partition that it asks."""
-        if isinstance(said, str) or said[0] == "layout" or self.parts_asked(said) != 1:
+        if isinstance(said, str) or said[0] in ("layout", "checkpoint") or self.parts_asked(said) != 1:
             return False
         kind, told = said
         part = self.table.parts[told[0]] if kind in ("delete", "update") else self.table.part_of(told[0])

@@ -7,14 +7,15 @@ macro_rules! with_refusals {
         concat!(
             $($before,)+
             "\n\nRefusals, told as `refused N`; one that ends a run gives exit status 1:\n",
-            "   1  no statement            13  the workers aren't 1 to 64\n",
-            "   2  no range                14  the limit isn't 1 to 1000000\n",
-            "   4  a key beyond the split  15  workers are missing at the end\n",
-            "   5  no such partition       16  receipts and histories disagree\n",
-            "   6  the history is full     17  reading failed, or the port\n",
-            "   8  no memory               18  writing failed\n",
-            "  11  splits that don't rise  19  no record of CSV: its number\n",
-            "  12  more than 63 splits"
+            "   1  no statement            12  more than 63 splits\n",
+            "   2  no range                13  the workers aren't 1 to 64\n",
+            "   4  a key beyond the split  14  a limit isn't 1 to its greatest\n",
+            "   5  no such partition       15  workers are missing at the end\n",
+            "   6  the history is full     16  receipts and histories disagree\n",
+            "   8  no memory               17  reading failed, or the port\n",
+            "   9  no cell is free         18  writing failed\n",
+            "  10  no command more         19  no record of CSV: its number\n",
+            "  11  splits that don't rise"
         )
     };
 }
@@ -33,6 +34,7 @@ macro_rules! with_statements {
             "  sum LOW HIGH                sum N: their payloads\n",
             "  select LOW HIGH             rows N, and N lines P.N KEY PAYLOAD\n",
             "  layout P                    what stands where in partition P\n",
+            "  checkpoint P                folded N: its history begins anew, its rows stay\n",
             "  policy NAME                 policy NAME: complete, gradual or ripple merges\n",
             "  quit                        bye"
         )

@@ -5,7 +5,7 @@ mod help;
 
 use clap::error::ErrorKind;
 use clap::{Arg, ArgAction, ArgMatches, Command, value_parser};
-use crack_row::{Bound, GREATEST_LIMIT, Policy, Refusal};
+use crack_row::{Bound, GREATEST_LIMIT, Limits, Policy, Refusal};
 use std::alloc::{AllocError, Global};
 use thiserror::Error;
 
@@ -29,8 +29,8 @@ pub enum Request {
 pub struct Opening {
     /// Where the keys are parted: any numbers of 64 bits, in the order of the command line.
     pub splits: Vec<Bound>,
-    /// How many entries a partition's history may have: `GREATEST_LIMIT` where the command line doesn't say.
-    pub limit: u64,
+    /// What bounds a partition: the greatest of each kind where the command line doesn't say.
+    pub limits: Limits,
     /// How pending rows are merged: `Policy::Ripple` where the command line doesn't say.
     pub policy: Policy,
 }
@@ -79,6 +79,22 @@ fn limit_option<'a>(alloc: Global) -> Arg<'a> {
         .value_name("N")
         .value_parser(value_parser!(u64))
         .help("The length of a history, 1 to 1000000 [default: 1000000]")
+}
+
+fn cells_option<'a>(alloc: Global) -> Arg<'a> {
+    Arg::new(alloc, "cells")
+        .long("cells")
+        .value_name("N")
+        .value_parser(value_parser!(u64))
+        .help("The cells of a partition's rows, 1 to 1048576 [default: 1048576]")
+}
+
+fn life_option<'a>(alloc: Global) -> Arg<'a> {
+    Arg::new(alloc, "life")
+        .long("life")
+        .value_name("N")
+        .value_parser(value_parser!(u64))
+        .help("The commands of a partition in all, 1 to 2^40 [default: 2^40]")
 }
 
 fn policy_option<'a>(alloc: Global) -> Arg<'a> {
@@ -137,6 +153,8 @@ fn opening_command<'a>(
         .about(about)
         .after_help(behind)
         .arg(limit_option(alloc))?
+        .arg(cells_option(alloc))?
+        .arg(life_option(alloc))?
         .arg(policy_option(alloc))?
         .arg(split_values(alloc))
 }
@@ -216,10 +234,20 @@ fn splits_of(alloc: Global, matches: &ArgMatches<'_>) -> Result<Vec<Bound>, Argu
     Ok(splits)
 }
 
+/// The limits: those that are named, and the greatest of the others.
+fn limits_of(matches: &ArgMatches<'_>) -> Limits {
+    let greatest = Limits::of_history(GREATEST_LIMIT);
+    Limits {
+        history: matches.get_one::<u64>("limit").unwrap_or(greatest.history),
+        cells: matches.get_one::<u64>("cells").unwrap_or(greatest.cells),
+        life: matches.get_one::<u64>("life").unwrap_or(greatest.life),
+    }
+}
+
 fn opening_of(alloc: Global, matches: &ArgMatches<'_>) -> Result<Opening, ArgumentsError> {
     Ok(Opening {
         splits: splits_of(alloc, matches)?,
-        limit: matches.get_one::<u64>("limit").unwrap_or(GREATEST_LIMIT),
+        limits: limits_of(matches),
         policy: policy_of(matches),
     })
 }

@@ -12,7 +12,7 @@ use Rattle.crack_row.specs.declared.refusal.Refusal.{Refusal}
 use Rattle.crack_row.specs.declared.refusal.Refusal.TheVariants.{BadStatement, BadRange}
 use Rattle.crack_commands.specs.declared.words.TheConstants.{MOST_DIGITS, GREATEST_PART, GREATEST_SERIAL}
 use Rattle.crack_commands.specs.declared.statement.Statement.{Statement}
-use Rattle.crack_commands.specs.declared.statement.Statement.TheVariants.{Insert, Delete, Update, Count, Sum, Select, Layout, Policy, Quit}
+use Rattle.crack_commands.specs.declared.statement.Statement.TheVariants.{Insert, Delete, Update, Count, Sum, Select, Layout, Checkpoint, Policy, Quit}
 
 -- what a line says: a statement, or why it is none
 abbrev pub Reading : Type 0
@@ -84,6 +84,7 @@ named name arguments =
     else if bytes_eq name (codes "sum") then over Sum (two_numbers arguments)
     else if bytes_eq name (codes "select") then over Select (two_numbers arguments)
     else if bytes_eq name (codes "layout") then made Layout (number_up_to GREATEST_PART (only_word arguments))
+    else if bytes_eq name (codes "checkpoint") then made Checkpoint (number_up_to GREATEST_PART (only_word arguments))
     else if bytes_eq name (codes "policy") then made Policy (policy_named (only_word arguments))
     else if bytes_eq name (codes "quit") && length arguments == 0 then Ok Quit
     else Err BadStatement

@@ -12,7 +12,7 @@ use Rattle.crack_row.specs.declared.RowNo.{RowNo}
 use Rattle.crack_row.specs.declared.refusal.Refusal.{Refusal}
 use Rattle.crack_row.specs.declared.refusal.Refusal.TheVariants.{BadStatement, BadRange}
 use Rattle.crack_commands.specs.declared.words.TheConstants.{GREATEST_PART}
-use Rattle.crack_commands.specs.declared.statement.Statement.TheVariants.{Insert, Delete, Update, Layout as AsksLayout, Policy, Quit}
+use Rattle.crack_commands.specs.declared.statement.Statement.TheVariants.{Insert, Delete, Update, Layout as AsksLayout, Checkpoint, Policy, Quit}
 use Rattle.crack_commands.specs.Grammar.{Reading, is_word, words, number_of, number_up_to, row_number_of, key_and_payload, only_word, policy_named, made}
 use Rattle.crack_commands.specs.Texts.{head_text, row_text, field_text}
 
@@ -99,6 +99,10 @@ range_from None = Err BadStatement
 -- `layout P`
 abbrev pub layout_of : List (List ℕ) → Reading
 layout_of arguments = made AsksLayout (number_up_to GREATEST_PART (only_word arguments))
+
+-- `checkpoint P`
+abbrev pub checkpoint_of : List (List ℕ) → Reading
+checkpoint_of arguments = made Checkpoint (number_up_to GREATEST_PART (only_word arguments))
 
 -- `policy NAME`
 abbrev pub policy_of : List (List ℕ) → Reading

@@ -53,6 +53,10 @@ layout_text part layout = (
     ++ (codes " free " ++ decimal layout.free ++ codes " pieces " ++ decimal (length layout.pieces)) ++ codes "\n"
     ) ++ flat_map piece_text layout.pieces
 
+-- the answer to `checkpoint P`: how many entries were folded
+abbrev pub folded_text : ℕ → List ℕ
+folded_text folded = codes "folded " ++ decimal folded ++ codes "\n"
+
 -- the answer to `policy NAME`
 abbrev pub policy_text : Policy → List ℕ
 policy_text Complete = codes "policy complete\n"

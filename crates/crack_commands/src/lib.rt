@@ -11,7 +11,7 @@ pub use leading::{LeadingInsert, leading_insert};
 pub use output::send;
 pub use statement::{Statement, parse_statement};
 pub use text::{
-    policy_line, write_count, write_each_row, write_head, write_layout, write_refusal, write_reply,
-    write_row, write_sum, write_text,
+    policy_line, write_count, write_each_row, write_folded, write_head, write_layout,
+    write_refusal, write_reply, write_row, write_sum, write_text,
 };
 pub use words::read_number_up_to;

@@ -1,7 +1,7 @@
 //! The statement language.
 ghost use Rattle.std.specs.Prelude.{◌≡◌, ◌∷◌, codes, Some, IfSome};
 ghost use Rattle.crack_commands.specs.Grammar.{statement_of, words, named, two_numbers, over, policy_named};
-ghost use Rattle.crack_commands.specs.Inside.{insert_of, delete_of, update_of, update_from, range_from, layout_of, policy_of, quit_of, is_row};
+ghost use Rattle.crack_commands.specs.Inside.{insert_of, delete_of, update_of, update_from, range_from, layout_of, checkpoint_of, policy_of, quit_of, is_row};
 ghost use Rattle.crack_commands.specs.declared.statement.Statement.TheVariants.{Count, Sum, Select};
 
 use crate::words::{next_word, only_word, read_part, read_row_number, two_numbers};
@@ -31,6 +31,8 @@ pub enum Statement {
     Select(KeyRange),
     /// What stands where in a partition.
     Layout(u32),
+    /// That a partition's answered commands be kept as the rows that they left.
+    Checkpoint(u32),
     /// How pending rows are merged from now on.
     Policy(Policy),
     /// The end of the session.
@@ -78,6 +80,8 @@ fn parse_named(name: &[u8], rest: &[u8]) -> Result<Statement, Refusal>
         parse_select(rest)
     } else if name == b"layout".as_slice() {
         parse_layout(rest)
+    } else if name == b"checkpoint".as_slice() {
+        parse_checkpoint(rest)
     } else if name == b"policy".as_slice() {
         parse_policy(rest)
     } else if name == b"quit".as_slice() {
@@ -192,6 +196,16 @@ fn parse_layout(rest: &[u8]) -> Result<Statement, Refusal>
 {
     match read_part(only_word(rest)) {
         Some(part) => Ok(Statement::Layout(part)),
+        None => Err(Refusal::BadStatement),
+    }
+}
+
+/// A checkpoint of the one word behind its name.
+fn parse_checkpoint(rest: &[u8]) -> Result<Statement, Refusal>
+    ensures { result ≡ checkpoint_of (words rest.now) }
+{
+    match read_part(only_word(rest)) {
+        Some(part) => Ok(Statement::Checkpoint(part)),
         None => Err(Refusal::BadStatement),
     }
 }

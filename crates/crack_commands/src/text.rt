@@ -3,7 +3,7 @@ ghost use Rattle.std.specs.Prelude.{◌≡◌, ◌+◌, ◌<◌, ◌≤◌, ◌+
 ghost use Rattle.std.specs.Io.KnownBytes.{Appends};
 ghost use Rattle.crack_row.specs.Devices.{device, has_failed};
 ghost use Rattle.std.specs.List.{flat_map};
-ghost use Rattle.crack_commands.specs.Texts.{reply_text, count_text, sum_text, head_text, row_text, layout_text, piece_text, policy_text, refusal_text, field_text, bits_text, AppendsFront};
+ghost use Rattle.crack_commands.specs.Texts.{reply_text, count_text, sum_text, head_text, row_text, layout_text, piece_text, folded_text, policy_text, refusal_text, field_text, bits_text, AppendsFront};
 ghost use Rattle.crack_commands.specs.Inside.{placed_text, gone_text, rows_text, layout_head, two_fields, refused_text, has_bit, bit_text};
 
 use crate::output::send;
@@ -116,6 +116,20 @@ pub fn write_sum<W: Write>(sum: u128, writer: &mut Watched<W>) -> Result<(), Ref
     let mut text = Text::new();
     push(&mut text, b"sum ");
     push_wide_number(&mut text, sum);
+    push(&mut text, b"\n");
+    send(writer, text.as_slice())
+}
+
+/// Writes the line of a checkpoint, which says how many entries it folded.
+pub fn write_folded<W: Write>(folded: u64, writer: &mut Watched<W>) -> Result<(), Refusal>
+    ensures ok { OnOk result (Appends (W.contents (device writer.old)) (W.contents (device writer.new)) (folded_text folded)) }
+    ensures unfailed { OnOk result (has_failed writer.new ≡ has_failed writer.old) }
+    ensures err { IfErr result (λ e. (e ≡ Refusal.WriteFault) × (has_failed writer.new ≡ true)) }
+    ensures front { IfErr result (λ _. AppendsFront (W.contents (device writer.old)) (W.contents (device writer.new)) (folded_text folded)) }
+{
+    let mut text = Text::new();
+    push(&mut text, b"folded ");
+    push_number(&mut text, folded);
     push(&mut text, b"\n");
     send(writer, text.as_slice())
 }

@@ -1,2 +1,4 @@
+pub mod JobLaws
 pub mod RouteLaws
+pub mod ShortLaws
 pub mod StepLaws

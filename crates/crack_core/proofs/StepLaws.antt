@@ -1,5 +1,5 @@
 -- What follows of steps, of the entries that they leave, and of partitions of which one is replaced.
-use Rattle.std.specs.Prelude.{◌≡◌, ◌≢◌, ℕ, ◌+◌, ◌<◌, ◌≤◌, ◌==◌, Bool, true, false, cond, fold, List, [], ◌∷◌, ◌++◌, length, map, take, drop, Option, None, Some, Result, Ok, Err, is_ok, slice_get, IfSome, IfOk, IfErr, OnOk, OnErr, ◌⊎◌, nat_le, nat_lt, if◌then◌else◌}
+use Rattle.std.specs.Prelude.{◌≡◌, ◌≢◌, ℕ, ◌+◌, ◌<◌, ◌≤◌, ◌==◌, Bool, true, false, cond, fold, List, [], ◌∷◌, ◌++◌, length, map, take, drop, Option, None, Some, Result, Ok, Err, is_ok, slice_get, IfSome, IfOk, IfErr, OnOk, OnErr, IsOk, ◌⊎◌, nat_le, nat_lt, if◌then◌else◌}
 use Rattle.std.specs.Option.{option_map}
 use Rattle.std.proofs.Common.{zero, suc, get_or, set, arith, ap, refl, sym, subst, ◌∙◌, ⊎_elim, inl, inr, append-nil, append_assoc, length-append, length-set}
 use Rattle.std.proofs.lemmas.Bool.{true≢false, both_ways, and_parts, and_from, leb-true, leb-false, le-leb, ltb-true, lt-ltb, eq-eqb, ne_eqb, cases_eq, cases_lt}
@@ -16,7 +16,7 @@ use Rattle.crack_row.specs.declared.command.Command.{Command}
 use Rattle.crack_row.specs.declared.command.Entry.{Entry}
 use Rattle.crack_row.specs.declared.command.Reply.{Reply}
 use Rattle.crack_row.specs.declared.refusal.Refusal.{Refusal}
-use Rattle.crack_row.specs.declared.refusal.Refusal.TheVariants.{KeyOutside, NoSuchPartition, HistoryFull, OutOfMemory}
+use Rattle.crack_row.specs.declared.refusal.Refusal.TheVariants.{KeyOutside, NoSuchPartition, HistoryFull, OutOfMemory, NoCell, LifeOver}
 use Rattle.crack_row.specs.declared.limit.Limits.{Limits}
 use Rattle.crack_plain.specs.Past.{Past, with_entry, state_after, accepted_in}
 use Rattle.crack_plain.specs.Plain.{PlainView, IsWithin, IsSmall, reply_to}
@@ -25,7 +25,7 @@ use Rattle.crack_part.specs.Parts.{Part, IsSound}
 use Rattle.crack_core.specs.declared.step.Step.{Step}
 use Rattle.crack_core.specs.Routes.{keys_of_part}
 use Rattle.crack_core.specs.Opening.{AreParts}
-use Rattle.crack_core.specs.Steps.{is_key_in, expected, expected_at, IsOutcome, fresh_table, table_after, tables_after, table_of, tables_of, pasts_of, accepted_by, entries_at, with_entries, KeepsEntries, answered_at, table_at, AreExpectedReplies}
+use Rattle.crack_core.specs.Steps.{is_key_in, Bounds, bounds_of, reply_unless, MayLackCell, IsOutcome, IsOutcomeAt, fresh_table, table_after, tables_after, table_of, tables_of, pasts_of, accepted_by, entries_at, with_entries, KeepsEntries, answered_at, table_at, AreExpectedReplies}
 use Rattle.crack_core.specs.Cores.{Makes, MakesAll}
 
 -- whether a command brings a key of others, by the test
@@ -39,21 +39,6 @@ within-false : (keys : Range) (key : Option Key) → is_key_in keys key ≡ fals
 within-false keys None is within = true≢false is
 within-false keys (Some key) is within =
     both_ways (is_in keys key.0) is (and_from (nat_le keys.low key.0) (nat_lt key.0 keys.high) (le-leb keys.low key.0 within.0) (lt-ltb key.0 keys.high within.1))
-
--- a refusal of a partition is the one that is expected, or a want of memory in place of a reply
-outcome-refused : {T : Type 0} (limit : ℕ) (keys : Range) (past : Past) (command : Command) (e : Refusal) → ((IsWithin keys command → ⊥) → ◌≡◌ {A = Result T Refusal} (Err e) (Err KeyOutside)) → (IsWithin keys command → limit ≤ length past.tail → ◌≡◌ {A = Result T Refusal} (Err e) (Err (HistoryFull limit))) → (IsWithin keys command → length past.tail < limit → e ≡ OutOfMemory) → IsOutcome (expected limit keys (Some (table_of past)) command) (Err e)
-outcome-refused {T} limit keys past command e outside full room = by_key (is_key_in keys (key_of command)) refl
-  where
-    same : (f : Refusal) → ◌≡◌ {A = Result T Refusal} (Err e) (Err f) → ◌≡◌ {A = Result Reply Refusal} (Err e) (Err f)
-    same f is = let equal : e ≡ f = cc in ap Err equal
-
-    by_length : (b : Bool) → nat_le limit (length past.tail) ≡ b → IsWithin keys command → IsOutcome (if b then Err (HistoryFull limit) else Ok (reply_to (state_after past) command)) (Err e)
-    by_length true is within = inl (same (HistoryFull limit) (full within (leb-true limit (length past.tail) is)))
-    by_length false is within = inr (ap Err (room within (leb-false limit (length past.tail) is)), refl)
-
-    by_key : (b : Bool) → is_key_in keys (key_of command) ≡ b → IsOutcome (if b then (if nat_le limit (length past.tail) then Err (HistoryFull limit) else Ok (reply_to (state_after past) command)) else Err KeyOutside) (Err e)
-    by_key true is = by_length (nat_le limit (length past.tail)) refl (within-true keys (key_of command) is)
-    by_key false is = inl (same KeyOutside (outside (within-false keys (key_of command) is)))
 
 -- what comes of an answer once the reply's copy is let go
 pub record Gives (answered : Result (Reply × Reply) Refusal) (given : Result Reply Refusal) : Type 0 where
@@ -72,33 +57,58 @@ pub small-given : (a : Result (Reply × Reply) Refusal) (r : Result Reply Refusa
 small-given (Ok replies) r gives small = rw gives.ok small
 small-given (Err e) r gives small = rw gives.err tt
 
--- what a partition answers is the reply of its plain rows, or the refusal that they call for, or a want of memory in place of a reply
-pub outcome-given : (p : Part) (command : Command) (a : Result (Reply × Reply) Refusal) (r : Result Reply Refusal) → Gives a r → IfOk a (λ (replies : Reply × Reply). (replies.0 ≡ reply_to (state_after p.past) command) × (replies.1 ≡ replies.0)) → ((IsWithin p.keys command → ⊥) → a ≡ Err KeyOutside) → (IsWithin p.keys command → p.limits.history ≤ length p.past.tail → a ≡ Err (HistoryFull p.limits.history)) → (IsWithin p.keys command → length p.past.tail < p.limits.history → IfErr a (λ e. e ≡ OutOfMemory)) → IsOutcome (expected p.limits.history p.keys (Some (table_of p.past)) command) r
-outcome-given p command (Err e) r gives said outside full room = rw gives.err (outcome-refused p.limits.history p.keys p.past command e outside full room)
-outcome-given p command (Ok replies) r gives said outside full room = rw gives.ok (by_key (is_key_in p.keys (key_of command)) refl)
-  where
-    refused : (e : Refusal) → ◌≡◌ {A = Result (Reply × Reply) Refusal} (Ok replies) (Err e) → ⊥
-    refused e is = absurd (cc)
+-- a refusal is told as it is
+given-err : (a : Result (Reply × Reply) Refusal) (r : Result Reply Refusal) (e : Refusal) → Gives a r → a ≡ Err e → r ≡ Err e
+given-err a r e gives is = rw is at gives.err
 
-    by_length : (b : Bool) → nat_le p.limits.history (length p.past.tail) ≡ b → IsWithin p.keys command → IsOutcome (if b then Err (HistoryFull p.limits.history) else Ok (reply_to (state_after p.past) command)) (Ok replies.0)
-    by_length true is within = absurd (refused (HistoryFull p.limits.history) (full within (leb-true p.limits.history (length p.past.tail) is)))
-    by_length false is within = inl (ap Ok said.0)
+-- why a command isn't answered that a partition may keep: for want of memory, or of a cell
+abbrev pub IsShort : Part → Command → Refusal → Type 0
+IsShort p command e = (e ≡ OutOfMemory) ⊎ ((e ≡ NoCell) × MayLackCell p.limits.cells (Some (table_of p.past)) command)
 
-    by_key : (b : Bool) → is_key_in p.keys (key_of command) ≡ b → IsOutcome (if b then (if nat_le p.limits.history (length p.past.tail) then Err (HistoryFull p.limits.history) else Ok (reply_to (state_after p.past) command)) else Err KeyOutside) (Ok replies.0)
-    by_key true is = by_length (nat_le p.limits.history (length p.past.tail)) refl (within-true p.keys (key_of command) is)
-    by_key false is = absurd (refused KeyOutside (outside (within-false p.keys (key_of command) is)))
+-- what comes of a command that a partition may keep
+kept-or-short : (p : Part) (command : Command) (a : Result (Reply × Reply) Refusal) (r : Result Reply Refusal) → Gives a r → IfOk a (λ (replies : Reply × Reply). (replies.0 ≡ reply_to (state_after p.past) command) × (replies.1 ≡ replies.0)) → IfErr a (IsShort p command) → (r ≡ Ok (reply_to (state_after p.past) command)) ⊎ ((r ≡ Err OutOfMemory) ⊎ ((r ≡ Err NoCell) × MayLackCell p.limits.cells (Some (table_of p.past)) command))
+kept-or-short p command (Ok replies) r gives said short = inl (gives.ok ∙ ap Ok said.0)
+kept-or-short p command (Err e) r gives said short = ⊎_elim (λ (is : e ≡ OutOfMemory). inr (inl (gives.err ∙ ap Err is))) (λ (lacks : (e ≡ NoCell) × MayLackCell p.limits.cells (Some (table_of p.past)) command). inr (inr (gives.err ∙ ap Err lacks.0, lacks.1))) short
+
+-- what comes out, by what a partition tests in turn: whether the key is its own, whether its history is full, and whether its life is over
+by_tests : (is_own is_full is_over : Bool) (limit : ℕ) (said : Reply) (Lacks : Type 0) (r : Result Reply Refusal) → (is_own ≡ false → r ≡ Err KeyOutside) → (is_own ≡ true → is_full ≡ true → r ≡ Err (HistoryFull limit)) → (is_own ≡ true → is_full ≡ false → is_over ≡ true → r ≡ Err LifeOver) → (is_own ≡ true → is_full ≡ false → is_over ≡ false → (r ≡ Ok said) ⊎ ((r ≡ Err OutOfMemory) ⊎ ((r ≡ Err NoCell) × Lacks))) → (r ≡ (if is_own then reply_unless (if is_full then Some (HistoryFull limit) else (if is_over then Some LifeOver else None)) said else Err KeyOutside)) ⊎ (IsOk (if is_own then reply_unless (if is_full then Some (HistoryFull limit) else (if is_over then Some LifeOver else None)) said else Err KeyOutside) × ((r ≡ Err OutOfMemory) ⊎ ((r ≡ Err NoCell) × Lacks)))
+by_tests false is_full is_over limit said Lacks r outside full over rest = inl (outside refl)
+by_tests true true is_over limit said Lacks r outside full over rest = inl (full refl refl)
+by_tests true false true limit said Lacks r outside full over rest = inl (over refl refl refl)
+by_tests true false false limit said Lacks r outside full over rest = ⊎_elim (λ (is : r ≡ Ok said). inl is) (λ (short : (r ≡ Err OutOfMemory) ⊎ ((r ≡ Err NoCell) × Lacks)). inr (refl, short)) (rest refl refl refl)
+
+-- what a partition answers is the reply of its plain rows, or the refusal that they call for, or a want of memory or of a cell in place of a reply
+pub outcome-given : (p : Part) (command : Command) (a : Result (Reply × Reply) Refusal) (r : Result Reply Refusal) → Gives a r → IfOk a (λ (replies : Reply × Reply). (replies.0 ≡ reply_to (state_after p.past) command) × (replies.1 ≡ replies.0)) → ((IsWithin p.keys command → ⊥) → a ≡ Err KeyOutside) → (IsWithin p.keys command → p.limits.history ≤ length p.past.tail → a ≡ Err (HistoryFull p.limits.history)) → (IsWithin p.keys command → length p.past.tail < p.limits.history → p.limits.life ≤ accepted_in p.past → a ≡ Err LifeOver) → (IsWithin p.keys command → length p.past.tail < p.limits.history → accepted_in p.past < p.limits.life → IfErr a (IsShort p command)) → IsOutcome (bounds_of p.limits) p.keys (Some (table_of p.past)) command r
+outcome-given p command a r gives said outside full over short =
+    let own = is_key_in p.keys (key_of command) in
+    let entries = length p.past.tail in
+    let accepted = accepted_in p.past in
+    by_tests own (nat_le p.limits.history entries) (nat_le p.limits.life accepted) p.limits.history (reply_to (state_after p.past) command) (MayLackCell p.limits.cells (Some (table_of p.past)) command) r
+    (λ not_own. given-err a r KeyOutside gives (outside (within-false p.keys (key_of command) not_own)))
+    (λ is_own is_full. given-err a r (HistoryFull p.limits.history) gives (full (within-true p.keys (key_of command) is_own) (leb-true p.limits.history entries is_full)))
+    (λ is_own not_full is_over. given-err a r LifeOver gives (over (within-true p.keys (key_of command) is_own) (leb-false p.limits.history entries not_full) (leb-true p.limits.life accepted is_over)))
+    (λ is_own not_full not_over. kept-or-short p command a r gives said (short (within-true p.keys (key_of command) is_own) (leb-false p.limits.history entries not_full) (leb-false p.limits.life accepted not_over)))
 
 -- a refusal for another cause than want of memory leaves a partition as it was
-pub same-given : (p q : Part) (command : Command) (a : Result (Reply × Reply) Refusal) (r : Result Reply Refusal) → Gives a r → ((IsWithin p.keys command → ⊥) ⊎ (p.limits.history ≤ length p.past.tail) → q ≡ p) → (IsWithin p.keys command → length p.past.tail < p.limits.history → IfErr a (λ e. e ≡ OutOfMemory)) → IfErr r (λ e. e ≢ OutOfMemory → q ≡ p)
-same-given p q command (Ok replies) r gives same room = rw gives.ok tt
-same-given p q command (Err e) r gives same room = rw gives.err (λ other. by_key (is_key_in p.keys (key_of command)) refl other)
+pub same-given : (p q : Part) (command : Command) (a : Result (Reply × Reply) Refusal) (r : Result Reply Refusal) → Gives a r → ((IsWithin p.keys command → ⊥) → q ≡ p) → (IsWithin p.keys command → p.limits.history ≤ length p.past.tail → q ≡ p) → (IsWithin p.keys command → length p.past.tail < p.limits.history → p.limits.life ≤ accepted_in p.past → q ≡ p) → (IsWithin p.keys command → length p.past.tail < p.limits.history → accepted_in p.past < p.limits.life → IfErr a (λ e. e ≢ OutOfMemory → q ≡ p)) → IfErr r (λ e. e ≢ OutOfMemory → q ≡ p)
+same-given p q command (Ok replies) r gives outside full over short = rw gives.ok tt
+same-given p q command (Err e) r gives outside full over short = rw gives.err (by_key (is_key_in p.keys (key_of command)) refl)
   where
-    by_key : (b : Bool) → is_key_in p.keys (key_of command) ≡ b → e ≢ OutOfMemory → q ≡ p
-    by_key true is other = elim (cases_lt (length p.past.tail) p.limits.history) [
-      | inl short ↦ absurd (other (room (within-true p.keys (key_of command) is) short))
-      | inr full ↦ same (inr full)
+    by_life : IsWithin p.keys command → length p.past.tail < p.limits.history → e ≢ OutOfMemory → q ≡ p
+    by_life within room other = elim (cases_lt (accepted_in p.past) p.limits.life) [
+      | inl lives ↦ short within room lives other
+      | inr ended ↦ over within room ended
     ]
-    by_key false is other = same (inl (within-false p.keys (key_of command) is))
+
+    by_length : IsWithin p.keys command → e ≢ OutOfMemory → q ≡ p
+    by_length within other = elim (cases_lt (length p.past.tail) p.limits.history) [
+      | inl room ↦ by_life within room other
+      | inr none ↦ full within none
+    ]
+
+    by_key : (b : Bool) → is_key_in p.keys (key_of command) ≡ b → e ≢ OutOfMemory → q ≡ p
+    by_key true is other = by_length (within-true p.keys (key_of command) is) other
+    by_key false is other = outside (within-false p.keys (key_of command) is)
 
 -- one entry more
 pub table_of-push : (past : Past) (e : Entry) → table_of (with_entry past e) ≡ table_after (table_of past) e.command
@@ -107,7 +117,7 @@ table_of-push past e =
     rw (state_after-push past e, long) refl
 
 -- no entry more
-with-nil : (past : Past) → with_entries past [] ≡ past
+pub with-nil : (past : Past) → with_entries past [] ≡ past
 with-nil past = ap (λ (es : List Entry). record past { tail = es }) (append-nil past.tail)
 
 -- several entries more, and more behind them
@@ -190,22 +200,22 @@ table_at-kept old now part steps results kept =
     by_past (Some past) = ap Some (sym (table_of-append past (entries_at part steps results)))
 
 -- no step
-pub AreExpectedReplies-nil : (limit : ℕ) (splits : List Bound) (tables : List PlainView) → AreExpectedReplies limit splits tables [] []
-AreExpectedReplies-nil limit splits tables = record { each = refl; outcomes = λ k s r at. absurd (omega (arith, slice_get_within {A = Step} [] k s at)) }
+pub AreExpectedReplies-nil : (bounds : Bounds) (splits : List Bound) (tables : List PlainView) → AreExpectedReplies bounds splits tables [] []
+AreExpectedReplies-nil bounds splits tables = record { each = refl; outcomes = λ k s r at. absurd (omega (arith, slice_get_within {A = Step} [] k s at)) }
 
 -- the last of a list
-get-last : {X : Type 0} (xs : List X) (x : X) → slice_get (xs ++ x ∷ []) (length xs) ≡ Some x
+pub get-last : {X : Type 0} (xs : List X) (x : X) → slice_get (xs ++ x ∷ []) (length xs) ≡ Some x
 get-last [] x = refl
 get-last (y ∷ xs) x = get-last xs x
 
-get-front : {X : Type 0} (xs : List X) (x : X) (k : ℕ) → k < length xs → slice_get (xs ++ x ∷ []) k ≡ slice_get xs k
+pub get-front : {X : Type 0} (xs : List X) (x : X) (k : ℕ) → k < length xs → slice_get (xs ++ x ∷ []) k ≡ slice_get xs k
 get-front [] x k within = absurd (omega (arith, within))
 get-front (y ∷ xs) x zero within = refl
 get-front (y ∷ xs) x (suc k) within = get-front xs x k (omega (arith, within))
 
 -- one step more
-pub AreExpectedReplies-push : (limit : ℕ) (splits : List Bound) (tables : List PlainView) (steps : List Step) (results : List (Result Reply Refusal)) (s : Step) (r : Result Reply Refusal) → AreExpectedReplies limit splits tables steps results → IsOutcome (expected limit (keys_of_part splits s.part) (table_at tables s.part steps results) s.command) r → AreExpectedReplies limit splits tables (steps ++ s ∷ []) (results ++ r ∷ [])
-AreExpectedReplies-push limit splits tables steps results s r before now = record {
+pub AreExpectedReplies-push : (bounds : Bounds) (splits : List Bound) (tables : List PlainView) (steps : List Step) (results : List (Result Reply Refusal)) (s : Step) (r : Result Reply Refusal) → AreExpectedReplies bounds splits tables steps results → IsOutcome bounds (keys_of_part splits s.part) (table_at tables s.part steps results) s.command r → AreExpectedReplies bounds splits tables (steps ++ s ∷ []) (results ++ r ∷ [])
+AreExpectedReplies-push bounds splits tables steps results s r before now = record {
   each = omega (arith, before.each, length-append steps (s ∷ []), length-append results (r ∷ []));
   outcomes = λ k s' r' at_step at_result. ⊎_elim
       (λ (front : k < length steps).
@@ -308,17 +318,17 @@ AreParts-set splits limits parts i q d within are keys limits_are sound = record
 }
 
 -- where there is no such partition
-pub outcome-nowhere : (splits : List Bound) (limit : ℕ) (parts : List Part) (s : Step) → length parts ≤ s.part → IsOutcome (expected_at limit splits (tables_of parts) s.part s.command) (Err NoSuchPartition)
-outcome-nowhere splits limit parts s beyond =
+pub outcome-nowhere : (splits : List Bound) (bounds : Bounds) (parts : List Part) (s : Step) → length parts ≤ s.part → IsOutcomeAt bounds splits (tables_of parts) s.part s.command (Err NoSuchPartition)
+outcome-nowhere splits bounds parts s beyond =
     let none = slice_get_past (tables_of parts) s.part (omega (arith, beyond, length-map parts (λ (p : Part). table_of p.past))) in
-    inl (sym (ap (λ (t : Option PlainView). expected limit (keys_of_part splits s.part) t s.command) none))
+    subst (λ (t : Option PlainView). IsOutcome bounds (keys_of_part splits s.part) t s.command (Err NoSuchPartition)) (sym none) (inl refl)
 
 -- what a partition of these splits is to answer is what the one of this number is to answer
-pub outcome-at : (splits : List Bound) (limits : Limits) (parts : List Part) (s : Step) (r : Result Reply Refusal) (d : Part) → AreParts splits limits parts → s.part < length parts → IsOutcome (expected (get_or parts s.part d).limits.history (get_or parts s.part d).keys (Some (table_of (get_or parts s.part d).past)) s.command) r → IsOutcome (expected_at limits.history splits (tables_of parts) s.part s.command) r
+pub outcome-at : (splits : List Bound) (limits : Limits) (parts : List Part) (s : Step) (r : Result Reply Refusal) (d : Part) → AreParts splits limits parts → s.part < length parts → IsOutcome (bounds_of (get_or parts s.part d).limits) (get_or parts s.part d).keys (Some (table_of (get_or parts s.part d).past)) s.command r → IsOutcomeAt (bounds_of limits) splits (tables_of parts) s.part s.command r
 outcome-at splits limits parts s r d are within outcome =
     let table = λ (p : Part). table_of p.past in
     let there = slice_get-map table parts s.part ∙ ap (option_map table) (slice_get-get_or parts s.part d within) in
-    rw (there, ← are.keys s.part d within) (subst (λ (l : Limits). IsOutcome (expected l.history (get_or parts s.part d).keys (Some (table_of (get_or parts s.part d).past)) s.command) r) (are.alike s.part d within) outcome)
+    rw (there, ← are.keys s.part d within) (subst (λ (l : Limits). IsOutcome (bounds_of l) (get_or parts s.part d).keys (Some (table_of (get_or parts s.part d).past)) s.command r) (are.alike s.part d within) outcome)
 
 -- what holds of a partition and of the one that replaces it holds of those of its number
 pub replaced-at : (R : Part → Part → Type 0) (parts : List Part) (i : ℕ) (q d : Part) → i < length parts → R (get_or parts i d) q → (old new : Part) → slice_get parts i ≡ Some old → slice_get (set parts i q) i ≡ Some new → R old new

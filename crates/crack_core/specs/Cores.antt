@@ -34,7 +34,7 @@ abbrev pub SparesAt : Step → List Part → List Part → Type 0
 SparesAt step old new = (p q : Part) → slice_get old step.part ≡ Some p → slice_get new step.part ≡ Some q → Spares step.policy p.keys (range_of step.command) p.store q.store
 
 -- what a step does to the partitions of these splits: each stays one, the step's own keeps its entry and is served or spared by the
--- step's policy, the others are as they were, and so are all after 4, 5 and 6
+-- step's policy, the others are as they were, and so are all after any refusal but 8
 pub record Makes (splits : List Bound) (limits : Limits) (step : Step) (result : Result Reply Refusal) (old new : List Part) : Type 0 where
   pub parts : AreParts splits limits new
   pub kept : KeepsEntries (pasts_of old) (step ∷ []) (result ∷ []) (pasts_of new)

@@ -1,4 +1,5 @@
 pub mod Cores
+pub mod Jobs
 pub mod Opening
 pub mod Receipts
 pub mod Routes

@@ -1,7 +1,7 @@
 -- What keeps partitions from being opened, and what they are opened with.
-use Rattle.std.specs.Prelude.{◌≡◌, ℕ, ◌+◌, ◌<◌, ◌⊎◌, ◌&&◌, List, length, All, Option, None, Some, nat_le, slice_index_or, if◌then◌else◌}
+use Rattle.std.specs.Prelude.{◌≡◌, ℕ, ◌+◌, ◌<◌, ◌⊎◌, List, length, All, Option, None, Some, nat_le, slice_index_or, if◌then◌else◌}
 use Rattle.std.specs.Option.{option_or}
-use Rattle.crack_row.specs.declared.TheConstants.{GREATEST_LIMIT}
+use Rattle.crack_row.specs.Limits.{are_limits}
 use Rattle.crack_row.specs.declared.Bound.{Bound}
 use Rattle.crack_row.specs.declared.limit.Limits.{Limits}
 use Rattle.crack_row.specs.declared.refusal.Refusal.{Refusal}
@@ -14,17 +14,17 @@ use Rattle.crack_core.specs.Routes.{is_rising, keys_of_part}
 abbrev pub splits_fault : List Bound → Option Refusal
 splits_fault splits = if is_rising 0 splits then (if nat_le (length splits) MOST_SPLITS then None else Some TooManyPartitions) else Some BadSplits
 
--- what is wrong with the limit of a history, if anything
-abbrev pub limit_fault : ℕ → Option Refusal
-limit_fault limit = if nat_le 1 limit && nat_le limit GREATEST_LIMIT then None else Some BadLimit
+-- what is wrong with limits, if anything
+abbrev pub limits_fault : Limits → Option Refusal
+limits_fault limits = if are_limits limits then None else Some BadLimit
 
 -- the first fault of an opening, if there is one
-abbrev pub opening_fault : List Bound → ℕ → Option Refusal
-opening_fault splits limit = option_or (splits_fault splits) (limit_fault limit)
+abbrev pub opening_fault : List Bound → Limits → Option Refusal
+opening_fault splits limits = option_or (splits_fault splits) (limits_fault limits)
 
 -- why an opening is refused: for its first fault, or, where there is none, for want of memory
-abbrev pub MayFault : List Bound → ℕ → Refusal → Type 0
-MayFault splits limit e = (opening_fault splits limit ≡ Some e) ⊎ ((opening_fault splits limit ≡ None) × (e ≡ OutOfMemory))
+abbrev pub MayFault : List Bound → Limits → Refusal → Type 0
+MayFault splits limits e = (opening_fault splits limits ≡ Some e) ⊎ ((opening_fault splits limits ≡ None) × (e ≡ OutOfMemory))
 
 -- the partitions of these splits: each has the keys between its splits, the limits of all, and is sound
 pub record AreParts (splits : List Bound) (limits : Limits) (parts : List Part) : Type 0 where

@@ -1,18 +1,19 @@
--- What the steps of many workers are to be answered, and what they leave.
-use Rattle.std.specs.Prelude.{◌≡◌, ◌⊎◌, ℕ, ◌+◌, ◌==◌, Bool, true, List, [], ◌∷◌, ◌++◌, length, map, take, Option, None, Some, Result, Ok, Err, IsOk, nat_le, slice_get, slice_set, slice_index_or, fold, sum_by, if◌then◌else◌}
+-- What the steps of many workers are to be answered, and what they leave; what a checkpoint between them does.
+use Rattle.std.specs.Prelude.{◌≡◌, ◌⊎◌, ℕ, ◌+◌, ◌≤◌, ◌==◌, Bool, true, List, [], ◌∷◌, ◌++◌, length, map, take, Option, None, Some, Result, Ok, Err, IsOk, is_some, nat_le, slice_get, slice_set, slice_index_or, fold, sum_by, if◌then◌else◌}
 use Rattle.std.specs.Option.{option_map}
 use Rattle.crack_row.specs.Ranges.{Range, is_in}
 use Rattle.crack_row.specs.Commands.{key_of}
 use Rattle.crack_row.specs.Layouts.{IsLayout}
 use Rattle.crack_row.specs.declared.Bound.{Bound}
+use Rattle.crack_row.specs.declared.limit.Limits.{Limits}
 use Rattle.crack_row.specs.declared.Key.{Key}
 use Rattle.crack_row.specs.declared.command.Command.{Command}
 use Rattle.crack_row.specs.declared.command.Entry.{Entry}
 use Rattle.crack_row.specs.declared.command.Reply.{Reply}
 use Rattle.crack_row.specs.declared.layout.Layout.{Layout}
 use Rattle.crack_row.specs.declared.refusal.Refusal.{Refusal}
-use Rattle.crack_row.specs.declared.refusal.Refusal.TheVariants.{KeyOutside, NoSuchPartition, HistoryFull, OutOfMemory}
-use Rattle.crack_plain.specs.Plain.{PlainView, no_rows, reply_to, after}
+use Rattle.crack_row.specs.declared.refusal.Refusal.TheVariants.{KeyOutside, NoSuchPartition, HistoryFull, OutOfMemory, NoCell, LifeOver}
+use Rattle.crack_plain.specs.Plain.{PlainView, accepted_of, checkpointed, no_rows, reply_to, after}
 use Rattle.crack_plain.specs.Past.{Past, state_after, accepted_in}
 use Rattle.crack_part.specs.Parts.{Part}
 use Rattle.crack_core.specs.Routes.{keys_of_part}
@@ -23,26 +24,50 @@ abbrev pub is_key_in : Range → Option Key → Bool
 is_key_in keys None = true
 is_key_in keys (Some key) = is_in keys key.0
 
--- what a partition of these keys, whose history may have so many entries, is to answer; there may be none
-abbrev pub expected : ℕ → Range → Option PlainView → Command → Result Reply Refusal
-expected limit keys None command = Err NoSuchPartition
-expected limit keys (Some table) command = if is_key_in keys (key_of command) then (if nat_le limit table.accepted then Err (HistoryFull limit) else Ok (reply_to table.state command)) else Err KeyOutside
+-- what bounds the partitions of a table: why one accepts no command more, if so, and how many cells its rows may take
+pub record Bounds : Type 0 where
+  pub stop : PlainView → Option Refusal
+  pub cells : ℕ
 
--- what the partition of this number is to answer
-abbrev pub expected_at : ℕ → List Bound → List PlainView → ℕ → Command → Result Reply Refusal
-expected_at limit splits tables part command = expected limit (keys_of_part splits part) (slice_get tables part) command
+-- why a partition of these limits accepts no command more: as many were accepted since its last checkpoint as its history may have, or as
+-- many since its opening as it may accept in all
+abbrev pub stopped_by : Limits → PlainView → Option Refusal
+stopped_by limits table = if nat_le limits.history table.since then Some (HistoryFull limits.history) else (if nat_le limits.life (accepted_of table) then Some LifeOver else None)
 
--- what comes out is what is expected, or, in place of a reply, a want of memory
-abbrev pub IsOutcome : Result Reply Refusal → Result Reply Refusal → Type 0
-IsOutcome expected outcome = (outcome ≡ expected) ⊎ ((outcome ≡ Err OutOfMemory) × IsOk expected)
+-- what these limits are for the partitions of a table
+abbrev pub bounds_of : Limits → Bounds
+bounds_of limits = record { stop = stopped_by limits; cells = limits.cells }
+
+-- a reply, unless there is a refusal
+abbrev pub reply_unless : Option Refusal → Reply → Result Reply Refusal
+reply_unless None reply = Ok reply
+reply_unless (Some e) reply = Err e
+
+-- what a partition of these keys and bounds is to answer; there may be none
+abbrev pub expected : Bounds → Range → Option PlainView → Command → Result Reply Refusal
+expected bounds keys None command = Err NoSuchPartition
+expected bounds keys (Some table) command = if is_key_in keys (key_of command) then reply_unless (bounds.stop table) (reply_to table.state command) else Err KeyOutside
+
+-- a partition may lack a cell for a command that brings a key, once it has accepted as many commands as its rows may take cells
+abbrev pub MayLackCell : ℕ → Option PlainView → Command → Type 0
+MayLackCell cells None command = ⊥
+MayLackCell cells (Some table) command = (is_some (key_of command) ≡ true) × (cells ≤ accepted_of table)
+
+-- what comes out of asking a partition is what is expected, or, in place of a reply, a want of memory, or of a cell where one may lack
+abbrev pub IsOutcome : Bounds → Range → Option PlainView → Command → Result Reply Refusal → Type 0
+IsOutcome bounds keys table command outcome = (outcome ≡ expected bounds keys table command) ⊎ (IsOk (expected bounds keys table command) × ((outcome ≡ Err OutOfMemory) ⊎ ((outcome ≡ Err NoCell) × MayLackCell bounds.cells table command)))
+
+-- what comes out of asking the partition of this number
+abbrev pub IsOutcomeAt : Bounds → List Bound → List PlainView → ℕ → Command → Result Reply Refusal → Type 0
+IsOutcomeAt bounds splits tables part command outcome = IsOutcome bounds (keys_of_part splits part) (slice_get tables part) command outcome
 
 -- a partition without rows, that has answered nothing
 abbrev pub fresh_table : PlainView
-fresh_table = record { state = no_rows; accepted = 0 }
+fresh_table = record { state = no_rows; folded = 0; since = 0 }
 
 -- a partition after an answered command: its rows, and one entry more
 abbrev pub table_after : PlainView → Command → PlainView
-table_after table command = record { state = after table.state command; accepted = table.accepted + 1 }
+table_after table command = record { state = after table.state command; folded = table.folded; since = table.since + 1 }
 
 -- the partitions after what came out of asking one of them: a refusal leaves all as they were
 abbrev pub tables_after : List PlainView → ℕ → Command → Result Reply Refusal → List PlainView
@@ -56,9 +81,20 @@ IsLayoutOutcome keys None outcome = outcome ≡ Err NoSuchPartition
 IsLayoutOutcome keys (Some table) (Ok layout) = IsLayout keys layout × (layout.rows ≡ length table.state.rows)
 IsLayoutOutcome keys (Some table) (Err e) = e ≡ OutOfMemory
 
--- the plain rows that a past left, and how many entries its tail has
+-- what comes out of asking a partition for a checkpoint: 5 where there is none, else how many commands it accepted since its last one, or
+-- a want of memory
+abbrev pub IsFoldOutcome : Option PlainView → Result ℕ Refusal → Type 0
+IsFoldOutcome None outcome = outcome ≡ Err NoSuchPartition
+IsFoldOutcome (Some table) outcome = (outcome ≡ Ok table.since) ⊎ (outcome ≡ Err OutOfMemory)
+
+-- the partitions after what came out of a checkpoint of one of them: a refusal leaves all as they were
+abbrev pub tables_folded : List PlainView → ℕ → Result ℕ Refusal → List PlainView
+tables_folded tables part (Ok count) = slice_set tables part (checkpointed (slice_index_or tables part fresh_table))
+tables_folded tables part (Err e) = tables
+
+-- the plain rows that a past left, how many commands its base comes to, and how many entries its tail has
 abbrev pub table_of : Past → PlainView
-table_of past = record { state = state_after past; accepted = length past.tail }
+table_of past = record { state = state_after past; folded = past.base.folded; since = length past.tail }
 
 -- the same of each partition
 abbrev pub tables_of : List Part → List PlainView
@@ -97,7 +133,7 @@ table_at tables part steps results = option_map (λ table. fold table_after tabl
 
 -- the expected replies: each step comes out as its partition is to answer after those of its own steps that it answered before; neither
 -- workers nor policies nor other partitions' steps matter
-pub record AreExpectedReplies (limit : ℕ) (splits : List Bound) (tables : List PlainView) (steps : List Step) (results : List (Result Reply Refusal)) : Type 0 where
+pub record AreExpectedReplies (bounds : Bounds) (splits : List Bound) (tables : List PlainView) (steps : List Step) (results : List (Result Reply Refusal)) : Type 0 where
   pub each : length results ≡ length steps
   pub outcomes : (k : ℕ) (step : Step) (result : Result Reply Refusal) → slice_get steps k ≡ Some step → slice_get results k ≡ Some result →
-      IsOutcome (expected limit (keys_of_part splits step.part) (table_at tables step.part (take k steps) (take k results)) step.command) result
+      IsOutcome bounds (keys_of_part splits step.part) (table_at tables step.part (take k steps) (take k results)) step.command result

@@ -8,13 +8,14 @@ ghost use Rattle.crack_plain.specs.Plain.{PlainView, IsNumbered, IsSmall};
 ghost use Rattle.crack_part.specs.Parts.{Part};
 ghost use Rattle.crack_core.specs.Routes.{AreSplits, keys_of_part, route, parts_of};
 ghost use Rattle.crack_core.specs.Opening.{opening_fault, MayFault, AreParts};
-ghost use Rattle.crack_core.specs.Steps.{expected_at, IsOutcome, IsLayoutOutcome, tables_of, tables_after, pasts_of, accepted_by, KeepsEntries, AreExpectedReplies};
+ghost use Rattle.crack_core.specs.Steps.{bounds_of, IsOutcomeAt, IsLayoutOutcome, IsFoldOutcome, tables_of, tables_after, tables_folded, pasts_of, accepted_by, KeepsEntries, AreExpectedReplies};
 ghost use Rattle.crack_store.specs.Inside.{no_cells, IsLayoutOf};
 ghost use Rattle.crack_core.specs.Cores.{IsCore, ServesAt, SparesAt, MakesAll};
+ghost use Rattle.crack_core.specs.Jobs.{performed, folding, KeepsJobs, AreExpectedOutcomes, IsJobOutcome, part_of, FoldsAt, Does, DoesAll};
 
-use crate::opening::{limit_fault, open_partitions, splits_fault};
+use crate::opening::{limits_fault, open_partitions, splits_fault};
 use crate::routes;
-use crate::step::Step;
+use crate::step::{Done, Job, Step};
 use crack_part::Partition;
 use crack_row::{Bound, Key, KeyRange, Layout, Limits, Refusal, Reply};
 use smallvec::SmallVec;
@@ -40,27 +41,39 @@ impl Model for Core {
 }
 
 impl Core {
-    /// Partitions without rows, one more than splits, each with a history of at most `limit` entries. Refused, in this order: with 11 where
-    /// the splits don't rise strictly or one isn't 1 to `GREATEST_KEY`, with 12 where they are more than `MOST_SPLITS`, with 14 where
-    /// the limit isn't 1 to `GREATEST_LIMIT`, and with 8 where no memory is found.
+    /// Partitions without rows, one more than splits, each with a history of at most `limit` entries, and with the greatest of the other
+    /// limits. Refused as `open_with` is.
     pub fn open(alloc: Global, splits: &[Bound], limit: u64) -> Result<Core, Refusal>
         ensures opened { IfOk result (λ core. (core.splits ≡ splits.now) × (core.limits ≡ of_history limit)) }
         ensures fresh { IfOk result (λ core. All (λ (part : Part). part.past ≡ no_past) core.parts) }
         ensures empty { IfOk result (λ core. All (λ (part : Part). part.store ≡ no_cells part.keys part.store.column_room part.store.in_room) core.parts) }
-        ensures none { OnOk result (opening_fault splits.now limit ≡ None) }
-        ensures fault { IfErr result (λ e. MayFault splits.now limit e) }
+        ensures none { OnOk result (opening_fault splits.now (of_history limit) ≡ None) }
+        ensures fault { IfErr result (λ e. MayFault splits.now (of_history limit) e) }
+    {
+        Core::open_with(alloc, splits, Limits::of_history(limit))
+    }
+
+    /// Partitions without rows, one more than splits, each with these limits. Refused, in this order: with 11 where
+    /// the splits don't rise strictly or one isn't 1 to `GREATEST_KEY`, with 12 where they are more than `MOST_SPLITS`, with 14 where
+    /// a limit isn't 1 to the greatest of its kind, and with 8 where no memory is found.
+    pub fn open_with(alloc: Global, splits: &[Bound], limits: Limits) -> Result<Core, Refusal>
+        ensures opened { IfOk result (λ core. (core.splits ≡ splits.now) × (core.limits ≡ limits)) }
+        ensures fresh { IfOk result (λ core. All (λ (part : Part). part.past ≡ no_past) core.parts) }
+        ensures empty { IfOk result (λ core. All (λ (part : Part). part.store ≡ no_cells part.keys part.store.column_room part.store.in_room) core.parts) }
+        ensures none { OnOk result (opening_fault splits.now limits ≡ None) }
+        ensures fault { IfErr result (λ e. MayFault splits.now limits e) }
     {
         if let Some(fault) = splits_fault(splits) {
             return Err(fault);
         }
-        if let Some(fault) = limit_fault(limit) {
+        if let Some(fault) = limits_fault(limits) {
             return Err(fault);
         }
         let kept = Vec::from_slice(alloc, splits)?;
-        let partitions = open_partitions(alloc, splits, limit)?;
+        let partitions = open_partitions(alloc, splits, limits)?;
         Ok(Core {
             splits: kept,
-            limits: Limits::of_history(limit),
+            limits,
             partitions,
         })
     }
@@ -112,12 +125,13 @@ impl Core {
     }
 
     /// Asks one partition, by one `Partition::apply`. Refused, in this order: with 5 where there is no such partition, with 4 where the
-    /// command brings a key that isn't the partition's, with 6 where its history is full, and with 8 where no memory is found. After 4, 5
-    /// and 6 nothing has changed, and after 8 what `Partition::apply` says.
+    /// command brings a key that isn't the partition's, with 6 where its history is full, with 10 where it has accepted as many commands as
+    /// it may in all, with 9 where no cell is free for a row and it has as many as it may have, and with 8 where no memory is found. Nothing
+    /// has changed then, but after 8, which leaves what `Partition::apply` says.
     #[inline(always)]
     pub fn step(&mut self, step: Step) -> Result<Reply, Refusal>
-        // It is the reply of the partition's plain rows, or the refusal that they call for; in place of a reply it may be 8.
-        ensures outcome { IsOutcome (expected_at self.old.limits.history self.old.splits (tables_of self.old.parts) step.part step.command) result }
+        // It is the reply of the partition's plain rows, or the refusal that they call for; in place of a reply it may be 8, or 9.
+        ensures outcome { IsOutcomeAt (bounds_of self.old.limits) self.old.splits (tables_of self.old.parts) step.part step.command result }
         // The plain rows change as the reply says, and a refusal leaves them.
         ensures after { tables_of self.new.parts ≡ tables_after (tables_of self.old.parts) step.part step.command result }
         ensures kept { KeepsEntries (pasts_of self.old.parts) (step ∷ []) (result ∷ []) (pasts_of self.new.parts) }
@@ -136,7 +150,7 @@ impl Core {
     /// Makes these steps one after the other, and answers what comes out of each. A step that is refused leaves what `step` says, and the
     /// next one is made. Refused with 8, before the first step, where the list of the answers finds no memory.
     pub fn run_steps(&mut self, steps: &[Step]) -> Result<Vec<Result<Reply, Refusal>>, Refusal>
-        ensures replies { IfOk result (λ results. AreExpectedReplies self.old.limits.history self.old.splits (tables_of self.old.parts) steps.now results.items) }
+        ensures replies { IfOk result (λ results. AreExpectedReplies (bounds_of self.old.limits) self.old.splits (tables_of self.old.parts) steps.now results.items) }
         ensures kept { IfOk result (λ results. KeepsEntries (pasts_of self.old.parts) steps.now results.items (pasts_of self.new.parts)) }
         // Each store is served by the policy of its own steps, in their order, and by nothing else.
         ensures stores { IfOk result (λ results. MakesAll self.old.splits self.old.limits steps.now results.items self.old.parts self.new.parts) }
@@ -146,6 +160,37 @@ impl Core {
     {
         let mut results = Vec::with_capacity(*self.partitions.allocator(), steps.len())?;
         run_all(&mut self.partitions, steps, &mut results);
+        Ok(results)
+    }
+
+    /// Folds the history of one partition into its base, and tells how many entries went: the partition's rows are kept as they are now, its
+    /// commands no more, and its history begins anew. It cracks and merges nothing, and no later reply depends on it. Refused with 5 where
+    /// there is no such partition, and with 8 where no memory is found; nothing has changed then. O(rows), where their cells are in the
+    /// order of their serials, else O(rows log rows).
+    pub fn checkpoint(&mut self, part: u32) -> Result<u64, Refusal>
+        ensures outcome { IsFoldOutcome (slice_get (tables_of self.old.parts) part) result }
+        ensures after { tables_of self.new.parts ≡ tables_folded (tables_of self.old.parts) part result }
+        ensures folds { OnOk result (FoldsAt part self.old.parts self.new.parts) }
+        ensures accepted { accepted_by self.new.parts ≡ accepted_by self.old.parts }
+        ensures opened { (self.new.splits ≡ self.old.splits) × (self.new.limits ≡ self.old.limits) }
+        ensures same { OnErr result (self.new ≡ self.old) }
+    {
+        fold_at(&mut self.partitions, part)
+    }
+
+    /// Does these jobs one after the other, and answers what comes out of each. A job that is refused leaves what `step` and `checkpoint` say,
+    /// and the next one is done. Refused with 8, before the first job, where the list of the answers finds no memory.
+    pub fn run_jobs(&mut self, jobs: &[Job]) -> Result<Vec<Result<Done, Refusal>>, Refusal>
+        ensures replies { IfOk result (λ results. AreExpectedOutcomes (bounds_of self.old.limits) self.old.splits (tables_of self.old.parts) jobs.now results.items) }
+        ensures kept { IfOk result (λ results. KeepsJobs (pasts_of self.old.parts) jobs.now results.items (pasts_of self.new.parts)) }
+        // Each store is served by the policy of its own steps, in their order, and by nothing else; a checkpoint leaves it as it is.
+        ensures stores { IfOk result (λ results. DoesAll self.old.splits self.old.limits jobs.now results.items self.old.parts self.new.parts) }
+        ensures opened { (self.new.splits ≡ self.old.splits) × (self.new.limits ≡ self.old.limits) }
+        ensures same { OnErr result (self.new ≡ self.old) }
+        ensures err { IfErr result (λ e. e ≡ Refusal.OutOfMemory) }
+    {
+        let mut results = Vec::with_capacity(*self.partitions.allocator(), jobs.len())?;
+        do_all(&mut self.partitions, jobs, &mut results);
         Ok(results)
     }
 
@@ -165,7 +210,7 @@ impl Core {
 /// Asks the partition of a step, if there is one, and lets the receipt go.
 #[inline(always)]
 fn ask_at(partitions: &mut [Partition], step: Step) -> Result<Reply, Refusal>
-    ensures outcome { (splits : List Bound) (limits : Limits) → AreParts splits limits partitions.old → IsOutcome (expected_at limits.history splits (tables_of partitions.old) step.part step.command) result }
+    ensures outcome { (splits : List Bound) (limits : Limits) → AreParts splits limits partitions.old → IsOutcomeAt (bounds_of limits) splits (tables_of partitions.old) step.part step.command result }
     ensures after { tables_of partitions.new ≡ tables_after (tables_of partitions.old) step.part step.command result }
     ensures kept { KeepsEntries (pasts_of partitions.old) (step ∷ []) (result ∷ []) (pasts_of partitions.new) }
     ensures accepted { accepted_by partitions.new ≡ (if is_ok result then accepted_by partitions.old + 1 else accepted_by partitions.old) }
@@ -202,13 +247,81 @@ fn without_receipt(answered: Result<(Reply, Reply), Refusal>) -> Result<Reply, R
 fn run_all(partitions: &mut [Partition], steps: &[Step], results: &mut Vec<Result<Reply, Refusal>>)
     requires empty { results.old.items ≡ [] }
     requires room { length steps.now ≤ vec_capacity results.old }
-    ensures replies { (splits : List Bound) (limits : Limits) → AreParts splits limits partitions.old → AreExpectedReplies limits.history splits (tables_of partitions.old) steps.now results.new.items }
+    ensures replies { (splits : List Bound) (limits : Limits) → AreParts splits limits partitions.old → AreExpectedReplies (bounds_of limits) splits (tables_of partitions.old) steps.now results.new.items }
     ensures kept { KeepsEntries (pasts_of partitions.old) steps.now results.new.items (pasts_of partitions.new) }
     ensures stores { (splits : List Bound) (limits : Limits) → AreParts splits limits partitions.old → MakesAll splits limits steps.now results.new.items partitions.old partitions.new }
     ensures parts { (splits : List Bound) (limits : Limits) → AreParts splits limits partitions.old → AreParts splits limits partitions.new }
 {
     'steps: for step in steps {
         let result = ask_at(partitions, *step);
+        results.push_reserved(result);
+    }
+}
+
+/// Folds the history of one partition, if there is one of this number.
+fn fold_at(partitions: &mut [Partition], part: u32) -> Result<u64, Refusal>
+    ensures outcome { IsFoldOutcome (slice_get (tables_of partitions.old) part) result }
+    ensures after { tables_of partitions.new ≡ tables_folded (tables_of partitions.old) part result }
+    ensures folds { OnOk result (FoldsAt part partitions.old partitions.new) }
+    ensures kept { KeepsJobs (pasts_of partitions.old) (Job.Fold part ∷ []) (folding result ∷ []) (pasts_of partitions.new) }
+    ensures accepted { accepted_by partitions.new ≡ accepted_by partitions.old }
+    ensures parts { (splits : List Bound) (limits : Limits) → AreParts splits limits partitions.old → AreParts splits limits partitions.new }
+    ensures same { OnErr result (partitions.new ≡ partitions.old) }
+{
+    let number = part as usize;
+    if number >= partitions.len() {
+        return Err(Refusal::NoSuchPartition);
+    }
+    let partition = &mut partitions[number];
+    let folded = partition.checkpoint();
+    partition.facts();
+    folded
+}
+
+/// Does one job.
+fn do_job(partitions: &mut [Partition], job: Job) -> Result<Done, Refusal>
+    ensures outcome { (splits : List Bound) (limits : Limits) → AreParts splits limits partitions.old → IsJobOutcome (bounds_of limits) splits (slice_get (tables_of partitions.old) (part_of job)) job result }
+    ensures kept { KeepsJobs (pasts_of partitions.old) (job ∷ []) (result ∷ []) (pasts_of partitions.new) }
+    ensures does { (splits : List Bound) (limits : Limits) → AreParts splits limits partitions.old → Does splits limits job result partitions.old partitions.new }
+    ensures parts { (splits : List Bound) (limits : Limits) → AreParts splits limits partitions.old → AreParts splits limits partitions.new }
+{
+    match job {
+        Job::Perform(step) => performed(ask_at(partitions, step)),
+        Job::Fold(part) => folding(fold_at(partitions, part)),
+    }
+}
+
+/// What comes of a job whose step came out so.
+fn performed(answered: Result<Reply, Refusal>) -> Result<Done, Refusal>
+    ensures { result ≡ performed answered }
+{
+    match answered {
+        Ok(reply) => Ok(Done::Replied(reply)),
+        Err(refusal) => Err(refusal),
+    }
+}
+
+/// What comes of a job whose checkpoint came out so.
+fn folding(folded: Result<u64, Refusal>) -> Result<Done, Refusal>
+    ensures { result ≡ folding folded }
+{
+    match folded {
+        Ok(count) => Ok(Done::Folded(count)),
+        Err(refusal) => Err(refusal),
+    }
+}
+
+/// Does jobs one after the other, and adds what comes out of each where there is room.
+fn do_all(partitions: &mut [Partition], jobs: &[Job], results: &mut Vec<Result<Done, Refusal>>)
+    requires empty { results.old.items ≡ [] }
+    requires room { length jobs.now ≤ vec_capacity results.old }
+    ensures replies { (splits : List Bound) (limits : Limits) → AreParts splits limits partitions.old → AreExpectedOutcomes (bounds_of limits) splits (tables_of partitions.old) jobs.now results.new.items }
+    ensures kept { KeepsJobs (pasts_of partitions.old) jobs.now results.new.items (pasts_of partitions.new) }
+    ensures stores { (splits : List Bound) (limits : Limits) → AreParts splits limits partitions.old → DoesAll splits limits jobs.now results.new.items partitions.old partitions.new }
+    ensures parts { (splits : List Bound) (limits : Limits) → AreParts splits limits partitions.old → AreParts splits limits partitions.new }
+{
+    'jobs: for job in jobs {
+        let result = do_job(partitions, *job);
         results.push_reserved(result);
     }
 }

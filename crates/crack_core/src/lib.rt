@@ -10,10 +10,10 @@ pub mod step;
 
 pub use book::Book;
 pub use cores::Core;
-pub use opening::{limit_fault, open_partitions, splits_fault};
+pub use opening::{limits_fault, open_partitions, splits_fault};
 pub use receipt::Receipt;
 pub use routes::{keys_of_part, only_part, parts_of, route};
-pub use step::Step;
+pub use step::{Done, Job, Step};
 
 /// The greatest number of splits, one fewer than that of partitions.
 pub const MOST_SPLITS: usize = 63;

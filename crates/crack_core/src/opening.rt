@@ -1,16 +1,16 @@
 //! The opening of partitions.
 ghost use Rattle.std.specs.Prelude.{◌≡◌, ◌≤◌, [], length, All, IfOk, IfErr};
-ghost use Rattle.crack_row.specs.Limits.{AreLimits, of_history};
+ghost use Rattle.crack_row.specs.Limits.{AreLimits};
 ghost use Rattle.crack_plain.specs.Past.{no_past};
 ghost use Rattle.crack_store.specs.Inside.{no_cells};
 ghost use Rattle.crack_part.specs.Parts.{Part};
 ghost use Rattle.crack_core.specs.Routes.{is_rising, AreSplits};
-ghost use Rattle.crack_core.specs.Opening.{splits_fault, limit_fault, AreParts};
+ghost use Rattle.crack_core.specs.Opening.{splits_fault, limits_fault, AreParts};
 
 use crate::MOST_SPLITS;
 use crate::routes::keys_of_part;
 use crack_part::Partition;
-use crack_row::{Bound, GREATEST_BOUND, GREATEST_LIMIT, Refusal};
+use crack_row::{Bound, GREATEST_BOUND, Limits, Refusal};
 use std::alloc::Global;
 
 /// What is wrong with splits, if anything: 11 where they don't rise strictly or one isn't 1 to `GREATEST_KEY`, else 12 where there are
@@ -28,33 +28,33 @@ pub fn splits_fault(splits: &[Bound]) -> Option<Refusal>
     None
 }
 
-/// What is wrong with the limit of a history, if anything: 14 where it isn't 1 to `GREATEST_LIMIT`.
-pub fn limit_fault(limit: u64) -> Option<Refusal>
-    ensures value { result ≡ limit_fault limit }
-    ensures good { result ≡ None → AreLimits (of_history limit) }
+/// What is wrong with limits, if anything: 14 where one of them isn't 1 to the greatest of its kind.
+pub fn limits_fault(limits: Limits) -> Option<Refusal>
+    ensures value { result ≡ limits_fault limits }
+    ensures good { result ≡ None → AreLimits limits }
 {
-    if limit < 1 || limit > GREATEST_LIMIT {
-        return Some(Refusal::BadLimit);
+    if limits.are_valid() {
+        return None;
     }
-    None
+    Some(Refusal::BadLimit)
 }
 
-/// The partitions of these splits, without rows, each with the same limit of its history. Refused with 8 where they find no memory. O(splits).
+/// The partitions of these splits, without rows, each with the same limits. Refused with 8 where they find no memory. O(splits).
 pub fn open_partitions(
     alloc: Global,
     splits: &[Bound],
-    limit: u64,
+    limits: Limits,
 ) -> Result<Vec<Partition>, Refusal>
     requires splits { AreSplits splits.now }
-    requires limited { AreLimits (of_history limit) }
-    ensures parts { IfOk result (λ parts. AreParts splits.now (of_history limit) parts.items) }
+    requires limited { AreLimits limits }
+    ensures parts { IfOk result (λ parts. AreParts splits.now limits parts.items) }
     ensures fresh { IfOk result (λ parts. All (λ (part : Part). part.past ≡ no_past) parts.items) }
     ensures empty { IfOk result (λ parts. All (λ (part : Part). part.store ≡ no_cells part.keys part.store.column_room part.store.in_room) parts.items) }
     ensures err { IfErr result (λ e. e ≡ Refusal.OutOfMemory) }
 {
     let mut parts = Vec::with_capacity(alloc, splits.len() + 1)?;
     for part in 0..splits.len() + 1 {
-        let partition = Partition::open(alloc, keys_of_part(splits, part), limit)?;
+        let partition = Partition::open_with(alloc, keys_of_part(splits, part), limits)?;
         partition.facts();
         parts.push(partition)?;
     }

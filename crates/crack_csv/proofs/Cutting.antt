@@ -15,7 +15,7 @@ use Rattle.crack_row.specs.declared.refusal.Refusal.{Refusal}
 use Rattle.crack_row.specs.declared.refusal.Refusal.TheVariants.{WriteFault}
 use Rattle.crack_plain.specs.Plain.{PlainView, rows_in}
 use Rattle.crack_core.specs.Routes.{keys_of_part}
-use Rattle.crack_core.specs.Steps.{expected, expected_at, IsOutcome, tables_after, table_after, fresh_table}
+use Rattle.crack_core.specs.Steps.{Bounds, IsOutcome, IsOutcomeAt, tables_after, table_after, fresh_table}
 use Rattle.crack_session.specs.Queries.{listed}
 use Rattle.crack_commands.specs.Texts.{AppendsFront}
 use Rattle.crack_commands.proofs.Sending.{Appends-then, front_first, front_then}
@@ -61,29 +61,29 @@ get_there [] i below = absurd (omega (arith, below))
 get_there (x ∷ xs) zero below = (x, refl)
 get_there (x ∷ xs) (suc i) below = get_there xs i (omega (arith, below))
 
-refuses_list : (limit : ℕ) (splits : List Bound) (part : ℕ) (keys : Range) (there : Option PlainView) (table : PlainView) (e : Refusal) → keys ≡ keys_of_part splits part → there ≡ Some table
-    → IsOutcome (expected limit (keys_of_part splits part) there (Select keys)) (Err e) → RefusesList limit splits part (table ∷ []) e
-refuses_list limit splits part keys there table e all is outcome =
-    subst (λ (k : Range). IsOutcome (expected limit (keys_of_part splits part) (Some table) (Select k)) (Err e)) all
-    (subst (λ (o : Option PlainView). IsOutcome (expected limit (keys_of_part splits part) o (Select keys)) (Err e)) is outcome)
+refuses_list : (bounds : Bounds) (splits : List Bound) (part : ℕ) (keys : Range) (there : Option PlainView) (table : PlainView) (e : Refusal) → keys ≡ keys_of_part splits part → there ≡ Some table
+    → IsOutcome bounds (keys_of_part splits part) there (Select keys) (Err e) → RefusesList bounds splits part (table ∷ []) e
+refuses_list bounds splits part keys there table e all is outcome =
+    subst (λ (k : Range). IsOutcome bounds (keys_of_part splits part) (Some table) (Select k) (Err e)) all
+    (subst (λ (o : Option PlainView). IsOutcome bounds (keys_of_part splits part) o (Select keys) (Err e)) is outcome)
 
 -- a partition refuses the list of the rows of all its keys
-pub part_unlisted : (limit : ℕ) (splits : List Bound) (tables : List PlainView) (part : ℕ) (keys : Range) (e : Refusal) (receipts receipts' : ℕ) (failed : Bool) (left : Option (List PlainView)) (out : Option (List ℕ)) → keys ≡ keys_of_part splits part → part < length tables
-    → IsOutcome (expected_at limit splits tables part (Select keys)) (Err e) → left ≡ Some tables → receipts' ≡ receipts → Keeps out out → IsPartCut limit splits tables part e receipts receipts' failed failed left out out
-part_unlisted limit splits tables part keys e receipts receipts' failed left out all within outcome after none kept =
+pub part_unlisted : (bounds : Bounds) (splits : List Bound) (tables : List PlainView) (part : ℕ) (keys : Range) (e : Refusal) (receipts receipts' : ℕ) (failed : Bool) (left : Option (List PlainView)) (out : Option (List ℕ)) → keys ≡ keys_of_part splits part → part < length tables
+    → IsOutcomeAt bounds splits tables part (Select keys) (Err e) → left ≡ Some tables → receipts' ≡ receipts → Keeps out out → IsPartCut bounds splits tables part e receipts receipts' failed failed left out out
+part_unlisted bounds splits tables part keys e receipts receipts' failed left out all within outcome after none kept =
     let found = get_there tables part within in
     record {
       table = found.0;
       there = found.1;
-      how = inl (record { cause = refuses_list limit splits part keys (slice_get tables part) found.0 e all found.1 outcome; left_is = after; receipts_are = none; unfailed = refl; unwritten = kept });
+      how = inl (record { cause = refuses_list bounds splits part keys (slice_get tables part) found.0 e all found.1 outcome; left_is = after; receipts_are = none; unfailed = refl; unwritten = kept });
     }
 
 -- a partition lists the rows of all its keys, and their records aren't all written
-pub part_unwritten : (limit : ℕ) (splits : List Bound) (tables : List PlainView) (part : ℕ) (keys : Range) (reply : Reply) (e : Refusal) (receipts receipts' : ℕ) (failed failed' : Bool) (left : Option (List PlainView)) (out out' : Option (List ℕ)) → keys ≡ keys_of_part splits part
-    → IsOutcome (expected_at limit splits tables part (Select keys)) (Ok reply) → left ≡ Some (tables_after tables part (Select keys) (Ok reply)) → receipts' ≡ receipts + 1
-    → AreUnsent (map record_text (listed reply)) e failed failed' out out' → IsPartCut limit splits tables part e receipts receipts' failed failed' left out out'
-part_unwritten limit splits tables part keys reply e receipts receipts' failed failed' left out out' all outcome after one unsent =
-    let replied = replied_rows limit (keys_of_part splits part) (slice_get tables part) keys reply outcome in
+pub part_unwritten : (bounds : Bounds) (splits : List Bound) (tables : List PlainView) (part : ℕ) (keys : Range) (reply : Reply) (e : Refusal) (receipts receipts' : ℕ) (failed failed' : Bool) (left : Option (List PlainView)) (out out' : Option (List ℕ)) → keys ≡ keys_of_part splits part
+    → IsOutcomeAt bounds splits tables part (Select keys) (Ok reply) → left ≡ Some (tables_after tables part (Select keys) (Ok reply)) → receipts' ≡ receipts + 1
+    → AreUnsent (map record_text (listed reply)) e failed failed' out out' → IsPartCut bounds splits tables part e receipts receipts' failed failed' left out out'
+part_unwritten bounds splits tables part keys reply e receipts receipts' failed failed' left out out' all outcome after one unsent =
+    let replied = replied_rows bounds (keys_of_part splits part) (slice_get tables part) keys reply outcome in
     let rows : listed reply ≡ rows_at splits part replied.0 = ap listed replied.2 ∙ ap (λ (k : Range). rows_in k replied.0.state.rows) all in
     record {
       table = replied.0;
@@ -96,9 +96,9 @@ part_unwritten limit splits tables part keys reply e receipts receipts' failed f
     }
 
 -- the header isn't written
-pub header_unsent : (limit : ℕ) (splits : List Bound) (tables : List PlainView) (e : Refusal) (receipts : ℕ) (failed failed' : Bool) (left : Option (List PlainView)) (out out' : Option (List ℕ)) → left ≡ Some tables → IsUnsent header_text e failed failed' out out'
-    → IsExportCut limit splits tables e receipts receipts failed failed' left out out'
-header_unsent limit splits tables e receipts failed failed' left out out' known unsent = record {
+pub header_unsent : (bounds : Bounds) (splits : List Bound) (tables : List PlainView) (e : Refusal) (receipts : ℕ) (failed failed' : Bool) (left : Option (List PlainView)) (out out' : Option (List ℕ)) → left ≡ Some tables → IsUnsent header_text e failed failed' out out'
+    → IsExportCut bounds splits tables e receipts receipts failed failed' left out out'
+header_unsent bounds splits tables e receipts failed failed' left out out' known unsent = record {
   done = [];
   rest = tables;
   split = refl;
@@ -111,13 +111,13 @@ lines_text : (splits : List Bound) (done : List PlainView) (out out' : Option (L
 lines_text splits done out out' written = subst (Appends out out') (ap (λ z. header_text ++ z) (sym (concat_map record_text (rows_from splits 0 done)))) written
 
 -- the next partition refuses the list of its rows
-unlisted_next : (limit : ℕ) (splits : List Bound) (tables : List PlainView) (part : ℕ) (table : PlainView) (e : Refusal) (receipts now receipts' : ℕ) (failed failed' : Bool) (left : Option (List PlainView)) (out out' out'' : Option (List ℕ)) (done rest : List PlainView)
+unlisted_next : (bounds : Bounds) (splits : List Bound) (tables : List PlainView) (part : ℕ) (table : PlainView) (e : Refusal) (receipts now receipts' : ℕ) (failed failed' : Bool) (left : Option (List PlainView)) (out out' out'' : Option (List ℕ)) (done rest : List PlainView)
     → tables ≡ done ++ rest → length done ≡ part → now ≡ receipts + part → Appends out out' (header_text ++ flat_map record_text (rows_from splits 0 done)) → slice_get (map asked done ++ rest) part ≡ Some table
-    → IsUnlisted limit splits (map asked done ++ rest) part table e now receipts' failed failed' left out' out'' → IsExportCut limit splits tables e receipts receipts' failed failed' left out out''
-unlisted_next limit splits tables part table e receipts now receipts' failed failed' left out out' out'' done [] split reached so_far written there next = absurd (next_is_there done part table reached there)
-unlisted_next limit splits tables part table e receipts now receipts' failed failed' left out out' out'' done (t ∷ rest) split reached so_far written there next =
+    → IsUnlisted bounds splits (map asked done ++ rest) part table e now receipts' failed failed' left out' out'' → IsExportCut bounds splits tables e receipts receipts' failed failed' left out out''
+unlisted_next bounds splits tables part table e receipts now receipts' failed failed' left out out' out'' done [] split reached so_far written there next = absurd (next_is_there done part table reached there)
+unlisted_next bounds splits tables part table e receipts now receipts' failed failed' left out out' out'' done (t ∷ rest) split reached so_far written there next =
     let same : table ≡ t = next_is done t rest part table reached there in
-    let here : RefusesList limit splits part (t ∷ rest) e = subst (λ (x : PlainView). RefusesList limit splits part (x ∷ rest) e) same next.cause in
+    let here : RefusesList bounds splits part (t ∷ rest) e = subst (λ (x : PlainView). RefusesList bounds splits part (x ∷ rest) e) same next.cause in
     record {
       done = done;
       rest = t ∷ rest;
@@ -127,18 +127,18 @@ unlisted_next limit splits tables part table e receipts now receipts' failed fai
       cause = inr (inl (
         t,
         refl,
-        subst (λ n. RefusesList limit splits n (t ∷ rest) e) (sym reached) here,
+        subst (λ n. RefusesList bounds splits n (t ∷ rest) e) (sym reached) here,
         next.unfailed,
         lines_text splits done out out'' (kept_written out out' out'' _ written (keeps_appends out' out'' next.unwritten)),
       ));
     }
 
 -- the records of the next partition aren't all written
-unwritten_next : (limit : ℕ) (splits : List Bound) (tables : List PlainView) (part : ℕ) (table : PlainView) (e : Refusal) (receipts now receipts' : ℕ) (failed failed' : Bool) (left : Option (List PlainView)) (out out' out'' : Option (List ℕ)) (done rest : List PlainView)
+unwritten_next : (bounds : Bounds) (splits : List Bound) (tables : List PlainView) (part : ℕ) (table : PlainView) (e : Refusal) (receipts now receipts' : ℕ) (failed failed' : Bool) (left : Option (List PlainView)) (out out' out'' : Option (List ℕ)) (done rest : List PlainView)
     → tables ≡ done ++ rest → length done ≡ part → now ≡ receipts + part → Appends out out' (header_text ++ flat_map record_text (rows_from splits 0 done)) → slice_get (map asked done ++ rest) part ≡ Some table
-    → IsUnwritten splits (map asked done ++ rest) part table e now receipts' failed failed' left out' out'' → IsExportCut limit splits tables e receipts receipts' failed failed' left out out''
-unwritten_next limit splits tables part table e receipts now receipts' failed failed' left out out' out'' done [] split reached so_far written there next = absurd (next_is_there done part table reached there)
-unwritten_next limit splits tables part table e receipts now receipts' failed failed' left out out' out'' done (t ∷ rest) split reached so_far written there next =
+    → IsUnwritten splits (map asked done ++ rest) part table e now receipts' failed failed' left out' out'' → IsExportCut bounds splits tables e receipts receipts' failed failed' left out out''
+unwritten_next bounds splits tables part table e receipts now receipts' failed failed' left out out' out'' done [] split reached so_far written there next = absurd (next_is_there done part table reached there)
+unwritten_next bounds splits tables part table e receipts now receipts' failed failed' left out out' out'' done (t ∷ rest) split reached so_far written there next =
     let same : table ≡ t = next_is done t rest part table reached there in
     let rows = next_rows splits done t part table reached same in
     let lines : lines_of splits (done ++ t ∷ []) ≡ lines_of splits done ++ map record_text (rows_at splits part table) =
@@ -152,30 +152,30 @@ unwritten_next limit splits tables part table e receipts now receipts' failed fa
       cause = inl (subst (λ z. AreUnsent z e failed failed' out out'') (sym lines) (unsent_behind (lines_of splits done) (map record_text (rows_at splits part table)) e failed failed' out out' out'' (lines_text splits done out out' written) next.cause));
     }
 
-how_next : (limit : ℕ) (splits : List Bound) (tables : List PlainView) (part : ℕ) (table : PlainView) (e : Refusal) (receipts now receipts' : ℕ) (failed failed' : Bool) (left : Option (List PlainView)) (out out' out'' : Option (List ℕ)) (done rest : List PlainView)
+how_next : (bounds : Bounds) (splits : List Bound) (tables : List PlainView) (part : ℕ) (table : PlainView) (e : Refusal) (receipts now receipts' : ℕ) (failed failed' : Bool) (left : Option (List PlainView)) (out out' out'' : Option (List ℕ)) (done rest : List PlainView)
     → tables ≡ done ++ rest → length done ≡ part → now ≡ receipts + part → Appends out out' (header_text ++ flat_map record_text (rows_from splits 0 done)) → slice_get (map asked done ++ rest) part ≡ Some table
-    → IsUnlisted limit splits (map asked done ++ rest) part table e now receipts' failed failed' left out' out'' ⊎ IsUnwritten splits (map asked done ++ rest) part table e now receipts' failed failed' left out' out''
-    → IsExportCut limit splits tables e receipts receipts' failed failed' left out out''
-how_next limit splits tables part table e receipts now receipts' failed failed' left out out' out'' done rest split reached so_far written there (inl next) =
-    unlisted_next limit splits tables part table e receipts now receipts' failed failed' left out out' out'' done rest split reached so_far written there next
-how_next limit splits tables part table e receipts now receipts' failed failed' left out out' out'' done rest split reached so_far written there (inr next) =
-    unwritten_next limit splits tables part table e receipts now receipts' failed failed' left out out' out'' done rest split reached so_far written there next
+    → IsUnlisted bounds splits (map asked done ++ rest) part table e now receipts' failed failed' left out' out'' ⊎ IsUnwritten splits (map asked done ++ rest) part table e now receipts' failed failed' left out' out''
+    → IsExportCut bounds splits tables e receipts receipts' failed failed' left out out''
+how_next bounds splits tables part table e receipts now receipts' failed failed' left out out' out'' done rest split reached so_far written there (inl next) =
+    unlisted_next bounds splits tables part table e receipts now receipts' failed failed' left out out' out'' done rest split reached so_far written there next
+how_next bounds splits tables part table e receipts now receipts' failed failed' left out out' out'' done rest split reached so_far written there (inr next) =
+    unwritten_next bounds splits tables part table e receipts now receipts' failed failed' left out out' out'' done rest split reached so_far written there next
 
 -- the export of the next partition is refused
-pub Exporting-cut : {splits : List Bound} {tables : List PlainView} {part count : ℕ} {left : Option (List PlainView)} {out out' : Option (List ℕ)} (limit : ℕ) (e : Refusal) (receipts now receipts' : ℕ) (failed failed' : Bool) (left' : Option (List PlainView)) (out'' : Option (List ℕ)) → Exporting splits tables part count left out out' → now ≡ receipts + part
-    → ((known : List PlainView) → left ≡ Some known → IsPartCut limit splits known part e now receipts' failed failed' left' out' out'') → IsExportCut limit splits tables e receipts receipts' failed failed' left' out out''
-Exporting-cut {splits} {tables} {part} {out = out} {out' = out'} limit e receipts now receipts' failed failed' left' out'' was so_far cut =
+pub Exporting-cut : {splits : List Bound} {tables : List PlainView} {part count : ℕ} {left : Option (List PlainView)} {out out' : Option (List ℕ)} (bounds : Bounds) (e : Refusal) (receipts now receipts' : ℕ) (failed failed' : Bool) (left' : Option (List PlainView)) (out'' : Option (List ℕ)) → Exporting splits tables part count left out out' → now ≡ receipts + part
+    → ((known : List PlainView) → left ≡ Some known → IsPartCut bounds splits known part e now receipts' failed failed' left' out' out'') → IsExportCut bounds splits tables e receipts receipts' failed failed' left' out out''
+Exporting-cut {splits} {tables} {part} {out = out} {out' = out'} bounds e receipts now receipts' failed failed' left' out'' was so_far cut =
     let next = cut _ was.left_is in
-    how_next limit splits tables part next.table e receipts now receipts' failed failed' left' out out' out'' was.done was.rest was.split was.reached so_far was.written next.there next.how
+    how_next bounds splits tables part next.table e receipts now receipts' failed failed' left' out out' out'' was.done was.rest was.split was.reached so_far was.written next.there next.how
 
 no_rest : {X : Type 0} (xs done rest : List X) → xs ≡ done ++ rest → length done ≡ length xs → rest ≡ []
 no_rest xs done [] split all = refl
 no_rest xs done (x ∷ rest) split all = absurd (let l = length-append done (x ∷ rest) in let n = ap length split in omega (arith, l, n, all))
 
 -- what is written can't be handed on
-pub Exporting-kept : {splits : List Bound} {tables : List PlainView} {part count : ℕ} {left : Option (List PlainView)} {out out' : Option (List ℕ)} (limit receipts receipts' : ℕ) (failed failed' : Bool) (out'' : Option (List ℕ)) → Exporting splits tables part count left out out' → receipts' ≡ receipts + part → part ≡ length tables → failed' ≡ true
-    → Keeps out' out'' → IsExportCut limit splits tables WriteFault receipts receipts' failed failed' left out out''
-Exporting-kept {splits} {tables} {out = out} {out' = out'} limit receipts receipts' failed failed' out'' was so_far all is kept = record {
+pub Exporting-kept : {splits : List Bound} {tables : List PlainView} {part count : ℕ} {left : Option (List PlainView)} {out out' : Option (List ℕ)} (bounds receipts receipts' : ℕ) (failed failed' : Bool) (out'' : Option (List ℕ)) → Exporting splits tables part count left out out' → receipts' ≡ receipts + part → part ≡ length tables → failed' ≡ true
+    → Keeps out' out'' → IsExportCut bounds splits tables WriteFault receipts receipts' failed failed' left out out''
+Exporting-kept {splits} {tables} {out = out} {out' = out'} bounds receipts receipts' failed failed' out'' was so_far all is kept = record {
   done = was.done;
   rest = was.rest;
   split = was.split;

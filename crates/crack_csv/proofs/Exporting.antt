@@ -1,6 +1,6 @@
 -- How an export goes on, one partition after another.
-use Rattle.std.proofs.Common.{◌≡◌, ℕ, zero, suc, ◌+◌, ◌-◌, ◌≤◌, Bool, true, false, cond, Option, Some, None, Ok, Err, inl, inr, List, [], ◌∷◌, ◌++◌, length, map, take, drop, refl, sym, ap, ◌∙◌, arith, append_assoc, append-nil, length-append}
-use Rattle.std.specs.Prelude.{nat_le, slice_get, slice_set, slice_index_or}
+use Rattle.std.proofs.Common.{◌≡◌, ℕ, zero, suc, ◌+◌, ◌-◌, ◌≤◌, Bool, Option, Some, None, Result, Ok, Err, ◌⊎◌, inl, inr, List, [], ◌∷◌, ◌++◌, length, map, take, drop, refl, sym, ap, ◌∙◌, arith, append_assoc, append-nil, length-append}
+use Rattle.std.specs.Prelude.{IsOk, slice_get, slice_set, slice_index_or}
 use Rattle.std.proofs.lemmas.List.{map-append, drop-take, take-take, take-append-drop}
 use Rattle.std.proofs.lemmas.Grind.{flat_map-append}
 use Rattle.std.specs.List.{flat_map}
@@ -10,10 +10,11 @@ use Rattle.crack_row.specs.declared.Bound.{Bound}
 use Rattle.crack_row.specs.declared.command.Command.TheVariants.{Select}
 use Rattle.crack_row.specs.declared.command.Reply.{Reply}
 use Rattle.crack_row.specs.declared.command.Reply.TheVariants.{Rows}
-use Rattle.crack_row.specs.declared.refusal.Refusal.TheVariants.{HistoryFull}
+use Rattle.crack_row.specs.declared.refusal.Refusal.{Refusal}
+use Rattle.crack_row.specs.declared.refusal.Refusal.TheVariants.{OutOfMemory, NoCell}
 use Rattle.crack_plain.specs.Plain.{PlainView, rows_in}
 use Rattle.crack_core.specs.Routes.{keys_of_part}
-use Rattle.crack_core.specs.Steps.{expected, expected_at, IsOutcome, tables_after, table_after, fresh_table}
+use Rattle.crack_core.specs.Steps.{Bounds, reply_unless, MayLackCell, IsOutcome, IsOutcomeAt, tables_after, table_after, fresh_table}
 use Rattle.crack_session.specs.Queries.{listed}
 use Rattle.crack_commands.proofs.Sending.{Appends-then}
 use Rattle.crack_csv.specs.Exports.{header_text, record_text, rows_at, rows_from, asked, IsExported}
@@ -133,17 +134,18 @@ keeps_appends (Some x) None h = absurd h
 keeps_appends (Some x) (Some y) h = h ∙ sym (append-nil x)
 
 -- a reply that comes out is the one that is expected
-reply_is : (full : Bool) (limit : ℕ) (said reply : Reply) → IsOutcome (cond full (Err (HistoryFull limit)) (Ok said)) (Ok reply) → reply ≡ said
-reply_is true limit said reply (inl same) = cc same
-reply_is true limit said reply (inr short) = cc (short.0)
-reply_is false limit said reply (inl same) = cc same
-reply_is false limit said reply (inr short) = cc (short.0)
+reply_is : (stop : Option Refusal) (said reply : Reply) (Lacks : Type 0) → (◌≡◌ {A = Result Reply Refusal} (Ok reply) (reply_unless stop said)) ⊎ (IsOk (reply_unless stop said) × ((◌≡◌ {A = Result Reply Refusal} (Ok reply) (Err OutOfMemory)) ⊎ ((◌≡◌ {A = Result Reply Refusal} (Ok reply) (Err NoCell)) × Lacks))) → reply ≡ said
+reply_is None said reply Lacks (inl same) = cc same
+reply_is (Some e) said reply Lacks (inl same) = cc same
+reply_is stop said reply Lacks (inr (ok, inl short)) = cc short
+reply_is stop said reply Lacks (inr (ok, inr short)) = cc (short.0)
 
 -- a partition that answers a select is there, and lists its rows of the range
-pub replied_rows : (limit : ℕ) (keys : Range) (there : Option PlainView) (range : Range) (reply : Reply) → IsOutcome (expected limit keys there (Select range)) (Ok reply) → (table : PlainView) × (there ≡ Some table) × (reply ≡ Rows (rows_in range table.state.rows))
-replied_rows limit keys None range reply (inl same) = cc same
-replied_rows limit keys None range reply (inr short) = cc (short.0)
-replied_rows limit keys (Some table) range reply outcome = (table, refl, reply_is (nat_le limit table.accepted) limit (Rows (rows_in range table.state.rows)) reply outcome)
+pub replied_rows : (bounds : Bounds) (keys : Range) (there : Option PlainView) (range : Range) (reply : Reply) → IsOutcome bounds keys there (Select range) (Ok reply) → (table : PlainView) × (there ≡ Some table) × (reply ≡ Rows (rows_in range table.state.rows))
+replied_rows bounds keys None range reply (inl same) = cc same
+replied_rows bounds keys None range reply (inr (ok, inl short)) = cc short
+replied_rows bounds keys None range reply (inr (ok, inr short)) = cc (short.0)
+replied_rows bounds keys (Some table) range reply outcome = (table, refl, reply_is (bounds.stop table) (Rows (rows_in range table.state.rows)) reply (MayLackCell bounds.cells (Some table) (Select range)) outcome)
 
 pub index_there : (tables : List PlainView) (i : ℕ) (table other : PlainView) → slice_get tables i ≡ Some table → slice_index_or tables i other ≡ table
 index_there [] i table other e = cc e
@@ -151,11 +153,11 @@ index_there (t ∷ tables) zero table other e = cc e
 index_there (t ∷ tables) (suc i) table other e = index_there tables i table other e
 
 -- a partition that lists the rows of all its keys is asked, and their records are written
-pub part_exported : (limit : ℕ) (splits : List Bound) (tables : List PlainView) (part : ℕ) (keys : Range) (reply : Reply) (left : Option (List PlainView)) (out out' : Option (List ℕ)) → keys ≡ keys_of_part splits part
-    → IsOutcome (expected_at limit splits tables part (Select keys)) (Ok reply) → left ≡ Some (tables_after tables part (Select keys) (Ok reply)) → Appends out out' (flat_map record_text (listed reply))
+pub part_exported : (bounds : Bounds) (splits : List Bound) (tables : List PlainView) (part : ℕ) (keys : Range) (reply : Reply) (left : Option (List PlainView)) (out out' : Option (List ℕ)) → keys ≡ keys_of_part splits part
+    → IsOutcomeAt bounds splits tables part (Select keys) (Ok reply) → left ≡ Some (tables_after tables part (Select keys) (Ok reply)) → Appends out out' (flat_map record_text (listed reply))
     → IsPartExported splits tables part (length (listed reply)) left out out'
-part_exported limit splits tables part keys reply left out out' all outcome after written =
-    let replied = replied_rows limit (keys_of_part splits part) (slice_get tables part) keys reply outcome in
+part_exported bounds splits tables part keys reply left out out' all outcome after written =
+    let replied = replied_rows bounds (keys_of_part splits part) (slice_get tables part) keys reply outcome in
     let rows : listed reply ≡ rows_at splits part replied.0 = ap listed replied.2 ∙ ap (λ (k : Range). rows_in k replied.0.state.rows) all in
     record {
       table = replied.0;

@@ -14,6 +14,7 @@ use Rattle.crack_csv.specs.Inside.{Fields, AreAllOf, IsBehind, BringsRow}
 use Rattle.crack_csv.specs.Records.{is_header, without_header, new_row_of}
 use Rattle.crack_csv.specs.Loads.{with_row, Refuses, AreInserted, IsLoaded, IsCutShort}
 use Rattle.crack_csv.specs.declared.TheConstants.{MOST_RECORDS}
+use Rattle.crack_core.specs.Steps.{Bounds}
 
 -- whether a record is a header, behind these others
 abbrev is_header_behind : List Fields → Fields → Bool
@@ -98,23 +99,23 @@ pub Going-end : {R : Type 0} {remaining : R → Option (List ℕ)} {old : Reader
 Going-end g ends = record { records = g.records; all = ends _ g.records g.behind; inserted = g.inserted }
 
 -- why a record isn't inserted behind so many others: they are as many as may be, or it is refused
-abbrev pub IsCause : ℕ → List Bound → List PlainView → ℕ → ℕ → Fields → Refusal → Type 0
-IsCause limit splits tables loaded number fields e = ((loaded ≡ MOST_RECORDS) × (e ≡ ReadFault)) ⊎ ((loaded < MOST_RECORDS) × Refuses limit splits tables number (new_row_of fields) e)
+abbrev pub IsCause : Bounds → List Bound → List PlainView → ℕ → ℕ → Fields → Refusal → Type 0
+IsCause bounds splits tables loaded number fields e = ((loaded ≡ MOST_RECORDS) × (e ≡ ReadFault)) ⊎ ((loaded < MOST_RECORDS) × Refuses bounds splits tables number (new_row_of fields) e)
 
 one_of : {A B C : Type 0} → A ⊎ B → A ⊎ B ⊎ C
 one_of (inl a) = inl a
 one_of (inr b) = inr (inl b)
 
-pub Going-unread : {R : Type 0} {remaining : R → Option (List ℕ)} {old : Reader R} {splits : List Bound} {tables : List PlainView} {bytes : List ℕ} {number loaded : ℕ} {left : Option (List PlainView)} (limit : ℕ) (e : Refusal) → Going remaining old splits tables bytes number loaded left → (e ≡ ReadFault) ⊎ (e ≡ OutOfMemory) → IsCutShort limit splits tables bytes (record { refusal = e; loaded = loaded }) left
-Going-unread limit e g cause = record {
+pub Going-unread : {R : Type 0} {remaining : R → Option (List ℕ)} {old : Reader R} {splits : List Bound} {tables : List PlainView} {bytes : List ℕ} {number loaded : ℕ} {left : Option (List PlainView)} (bounds : Bounds) (e : Refusal) → Going remaining old splits tables bytes number loaded left → (e ≡ ReadFault) ⊎ (e ≡ OutOfMemory) → IsCutShort bounds splits tables bytes (record { refusal = e; loaded = loaded }) left
+Going-unread bounds e g cause = record {
   records = g.records;
   first = (_, g.behind.rest, g.behind.reached);
   inserted = g.inserted;
   cause = one_of cause;
 }
 
-pub Going-refused : {R : Type 0} {remaining : R → Option (List ℕ)} {old : Reader R} {splits : List Bound} {tables : List PlainView} {bytes : List ℕ} {number loaded : ℕ} {left : Option (List PlainView)} (limit : ℕ) (e : Refusal) (new : Reader R) (fields : Fields) (left' : Option (List PlainView)) → Going remaining old splits tables bytes number loaded left → ReadsOne remaining old new fields → (number == 1 && is_header fields) ≡ false → ((known : List PlainView) → left ≡ Some known → left' ≡ Some known) → ((known : List PlainView) → left ≡ Some known → IsCause limit splits known loaded number fields e) → IsCutShort limit splits tables bytes (record { refusal = e; loaded = loaded }) left'
-Going-refused {loaded = loaded} limit e new fields left' g reads plain kept cause =
+pub Going-refused : {R : Type 0} {remaining : R → Option (List ℕ)} {old : Reader R} {splits : List Bound} {tables : List PlainView} {bytes : List ℕ} {number loaded : ℕ} {left : Option (List PlainView)} (bounds : Bounds) (e : Refusal) (new : Reader R) (fields : Fields) (left' : Option (List PlainView)) → Going remaining old splits tables bytes number loaded left → ReadsOne remaining old new fields → (number == 1 && is_header fields) ≡ false → ((known : List PlainView) → left ≡ Some known → left' ≡ Some known) → ((known : List PlainView) → left ≡ Some known → IsCause bounds splits known loaded number fields e) → IsCutShort bounds splits tables bytes (record { refusal = e; loaded = loaded }) left'
+Going-refused {loaded = loaded} bounds e new fields left' g reads plain kept cause =
     let behind = reads _ g.records g.behind in
     record {
       records = g.records;

@@ -12,7 +12,7 @@ use Rattle.crack_row.specs.declared.Row.{Row}
 use Rattle.crack_row.specs.declared.command.Command.{Command}
 use Rattle.crack_row.specs.declared.command.Command.TheVariants.{Insert, Delete, Update, Count, Sum, Select}
 use Rattle.crack_row.specs.declared.command.Entry.{Entry}
-use Rattle.crack_plain.specs.Past.{Base, state_after}
+use Rattle.crack_plain.specs.Past.{StandWithin, state_after}
 use Rattle.crack_plain.specs.Plain.{PlainState, PlainView, after, replay_from, IsWithin, BringWithin}
 use Rattle.crack_part.specs.Parts.{Part, IsSound}
 use Rattle.crack_core.specs.Routes.{keys_of_part}
@@ -69,6 +69,11 @@ within_replay keys s (entry ∷ entries) within e =
     within_replay keys (after s entry.command) entries (All-tail (λ (x : Entry). IsWithin keys x.command) entry entries within)
     (within_after keys s entry.command (All-head (λ (x : Entry). IsWithin keys x.command) entry entries within) e)
 
+-- rows whose keys are among these
+all_within : (keys : Range) (rows : List Row) → StandWithin keys rows → list_all (in_range keys) rows ≡ true
+all_within keys [] stand = refl
+all_within keys (row ∷ rows) stand = rw (is_in_from keys row.key.0 (All-head (λ (r : Row). IsIn keys r.key.0) row rows stand), all_within keys rows (All-tail (λ (r : Row). IsIn keys r.key.0) row rows stand)) refl
+
 -- the rows of sound partitions are all of theirs
 pub all_rows-sound : (splits : List Bound) (first : ℕ) (parts : List Part) → ((k : ℕ) (d : Part) → k < length parts → (get_or parts k d).keys ≡ keys_of_part splits (first + k)) → All IsSound parts → rows_from splits first (tables_of parts) ≡ all_rows (tables_of parts)
 all_rows-sound splits first [] keys sound = refl
@@ -76,7 +81,7 @@ all_rows-sound splits first (part ∷ parts) keys sound =
     let here : part.keys ≡ keys_of_part splits first = keys 0 part (omega arith) ∙ ap (keys_of_part splits) (omega arith) in
     let first_sound = All-head IsSound part parts sound in
     let rows = (state_after part.past).rows in
-    let begun : list_all (in_range part.keys) part.past.base.state.rows ≡ true = ap (λ (base : Base). list_all (in_range part.keys) base.state.rows) first_sound.begun in
+    let begun : list_all (in_range part.keys) part.past.base.state.rows ≡ true = all_within part.keys part.past.base.state.rows first_sound.legal.stand in
     let within : list_all (in_range (keys_of_part splits first)) rows ≡ true = rw here at (within_replay part.keys part.past.base.state part.past.tail first_sound.legal.within begun) in
     let rest = all_rows-sound splits (first + 1) parts (λ k d below. keys (suc k) d (omega (arith, below)) ∙ ap (keys_of_part splits) (omega arith)) (All-tail IsSound part parts sound) in
     ap (λ z. z ++ rows_from splits (first + 1) (tables_of parts)) (filter_all (in_range (keys_of_part splits first)) rows within)

@@ -10,7 +10,7 @@ use Rattle.crack_row.specs.declared.refusal.Refusal.{Refusal}
 use Rattle.crack_row.specs.declared.refusal.Refusal.TheVariants.{OutOfMemory, WriteFault}
 use Rattle.crack_plain.specs.Plain.{PlainView, rows_in}
 use Rattle.crack_core.specs.Routes.{keys_of_part}
-use Rattle.crack_core.specs.Steps.{expected, IsOutcome}
+use Rattle.crack_core.specs.Steps.{Bounds, IsOutcome}
 use Rattle.crack_commands.specs.Texts.{AppendsFront}
 
 -- the text of the header
@@ -32,7 +32,7 @@ rows_from splits part (table ∷ tables) = rows_at splits part table ++ rows_fro
 
 -- a partition that was asked for its rows: these are as they were, and its history has one entry more
 abbrev pub asked : PlainView → PlainView
-asked table = record { state = table.state; accepted = table.accepted + 1 }
+asked table = record { state = table.state; folded = table.folded; since = table.since + 1 }
 
 -- The header and a record for each row are written, partitions rising, and within each its rows in rising serial.
 pub record IsExported (splits : List Bound) (tables : List PlainView) (count : ℕ) (left : Option (List PlainView)) (out out' : Option (List ℕ)) : Type 0 where
@@ -51,16 +51,16 @@ AreUnsent texts e failed failed' out out' = ((e ≡ OutOfMemory) × (failed' ≡
 
 -- why an export stops behind these partitions, before the rest: the lines aren't all written; or they are, and the next partition refuses the
 -- list of its rows; or there is no other, and what is written can't be handed on
-abbrev pub IsStopped : ℕ → List Bound → List PlainView → List PlainView → Refusal → Bool → Bool → Option (List ℕ) → Option (List ℕ) → Type 0
-IsStopped limit splits done rest e failed failed' out out' = AreUnsent (lines_of splits done) e failed failed' out out'
-    ⊎ ((table : PlainView) × (slice_get rest 0 ≡ Some table) × IsOutcome (expected limit (keys_of_part splits (length done)) (Some table) (Select (keys_of_part splits (length done)))) (Err e) × (failed' ≡ failed) × Appends out out' (concat (lines_of splits done)))
+abbrev pub IsStopped : Bounds → List Bound → List PlainView → List PlainView → Refusal → Bool → Bool → Option (List ℕ) → Option (List ℕ) → Type 0
+IsStopped bounds splits done rest e failed failed' out out' = AreUnsent (lines_of splits done) e failed failed' out out'
+    ⊎ ((table : PlainView) × (slice_get rest 0 ≡ Some table) × IsOutcome bounds (keys_of_part splits (length done)) (Some table) (Select (keys_of_part splits (length done))) (Err e) × (failed' ≡ failed) × Appends out out' (concat (lines_of splits done)))
     ⊎ ((e ≡ WriteFault) × (failed' ≡ true) × (rest ≡ []) × Appends out out' (concat (lines_of splits done)))
 
 -- An export that is refused: the first partitions are asked, and their rows are as they were; the rest is untouched.
-pub record IsExportCut (limit : ℕ) (splits : List Bound) (tables : List PlainView) (e : Refusal) (receipts receipts' : ℕ) (failed failed' : Bool) (left : Option (List PlainView)) (out out' : Option (List ℕ)) : Type 0 where
+pub record IsExportCut (bounds : Bounds) (splits : List Bound) (tables : List PlainView) (e : Refusal) (receipts receipts' : ℕ) (failed failed' : Bool) (left : Option (List PlainView)) (out out' : Option (List ℕ)) : Type 0 where
   pub done : List PlainView
   pub rest : List PlainView
   pub split : tables ≡ done ++ rest
   pub left_is : left ≡ Some (map asked done ++ rest)
   pub receipts_are : receipts' ≡ receipts + length done
-  pub cause : IsStopped limit splits done rest e failed failed' out out'
+  pub cause : IsStopped bounds splits done rest e failed failed' out out'

@@ -15,7 +15,7 @@ use Rattle.crack_csv.specs.Loads.{with_row}
 use Rattle.crack_row.specs.declared.command.Command.{Command}
 use Rattle.crack_row.specs.declared.command.Command.TheVariants.{Insert, Select}
 use Rattle.crack_core.specs.Routes.{keys_of_part}
-use Rattle.crack_core.specs.Steps.{expected, IsOutcome}
+use Rattle.crack_core.specs.Steps.{Bounds, IsOutcome}
 use Rattle.crack_csv.specs.declared.record.NewRow.{NewRow}
 use Rattle.csv.specs.declared.error.ErrorKind.{ErrorKind}
 use Rattle.csv.specs.declared.error.ErrorKind.TheVariants as kind
@@ -37,9 +37,9 @@ abbrev pub insertion : NewRow → Command
 insertion row = Insert row.key row.payload
 
 -- why the partition of this number, if it is there, doesn't list its rows: as it is to answer
-abbrev pub RefusesList : ℕ → List Bound → ℕ → List PlainView → Refusal → Type 0
-RefusesList limit splits part [] e = ⊥
-RefusesList limit splits part (table ∷ rest) e = IsOutcome (expected limit (keys_of_part splits part) (Some table) (Select (keys_of_part splits part))) (Err e)
+abbrev pub RefusesList : Bounds → List Bound → ℕ → List PlainView → Refusal → Type 0
+RefusesList bounds splits part [] e = ⊥
+RefusesList bounds splits part (table ∷ rest) e = IsOutcome bounds (keys_of_part splits part) (Some table) (Select (keys_of_part splits part)) (Err e)
 
 -- a writer of CSV writes by default, and stands before a record
 pub record IsFresh {W : Type 0} (writer : Writer W) : Type 0 where
@@ -61,8 +61,8 @@ IsUnsent text e failed failed' out out' = ((e ≡ OutOfMemory) × (failed' ≡ f
     ⊎ ((e ≡ WriteFault) × (failed' ≡ true) × AppendsFront out out' text)
 
 -- A partition refuses the list of its rows: all is as it was.
-pub record IsUnlisted (limit : ℕ) (splits : List Bound) (tables : List PlainView) (part : ℕ) (table : PlainView) (e : Refusal) (receipts receipts' : ℕ) (failed failed' : Bool) (left : Option (List PlainView)) (out out' : Option (List ℕ)) : Type 0 where
-  pub cause : RefusesList limit splits part (table ∷ []) e
+pub record IsUnlisted (bounds : Bounds) (splits : List Bound) (tables : List PlainView) (part : ℕ) (table : PlainView) (e : Refusal) (receipts receipts' : ℕ) (failed failed' : Bool) (left : Option (List PlainView)) (out out' : Option (List ℕ)) : Type 0 where
+  pub cause : RefusesList bounds splits part (table ∷ []) e
   pub left_is : left ≡ Some tables
   pub receipts_are : receipts' ≡ receipts
   pub unfailed : failed' ≡ failed
@@ -75,10 +75,10 @@ pub record IsUnwritten (splits : List Bound) (tables : List PlainView) (part : �
   pub receipts_are : receipts' ≡ receipts + 1
 
 -- The export of a partition is refused.
-pub record IsPartCut (limit : ℕ) (splits : List Bound) (tables : List PlainView) (part : ℕ) (e : Refusal) (receipts receipts' : ℕ) (failed failed' : Bool) (left : Option (List PlainView)) (out out' : Option (List ℕ)) : Type 0 where
+pub record IsPartCut (bounds : Bounds) (splits : List Bound) (tables : List PlainView) (part : ℕ) (e : Refusal) (receipts receipts' : ℕ) (failed failed' : Bool) (left : Option (List PlainView)) (out out' : Option (List ℕ)) : Type 0 where
   pub table : PlainView
   pub there : slice_get tables part ≡ Some table
-  pub how : IsUnlisted limit splits tables part table e receipts receipts' failed failed' left out out'
+  pub how : IsUnlisted bounds splits tables part table e receipts receipts' failed failed' left out out'
       ⊎ IsUnwritten splits tables part table e receipts receipts' failed failed' left out out'
 
 -- a record brings a row, which is inserted

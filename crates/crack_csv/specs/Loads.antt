@@ -8,7 +8,7 @@ use Rattle.crack_row.specs.declared.refusal.Refusal.{Refusal}
 use Rattle.crack_row.specs.declared.refusal.Refusal.TheVariants.{OutOfMemory, ReadFault, BadRecord}
 use Rattle.crack_plain.specs.Plain.{PlainView}
 use Rattle.crack_core.specs.Routes.{route}
-use Rattle.crack_core.specs.Steps.{expected_at, IsOutcome, fresh_table, table_after}
+use Rattle.crack_core.specs.Steps.{Bounds, IsOutcomeAt, fresh_table, table_after}
 use Rattle.crack_csv.specs.declared.TheConstants.{MOST_RECORDS}
 use Rattle.crack_csv.specs.declared.load.LoadFault.{LoadFault}
 use Rattle.crack_csv.specs.declared.record.NewRow.{NewRow}
@@ -19,9 +19,9 @@ abbrev pub with_row : List Bound → List PlainView → NewRow → List PlainVie
 with_row splits tables row = slice_set tables (route splits row.key.0) (table_after (slice_index_or tables (route splits row.key.0) fresh_table) (Insert row.key row.payload))
 
 -- why the record of this number isn't inserted: it brings no row, or else as the partition of its key answers
-abbrev pub Refuses : ℕ → List Bound → List PlainView → ℕ → Option NewRow → Refusal → Type 0
-Refuses limit splits tables number None e = e ≡ BadRecord number
-Refuses limit splits tables number (Some row) e = IsOutcome (expected_at limit splits tables (route splits row.key.0) (Insert row.key row.payload)) (Err e)
+abbrev pub Refuses : Bounds → List Bound → List PlainView → ℕ → Option NewRow → Refusal → Type 0
+Refuses bounds splits tables number None e = e ≡ BadRecord number
+Refuses bounds splits tables number (Some row) e = IsOutcomeAt bounds splits tables (route splits row.key.0) (Insert row.key row.payload) (Err e)
 
 -- Of these records each but a header brings a row, and these rows are inserted, in order.
 pub record AreInserted (splits : List Bound) (tables : List PlainView) (records : List (List (List ℕ))) (count : ℕ) (left : Option (List PlainView)) : Type 0 where
@@ -37,15 +37,15 @@ pub record IsLoaded (splits : List Bound) (tables : List PlainView) (bytes : Lis
   pub inserted : AreInserted splits tables records count left
 
 -- A record of the bytes is refused behind so many others, whose rows are inserted: it is no header, and these are as many as may be, or it is refused.
-pub record IsRefused (limit : ℕ) (splits : List Bound) (tables : List PlainView) (bytes : List ℕ) (records : List (List (List ℕ))) (fault : LoadFault) : Type 0 where
+pub record IsRefused (bounds : Bounds) (splits : List Bound) (tables : List PlainView) (bytes : List ℕ) (records : List (List (List ℕ))) (fault : LoadFault) : Type 0 where
   pub fields : List (List ℕ)
   pub first : AreFirstOf (strip_bom bytes) (records ++ fields ∷ [])
   pub no_header : without_header (records ++ fields ∷ []) ≡ without_header records ++ fields ∷ []
-  pub cause : ((fault.loaded ≡ MOST_RECORDS) × (fault.refusal ≡ ReadFault)) ⊎ ((fault.loaded < MOST_RECORDS) × Refuses limit splits tables (length records + 1) (new_row_of fields) fault.refusal)
+  pub cause : ((fault.loaded ≡ MOST_RECORDS) × (fault.refusal ≡ ReadFault)) ⊎ ((fault.loaded < MOST_RECORDS) × Refuses bounds splits tables (length records + 1) (new_row_of fields) fault.refusal)
 
 -- on a fault the first records of the bytes are inserted, up to where the reader failed, or up to one that is refused
-pub record IsCutShort (limit : ℕ) (splits : List Bound) (tables : List PlainView) (bytes : List ℕ) (fault : LoadFault) (left : Option (List PlainView)) : Type 0 where
+pub record IsCutShort (bounds : Bounds) (splits : List Bound) (tables : List PlainView) (bytes : List ℕ) (fault : LoadFault) (left : Option (List PlainView)) : Type 0 where
   pub records : List (List (List ℕ))
   pub first : AreFirstOf (strip_bom bytes) records
   pub inserted : AreInserted splits tables records fault.loaded left
-  pub cause : (fault.refusal ≡ ReadFault) ⊎ (fault.refusal ≡ OutOfMemory) ⊎ IsRefused limit splits (fold (with_row splits) tables inserted.rows) bytes records fault
+  pub cause : (fault.refusal ≡ ReadFault) ⊎ (fault.refusal ≡ OutOfMemory) ⊎ IsRefused bounds splits (fold (with_row splits) tables inserted.rows) bytes records fault

@@ -34,12 +34,12 @@ pub fn export_csv<D: Desk, W: Write>(
         IsExported (D.splits desk.old) tables count (D.tables desk.new) (W.contents (device writer.old)) (W.contents (device writer.new))) }
     // On a refusal the first partitions are asked, and no row is changed. Their records are written up to what the cause says.
     ensures cut { IfErr result (λ e. (tables : List PlainView) → D.tables desk.old ≡ Some tables →
-        IsExportCut (D.limit desk.old) (D.splits desk.old) tables e (D.receipts desk.old) (D.receipts desk.new)
+        IsExportCut (D.bounds desk.old) (D.splits desk.old) tables e (D.receipts desk.old) (D.receipts desk.new)
         (has_failed writer.old) (has_failed writer.new) (D.tables desk.new) (W.contents (device writer.old)) (W.contents (device writer.new))) }
     ensures unfailed { OnOk result (has_failed writer.new ≡ has_failed writer.old) }
     ensures receipts { OnOk result (D.receipts desk.new ≡ D.receipts desk.old + length (D.splits desk.old) + 1) }
     ensures splits { D.splits desk.new ≡ D.splits desk.old }
-    ensures limit { D.limit desk.new ≡ D.limit desk.old }
+    ensures bounds { D.bounds desk.new ≡ D.bounds desk.old }
 {
     if let Err(refusal) = write_header(alloc, writer) {
         return Err(refusal);
@@ -77,13 +77,13 @@ fn export_part<D: Desk, W: Write>(
     ensures exported { IfOk result (λ count. (tables : List PlainView) → D.tables desk.old ≡ Some tables →
         IsPartExported (D.splits desk.old) tables part count (D.tables desk.new) (W.contents (device writer.old)) (W.contents (device writer.new))) }
     ensures cut { IfErr result (λ e. (tables : List PlainView) → D.tables desk.old ≡ Some tables →
-        IsPartCut (D.limit desk.old) (D.splits desk.old) tables part e (D.receipts desk.old) (D.receipts desk.new)
+        IsPartCut (D.bounds desk.old) (D.splits desk.old) tables part e (D.receipts desk.old) (D.receipts desk.new)
         (has_failed writer.old) (has_failed writer.new) (D.tables desk.new) (W.contents (device writer.old)) (W.contents (device writer.new))) }
     ensures small { IfOk result (λ count. count < 2 ^ 32) }
     ensures unfailed { OnOk result (has_failed writer.new ≡ has_failed writer.old) }
     ensures receipts { OnOk result (D.receipts desk.new ≡ D.receipts desk.old + 1) }
     ensures splits { D.splits desk.new ≡ D.splits desk.old }
-    ensures limit { D.limit desk.new ≡ D.limit desk.old }
+    ensures bounds { D.bounds desk.new ≡ D.bounds desk.old }
 {
     let keys = keys_of_part(desk.splits(), part as usize);
     match desk.ask(part, Command::Select(keys), policy) {

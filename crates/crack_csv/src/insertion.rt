@@ -3,7 +3,7 @@ ghost use Rattle.std.specs.Prelude.{◌≡◌, ◌+◌, List, Some, Err, is_ok, 
 ghost use Rattle.csv.specs.Records.{fields_of};
 ghost use Rattle.crack_plain.specs.Plain.{PlainView};
 ghost use Rattle.crack_core.specs.Routes.{route};
-ghost use Rattle.crack_core.specs.Steps.{expected_at, IsOutcome};
+ghost use Rattle.crack_core.specs.Steps.{IsOutcomeAt};
 ghost use Rattle.crack_csv.specs.Records.{new_row_of};
 ghost use Rattle.crack_csv.specs.Inside.{insertion, BringsRow};
 ghost use Rattle.crack_csv.specs.Loads.{with_row, Refuses};
@@ -25,9 +25,9 @@ pub fn insert_record<D: Desk>(
         BringsRow (D.splits desk.old) tables (fields_of fields.now) (D.tables desk.new)) }
     ensures kept { IfErr result (λ _. (tables : List PlainView) → D.tables desk.old ≡ Some tables → D.tables desk.new ≡ Some tables) }
     ensures refused { IfErr result (λ e. (tables : List PlainView) → D.tables desk.old ≡ Some tables →
-        Refuses (D.limit desk.old) (D.splits desk.old) tables number (new_row_of (fields_of fields.now)) e) }
+        Refuses (D.bounds desk.old) (D.splits desk.old) tables number (new_row_of (fields_of fields.now)) e) }
     ensures splits { D.splits desk.new ≡ D.splits desk.old }
-    ensures limit { D.limit desk.new ≡ D.limit desk.old }
+    ensures bounds { D.bounds desk.new ≡ D.bounds desk.old }
     ensures receipts { D.receipts desk.new ≡ (if is_ok result then D.receipts desk.old + 1 else D.receipts desk.old) }
 {
     match new_row(fields) {
@@ -42,9 +42,9 @@ fn insert_row<D: Desk>(desk: &mut D, policy: Policy, row: NewRow) -> Result<(), 
         D.tables desk.new ≡ Some (with_row (D.splits desk.old) tables row)) }
     ensures kept { IfErr result (λ _. (tables : List PlainView) → D.tables desk.old ≡ Some tables → D.tables desk.new ≡ Some tables) }
     ensures refused { IfErr result (λ e. (tables : List PlainView) → D.tables desk.old ≡ Some tables →
-        IsOutcome (expected_at (D.limit desk.old) (D.splits desk.old) tables (route (D.splits desk.old) row.key.0) (insertion row)) (Err e)) }
+        IsOutcomeAt (D.bounds desk.old) (D.splits desk.old) tables (route (D.splits desk.old) row.key.0) (insertion row) (Err e)) }
     ensures splits { D.splits desk.new ≡ D.splits desk.old }
-    ensures limit { D.limit desk.new ≡ D.limit desk.old }
+    ensures bounds { D.bounds desk.new ≡ D.bounds desk.old }
     ensures receipts { D.receipts desk.new ≡ (if is_ok result then D.receipts desk.old + 1 else D.receipts desk.old) }
 {
     let part = route(desk.splits(), row.key);

@@ -38,12 +38,12 @@ pub fn load_csv<D: Desk, R: Read + Drop>(
     // The first of them are, up to where the reader failed, or up to one that is refused.
     ensures cut_short { IfErr result (λ fault. (bytes : List ℕ) (tables : List PlainView) →
         R.remaining reader ≡ Some bytes → D.tables desk.old ≡ Some tables →
-        IsCutShort (D.limit desk.old) (D.splits desk.old) tables bytes fault (D.tables desk.new)) }
+        IsCutShort (D.bounds desk.old) (D.splits desk.old) tables bytes fault (D.tables desk.new)) }
     ensures few { IfOk result (λ count. count ≤ MOST_RECORDS) }
     ensures receipts { IfOk result (λ count. D.receipts desk.new ≡ D.receipts desk.old + count) }
     ensures receipts_of_fault { IfErr result (λ fault. D.receipts desk.new ≡ D.receipts desk.old + fault.loaded) }
     ensures splits { D.splits desk.new ≡ D.splits desk.old }
-    ensures limit { D.limit desk.new ≡ D.limit desk.old }
+    ensures bounds { D.bounds desk.new ≡ D.bounds desk.old }
 {
     let mut source = ReaderBuilder::new()
         .has_headers(false)

@@ -27,15 +27,17 @@ impl Starved {
 }
 
 impl Desk for Starved {
+    ghost use Rattle.crack_plain.specs.Plain.{accepted_of};
     ghost use Rattle.std.specs.Prelude.{None, []};
+    ghost use Rattle.crack_session.specs.Plains.{plain_bounds};
 
     ghost tables = { λ d. None };
 
-    ghost limit = { λ d. 4294967295 };
+    ghost bounds = { λ d. plain_bounds };
 
     ghost splits = { λ d. [] };
 
-    ghost receipts = { λ d. d.table.accepted };
+    ghost receipts = { λ d. accepted_of d.table };
 
     fn ask(&mut self, part: u32, command: Command, policy: Policy) -> Result<Reply, Refusal> {
         self.asked = self.asked.saturating_add(1);
@@ -43,6 +45,10 @@ impl Desk for Starved {
             return Err(Refusal::OutOfMemory);
         }
         self.table.ask(part, command, policy)
+    }
+
+    fn checkpoint(&mut self, part: u32) -> Result<u64, Refusal> {
+        Desk::checkpoint(&mut self.table, part)
     }
 
     fn layout(&self, part: u32) -> Result<Layout, Refusal> {
@@ -66,16 +72,21 @@ pub struct Refusing {
 
 impl Desk for Refusing {
     ghost use Rattle.std.specs.Prelude.{None, []};
+    ghost use Rattle.crack_session.specs.Plains.{plain_bounds};
 
     ghost tables = { λ d. None };
 
-    ghost limit = { λ d. 0 };
+    ghost bounds = { λ d. plain_bounds };
 
     ghost splits = { λ d. [] };
 
     ghost receipts = { λ d. 0 };
 
     fn ask(&mut self, _part: u32, _command: Command, _policy: Policy) -> Result<Reply, Refusal> {
+        Err(self.refusal)
+    }
+
+    fn checkpoint(&mut self, _part: u32) -> Result<u64, Refusal> {
         Err(self.refusal)
     }
 

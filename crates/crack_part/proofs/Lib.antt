@@ -1,4 +1,6 @@
+pub mod CellLemmas
 pub mod CountLemmas
+pub mod FoldLemmas
 pub mod IdleLemmas
 pub mod KeepLemmas
 pub mod PointLemmas

@@ -8,7 +8,7 @@ use Rattle.crack_row.specs.Commands.{change_of, range_of, brought_key}
 use Rattle.crack_row.specs.Ranges.{Range, IsIn}
 use Rattle.crack_row.specs.Limits.{AreLimits, of_history}
 use Rattle.crack_row.specs.Rows.{row_with}
-use Rattle.crack_row.specs.declared.TheConstants.{GREATEST_LIMIT}
+use Rattle.crack_row.specs.declared.TheConstants.{GREATEST_LIFE}
 use Rattle.crack_row.specs.declared.Key.{Key}
 use Rattle.crack_row.specs.declared.limit.Limits.{Limits}
 use Rattle.crack_row.specs.declared.Payload.{Payload}
@@ -23,33 +23,39 @@ use Rattle.crack_row.specs.declared.command.Reply.{Reply}
 use Rattle.crack_row.specs.declared.command.Entry.{Entry}
 use Rattle.crack_plain.specs.Plain.{PlainState, changed, after, reply_to, row_in, IsWithin}
 use Rattle.crack_plain.specs.Inside.{gone, rewritten}
-use Rattle.crack_plain.specs.Past.{Base, no_base, Past, no_past, with_entry, accepted_in}
+use Rattle.crack_plain.specs.Past.{Past, no_past, with_entry, accepted_in}
 use Rattle.crack_plain.specs.Totals.{is_placed, is_gone, is_changed}
-use Rattle.crack_plain.proofs.PastLaws.{IsLegal-no_past, IsLegal-push, state_after-push, next-le-accepted, IsNumbered-after_past}
-use Rattle.crack_plain.proofs.TotalLaws.{inserted-push, deleted-push, updated-push, inserted-le-accepted, deleted-le-accepted, updated-le-accepted}
+use Rattle.crack_plain.proofs.PastLaws.{IsLegal-no_past, IsLegal-push, IsLegal-folded, state_after-push, next-le-accepted, changes-le-accepted, IsNumbered-after_past}
+use Rattle.crack_plain.proofs.TotalLaws.{inserted-push, deleted-push, updated-push}
 use Rattle.crack_state.specs.State.{State, live_rows, freed_of, IsIntact}
 use Rattle.crack_state.specs.Steps.{IsAdmissible, SameButRoom, admitted}
 use Rattle.crack_state.specs.Points.{pending_by, MayFree, IsRenewable, IsRewritable, Removes}
 use Rattle.crack_state.proofs.KeyedLaws.{handle_of-fresh}
+use Rattle.crack_state.proofs.LiveLaws.{live_rows-within}
 use Rattle.crack_state.proofs.AdmitLaws.{live_rows-admitted, freed-admitted, cells-admitted}
 use Rattle.crack_state.proofs.PointLaws.{Spends, Spends-cancels, Spends-dooms, Spends-rewrites, found_by}
 use Rattle.crack_state.proofs.LookUpLaws.{row_by-find, row_by-pending}
 use Rattle.crack_store.specs.Inside.{no_cells}
-use Rattle.crack_part.specs.Parts.{Part, IsLimit, IsSound, IsFaithful, Serves, Prepares, Performs, Replaces, state_of, placed}
+use Rattle.crack_part.specs.Parts.{Part, IsLimit, IsSound, folded_part, IsFaithful, Serves, Prepares, Performs, Replaces, state_of, placed}
 use Rattle.crack_part.specs.Inside.{MayPerform}
+use Rattle.crack_part.proofs.CellLemmas.{rows-le-cells}
 use Rattle.crack_part.proofs.KeepLemmas.{Keeps, Keeps-room, Keeps-prepared, IsIntact-prepared}
 
--- what a partition lived through that answered these, and has folded none
-abbrev pub unfolded : List Entry → Past
-unfolded tail = record { base = no_base; tail = tail }
+-- what a partition lived through, by its fields
+abbrev pub lived : List Row → ℕ → ℕ → ℕ → List Entry → Past
+lived rows folded placed gone tail = record { base = record { state = record { rows = rows; next = placed }; folded = folded; placed = placed; gone = gone }; tail = tail }
 
--- it has accepted no more commands than a history may have entries
-pub accepted-le-limit : (p : Part) → IsSound p → accepted_in p.past ≤ GREATEST_LIMIT
-accepted-le-limit p sound = omega (arith, ap (λ (b : Base). b.folded) sound.begun, sound.legal.limited, sound.limited.history.1)
+-- it has accepted no more commands than a life may have
+pub accepted-le-life : (p : Part) → IsSound p → accepted_in p.past ≤ GREATEST_LIFE
+accepted-le-life p sound = omega (arith, sound.legal.lived, sound.limited.life.1)
 
 -- the next serial stays far below the greatest number
-pub next-le-limit : (p : Part) → IsSound p → p.next ≤ GREATEST_LIMIT
-next-le-limit p sound = omega (arith, sound.faithful.serial, next-le-accepted p.past sound.legal.base sound.legal.replies, accepted-le-limit p sound)
+pub next-le-life : (p : Part) → IsSound p → p.next ≤ GREATEST_LIFE
+next-le-life p sound = omega (arith, sound.faithful.serial, next-le-accepted p.past sound.legal.base sound.legal.replies, accepted-le-life p sound)
+
+-- there are far fewer rows than a reply may tell
+pub few_rows : (p : Part) → IsSound p → length (state_of p).rows < 2 ^ 32
+few_rows p sound = omega (arith, rows-le-cells p.store (state_of p).rows sound.faithful.rows, sound.cells, sound.limited.cells.1)
 
 -- the next serial is above those of all live rows
 next-above : (p : Part) → IsSound p → All (λ (r : Row). r.serial.0 < p.next) (live_rows p.store)
@@ -60,10 +66,10 @@ next-above p sound =
 
 -- there are far fewer cells than there may be, and far fewer were freed
 few_cells : (p : Part) → IsSound p → length p.store.cells < 2 ^ 32 - 1 + length p.store.free
-few_cells p sound = omega (arith, sound.few_cells, inserted-le-accepted p.past.tail, updated-le-accepted p.past.tail, accepted-le-limit p sound)
+few_cells p sound = omega (arith, sound.cells, sound.limited.cells.1)
 
 few_freed : (p : Part) → IsSound p → MayFree p.store
-few_freed p sound = omega (arith, sound.few_freed, deleted-le-accepted p.past.tail, updated-le-accepted p.past.tail, accepted-le-limit p sound)
+few_freed p sound = omega (arith, sound.few_freed, changes-le-accepted p.past.tail, accepted-le-life p sound)
 
 -- a row that is placed may be admitted
 IsAdmissible-placed : (p : Part) (key : Key) (payload : Payload) → IsSound p → IsIn p.keys key.0 → IsAdmissible (placed p.next key payload) p.store
@@ -89,10 +95,10 @@ pub IsSound-kept : (p : Part) (t : State) → IsSound p → Keeps p.store t → 
 IsSound-kept p t sound keeps intact = record {
   limited = sound.limited;
   legal = sound.legal;
-  begun = sound.begun;
   ends = keeps.ends ∙ sound.ends;
   intact = intact;
   faithful = record { rows = rw keeps.live sound.faithful.rows; serial = sound.faithful.serial };
+  cells = omega (arith, keeps.cells, sound.cells);
   few_cells = omega (arith, keeps.cells, sound.few_cells);
   few_freed = omega (arith, keeps.freed, sound.few_freed);
 }
@@ -197,25 +203,41 @@ pub IsSound-opened : (keys : Range) (limits : Limits) (store : State) → store 
 IsSound-opened keys limits store is limited intact = record {
   limited = limited;
   legal = IsLegal-no_past keys limits;
-  begun = refl;
   ends = ap (λ (s : State). s.keys) is;
   intact = intact;
   faithful = record { rows = subst (λ (rows : List Row). IsPermutation rows []) (sym (ap live_rows is)) (IsPermutation-refl []); serial = refl };
+  cells = omega (arith, ap (λ (s : State). length s.cells) is);
   few_cells = omega (arith, ap (λ (s : State). length s.cells) is);
   few_freed = omega (arith, ap (λ (s : State). freed_of s.cells + length s.pending_out) is);
 }
 
 -- one more entry
-pub IsSound-served : (p : Part) (e : Entry) (next : ℕ) (t : State) → IsSound p → length p.past.tail < p.limits.history → IsWithin p.keys e.command → e.reply ≡ reply_to (state_of p) e.command → IsIntact t [] → IsFaithful t next (after (state_of p) e.command) → Spends (made (reply_to (state_of p) e.command)) (spent (reply_to (state_of p) e.command)) p.store t → IsSound (record p { past = with_entry p.past e; next = next; store = t })
-IsSound-served p e next t sound room within said intact faithful spends =
+pub IsSound-served : (p : Part) (e : Entry) (next : ℕ) (t : State) → IsSound p → length p.past.tail < p.limits.history → accepted_in p.past < p.limits.life → length t.cells ≤ p.limits.cells → IsWithin p.keys e.command → e.reply ≡ reply_to (state_of p) e.command → IsIntact t [] → IsFaithful t next (after (state_of p) e.command) → Spends (made (reply_to (state_of p) e.command)) (spent (reply_to (state_of p) e.command)) p.store t → IsSound (record p { past = with_entry p.past e; next = next; store = t })
+IsSound-served p e next t sound room life fits within said intact faithful spends =
     let tells = rw (← said) at spends in
     record {
       limited = sound.limited;
-      legal = IsLegal-push p.keys p.limits p.past e sound.legal room within said;
-      begun = sound.begun;
+      legal = IsLegal-push p.keys p.limits p.past e sound.legal room life within said;
       ends = spends.keys ∙ sound.ends;
       intact = intact;
       faithful = subst (λ (s : PlainState). IsFaithful t next s) (sym (state_after-push p.past e)) faithful;
+      cells = fits;
       few_cells = omega (arith, tells.cells, sound.few_cells, inserted-push p.past.tail e, updated-push p.past.tail e);
       few_freed = omega (arith, tells.freed, sound.few_freed, deleted-push p.past.tail e, updated-push p.past.tail e);
+    }
+
+-- a partition whose tail is folded
+pub IsSound-folded : (p : Part) → IsSound p → IsSound (folded_part p)
+IsSound-folded p sound =
+    let keys : All (λ (row : Row). IsIn p.keys row.key.0) (live_rows p.store) = rw (← sound.ends) (live_rows-within p.store sound.intact) in
+    let stand = All-permutation (λ (row : Row). IsIn p.keys row.key.0) (live_rows p.store) (state_of p).rows sound.faithful.rows keys in
+    record {
+      limited = sound.limited;
+      legal = IsLegal-folded p.keys p.limits p.past sound.legal stand;
+      ends = sound.ends;
+      intact = sound.intact;
+      faithful = sound.faithful;
+      cells = sound.cells;
+      few_cells = omega (arith, sound.few_cells, changes-le-accepted p.past.tail);
+      few_freed = omega (arith, sound.few_freed, changes-le-accepted p.past.tail);
     }

@@ -1,5 +1,5 @@
 -- What contracts see of a partition, and what holds of each.
-use Rattle.std.specs.Prelude.{◌≡◌, ◌⊎◌, ℕ, ◌+◌, ◌<◌, ◌≤◌, Bool, List, [], length, Option, Some, None}
+use Rattle.std.specs.Prelude.{◌≡◌, ◌⊎◌, ℕ, ◌+◌, ◌<◌, ◌≤◌, Bool, false, List, [], length, Option, Some, None}
 use Rattle.std.specs.List.Sorted.{IsPermutation}
 use Rattle.crack_row.specs.Commands.{change_of, range_of}
 use Rattle.crack_row.specs.Ranges.{Range, clipped}
@@ -15,7 +15,7 @@ use Rattle.crack_row.specs.declared.command.Policy.{Policy}
 use Rattle.crack_row.specs.declared.command.Policy.TheVariants.{Complete, Gradual, Ripple}
 use Rattle.crack_row.specs.Limits.{AreLimits}
 use Rattle.crack_row.specs.declared.limit.Limits.{Limits}
-use Rattle.crack_plain.specs.Past.{Past, no_base, state_after, IsLegal}
+use Rattle.crack_plain.specs.Past.{Past, folded, state_after, IsLegal}
 use Rattle.crack_plain.specs.Plain.{PlainState}
 use Rattle.crack_plain.specs.Totals.{inserted, deleted, updated}
 use Rattle.crack_state.specs.State.{State, IsIntact, live_rows, freed_of}
@@ -46,18 +46,34 @@ pub record IsFaithful (store : State) (next : ℕ) (plain : PlainState) : Type 0
   pub rows : IsPermutation (live_rows store) plain.rows
   pub serial : next ≡ plain.next
 
--- the partition's fact: each kept reply is that of the plain rows, no command is folded yet, every cell stands in one place and every
--- bound is obeyed, the live rows are the plain rows, and there are no more cells than commands folded and rows placed and changed since,
--- nor more freed or doomed than commands folded and rows gone and changed since
+-- the partition's fact: each kept reply is that of the plain rows, every cell stands in one place and every bound is obeyed, the live rows
+-- are the plain rows, and there are no more cells than their limit, nor than commands folded and rows placed and changed since, nor more
+-- freed or doomed than commands folded and rows gone and changed since
 pub record IsSound (part : Part) : Type 0 where
   pub limited : AreLimits part.limits
   pub legal : IsLegal part.keys part.limits part.past
-  pub begun : part.past.base ≡ no_base
   pub ends : part.store.keys ≡ part.keys
   pub intact : IsIntact part.store []
   pub faithful : IsFaithful part.store part.next (state_of part)
+  pub cells : length part.store.cells ≤ part.limits.cells
   pub few_cells : length part.store.cells ≤ part.past.base.folded + inserted part.past.tail + updated part.past.tail
   pub few_freed : freed_of part.store.cells + length part.store.pending_out ≤ part.past.base.folded + deleted part.past.tail + updated part.past.tail
+
+-- a partition whose tail is folded into its base, and of which nothing else is changed
+abbrev pub folded_part : Part → Part
+folded_part part = record part { past = folded part.past }
+
+-- a change needs a cell more for a row: for one that is placed, and for one that takes the place of a row of the column
+abbrev pub TakesCell : State → Option Change → Type 0
+TakesCell s (Some (Place key payload)) = Unit {0}
+TakesCell s (Some (Rewrite serial key payload)) = pending_by s serial.0 ≡ Some false
+TakesCell s _ = ⊥
+
+-- a change needs a cell where none is free, and there are as many as may be
+pub record LacksCell (most : ℕ) (s : State) (change : Option Change) : Type 0 where
+  pub takes : TakesCell s change
+  pub none : length s.free ≡ 0
+  pub many : most ≤ length s.cells
 
 -- a row as a change places it
 abbrev pub placed : ℕ → Key → Payload → Row

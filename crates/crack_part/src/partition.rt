@@ -8,7 +8,7 @@ ghost use Rattle.crack_row.specs.Rows.{is_other, replaced, sum_of};
 ghost use Rattle.crack_row.specs.Layouts.{IsLayout};
 ghost use Rattle.crack_row.specs.Limits.{AreLimits, of_history};
 ghost use Rattle.crack_plain.specs.Plain.{PlainState, IsNumbered, reply_to, row_in, rows_in, after, IsSmall, IsWithin};
-ghost use Rattle.crack_plain.specs.Past.{no_base, no_past, with_entry, accepted_in, IsLegal};
+ghost use Rattle.crack_plain.specs.Past.{no_past, with_entry, accepted_in, IsLegal};
 ghost use Rattle.crack_plain.specs.Inside.{gone, rewritten};
 ghost use Rattle.crack_state.specs.State.{State, IsIntact, live_rows};
 ghost use Rattle.crack_state.specs.Steps.{SameButRoom, admitted, IsAdmissible};
@@ -16,13 +16,13 @@ ghost use Rattle.crack_state.specs.Points.{pending_by, MayFree, IsRenewable, Rem
 ghost use Rattle.crack_state.specs.Merge.{IsCracked, IsSettled, Merges, Tallies};
 ghost use Rattle.crack_merge.specs.Merges.{Stops};
 ghost use Rattle.crack_store.specs.Inside.{no_cells, IsLayoutOf};
-ghost use Rattle.crack_part.specs.Parts.{state_of, IsLimit, IsSound, IsFaithful, LeavesNear, CracksAndMerges, StopsRead, Serves, Spares, Prepares, Performs, Replaces, placed};
+ghost use Rattle.crack_part.specs.Parts.{state_of, folded_part, IsLimit, TakesCell, LacksCell, IsSound, IsFaithful, LeavesNear, CracksAndMerges, StopsRead, Serves, Spares, Prepares, Performs, Replaces, placed};
 ghost use Rattle.crack_part.specs.Inside.{IsCommon, AreCommon, MayPerform};
 
 use crack_merge::{merge_complete, merge_gradual};
 use crack_ripple::merge_ripple;
 use crack_row::{
-    Command, Entry, GREATEST_LIMIT, Key, KeyRange, Layout, Limits, Payload, Policy, Refusal, Reply,
+    Change, Command, Entry, GREATEST_LIMIT, Key, KeyRange, Layout, Limits, Payload, Policy, Refusal, Reply,
     Row, RowList, Serial,
 };
 use crack_store::{MergeReport, Store};
@@ -34,8 +34,22 @@ use std::mem;
 /// and what isn't used of it takes no memory.
 const FIRST_ENTRIES: usize = 2048;
 
-/// The rows whose keys lie in one range, and every command that was answered, with the worker who asked and the reply.
-/// Contracts see besides what stands where in the store of its rows; the plain rows are those after the history.
+/// For how many entries a history that was folded keeps its room.
+const KEPT_ENTRIES: usize = 4096;
+
+/// What commands that are kept no more left: the rows, in rising serial (16 bytes each), how many commands these were, and how many
+/// rows they placed and took out.
+#[derive(Drop)]
+struct Base {
+    rows: Vec<Row>,
+    folded: u64,
+    placed: u64,
+    gone: u64,
+}
+
+/// The rows whose keys lie in one range, and every command that was answered since the last checkpoint, with the worker who asked and the
+/// reply, behind a base: what the commands before it left. Contracts see besides what stands where in the store of its rows; the plain rows
+/// are those after the history, from the base on.
 #[derive(Drop)]
 pub struct Partition {
     alloc: Global,
@@ -43,18 +57,18 @@ pub struct Partition {
     limits: Limits,
     next: u64,
     store: Store,
+    base: Base,
     history: Vec<Entry>,
 }
 
 impl Model for Partition {
-    ghost use Rattle.crack_plain.specs.Past.{no_base};
     ghost use Rattle.crack_part.specs.Parts.{Part, IsSound};
 
     ghost Value = { Part };
 
-    ghost view = { λ p. record { keys = p.keys; limits = p.limits; past = record { base = no_base; tail = p.history.items }; next = p.next; store = p.store } };
+    ghost view = { λ p. record { keys = p.keys; limits = p.limits; past = record { base = record { state = record { rows = p.base.rows.items; next = p.base.placed }; folded = p.base.folded; placed = p.base.placed; gone = p.base.gone }; tail = p.history.items }; next = p.next; store = p.store } };
 
-    ghost invariant = { λ p. let part : Part = record { keys = p.keys; limits = p.limits; past = record { base = no_base; tail = p.history.items }; next = p.next; store = p.store } in IsSound part };
+    ghost invariant = { λ p. let part : Part = record { keys = p.keys; limits = p.limits; past = record { base = record { state = record { rows = p.base.rows.items; next = p.base.placed }; folded = p.base.folded; placed = p.base.placed; gone = p.base.gone }; tail = p.history.items }; next = p.next; store = p.store } in IsSound part };
 }
 
 impl Partition {
@@ -69,14 +83,34 @@ impl Partition {
         if limit < 1 || limit > GREATEST_LIMIT {
             return Err(Refusal::BadLimit);
         }
+        Partition::open_with(alloc, keys, Limits::of_history(limit))
+    }
+
+    /// A partition without rows, for these keys, within these limits. Takes no memory.
+    /// Refused with 14 where a limit isn't 1 to the greatest of its kind.
+    pub fn open_with(alloc: Global, keys: KeyRange, limits: Limits) -> Result<Partition, Refusal>
+        ensures ok { IfOk result (λ p. (p.keys ≡ keys) × (p.limits ≡ limits) × (p.past ≡ no_past)) }
+        ensures empty { IfOk result (λ p. p.store ≡ no_cells keys p.store.column_room p.store.in_room) }
+        ensures opens { AreLimits limits → IsOk result }
+        ensures bad_limit { (AreLimits limits → ⊥) → result ≡ Err Refusal.BadLimit }
+    {
+        if !limits.are_valid() {
+            return Err(Refusal::BadLimit);
+        }
         let store = Store::new(alloc, keys);
         store.facts();
         Ok(Partition {
             alloc,
             keys,
-            limits: Limits::of_history(limit),
+            limits,
             next: 0,
             store,
+            base: Base {
+                rows: Vec::new(alloc),
+                folded: 0,
+                placed: 0,
+                gone: 0,
+            },
             history: Vec::new(alloc),
         })
     }
@@ -88,20 +122,72 @@ impl Partition {
         let _ = &self.store;
     }
 
-    /// Every command that was answered, in order: reads and commands that found no row among them.
+    /// Every command that was answered since the last checkpoint, in order: reads and commands that found no row among them.
     pub fn history(&self) -> &[Entry]
         ensures value { result.now ≡ self.now.past.tail }
         ensures legal { IsLegal self.now.keys self.now.limits self.now.past }
-        ensures begun { self.now.past.base ≡ no_base }
     {
         self.history.as_slice()
     }
 
+    /// The rows at the last checkpoint, in rising serial.
+    pub fn base_rows(&self) -> &[Row]
+        ensures { result.now ≡ self.now.past.base.state.rows }
+    {
+        self.base.rows.as_slice()
+    }
+
+    /// How many commands it accepted up to the last checkpoint.
+    pub fn folded(&self) -> u64
+        ensures { result ≡ self.now.past.base.folded }
+    {
+        self.base.folded
+    }
+
+    /// How many rows were placed up to the last checkpoint.
+    pub fn folded_insertions(&self) -> u64
+        ensures { result ≡ self.now.past.base.placed }
+    {
+        self.base.placed
+    }
+
+    /// How many rows went up to the last checkpoint.
+    pub fn folded_deletions(&self) -> u64
+        ensures { result ≡ self.now.past.base.gone }
+    {
+        self.base.gone
+    }
+
     /// How many commands it accepted since it was opened.
     pub fn accepted(&self) -> u64
-        ensures { result ≡ accepted_in self.now.past }
+        ensures value { result ≡ accepted_in self.now.past }
+        ensures lived { result ≤ self.now.limits.life }
     {
-        self.history.len() as u64
+        self.base.folded + self.history.len() as u64
+    }
+
+    /// Makes its rows the base, and empties its history: how many entries went. It cracks and merges nothing, and changes no reply to
+    /// come. Refused with 8 where it finds no memory; all is then as it was. O(cells), and O(n log n) for n rows where later ones were put
+    /// into freed cells; what the history took is given back, but for the room of `KEPT_ENTRIES` entries.
+    pub fn checkpoint(&mut self) -> Result<u64, Refusal>
+        ensures ok { IfOk result (λ count. count ≡ length self.old.past.tail) }
+        ensures folded { OnOk result (self.new ≡ folded_part self.old) }
+        ensures err { IfErr result (λ e. e ≡ Refusal.OutOfMemory) }
+        ensures same { OnErr result (self.new ≡ self.old) }
+    {
+        let rows = self.store.live_rows()?;
+        let count = self.history.len() as u64;
+        let folded = self.accepted();
+        let placed = self.next;
+        let gone = placed - rows.len() as u64;
+        empty(&mut self.history, self.alloc)?;
+        self.base = Base {
+            rows,
+            folded,
+            placed,
+            gone,
+        };
+        Ok(count)
     }
 
     /// The keys that its rows may have.
@@ -147,7 +233,9 @@ impl Partition {
 
     /// Answers one command of a worker and keeps it in the history. The second reply is a copy, for a receipt.
     /// Refused, in this order: with 4 where the command brings a key that isn't the partition's, with 6 where the history
-    /// is full, with 8 where no memory is found. After 4 and 6 nothing has changed. After 8 a command that reads no range has
+    /// is full, with 10 where it has accepted as many commands as its life, with 9 where an insert, or an update of a row of the
+    /// column, finds no free cell and as many cells as their limit, with 8 where no memory is found. After 4, 6, 10 and 9 nothing has changed.
+    /// After 8 a command that reads no range has
     /// changed nothing, and one that reads a range has at most cracked the column at its ends and merged in part, or in whole.
     /// An insert, a delete and an update are O(1), amortised. A command that reads a range cracks the pieces in which its ends fall
     /// and merges by the policy what its range needs; a count is then O(log pieces), a sum O(m), and a select O(m log m) for m rows
@@ -168,10 +256,12 @@ impl Partition {
 
         ensures err { OnErr result (self.new.past ≡ self.old.past) }
         ensures spared { OnErr result (Spares policy self.old.keys (range_of command) self.old.store self.new.store) }
-        ensures same { (IsWithin self.old.keys command → ⊥) ⊎ (self.old.limits.history ≤ length self.old.past.tail) → self.new ≡ self.old }
+        ensures same { (IsWithin self.old.keys command → ⊥) ⊎ (self.old.limits.history ≤ length self.old.past.tail) ⊎ (self.old.limits.life ≤ accepted_in self.old.past) ⊎ LacksCell self.old.limits.cells self.old.store (change_of command) → self.new ≡ self.old }
         ensures outside { (IsWithin self.old.keys command → ⊥) → result ≡ Err Refusal.KeyOutside }
         ensures full { IsWithin self.old.keys command → self.old.limits.history ≤ length self.old.past.tail → result ≡ Err (Refusal.HistoryFull self.old.limits.history) }
-        ensures room { IsWithin self.old.keys command → length self.old.past.tail < self.old.limits.history → IfErr result (λ e. e ≡ Refusal.OutOfMemory) }
+        ensures over { IsWithin self.old.keys command → length self.old.past.tail < self.old.limits.history → self.old.limits.life ≤ accepted_in self.old.past → result ≡ Err Refusal.LifeOver }
+        ensures no_cell { IsWithin self.old.keys command → length self.old.past.tail < self.old.limits.history → accepted_in self.old.past < self.old.limits.life → LacksCell self.old.limits.cells self.old.store (change_of command) → result ≡ Err Refusal.NoCell }
+        ensures room { IsWithin self.old.keys command → length self.old.past.tail < self.old.limits.history → accepted_in self.old.past < self.old.limits.life → (LacksCell self.old.limits.cells self.old.store (change_of command) → ⊥) → IfErr result (λ e. e ≡ Refusal.OutOfMemory) }
     {
         self.may_keep(&command)?;
         make_room(&mut self.history)?;
@@ -194,13 +284,16 @@ impl Partition {
         Ok((copies.reply, copies.receipt))
     }
 
-    /// Refuses, in this order, a command that brings a key that isn't the partition's, and any where the history is full.
+    /// Refuses, in this order, a command that brings a key that isn't the partition's, any where the history is full or the life is over,
+    /// and one that needs a cell where there is none.
     #[inline(always)]
     fn may_keep(&self, command: &Command) -> Result<(), Refusal>
-        ensures ok { OnOk result (IsWithin self.now.keys command.now × (length self.now.past.tail < self.now.limits.history)) }
-        ensures err { OnErr result ((IsWithin self.now.keys command.now → ⊥) ⊎ (self.now.limits.history ≤ length self.now.past.tail)) }
+        ensures ok { OnOk result (IsWithin self.now.keys command.now × (length self.now.past.tail < self.now.limits.history) × (accepted_in self.now.past < self.now.limits.life) × (LacksCell self.now.limits.cells self.now.store (change_of command.now) → ⊥)) }
+        ensures err { OnErr result ((IsWithin self.now.keys command.now → ⊥) ⊎ (self.now.limits.history ≤ length self.now.past.tail) ⊎ (self.now.limits.life ≤ accepted_in self.now.past) ⊎ LacksCell self.now.limits.cells self.now.store (change_of command.now)) }
         ensures outside { (IsWithin self.now.keys command.now → ⊥) → result ≡ Err Refusal.KeyOutside }
         ensures full { IsWithin self.now.keys command.now → self.now.limits.history ≤ length self.now.past.tail → result ≡ Err (Refusal.HistoryFull self.now.limits.history) }
+        ensures over { IsWithin self.now.keys command.now → length self.now.past.tail < self.now.limits.history → self.now.limits.life ≤ accepted_in self.now.past → result ≡ Err Refusal.LifeOver }
+        ensures no_cell { IsWithin self.now.keys command.now → length self.now.past.tail < self.now.limits.history → accepted_in self.now.past < self.now.limits.life → LacksCell self.now.limits.cells self.now.store (change_of command.now) → result ≡ Err Refusal.NoCell }
     {
         if !allows(self.keys, command) {
             return Err(Refusal::KeyOutside);
@@ -210,7 +303,32 @@ impl Partition {
                 length: self.limits.history,
             });
         }
+        if self.accepted() >= self.limits.life {
+            return Err(Refusal::LifeOver);
+        }
+        if lacks_cell(&self.store, self.limits.cells, command) {
+            return Err(Refusal::NoCell);
+        }
         Ok(())
+    }
+}
+
+/// Whether a command needs a cell where none is free and there are as many as may be. O(1).
+#[inline(always)]
+fn lacks_cell(store: &Store, most: u64, command: &Command) -> bool
+    ensures { IsTrue result ↔ LacksCell most store.now (change_of command.now) }
+{
+    store.free_cells() == 0 && store.cells() as u64 >= most && takes_cell(store, command)
+}
+
+/// Whether a command needs a cell more: an insert, or an update of a row of the column. O(1).
+fn takes_cell(store: &Store, command: &Command) -> bool
+    ensures { IsTrue result ↔ TakesCell store.now (change_of command.now) }
+{
+    match command.change() {
+        Some(Change::Place { .. }) => true,
+        Some(Change::Rewrite { serial, .. }) => matches!(store.is_pending(serial), Some(false)),
+        _ => false,
     }
 }
 
@@ -571,6 +689,22 @@ fn lengthen(history: &mut Vec<Entry>) -> Result<(), Refusal>
     ensures err { IfErr result (λ e. e ≡ Refusal.OutOfMemory) }
 {
     history.reserve(history.len().max(FIRST_ENTRIES))?;
+    Ok(())
+}
+
+/// Empties a history, and gives back what it took but for the room of `KEPT_ENTRIES` entries, which are taken first.
+#[inline(never)]
+fn empty(history: &mut Vec<Entry>, alloc: Global) -> Result<(), Refusal>
+    ensures ok { OnOk result (history.new.items ≡ []) }
+    ensures same { OnErr result (history.new.items ≡ history.old.items) }
+    ensures err { IfErr result (λ e. e ≡ Refusal.OutOfMemory) }
+{
+    if history.capacity() > KEPT_ENTRIES {
+        let kept = Vec::with_capacity(alloc, KEPT_ENTRIES)?;
+        *history = kept;
+    } else {
+        history.clear();
+    }
     Ok(())
 }
 

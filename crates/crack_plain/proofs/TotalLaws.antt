@@ -22,6 +22,9 @@ inserted-cons e es = omega (arith, inserted-append (e ∷ []) es)
 pub deleted-cons : (e : Entry) (es : List Entry) → deleted (e ∷ es) ≡ (if is_gone e.reply then 1 else 0) + deleted es
 deleted-cons e es = omega (arith, deleted-append (e ∷ []) es)
 
+pub updated-cons : (e : Entry) (es : List Entry) → updated (e ∷ es) ≡ (if is_changed e.reply then 1 else 0) + updated es
+updated-cons e es = omega (arith, updated-append (e ∷ []) es)
+
 -- one more entry behind
 pub inserted-push : (es : List Entry) (e : Entry) → inserted (es ++ e ∷ []) ≡ inserted es + (if is_placed e.reply then 1 else 0)
 inserted-push es e = omega (arith, inserted-append es (e ∷ []))

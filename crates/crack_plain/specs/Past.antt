@@ -1,6 +1,7 @@
 -- What a partition lived through: the base that it begins at, and the commands that it answered since.
-use Rattle.std.specs.Prelude.{◌≡◌, ℕ, ◌+◌, ◌≤◌, List, [], ◌∷◌, ◌++◌, length}
-use Rattle.crack_row.specs.Ranges.{Range}
+use Rattle.std.specs.Prelude.{◌≡◌, ℕ, ◌+◌, ◌≤◌, List, [], ◌∷◌, ◌++◌, length, All}
+use Rattle.crack_row.specs.Ranges.{Range, IsIn}
+use Rattle.crack_row.specs.declared.Row.{Row}
 use Rattle.crack_row.specs.declared.command.Entry.{Entry}
 use Rattle.crack_row.specs.declared.limit.Limits.{Limits}
 use Rattle.crack_plain.specs.Plain.{PlainState, no_rows, IsNumbered, replay_from, AreReplies, BringWithin}
@@ -51,9 +52,24 @@ inserted_in past = past.base.placed + inserted past.tail
 abbrev pub deleted_in : Past → ℕ
 deleted_in past = past.base.gone + deleted past.tail
 
--- what a partition of these keys and limits may have lived through: the history's limit is the tail's
+-- the base that a past comes to: the plain rows that it left, and its totals
+abbrev pub base_after : Past → Base
+base_after past = record { state = state_after past; folded = accepted_in past; placed = inserted_in past; gone = deleted_in past }
+
+-- the past with its tail folded into its base
+abbrev pub folded : Past → Past
+folded past = record { base = base_after past; tail = [] }
+
+-- the key of each row is one of these
+abbrev pub StandWithin : Range → List Row → Type 0
+StandWithin keys rows = All (λ (row : Row). IsIn keys row.key.0) rows
+
+-- what a partition of these keys and limits may have lived through: the history's limit is the tail's, and the life's is that of base
+-- and tail
 pub record IsLegal (keys : Range) (limits : Limits) (past : Past) : Type 0 where
   pub base : IsBase past.base
+  pub stand : StandWithin keys past.base.state.rows
   pub replies : AreReplies past.base.state past.tail
   pub within : BringWithin keys past.tail
   pub limited : length past.tail ≤ limits.history
+  pub lived : accepted_in past ≤ limits.life

@@ -98,10 +98,19 @@ IsWithin keys command = IfSome (key_of command) (λ (key : Key). IsIn keys key.0
 abbrev pub BringWithin : Range → List Entry → Type 0
 BringWithin keys entries = All (λ (e : Entry). IsWithin keys e.command) entries
 
--- a plain table: its state, and how many commands it accepted
+-- a plain table: its state, how many commands it accepted up to its last checkpoint, and how many since
 pub record PlainView : Type 0 where
   pub state : PlainState
-  pub accepted : ℕ
+  pub folded : ℕ
+  pub since : ℕ
+
+-- how many commands it accepted
+abbrev pub accepted_of : PlainView → ℕ
+accepted_of table = table.folded + table.since
+
+-- the table after a checkpoint
+abbrev pub checkpointed : PlainView → PlainView
+checkpointed table = record { state = table.state; folded = accepted_of table; since = 0 }
 
 -- all keys
 abbrev pub all_keys : Range

@@ -2,7 +2,7 @@
 ghost use Rattle.std.specs.Prelude.{◌≡◌, ◌+◌, ◌<◌, ◌≤◌, ◌^◌, false, length, Err, IfOk, IfErr, IsOk, OnErr, OnOk};
 ghost use Rattle.crack_row.specs.Layouts.{IsLayout};
 ghost use Rattle.crack_row.specs.Replies.{IsFlat};
-ghost use Rattle.crack_plain.specs.Plain.{PlainState, no_rows, answer, reply_to, changed, places_row, all_keys, whole_layout, IsNumbered, IsSmall, TakesNoMemory};
+ghost use Rattle.crack_plain.specs.Plain.{PlainState, accepted_of, checkpointed, no_rows, answer, reply_to, changed, places_row, all_keys, whole_layout, IsNumbered, IsSmall, TakesNoMemory};
 
 use crate::MOST_ACCEPTED;
 use crate::list::{count_in, replace, row_in, rows_in, sum_in, take_out};
@@ -13,36 +13,39 @@ use crack_row::{
 use std::alloc::Global;
 use std::marker::Model;
 
-/// A slow table: a list of rows, and no more. Contracts see its plain state and how many commands it accepted.
+/// A slow table: a list of rows, and no more. Contracts see its plain state, how many commands it accepted up to its last
+/// checkpoint, and how many since.
 #[derive(Drop)]
 pub struct PlainTable {
     rows: Vec<Row>,
     next: u64,
-    accepted: u64,
+    folded: u64,
+    since: u64,
 }
 
 impl Model for PlainTable {
-    ghost use Rattle.std.specs.Prelude.{◌≤◌, length};
+    ghost use Rattle.std.specs.Prelude.{◌+◌, ◌≤◌, length};
     ghost use Rattle.crack_plain.specs.Plain.{PlainView, PlainState, IsNumbered};
     ghost use Rattle.crack_plain.specs.declared.TheConstants.{MOST_ACCEPTED};
 
     ghost Value = { PlainView };
 
-    ghost view = { λ t. record { state = record { rows = t.rows.items; next = t.next }; accepted = t.accepted } };
+    ghost view = { λ t. record { state = record { rows = t.rows.items; next = t.next }; folded = t.folded; since = t.since } };
 
-    ghost invariant = { λ t. (let state : PlainState = record { rows = t.rows.items; next = t.next } in IsNumbered state) × (length t.rows.items ≤ t.accepted) × (t.next ≤ t.accepted) × (t.accepted ≤ MOST_ACCEPTED) };
+    ghost invariant = { λ t. (let state : PlainState = record { rows = t.rows.items; next = t.next } in IsNumbered state) × (length t.rows.items ≤ t.folded + t.since) × (t.next ≤ t.folded + t.since) × (t.folded + t.since ≤ MOST_ACCEPTED) };
 }
 
 impl PlainTable {
     /// A table without rows. Takes no memory.
     pub fn new(alloc: Global) -> PlainTable
         ensures state { result.state ≡ no_rows }
-        ensures accepted { result.accepted ≡ 0 }
+        ensures accepted { (result.folded ≡ 0) × (result.since ≡ 0) }
     {
         PlainTable {
             rows: Vec::new(alloc),
             next: 0,
-            accepted: 0,
+            folded: 0,
+            since: 0,
         }
     }
 
@@ -50,17 +53,28 @@ impl PlainTable {
     pub fn rows(&self) -> &[Row]
         ensures value { result.now ≡ self.now.state.rows }
         ensures numbered { IsNumbered self.now.state }
-        ensures bounded { length self.now.state.rows ≤ self.now.accepted }
+        ensures bounded { length self.now.state.rows ≤ accepted_of self.now }
     {
         self.rows.as_slice()
     }
 
-    /// How many commands it accepted.
+    /// How many commands it accepted since it was made, whatever checkpoints came between.
     pub fn accepted(&self) -> u64
-        ensures value { result ≡ self.now.accepted }
-        ensures bounded { self.now.accepted ≤ 4294967295 }
+        ensures value { result ≡ accepted_of self.now }
+        ensures bounded { accepted_of self.now ≤ 4294967295 }
     {
-        self.accepted
+        self.folded + self.since
+    }
+
+    /// How many commands it accepted since its last checkpoint, which this one is from now on. O(1); no row changes.
+    pub fn checkpoint(&mut self) -> u64
+        ensures since { result ≡ self.old.since }
+        ensures folded { self.new ≡ checkpointed self.old }
+    {
+        let since = self.since;
+        self.folded += since;
+        self.since = 0;
+        since
     }
 
     /// What stands where, if the rows are taken as a column of one piece: O(1). Refused with 8 where it finds no memory.
@@ -93,20 +107,20 @@ impl PlainTable {
         ensures reply { IfOk result (λ reply. reply ≡ (answer self.old.state command.now).0) }
         ensures small { IfOk result IsSmall }
         ensures state { OnOk result (self.new.state ≡ (answer self.old.state command.now).1) }
-        ensures accepted { OnOk result (self.new.accepted ≡ self.old.accepted + 1) }
+        ensures accepted { OnOk result ((self.new.folded ≡ self.old.folded) × (self.new.since ≡ self.old.since + 1)) }
         ensures err { OnErr result (self.new ≡ self.old) }
-        ensures full { 4294967295 ≤ self.old.accepted → result ≡ Err (Refusal.HistoryFull 4294967295) }
-        ensures room { self.old.accepted < 4294967295 → IfErr result (λ e. e ≡ Refusal.OutOfMemory) }
-        ensures spare { TakesNoMemory self.old.state command.now → self.old.accepted < 4294967295 → IsOk result }
+        ensures full { 4294967295 ≤ accepted_of self.old → result ≡ Err (Refusal.HistoryFull 4294967295) }
+        ensures room { accepted_of self.old < 4294967295 → IfErr result (λ e. e ≡ Refusal.OutOfMemory) }
+        ensures spare { TakesNoMemory self.old.state command.now → accepted_of self.old < 4294967295 → IsOk result }
     {
-        if self.accepted == MOST_ACCEPTED {
+        if self.accepted() == MOST_ACCEPTED {
             return Err(Refusal::HistoryFull {
                 length: MOST_ACCEPTED,
             });
         }
         let reply = self.reply_to(command)?;
         change_rows(&mut self.rows, &mut self.next, command.change())?;
-        self.accepted += 1;
+        self.since += 1;
         Ok(reply)
     }
 

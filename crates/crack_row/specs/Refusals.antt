@@ -1,7 +1,7 @@
 -- The numbers of the refusals.
 use Rattle.std.specs.Prelude.{ℕ}
 use Rattle.crack_row.specs.declared.refusal.Refusal.{Refusal}
-use Rattle.crack_row.specs.declared.refusal.Refusal.TheVariants.{BadStatement, BadRange, KeyOutside, NoSuchPartition, HistoryFull, GateGaveUp, OutOfMemory, BadSplits, TooManyPartitions, BadWorkerCount, BadLimit, WorkersMissing, StrangeReceipt, ReadFault, WriteFault, BadRecord}
+use Rattle.crack_row.specs.declared.refusal.Refusal.TheVariants.{BadStatement, BadRange, KeyOutside, NoSuchPartition, HistoryFull, GateGaveUp, OutOfMemory, NoCell, LifeOver, BadSplits, TooManyPartitions, BadWorkerCount, BadLimit, WorkersMissing, StrangeReceipt, ReadFault, WriteFault, BadRecord}
 
 -- the number that a refusal goes by in texts and tables
 abbrev pub code_of : Refusal → ℕ
@@ -12,6 +12,8 @@ code_of NoSuchPartition = 5
 code_of (HistoryFull length) = 6
 code_of GateGaveUp = 7
 code_of OutOfMemory = 8
+code_of NoCell = 9
+code_of LifeOver = 10
 code_of BadSplits = 11
 code_of TooManyPartitions = 12
 code_of BadWorkerCount = 13

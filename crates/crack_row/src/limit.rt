@@ -1,8 +1,8 @@
 //! What bounds a partition.
-ghost use Rattle.std.specs.Prelude.{◌≡◌};
-ghost use Rattle.crack_row.specs.Limits.{of_history};
+ghost use Rattle.std.specs.Prelude.{◌≡◌, ◌↔◌, IsTrue};
+ghost use Rattle.crack_row.specs.Limits.{AreLimits, are_limits, is_limit, of_history};
 
-use crate::{GREATEST_CELLS, GREATEST_LIFE};
+use crate::{GREATEST_CELLS, GREATEST_LIFE, GREATEST_LIMIT};
 
 /// What bounds a partition: how many entries its history may have (1 to `GREATEST_LIMIT`), how many cells its rows may take (1 to
 /// `GREATEST_CELLS`), and how many commands it may accept in all (1 to `GREATEST_LIFE`).
@@ -24,4 +24,21 @@ impl Limits {
             life: GREATEST_LIFE,
         }
     }
+
+    /// Whether each limit is at least 1 and at most the greatest of its kind.
+    pub fn are_valid(self) -> bool
+        ensures value { result ≡ are_limits self }
+        ensures valid { IsTrue result ↔ AreLimits self }
+    {
+        is_limit(GREATEST_LIMIT, self.history)
+            && is_limit(GREATEST_CELLS, self.cells)
+            && is_limit(GREATEST_LIFE, self.life)
+    }
+}
+
+/// Whether a limit is at least 1 and at most this.
+fn is_limit(greatest: u64, limit: u64) -> bool
+    ensures { result ≡ is_limit greatest limit }
+{
+    1 <= limit && limit <= greatest
 }

@@ -30,6 +30,12 @@ pub enum Refusal {
     /// A growth was really refused.
     #[error("refused 8")]
     OutOfMemory,
+    /// No cell is free for a row, and there are as many cells as their limit.
+    #[error("refused 9")]
+    NoCell,
+    /// As many commands were accepted in all as their limit.
+    #[error("refused 10")]
+    LifeOver,
     /// The splits don't rise strictly, or one isn't 1 to `GREATEST_KEY`.
     #[error("refused 11")]
     BadSplits,
@@ -39,7 +45,7 @@ pub enum Refusal {
     /// The number of workers isn't 1 to the most that a table may have.
     #[error("refused 13")]
     BadWorkerCount,
-    /// The limit of a history isn't 1 to `GREATEST_LIMIT`.
+    /// A limit isn't 1 to the greatest of its kind.
     #[error("refused 14")]
     BadLimit,
     /// Workers of the table weren't handed to a gathering: one bit for each missing number.
@@ -87,6 +93,8 @@ impl Refusal {
             Refusal::HistoryFull { length: _ } => 6,
             Refusal::GateGaveUp => 7,
             Refusal::OutOfMemory => 8,
+            Refusal::NoCell => 9,
+            Refusal::LifeOver => 10,
             Refusal::BadSplits => 11,
             Refusal::TooManyPartitions => 12,
             Refusal::BadWorkerCount => 13,

@@ -3,7 +3,7 @@ ghost use Rattle.std.specs.Prelude.{◌<◌, vec_len};
 
 use crate::input::{divide, read_input};
 use crate::totals::totals_of;
-use crack_row::{Bound, Policy, Refusal, Watched};
+use crack_row::{Bound, Limits, Policy, Refusal, Watched};
 use crack_session::serve;
 use crack_table::{Gate, Table, Worker};
 use crack_worker_desk::WorkerDesk;
@@ -31,21 +31,21 @@ struct Crew {
 /// Answers the lines of an input over a table of its own. Each line that isn't blank is a number, one space and a statement for the worker of
 /// that number, counted around the workers; each worker serves its own lines as a session, at the same time as the others. Then `writer` gets
 /// the line `worker w` and what its session wrote for each worker, and last the totals.
-/// Refused, in this order: as `Table::open` is; with 17 where the reader fails or gives more than `MOST_INPUT_BYTES`; with 1 where a line has no
+/// Refused, in this order: as `Table::open_with` is; with 17 where the reader fails or gives more than `MOST_INPUT_BYTES`; with 1 where a line has no
 /// number; as the session of the least worker whose session is cut off; as `gather` is; with 18 where the writer fails. It is 8 wherever no
 /// memory is found for the batch's own buffers, or a thread can't be started. Nothing is written before the workers are gathered.
 pub fn run_batch<Rt: Threads + Wait + Sync, G: Gate + Sync, R: Read, W: Write>(
     rt: &Rt,
     alloc: Global,
     splits: &[Bound],
-    limit: u64,
+    limits: Limits,
     policy: Policy,
     workers: u64,
     gate: &G,
     reader: &mut R,
     writer: &mut W,
 ) -> Result<(), Refusal> {
-    let (table, workers) = Table::open(alloc, splits, limit, workers)?;
+    let (table, workers) = Table::open_with(alloc, splits, limits, workers)?;
     match serve_input(rt, alloc, &table, workers, policy, gate, reader) {
         Ok(crew) => report(alloc, table, crew, writer),
         Err(refusal) => Err(refusal),

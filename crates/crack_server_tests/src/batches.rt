@@ -1,6 +1,6 @@
 //! Batches over memory.
 use crack_failing::Meeting;
-use crack_row::{Bound, Policy, Refusal};
+use crack_row::{Bound, Limits, Policy, Refusal};
 use crack_server::run_batch;
 use crack_table::{Gate, OpenGate};
 use std::alloc::Global;
@@ -20,7 +20,7 @@ fn batch<H: Threads + Wait + Sync, G: Gate + Sync>(
         rt,
         alloc,
         &[Bound(100)],
-        10,
+        Limits::of_history(10),
         Policy::Ripple,
         2,
         gate,
@@ -37,6 +37,16 @@ fn lines_go_to_the_workers_of_their_numbers(rt: HostRuntime) {
     assert_eq!(rt; ended, Ok(()));
     let wanted =
         b"worker 0\nrow 0.0\nworker 1\nrow 1.0\ncount 1\naccepted 3 inserted 2 deleted 0 held 2\n";
+    assert_eq!(rt; output.as_slice(), wanted.as_slice());
+}
+
+#[test]
+fn a_checkpoint_leaves_the_totals_as_they_are(rt: HostRuntime) {
+    let input = b"0 insert 50 5\n0 checkpoint 0\n0 count 0 100\n1 insert 150 6\n";
+    let (ended, output) = batch(&rt, rt.alloc(), &OpenGate, input);
+    assert_eq!(rt; ended, Ok(()));
+    let wanted =
+        b"worker 0\nrow 0.0\nfolded 1\ncount 1\nworker 1\nrow 1.0\naccepted 3 inserted 2 deleted 0 held 2\n";
     assert_eq!(rt; output.as_slice(), wanted.as_slice());
 }
 

@@ -24,20 +24,21 @@ use Rattle.crack_session.specs.Telling.{Tells, marked}
 use Rattle.crack_session.specs.Sessions.{AreAnswers, first_short, ending}
 use Rattle.crack_session.specs.Served.{AreAnswered, AreTold, CountsStatements, IsServed, IsDone, IsCutOff}
 use Rattle.crack_session.proofs.Following.{next_some}
+use Rattle.crack_core.specs.Steps.{Bounds}
 
 -- one more statement and its answer
-AreAnswers-push : (limit : ℕ) (splits : List Bound) (tables : List PlainView) (rs : List Reading) (answers : List Answer) (new : List PlainView) (r : Reading) (a : Answer) (next : List PlainView) → AreAnswers limit splits tables rs answers new → IsAnswer limit splits new r a next → AreAnswers limit splits tables (rs ++ r ∷ []) (answers ++ a ∷ []) next
-AreAnswers-push limit splits tables [] [] new r a next are is = (next, rw are at is, refl)
-AreAnswers-push limit splits tables [] (b ∷ answers) new r a next are is = absurd are
-AreAnswers-push limit splits tables (q ∷ rs) [] new r a next are is = absurd are
-AreAnswers-push limit splits tables (q ∷ rs) (b ∷ answers) new r a next are is = (are.0, are.1, AreAnswers-push limit splits are.0 rs answers new r a next are.2 is)
+AreAnswers-push : (bounds : Bounds) (splits : List Bound) (tables : List PlainView) (rs : List Reading) (answers : List Answer) (new : List PlainView) (r : Reading) (a : Answer) (next : List PlainView) → AreAnswers bounds splits tables rs answers new → IsAnswer bounds splits new r a next → AreAnswers bounds splits tables (rs ++ r ∷ []) (answers ++ a ∷ []) next
+AreAnswers-push bounds splits tables [] [] new r a next are is = (next, rw are at is, refl)
+AreAnswers-push bounds splits tables [] (b ∷ answers) new r a next are is = absurd are
+AreAnswers-push bounds splits tables (q ∷ rs) [] new r a next are is = absurd are
+AreAnswers-push bounds splits tables (q ∷ rs) (b ∷ answers) new r a next are is = (are.0, are.1, AreAnswers-push bounds splits are.0 rs answers new r a next are.2 is)
 
 -- an answer for each statement
-length-are : (limit : ℕ) (splits : List Bound) (tables : List PlainView) (rs : List Reading) (answers : List Answer) (new : List PlainView) → AreAnswers limit splits tables rs answers new → length answers ≡ length rs
-length-are limit splits tables [] [] new are = refl
-length-are limit splits tables [] (b ∷ answers) new are = absurd are
-length-are limit splits tables (q ∷ rs) [] new are = absurd are
-length-are limit splits tables (q ∷ rs) (b ∷ answers) new are = omega (arith, length-are limit splits are.0 rs answers new are.2)
+length-are : (bounds : Bounds) (splits : List Bound) (tables : List PlainView) (rs : List Reading) (answers : List Answer) (new : List PlainView) → AreAnswers bounds splits tables rs answers new → length answers ≡ length rs
+length-are bounds splits tables [] [] new are = refl
+length-are bounds splits tables [] (b ∷ answers) new are = absurd are
+length-are bounds splits tables (q ∷ rs) [] new are = absurd are
+length-are bounds splits tables (q ∷ rs) (b ∷ answers) new are = omega (arith, length-are bounds splits are.0 rs answers new are.2)
 
 -- the first want of room, after one more answer
 marked-last : (short : Bool) → cond short (Some 1) None ≡ marked None 1 short
@@ -59,14 +60,14 @@ first_short-push (b ∷ answers) a n e =
     ∙ ap (λ m. marked (first_short (b ∷ answers)) m (is_short_answer a)) (let same : length answers + 1 + 1 ≡ n = omega (arith, e) in same)
 
 -- one more answered statement
-AreAnswered-push : {limit : ℕ} {splits : List Bound} {tables : List PlainView} {rs : List Reading} {texts : List (List ℕ)} {short : Option ℕ} {s : Option (List PlainView)} (r : Reading) (a : Answer) (next : List PlainView) (short' : Option ℕ) (s' : Option (List PlainView)) (was : AreAnswered limit splits tables rs texts short s) → IsAnswer limit splits was.new r a next → s' ≡ Some next → short' ≡ marked short (length rs + 1) (is_short_answer a) → AreAnswered limit splits tables (rs ++ r ∷ []) (texts ++ answer_text a ∷ []) short' s'
-AreAnswered-push {limit} {splits} {tables} {rs} {texts} {short} {s} r a next short' s' was is left first = record {
+AreAnswered-push : {bounds : Bounds} {splits : List Bound} {tables : List PlainView} {rs : List Reading} {texts : List (List ℕ)} {short : Option ℕ} {s : Option (List PlainView)} (r : Reading) (a : Answer) (next : List PlainView) (short' : Option ℕ) (s' : Option (List PlainView)) (was : AreAnswered bounds splits tables rs texts short s) → IsAnswer bounds splits was.new r a next → s' ≡ Some next → short' ≡ marked short (length rs + 1) (is_short_answer a) → AreAnswered bounds splits tables (rs ++ r ∷ []) (texts ++ answer_text a ∷ []) short' s'
+AreAnswered-push {bounds} {splits} {tables} {rs} {texts} {short} {s} r a next short' s' was is left first = record {
   answers = was.answers ++ a ∷ [];
   new = next;
-  are = AreAnswers-push limit splits tables rs was.answers was.new r a next was.are is;
+  are = AreAnswers-push bounds splits tables rs was.answers was.new r a next was.are is;
   texts_are = ap (λ z. z ++ answer_text a ∷ []) was.texts_are ∙ sym (map-append answer_text was.answers (a ∷ []));
   short_is = first ∙ ap (λ o. marked o (length rs + 1) (is_short_answer a)) was.short_is
-      ∙ sym (first_short-push was.answers a (length rs + 1) (ap (λ n. n + 1) (length-are limit splits tables rs was.answers was.new was.are)));
+      ∙ sym (first_short-push was.answers a (length rs + 1) (ap (λ n. n + 1) (length-are bounds splits tables rs was.answers was.new was.are)));
   left_is = left;
 }
 
@@ -91,15 +92,15 @@ kept_known (Some x) None o h e = absurd h
 kept_known (Some x) (Some y) o h e = ap Some h ∙ e
 
 -- Of all statements these are left. k are done: they are answered, and the texts of the answers are written.
-pub record Going (limit : ℕ) (splits : List Bound) (all left : List Reading) (k : ℕ) (short : Option ℕ) (how : How) (s0 s : Option (List PlainView)) (out0 out : Option (List ℕ)) : Type 0 where
+pub record Going (bounds : Bounds) (splits : List Bound) (all left : List Reading) (k : ℕ) (short : Option ℕ) (how : How) (s0 s : Option (List PlainView)) (out0 out : Option (List ℕ)) : Type 0 where
   pub done : List Reading
   pub split : all ≡ done ++ left
   pub count : length done ≡ k
   pub ends : ending done ≡ how
-  pub told : (x : List PlainView) (o : List ℕ) → s0 ≡ Some x → out0 ≡ Some o → AreTold limit splits x done o short s out
+  pub told : (x : List PlainView) (o : List ℕ) → s0 ≡ Some x → out0 ≡ Some o → AreTold bounds splits x done o short s out
 
-pub Going-start : (limit : ℕ) (splits : List Bound) (all : List Reading) (s : Option (List PlainView)) (out : Option (List ℕ)) → Going limit splits all all 0 None InputEnded s s out out
-Going-start limit splits all s out = record {
+pub Going-start : (bounds : Bounds) (splits : List Bound) (all : List Reading) (s : Option (List PlainView)) (out : Option (List ℕ)) → Going bounds splits all all 0 None InputEnded s s out out
+Going-start bounds splits all s out = record {
   done = [];
   split = refl;
   count = refl;
@@ -112,7 +113,7 @@ Going-start limit splits all s out = record {
 }
 
 -- the bytes are as they were
-pub Going-kept : {limit : ℕ} {splits : List Bound} {all left : List Reading} {k : ℕ} {short : Option ℕ} {how : How} {s0 s : Option (List PlainView)} {out0 : Option (List ℕ)} (out out' : Option (List ℕ)) → Going limit splits all left k short how s0 s out0 out → Keeps out out' → Going limit splits all left k short how s0 s out0 out'
+pub Going-kept : {bounds : Bounds} {splits : List Bound} {all left : List Reading} {k : ℕ} {short : Option ℕ} {how : How} {s0 s : Option (List PlainView)} {out0 : Option (List ℕ)} (out out' : Option (List ℕ)) → Going bounds splits all left k short how s0 s out0 out → Keeps out out' → Going bounds splits all left k short how s0 s out0 out'
 Going-kept out out' g h = record {
   done = g.done;
   split = g.split;
@@ -122,20 +123,20 @@ Going-kept out out' g h = record {
 }
 
 -- the same statements left
-pub Going-left : {limit : ℕ} {splits : List Bound} {all left : List Reading} {k : ℕ} {short : Option ℕ} {how : How} {s0 s : Option (List PlainView)} {out0 out : Option (List ℕ)} (left' : List Reading) → Going limit splits all left k short how s0 s out0 out → left ≡ left' → Going limit splits all left' k short how s0 s out0 out
+pub Going-left : {bounds : Bounds} {splits : List Bound} {all left : List Reading} {k : ℕ} {short : Option ℕ} {how : How} {s0 s : Option (List PlainView)} {out0 out : Option (List ℕ)} (left' : List Reading) → Going bounds splits all left k short how s0 s out0 out → left ≡ left' → Going bounds splits all left' k short how s0 s out0 out
 Going-left left' g e = record { done = g.done; split = g.split ∙ ap (λ z. g.done ++ z) e; count = g.count; ends = g.ends; told = g.told }
 
 -- what a statement is answered, and the partitions afterwards, where they are known
-abbrev pub Answered : ℕ → List Bound → Reading → Answer → Option (List PlainView) → Option (List PlainView) → Type 0
-Answered limit splits r a s s' = (tables : List PlainView) → s ≡ Some tables → (next : List PlainView) × IsAnswer limit splits tables r a next × (s' ≡ Some next)
+abbrev pub Answered : Bounds → List Bound → Reading → Answer → Option (List PlainView) → Option (List PlainView) → Type 0
+Answered bounds splits r a s s' = (tables : List PlainView) → s ≡ Some tables → (next : List PlainView) × IsAnswer bounds splits tables r a next × (s' ≡ Some next)
 
--- the desk's limit and splits stay
-pub Answered-desk : {limit limit' : ℕ} {splits splits' : List Bound} (r : Reading) (a : Answer) {s s' : Option (List PlainView)} → Answered limit splits r a s s' → limit ≡ limit' → splits ≡ splits' → Answered limit' splits' r a s s'
+-- the desk's bounds and splits stay
+pub Answered-desk : {bounds bounds' : Bounds} {splits splits' : List Bound} (r : Reading) (a : Answer) {s s' : Option (List PlainView)} → Answered bounds splits r a s s' → bounds ≡ bounds' → splits ≡ splits' → Answered bounds' splits' r a s s'
 Answered-desk r a answered e f = rw (← e, ← f) answered
 
 -- one more statement
-pub Going-more : {W : Type 0} (contents : W → Option (List ℕ)) {limit : ℕ} {splits : List Bound} {all left : List Reading} {s0 s : Option (List PlainView)} {out0 : Option (List ℕ)} (r : Reading) (a : Answer) (old new : Progress) (s' : Option (List PlainView)) (w w' : Watched W) → Going limit splits all (r ∷ left) old.statements old.first_short InputEnded s0 s out0 (contents (device w)) → Answered limit splits r a s s' → Tells contents a old new (Ok tt) w w' → Going limit splits all left new.statements new.first_short (cond (is_quit r) Quit InputEnded) s0 s' out0 (contents (device w'))
-Going-more contents {limit} {splits} {all} {left} {s0} {s} {out0} r a old new s' w w' g answered tells = record {
+pub Going-more : {W : Type 0} (contents : W → Option (List ℕ)) {bounds : Bounds} {splits : List Bound} {all left : List Reading} {s0 s : Option (List PlainView)} {out0 : Option (List ℕ)} (r : Reading) (a : Answer) (old new : Progress) (s' : Option (List PlainView)) (w w' : Watched W) → Going bounds splits all (r ∷ left) old.statements old.first_short InputEnded s0 s out0 (contents (device w)) → Answered bounds splits r a s s' → Tells contents a old new (Ok tt) w w' → Going bounds splits all left new.statements new.first_short (cond (is_quit r) Quit InputEnded) s0 s' out0 (contents (device w'))
+Going-more contents {bounds} {splits} {all} {left} {s0} {s} {out0} r a old new s' w w' g answered tells = record {
   done = g.done ++ r ∷ [];
   split = g.split ∙ sym (append_assoc g.done (r ∷ []) left);
   count = let l = length-append g.done (r ∷ []) in let c = g.count in let n = tells.count in omega (arith, l, c, n);
@@ -153,37 +154,37 @@ Going-more contents {limit} {splits} {all} {left} {s0} {s} {out0} r a old new s'
 }
 
 -- a session that ended
-pub Going-counted : (bytes : List ℕ) (end : End) {limit : ℕ} {splits : List Bound} {k : ℕ} {short : Option ℕ} {how : How} {s0 s : Option (List PlainView)} {out0 out : Option (List ℕ)} → Going limit splits (statements bytes) [] k short how s0 s out0 out → end.statements ≡ k → end.how ≡ how → CountsStatements bytes end
+pub Going-counted : (bytes : List ℕ) (end : End) {bounds : Bounds} {splits : List Bound} {k : ℕ} {short : Option ℕ} {how : How} {s0 s : Option (List PlainView)} {out0 out : Option (List ℕ)} → Going bounds splits (statements bytes) [] k short how s0 s out0 out → end.statements ≡ k → end.how ≡ how → CountsStatements bytes end
 Going-counted bytes end g e f =
     let all : statements bytes ≡ g.done = g.split ∙ append-nil g.done in
     record { statements_are = e ∙ sym g.count ∙ ap length (sym all); how_is = f ∙ sym g.ends ∙ ap ending (sym all) }
 
-pub Going-served : (bytes o : List ℕ) (x : List PlainView) (end : End) {limit : ℕ} {splits : List Bound} {k : ℕ} {short : Option ℕ} {how : How} {s0 s : Option (List PlainView)} {out0 out : Option (List ℕ)} → Going limit splits (statements bytes) [] k short how s0 s out0 out → end.first_short ≡ short → s0 ≡ Some x → out0 ≡ Some o → IsServed limit splits x bytes o end s out
-Going-served bytes o x end {limit} {splits} {k} {short} {how} {s0} {s} {out0} {out} g fs e f =
+pub Going-served : (bytes o : List ℕ) (x : List PlainView) (end : End) {bounds : Bounds} {splits : List Bound} {k : ℕ} {short : Option ℕ} {how : How} {s0 s : Option (List PlainView)} {out0 out : Option (List ℕ)} → Going bounds splits (statements bytes) [] k short how s0 s out0 out → end.first_short ≡ short → s0 ≡ Some x → out0 ≡ Some o → IsServed bounds splits x bytes o end s out
+Going-served bytes o x end {bounds} {splits} {k} {short} {how} {s0} {s} {out0} {out} g fs e f =
     rw (g.split ∙ append-nil g.done, fs) (g.told x o e f)
 
 -- the first statements are those that are done
 done_first : (all done left : List Reading) (n : ℕ) → all ≡ done ++ left → length done ≡ n → take n all ≡ done
 done_first all done left n split count = ap (take n) split ∙ take_at done left n count
 
-pub Going-within : {limit : ℕ} {splits : List Bound} {all left : List Reading} {k : ℕ} {short : Option ℕ} {how : How} {s0 s : Option (List PlainView)} {out0 out : Option (List ℕ)} → Going limit splits all left k short how s0 s out0 out → k + length left ≡ length all
-Going-within {limit} {splits} {all} {left} g = let l = ap length g.split in let l2 = length-append g.done left in let c = g.count in omega (arith, l, l2, c)
+pub Going-within : {bounds : Bounds} {splits : List Bound} {all left : List Reading} {k : ℕ} {short : Option ℕ} {how : How} {s0 s : Option (List PlainView)} {out0 out : Option (List ℕ)} → Going bounds splits all left k short how s0 s out0 out → k + length left ≡ length all
+Going-within {bounds} {splits} {all} {left} g = let l = ap length g.split in let l2 = length-append g.done left in let c = g.count in omega (arith, l, l2, c)
 
 -- a session that the writer cut off
-pub Going-done : (bytes : List ℕ) (fault : Fault) (remaining : Option (List ℕ)) {limit : ℕ} {splits : List Bound} {left : List Reading} {k : ℕ} {short : Option ℕ} {how : How} {s0 s : Option (List PlainView)} {out0 out : Option (List ℕ)} → Going limit splits (statements bytes) left k short how s0 s out0 out → fault.done ≡ k → fault.refusal ≡ WriteFault → IsDone bytes fault remaining
+pub Going-done : (bytes : List ℕ) (fault : Fault) (remaining : Option (List ℕ)) {bounds : Bounds} {splits : List Bound} {left : List Reading} {k : ℕ} {short : Option ℕ} {how : How} {s0 s : Option (List PlainView)} {out0 out : Option (List ℕ)} → Going bounds splits (statements bytes) left k short how s0 s out0 out → fault.done ≡ k → fault.refusal ≡ WriteFault → IsDone bytes fault remaining
 Going-done bytes fault remaining g d w = record {
   within = let all = Going-within g in omega (arith, all, d);
   whole = λ is. absurd (let both : ◌≡◌ {A = Refusal} WriteFault ReadFault = sym w ∙ is in cc);
 }
 
 -- a session that was cut off between two answers
-pub Going-cut : (bytes o : List ℕ) (x : List PlainView) (fault : Fault) {limit : ℕ} {splits : List Bound} {left : List Reading} {k : ℕ} {short : Option ℕ} {how : How} {s0 s : Option (List PlainView)} {out0 out : Option (List ℕ)} → Going limit splits (statements bytes) left k short how s0 s out0 out → fault.done ≡ k → fault.first_short ≡ short → s0 ≡ Some x → out0 ≡ Some o → IsCutOff limit splits x bytes o fault s out
-Going-cut bytes o x fault {limit} {splits} {left} {k} {short} {how} {s0} {s} {out0} {out} g d fs e f =
+pub Going-cut : (bytes o : List ℕ) (x : List PlainView) (fault : Fault) {bounds : Bounds} {splits : List Bound} {left : List Reading} {k : ℕ} {short : Option ℕ} {how : How} {s0 s : Option (List PlainView)} {out0 out : Option (List ℕ)} → Going bounds splits (statements bytes) left k short how s0 s out0 out → fault.done ≡ k → fault.first_short ≡ short → s0 ≡ Some x → out0 ≡ Some o → IsCutOff bounds splits x bytes o fault s out
+Going-cut bytes o x fault {bounds} {splits} {left} {k} {short} {how} {s0} {s} {out0} {out} g d fs e f =
     inl (rw (done_first (statements bytes) g.done left fault.done g.split (g.count ∙ sym d), fs) (g.told x o e f))
 
 -- and within one
-pub Going-cut_in : {W : Type 0} (contents : W → Option (List ℕ)) (bytes o : List ℕ) (x : List PlainView) (fault : Fault) {limit : ℕ} {splits : List Bound} {left : List Reading} {s0 s : Option (List PlainView)} {out0 : Option (List ℕ)} (r : Reading) (a : Answer) (old new : Progress) (problem : Refusal) (s' : Option (List PlainView)) (w w' : Watched W) → Going limit splits (statements bytes) (r ∷ left) old.statements old.first_short InputEnded s0 s out0 (contents (device w)) → Answered limit splits r a s s' → Tells contents a old new (Err problem) w w' → fault.done ≡ new.statements → fault.first_short ≡ new.first_short → fault.refusal ≡ problem → s0 ≡ Some x → out0 ≡ Some o → IsCutOff limit splits x bytes o fault s' (contents (device w'))
-Going-cut_in contents bytes o x fault {limit} {splits} {left} {s0} {s} {out0} r a old new problem s' w w' g answered tells done fs same e f =
+pub Going-cut_in : {W : Type 0} (contents : W → Option (List ℕ)) (bytes o : List ℕ) (x : List PlainView) (fault : Fault) {bounds : Bounds} {splits : List Bound} {left : List Reading} {s0 s : Option (List PlainView)} {out0 : Option (List ℕ)} (r : Reading) (a : Answer) (old new : Progress) (problem : Refusal) (s' : Option (List PlainView)) (w w' : Watched W) → Going bounds splits (statements bytes) (r ∷ left) old.statements old.first_short InputEnded s0 s out0 (contents (device w)) → Answered bounds splits r a s s' → Tells contents a old new (Err problem) w w' → fault.done ≡ new.statements → fault.first_short ≡ new.first_short → fault.refusal ≡ problem → s0 ≡ Some x → out0 ≡ Some o → IsCutOff bounds splits x bytes o fault s' (contents (device w'))
+Going-cut_in contents bytes o x fault {bounds} {splits} {left} {s0} {s} {out0} r a old new problem s' w w' g answered tells done fs same e f =
     let was = g.told x o e f in
     let now = answered was.answered.new was.answered.left_is in
     let text = answer_text a in
@@ -203,16 +204,16 @@ Going-cut_in contents bytes o x fault {limit} {splits} {left} {s0} {s} {out0} r 
     })
 
 -- a session goes on behind a statement, or ends at a quit
-pub Going-on : {limit : ℕ} {splits : List Bound} {all : List Reading} (rest : List Reading) {k : ℕ} {short : Option ℕ} {s0 s : Option (List PlainView)} {out0 out : Option (List ℕ)} (q : Bool) → Going limit splits all (cond q [] rest) k short (cond q Quit InputEnded) s0 s out0 out → q ≡ false → Going limit splits all rest k short InputEnded s0 s out0 out
-Going-on {limit} {splits} {all} rest {k} {short} {s0} {s} {out0} {out} q g e = subst (λ (b : Bool). Going limit splits all (cond b [] rest) k short (cond b Quit InputEnded) s0 s out0 out) e g
+pub Going-on : {bounds : Bounds} {splits : List Bound} {all : List Reading} (rest : List Reading) {k : ℕ} {short : Option ℕ} {s0 s : Option (List PlainView)} {out0 out : Option (List ℕ)} (q : Bool) → Going bounds splits all (cond q [] rest) k short (cond q Quit InputEnded) s0 s out0 out → q ≡ false → Going bounds splits all rest k short InputEnded s0 s out0 out
+Going-on {bounds} {splits} {all} rest {k} {short} {s0} {s} {out0} {out} q g e = subst (λ (b : Bool). Going bounds splits all (cond b [] rest) k short (cond b Quit InputEnded) s0 s out0 out) e g
 
-pub Going-quit : {limit : ℕ} {splits : List Bound} {all : List Reading} (rest : List Reading) {k : ℕ} {short : Option ℕ} {s0 s : Option (List PlainView)} {out0 out : Option (List ℕ)} (q : Bool) → Going limit splits all (cond q [] rest) k short (cond q Quit InputEnded) s0 s out0 out → q ≡ true → Going limit splits all [] k short Quit s0 s out0 out
-Going-quit {limit} {splits} {all} rest {k} {short} {s0} {s} {out0} {out} q g e = subst (λ (b : Bool). Going limit splits all (cond b [] rest) k short (cond b Quit InputEnded) s0 s out0 out) e g
+pub Going-quit : {bounds : Bounds} {splits : List Bound} {all : List Reading} (rest : List Reading) {k : ℕ} {short : Option ℕ} {s0 s : Option (List PlainView)} {out0 out : Option (List ℕ)} (q : Bool) → Going bounds splits all (cond q [] rest) k short (cond q Quit InputEnded) s0 s out0 out → q ≡ true → Going bounds splits all [] k short Quit s0 s out0 out
+Going-quit {bounds} {splits} {all} rest {k} {short} {s0} {s} {out0} {out} q g e = subst (λ (b : Bool). Going bounds splits all (cond b [] rest) k short (cond b Quit InputEnded) s0 s out0 out) e g
 
 -- the next line is a statement
-pub Going-line : {limit : ℕ} {splits : List Bound} {all : List Reading} {k : ℕ} {short : Option ℕ} {how : How} {s0 s : Option (List PlainView)} {out0 : Option (List ℕ)} (out out' : Option (List ℕ)) (u line : List ℕ) (r : Reading) → Going limit splits all (statements u) k short how s0 s out0 out → Keeps out out' → 0 < length u → kept_of line ≡ kept_of (first_line u) → reading_of line ≡ Some r → Going limit splits all (r ∷ cond (is_quit r) [] (statements (after_line u))) k short how s0 s out0 out'
+pub Going-line : {bounds : Bounds} {splits : List Bound} {all : List Reading} {k : ℕ} {short : Option ℕ} {how : How} {s0 s : Option (List PlainView)} {out0 : Option (List ℕ)} (out out' : Option (List ℕ)) (u line : List ℕ) (r : Reading) → Going bounds splits all (statements u) k short how s0 s out0 out → Keeps out out' → 0 < length u → kept_of line ≡ kept_of (first_line u) → reading_of line ≡ Some r → Going bounds splits all (r ∷ cond (is_quit r) [] (statements (after_line u))) k short how s0 s out0 out'
 Going-line out out' u line r g h some kept said = Going-left _ (Going-kept out out' g h) (next_some u line r some kept said)
 
 -- the next line is a statement, and is answered
-pub Going-answered : {W : Type 0} (contents : W → Option (List ℕ)) {limit : ℕ} {splits : List Bound} {all : List Reading} {s0 s : Option (List PlainView)} {out0 out : Option (List ℕ)} (u line : List ℕ) (r : Reading) (a : Answer) (old new : Progress) (s' : Option (List PlainView)) (w w' : Watched W) → Going limit splits all (statements u) old.statements old.first_short InputEnded s0 s out0 out → Keeps out (contents (device w)) → 0 < length u → kept_of line ≡ kept_of (first_line u) → reading_of line ≡ Some r → Answered limit splits r a s s' → Tells contents a old new (Ok tt) w w' → Going limit splits all (cond (is_quit r) [] (statements (after_line u))) new.statements new.first_short (cond (is_quit r) Quit InputEnded) s0 s' out0 (contents (device w'))
-Going-answered contents {limit} {splits} {all} {s0} {s} {out0} {out} u line r a old new s' w w' g h some kept said answered tells = Going-more contents r a old new s' w w' (Going-line out (contents (device w)) u line r g h some kept said) answered tells
+pub Going-answered : {W : Type 0} (contents : W → Option (List ℕ)) {bounds : Bounds} {splits : List Bound} {all : List Reading} {s0 s : Option (List PlainView)} {out0 out : Option (List ℕ)} (u line : List ℕ) (r : Reading) (a : Answer) (old new : Progress) (s' : Option (List PlainView)) (w w' : Watched W) → Going bounds splits all (statements u) old.statements old.first_short InputEnded s0 s out0 out → Keeps out (contents (device w)) → 0 < length u → kept_of line ≡ kept_of (first_line u) → reading_of line ≡ Some r → Answered bounds splits r a s s' → Tells contents a old new (Ok tt) w w' → Going bounds splits all (cond (is_quit r) [] (statements (after_line u))) new.statements new.first_short (cond (is_quit r) Quit InputEnded) s0 s' out0 (contents (device w'))
+Going-answered contents {bounds} {splits} {all} {s0} {s} {out0} {out} u line r a old new s' w w' g h some kept said answered tells = Going-more contents r a old new s' w w' (Going-line out (contents (device w)) u line r g h some kept said) answered tells

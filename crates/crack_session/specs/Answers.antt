@@ -8,20 +8,20 @@ use Rattle.crack_row.specs.declared.command.Command.TheVariants.{Insert as AskIn
 use Rattle.crack_row.specs.declared.command.Reply.{Reply}
 use Rattle.crack_row.specs.declared.layout.Layout.{Layout as PartLayout}
 use Rattle.crack_row.specs.declared.refusal.Refusal.{Refusal}
-use Rattle.crack_row.specs.declared.refusal.Refusal.TheVariants.{HistoryFull, OutOfMemory}
+use Rattle.crack_row.specs.declared.refusal.Refusal.TheVariants.{HistoryFull, OutOfMemory, NoCell, LifeOver}
 use Rattle.crack_plain.specs.Plain.{PlainView}
 use Rattle.crack_commands.specs.Grammar.{Reading}
-use Rattle.crack_commands.specs.Texts.{reply_text, head_text, row_text, count_text, sum_text, layout_text, policy_text, refusal_text}
+use Rattle.crack_commands.specs.Texts.{reply_text, head_text, row_text, count_text, sum_text, layout_text, folded_text, policy_text, refusal_text}
 use Rattle.crack_commands.specs.declared.statement.Statement.{Statement}
-use Rattle.crack_commands.specs.declared.statement.Statement.TheVariants.{Insert, Delete, Update, Count, Sum, Select, Layout, Policy, Quit}
+use Rattle.crack_commands.specs.declared.statement.Statement.TheVariants.{Insert, Delete, Update, Count, Sum, Select, Layout, Checkpoint, Policy, Quit}
 use Rattle.crack_session.specs.declared.answer.Answer.{Answer}
-use Rattle.crack_session.specs.declared.answer.Answer.TheVariants.{Replied, Counted, Summed, Listed, Laid, Set, Refused, Bye}
+use Rattle.crack_session.specs.declared.answer.Answer.TheVariants.{Replied, Counted, Summed, Listed, Laid, Folded, Set, Refused, Bye}
 use Rattle.crack_session.specs.declared.query.PartReply.{PartReply}
 use Rattle.crack_session.specs.declared.query.Query.{Query}
 use Rattle.crack_session.specs.declared.query.Query.TheVariants.{Count as AsksCount, Sum as AsksSum, Select as AsksSelect}
 use Rattle.crack_session.specs.Queries.{asking, joined, listed}
 use Rattle.crack_core.specs.Routes.{keys_of_part, route, parts_of}
-use Rattle.crack_core.specs.Steps.{expected_at, IsOutcome, IsLayoutOutcome, tables_after}
+use Rattle.crack_core.specs.Steps.{Bounds, IsOutcomeAt, IsLayoutOutcome, IsFoldOutcome, tables_after, tables_folded}
 
 -- what is answered where something comes out, or why nothing did
 abbrev pub told : {X : Type 0} → (X → Answer) → Result X Refusal → Answer
@@ -29,37 +29,37 @@ told answer (Ok x) = answer x
 told answer (Err e) = Refused e
 
 -- One partition is asked: the answer is what comes out of it, and the partitions are new afterwards.
-pub record IsAsked (limit : ℕ) (splits : List Bound) (tables : List PlainView) (part : ℕ) (command : Command) (answer : Answer) (new : List PlainView) : Type 0 where
+pub record IsAsked (bounds : Bounds) (splits : List Bound) (tables : List PlainView) (part : ℕ) (command : Command) (answer : Answer) (new : List PlainView) : Type 0 where
   pub outcome : Result Reply Refusal
-  pub comes_out : IsOutcome (expected_at limit splits tables part command) outcome
+  pub comes_out : IsOutcomeAt bounds splits tables part command outcome
   pub answer_is : answer ≡ told (Replied part) outcome
   pub new_is : new ≡ tables_after tables part command outcome
 
 -- Several partitions are asked in turn, each for its part of a range: their replies, or the first refusal, and the partitions afterwards.
-pub data AsksInTurn (limit : ℕ) (splits : List Bound) (query : Query) (tables : List PlainView) : List (ℕ × Range) → Result (List PartReply) Refusal → List PlainView → Type 0 where
+pub data AsksInTurn (bounds : Bounds) (splits : List Bound) (query : Query) (tables : List PlainView) : List (ℕ × Range) → Result (List PartReply) Refusal → List PlainView → Type 0 where
   -- none is asked yet
-  begins : AsksInTurn limit splits query tables [] (Ok []) tables
+  begins : AsksInTurn bounds splits query tables [] (Ok []) tables
   -- behind those that replied, the next one replies
   replies : (parts : List (ℕ × Range)) (part : ℕ × Range) (said : List PartReply) (reply : Reply) (between : List PlainView)
-      → AsksInTurn limit splits query tables parts (Ok said) between
-      → IsOutcome (expected_at limit splits between part.0 (asking query part.1)) (Ok reply)
-      → AsksInTurn limit splits query tables (parts ++ part ∷ []) (Ok (said ++ record { part = part.0; reply = reply } ∷ [])) (tables_after between part.0 (asking query part.1) (Ok reply))
+      → AsksInTurn bounds splits query tables parts (Ok said) between
+      → IsOutcomeAt bounds splits between part.0 (asking query part.1) (Ok reply)
+      → AsksInTurn bounds splits query tables (parts ++ part ∷ []) (Ok (said ++ record { part = part.0; reply = reply } ∷ [])) (tables_after between part.0 (asking query part.1) (Ok reply))
   -- behind those that replied, the next one refuses, and those behind it aren't asked
   refuses : (parts : List (ℕ × Range)) (part : ℕ × Range) (behind : List (ℕ × Range)) (said : List PartReply) (e : Refusal) (between : List PlainView)
-      → AsksInTurn limit splits query tables parts (Ok said) between
-      → IsOutcome (expected_at limit splits between part.0 (asking query part.1)) (Err e)
-      → AsksInTurn limit splits query tables (parts ++ part ∷ behind) (Err e) between
+      → AsksInTurn bounds splits query tables parts (Ok said) between
+      → IsOutcomeAt bounds splits between part.0 (asking query part.1) (Err e)
+      → AsksInTurn bounds splits query tables (parts ++ part ∷ behind) (Err e) between
 
 -- Several partitions are asked in turn, and what they reply is joined.
-pub record IsJoined (limit : ℕ) (splits : List Bound) (tables : List PlainView) (query : Query) (parts : List (ℕ × Range)) (answer : Answer) (new : List PlainView) : Type 0 where
+pub record IsJoined (bounds : Bounds) (splits : List Bound) (tables : List PlainView) (query : Query) (parts : List (ℕ × Range)) (answer : Answer) (new : List PlainView) : Type 0 where
   pub outcome : Result (List PartReply) Refusal
-  pub asked : AsksInTurn limit splits query tables parts outcome new
+  pub asked : AsksInTurn bounds splits query tables parts outcome new
   pub answer_is : answer ≡ told (joined query) outcome
 
 -- These parts of a range are asked: one alone as by any command; several in turn, or none of them, where no memory is found for their replies.
-abbrev pub AsksParts : ℕ → List Bound → List PlainView → Query → List (ℕ × Range) → Answer → List PlainView → Type 0
-AsksParts limit splits tables query (part ∷ []) answer new = IsAsked limit splits tables part.0 (asking query part.1) answer new
-AsksParts limit splits tables query parts answer new = IsJoined limit splits tables query parts answer new ⊎ ((answer ≡ Refused OutOfMemory) × (new ≡ tables))
+abbrev pub AsksParts : Bounds → List Bound → List PlainView → Query → List (ℕ × Range) → Answer → List PlainView → Type 0
+AsksParts bounds splits tables query (part ∷ []) answer new = IsAsked bounds splits tables part.0 (asking query part.1) answer new
+AsksParts bounds splits tables query parts answer new = IsJoined bounds splits tables query parts answer new ⊎ ((answer ≡ Refused OutOfMemory) × (new ≡ tables))
 
 -- One partition is laid out: the answer is any layout that it may have.
 pub record IsLaidOut (splits : List Bound) (tables : List PlainView) (part : ℕ) (answer : Answer) : Type 0 where
@@ -67,28 +67,38 @@ pub record IsLaidOut (splits : List Bound) (tables : List PlainView) (part : ℕ
   pub comes_out : IsLayoutOutcome (keys_of_part splits part) (slice_get tables part) outcome
   pub answer_is : answer ≡ told (Laid part) outcome
 
+-- One partition is folded: the answer tells how many commands it accepted since its last checkpoint, and the partitions are new afterwards.
+pub record IsFolded (tables : List PlainView) (part : ℕ) (answer : Answer) (new : List PlainView) : Type 0 where
+  pub outcome : Result ℕ Refusal
+  pub comes_out : IsFoldOutcome (slice_get tables part) outcome
+  pub answer_is : answer ≡ told Folded outcome
+  pub new_is : new ≡ tables_folded tables part outcome
+
 -- an answer to a statement, and the partitions afterwards: the partition that holds a row's key or that its number names is asked, and for
 -- a range those that hold a part of it
-abbrev pub IsAnswerTo : ℕ → List Bound → List PlainView → Statement → Answer → List PlainView → Type 0
-IsAnswerTo limit splits tables (Insert key payload) answer new = IsAsked limit splits tables (route splits key.0) (AskInsert key payload) answer new
-IsAnswerTo limit splits tables (Delete row) answer new = IsAsked limit splits tables row.part (AskDelete row.serial) answer new
-IsAnswerTo limit splits tables (Update row key payload) answer new = IsAsked limit splits tables row.part (AskUpdate row.serial key payload) answer new
-IsAnswerTo limit splits tables (Count range) answer new = AsksParts limit splits tables AsksCount (parts_of splits range) answer new
-IsAnswerTo limit splits tables (Sum range) answer new = AsksParts limit splits tables AsksSum (parts_of splits range) answer new
-IsAnswerTo limit splits tables (Select range) answer new = AsksParts limit splits tables AsksSelect (parts_of splits range) answer new
-IsAnswerTo limit splits tables (Layout part) answer new = IsLaidOut splits tables part answer × (new ≡ tables)
-IsAnswerTo limit splits tables (Policy policy) answer new = (answer ≡ Set policy) × (new ≡ tables)
-IsAnswerTo limit splits tables Quit answer new = (answer ≡ Bye) × (new ≡ tables)
+abbrev pub IsAnswerTo : Bounds → List Bound → List PlainView → Statement → Answer → List PlainView → Type 0
+IsAnswerTo bounds splits tables (Insert key payload) answer new = IsAsked bounds splits tables (route splits key.0) (AskInsert key payload) answer new
+IsAnswerTo bounds splits tables (Delete row) answer new = IsAsked bounds splits tables row.part (AskDelete row.serial) answer new
+IsAnswerTo bounds splits tables (Update row key payload) answer new = IsAsked bounds splits tables row.part (AskUpdate row.serial key payload) answer new
+IsAnswerTo bounds splits tables (Count range) answer new = AsksParts bounds splits tables AsksCount (parts_of splits range) answer new
+IsAnswerTo bounds splits tables (Sum range) answer new = AsksParts bounds splits tables AsksSum (parts_of splits range) answer new
+IsAnswerTo bounds splits tables (Select range) answer new = AsksParts bounds splits tables AsksSelect (parts_of splits range) answer new
+IsAnswerTo bounds splits tables (Layout part) answer new = IsLaidOut splits tables part answer × (new ≡ tables)
+IsAnswerTo bounds splits tables (Checkpoint part) answer new = IsFolded tables part answer new
+IsAnswerTo bounds splits tables (Policy policy) answer new = (answer ≡ Set policy) × (new ≡ tables)
+IsAnswerTo bounds splits tables Quit answer new = (answer ≡ Bye) × (new ≡ tables)
 
 -- an answer to what a line is read as, and the partitions afterwards
-abbrev pub IsAnswer : ℕ → List Bound → List PlainView → Reading → Answer → List PlainView → Type 0
-IsAnswer limit splits tables (Err e) answer new = (answer ≡ Refused e) × (new ≡ tables)
-IsAnswer limit splits tables (Ok statement) answer new = IsAnswerTo limit splits tables statement answer new
+abbrev pub IsAnswer : Bounds → List Bound → List PlainView → Reading → Answer → List PlainView → Type 0
+IsAnswer bounds splits tables (Err e) answer new = (answer ≡ Refused e) × (new ≡ tables)
+IsAnswer bounds splits tables (Ok statement) answer new = IsAnswerTo bounds splits tables statement answer new
 
--- a refusal for want of room: the history is full, or no memory was found
+-- a refusal for want of room: the history is full, or no memory or no cell was found, or as many commands were accepted as may be in all
 abbrev pub is_short : Refusal → Bool
 is_short (HistoryFull entries) = true
 is_short OutOfMemory = true
+is_short NoCell = true
+is_short LifeOver = true
 is_short _ = false
 
 -- whether it is a refusal for want of room
@@ -103,6 +113,7 @@ answer_text (Counted total) = count_text total
 answer_text (Summed total) = sum_text total
 answer_text (Listed total lists) = head_text total ++ flat_map (λ (r : PartReply). flat_map (row_text r.part) (listed r.reply)) lists
 answer_text (Laid part layout) = layout_text part layout
+answer_text (Folded count) = folded_text count
 answer_text (Set policy) = policy_text policy
 answer_text (Refused e) = refusal_text e
 answer_text Bye = codes "bye\n"

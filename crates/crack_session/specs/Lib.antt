@@ -1,6 +1,7 @@
 pub mod Answers
 pub mod Input
 pub mod Lines
+pub mod Plains
 pub mod Queries
 pub mod Readings
 pub mod Served

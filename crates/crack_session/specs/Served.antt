@@ -11,20 +11,21 @@ use Rattle.crack_commands.specs.Grammar.{Reading}
 use Rattle.crack_session.specs.Readings.{statements}
 use Rattle.crack_session.specs.Answers.{answer_text}
 use Rattle.crack_session.specs.Sessions.{AreAnswers, first_short, ending, whole_lines}
+use Rattle.crack_core.specs.Steps.{Bounds}
 
 -- These statements are answered in order: the texts of the answers, the first want of room, and the partitions afterwards.
-pub record AreAnswered (limit : ℕ) (splits : List Bound) (tables : List PlainView) (readings : List Reading) (texts : List (List ℕ)) (short : Option ℕ) (left : Option (List PlainView)) : Type 0 where
+pub record AreAnswered (bounds : Bounds) (splits : List Bound) (tables : List PlainView) (readings : List Reading) (texts : List (List ℕ)) (short : Option ℕ) (left : Option (List PlainView)) : Type 0 where
   pub answers : List Answer
   pub new : List PlainView
-  pub are : AreAnswers limit splits tables readings answers new
+  pub are : AreAnswers bounds splits tables readings answers new
   pub texts_are : texts ≡ map answer_text answers
   pub short_is : short ≡ first_short answers
   pub left_is : left ≡ Some new
 
 -- These statements are answered in order, and the texts of the answers are written, each of them whole.
-pub record AreTold (limit : ℕ) (splits : List Bound) (tables : List PlainView) (readings : List Reading) (out : List ℕ) (short : Option ℕ) (left : Option (List PlainView)) (written : Option (List ℕ)) : Type 0 where
+pub record AreTold (bounds : Bounds) (splits : List Bound) (tables : List PlainView) (readings : List Reading) (out : List ℕ) (short : Option ℕ) (left : Option (List PlainView)) (written : Option (List ℕ)) : Type 0 where
   pub texts : List (List ℕ)
-  pub answered : AreAnswered limit splits tables readings texts short left
+  pub answered : AreAnswered bounds splits tables readings texts short left
   pub written_is : written ≡ Some (out ++ concat texts)
 
 -- on Ok all statements are counted
@@ -39,21 +40,21 @@ pub record IsDone (bytes : List ℕ) (fault : Fault) (remaining : Option (List �
       fault.done ≡ length (statements (whole_lines taken))
 
 -- on Ok all statements are answered
-abbrev pub IsServed : ℕ → List Bound → List PlainView → List ℕ → List ℕ → End → Option (List PlainView) → Option (List ℕ) → Type 0
-IsServed limit splits tables bytes out end left written = AreTold limit splits tables (statements bytes) out end.first_short left written
+abbrev pub IsServed : Bounds → List Bound → List PlainView → List ℕ → List ℕ → End → Option (List PlainView) → Option (List ℕ) → Type 0
+IsServed bounds splits tables bytes out end left written = AreTold bounds splits tables (statements bytes) out end.first_short left written
 
 -- where the writer failed in a text: one statement more is answered than is done, and a front of its text follows the others
-pub record IsCutWithin (limit : ℕ) (splits : List Bound) (tables : List PlainView) (bytes out : List ℕ) (fault : Fault) (left : Option (List PlainView)) (written : Option (List ℕ)) : Type 0 where
+pub record IsCutWithin (bounds : Bounds) (splits : List Bound) (tables : List PlainView) (bytes out : List ℕ) (fault : Fault) (left : Option (List PlainView)) (written : Option (List ℕ)) : Type 0 where
   pub refusal_is : fault.refusal ≡ WriteFault
   pub one_more : fault.done < length (statements bytes)
   pub texts : List (List ℕ)
   pub text : List ℕ
-  pub answered : AreAnswered limit splits tables (take (fault.done + 1) (statements bytes)) (texts ++ text ∷ []) fault.first_short left
+  pub answered : AreAnswered bounds splits tables (take (fault.done + 1) (statements bytes)) (texts ++ text ∷ []) fault.first_short left
   pub count : ℕ
   pub cut : count < length text
   pub written_is : written ≡ Some (out ++ (concat texts ++ take count text))
 
 -- on a fault the statements that are done are answered, and nothing follows their texts, or a front of one more
-abbrev pub IsCutOff : ℕ → List Bound → List PlainView → List ℕ → List ℕ → Fault → Option (List PlainView) → Option (List ℕ) → Type 0
-IsCutOff limit splits tables bytes out fault left written = AreTold limit splits tables (take fault.done (statements bytes)) out fault.first_short left written
-    ⊎ IsCutWithin limit splits tables bytes out fault left written
+abbrev pub IsCutOff : Bounds → List Bound → List PlainView → List ℕ → List ℕ → Fault → Option (List PlainView) → Option (List ℕ) → Type 0
+IsCutOff bounds splits tables bytes out fault left written = AreTold bounds splits tables (take fault.done (statements bytes)) out fault.first_short left written
+    ⊎ IsCutWithin bounds splits tables bytes out fault left written

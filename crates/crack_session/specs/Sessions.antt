@@ -9,12 +9,13 @@ use Rattle.crack_session.specs.declared.session.How.TheVariants.{Quit, InputEnde
 use Rattle.crack_commands.specs.Grammar.{Reading}
 use Rattle.crack_session.specs.Readings.{is_quit}
 use Rattle.crack_session.specs.Answers.{IsAnswer, is_short_answer}
+use Rattle.crack_core.specs.Steps.{Bounds}
 
 -- answers to these statements, one after the other, and the partitions afterwards
-abbrev pub AreAnswers : ℕ → List Bound → List PlainView → List Reading → List Answer → List PlainView → Type 0
-AreAnswers limit splits tables [] [] new = new ≡ tables
-AreAnswers limit splits tables (reading ∷ readings) (answer ∷ answers) new = (between : List PlainView) × IsAnswer limit splits tables reading answer between × AreAnswers limit splits between readings answers new
-AreAnswers limit splits tables _ _ new = ⊥
+abbrev pub AreAnswers : Bounds → List Bound → List PlainView → List Reading → List Answer → List PlainView → Type 0
+AreAnswers bounds splits tables [] [] new = new ≡ tables
+AreAnswers bounds splits tables (reading ∷ readings) (answer ∷ answers) new = (between : List PlainView) × IsAnswer bounds splits tables reading answer between × AreAnswers bounds splits between readings answers new
+AreAnswers bounds splits tables _ _ new = ⊥
 
 -- the number, from 1, of the first answer that is a refusal for want of room
 abbrev pub first_short : List Answer → Option ℕ

@@ -21,11 +21,12 @@ use Rattle.crack_session.specs.declared.query.PartReply.{PartReply}
 use Rattle.crack_session.specs.declared.query.Query.{Query}
 use Rattle.crack_session.specs.Queries.{counted, summed, listed}
 use Rattle.crack_session.specs.Answers.{IsJoined, IsAnswer, is_short_answer, answer_text}
+use Rattle.crack_core.specs.Steps.{Bounds}
 
--- A desk is asked: its tables, where they are known, change as they may by its limit and splits, and these stay.
-pub record AsksDesk {D : Type 0} (limit : D → ℕ) (splits : D → List Bound) (tables : D → Option (List PlainView)) (IsChange : ℕ → List Bound → List PlainView → List PlainView → Type 0) (old new : D) : Type 0 where
-  pub is : (known : List PlainView) → tables old ≡ Some known → (next : List PlainView) × IsChange (limit old) (splits old) known next × (tables new ≡ Some next)
-  pub limit_is : limit new ≡ limit old
+-- A desk is asked: its tables, where they are known, change as they may by its bounds and splits, and these stay.
+pub record AsksDesk {D : Type 0} (bounds : D → Bounds) (splits : D → List Bound) (tables : D → Option (List PlainView)) (IsChange : Bounds → List Bound → List PlainView → List PlainView → Type 0) (old new : D) : Type 0 where
+  pub is : (known : List PlainView) → tables old ≡ Some known → (next : List PlainView) × IsChange (bounds old) (splits old) known next × (tables new ≡ Some next)
+  pub bounds_are : bounds new ≡ bounds old
   pub splits_are : splits new ≡ splits old
 
 -- the first want of room, after the n-th statement
@@ -54,9 +55,9 @@ pub record Tells {W : Type 0} (contents : W → Option (List ℕ)) (answer : Ans
   pub writes : Writes contents (answer_text answer) result writer writer'
 
 -- A statement is answered at a desk, and the answer is told.
-pub record Responds {D W : Type 0} (limit : D → ℕ) (splits : D → List Bound) (tables : D → Option (List PlainView)) (contents : W → Option (List ℕ)) (reading : Reading) (old new : Progress) (result : Result (Unit {0}) Refusal) (desk desk' : D) (writer writer' : Watched W) : Type 0 where
+pub record Responds {D W : Type 0} (bounds : D → Bounds) (splits : D → List Bound) (tables : D → Option (List PlainView)) (contents : W → Option (List ℕ)) (reading : Reading) (old new : Progress) (result : Result (Unit {0}) Refusal) (desk desk' : D) (writer writer' : Watched W) : Type 0 where
   pub answer : Answer
-  pub asks : AsksDesk limit splits tables (λ limit splits tables. IsAnswer limit splits tables reading answer) desk desk'
+  pub asks : AsksDesk bounds splits tables (λ bounds splits tables. IsAnswer bounds splits tables reading answer) desk desk'
   pub tells : Tells contents answer old new result writer writer'
 
 -- how many rows these count or list, all together
@@ -76,5 +77,5 @@ abbrev pub lists_text : ℕ → List PartReply → List ℕ
 lists_text total replies = head_text total ++ flat_map list_text replies
 
 -- Several partitions are asked: in turn, or none of them, where no memory is found for their replies.
-abbrev pub AsksSeveral : ℕ → List Bound → List PlainView → Query → List (ℕ × Range) → Answer → List PlainView → Type 0
-AsksSeveral limit splits tables query parts answer new = IsJoined limit splits tables query parts answer new ⊎ ((answer ≡ Refused OutOfMemory) × (new ≡ tables))
+abbrev pub AsksSeveral : Bounds → List Bound → List PlainView → Query → List (ℕ × Range) → Answer → List PlainView → Type 0
+AsksSeveral bounds splits tables query parts answer new = IsJoined bounds splits tables query parts answer new ⊎ ((answer ≡ Refused OutOfMemory) × (new ≡ tables))

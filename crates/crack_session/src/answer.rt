@@ -5,13 +5,13 @@ ghost use Rattle.std.specs.List.{flat_map};
 ghost use Rattle.crack_plain.specs.Plain.{PlainView, IsSmall};
 ghost use Rattle.crack_core.specs.Routes.{route, parts_of};
 ghost use Rattle.crack_session.specs.Telling.{list_text, lists_text, AsksSeveral, AsksDesk, Writes};
-ghost use Rattle.crack_session.specs.Answers.{IsAnswer, IsAnswerTo, IsAsked, AsksInTurn, AsksParts, IsLaidOut, is_short_answer, answer_text};
+ghost use Rattle.crack_session.specs.Answers.{IsAnswer, IsAnswerTo, IsAsked, AsksInTurn, AsksParts, IsLaidOut, IsFolded, is_short_answer, answer_text};
 
 use crate::desk::Desk;
 use crate::query::{PartReply, Query, ReplyList, joined};
 use crack_commands::{
-    Statement, policy_line, write_count, write_each_row, write_head, write_layout, write_refusal,
-    write_reply, write_sum, write_text,
+    Statement, policy_line, write_count, write_each_row, write_folded, write_head, write_layout,
+    write_refusal, write_reply, write_sum, write_text,
 };
 use crack_core::{only_part, parts_of, route};
 use crack_row::{Command, Key, KeyRange, Layout, Policy, Refusal, Reply, Watched};
@@ -31,6 +31,8 @@ pub enum Answer {
     Listed { total: u64, lists: ReplyList },
     /// What stands where in a partition.
     Laid { part: u32, layout: Layout },
+    /// So many commands of a partition were folded.
+    Folded(u64),
     /// The session's policy from now on.
     Set(Policy),
     /// The line or its command was refused.
@@ -46,7 +48,12 @@ impl Answer {
     {
         matches!(
             self,
-            Answer::Refused(Refusal::HistoryFull { length: _ } | Refusal::OutOfMemory)
+            Answer::Refused(
+                Refusal::HistoryFull { length: _ }
+                    | Refusal::OutOfMemory
+                    | Refusal::NoCell
+                    | Refusal::LifeOver
+            )
         )
     }
 
@@ -61,6 +68,7 @@ impl Answer {
             Answer::Summed(total) => write_sum(*total, writer),
             Answer::Listed { total, lists } => write_lists(*total, lists.as_slice(), writer),
             Answer::Laid { part, layout } => write_layout(*part, layout, writer),
+            Answer::Folded(count) => write_folded(*count, writer),
             Answer::Set(policy) => write_text(policy_line(*policy), writer),
             Answer::Refused(refusal) => write_refusal(refusal, writer),
             Answer::Bye => write_text(b"bye", writer),
@@ -105,7 +113,7 @@ pub fn answer_reading<D: Desk>(
     policy: Policy,
     reading: Result<Statement, Refusal>,
 ) -> Answer
-    ensures { AsksDesk D.limit D.splits D.tables (λ limit splits tables. IsAnswer limit splits tables reading result) desk.old desk.new }
+    ensures { AsksDesk D.bounds D.splits D.tables (λ bounds splits tables. IsAnswer bounds splits tables reading result) desk.old desk.new }
 {
     match reading {
         Ok(statement) => answer_statement(alloc, desk, policy, statement),
@@ -121,7 +129,7 @@ fn answer_statement<D: Desk>(
     policy: Policy,
     statement: Statement,
 ) -> Answer
-    ensures { AsksDesk D.limit D.splits D.tables (λ limit splits tables. IsAnswerTo limit splits tables statement result) desk.old desk.new }
+    ensures { AsksDesk D.bounds D.splits D.tables (λ bounds splits tables. IsAnswerTo bounds splits tables statement result) desk.old desk.new }
 {
     let (part, command) = match statement {
         Statement::Insert { key, payload } => {
@@ -144,6 +152,7 @@ fn answer_statement<D: Desk>(
         Statement::Sum(range) => return ask_range(alloc, desk, policy, Query::Sum, range),
         Statement::Select(range) => return ask_range(alloc, desk, policy, Query::Select, range),
         Statement::Layout(part) => return lay_out(desk, part),
+        Statement::Checkpoint(part) => return fold_part(desk, part),
         Statement::Policy(next) => return Answer::Set(next),
         Statement::Quit => return Answer::Bye,
     };
@@ -161,7 +170,7 @@ pub fn part_of<D: Desk>(desk: &D, key: Key) -> u32
 /// Asks one partition.
 #[inline(never)]
 fn ask_part<D: Desk>(desk: &mut D, policy: Policy, part: u32, command: Command) -> Answer
-    ensures { AsksDesk D.limit D.splits D.tables (λ limit splits tables. IsAsked limit splits tables part command result) desk.old desk.new }
+    ensures { AsksDesk D.bounds D.splits D.tables (λ bounds splits tables. IsAsked bounds splits tables part command result) desk.old desk.new }
 {
     match desk.ask(part, command, policy) {
         Ok(reply) => Answer::Replied { part, reply },
@@ -177,7 +186,7 @@ fn ask_range<D: Desk>(
     query: Query,
     range: KeyRange,
 ) -> Answer
-    ensures { AsksDesk D.limit D.splits D.tables (λ limit splits tables. AsksParts limit splits tables query (parts_of splits range) result) desk.old desk.new }
+    ensures { AsksDesk D.bounds D.splits D.tables (λ bounds splits tables. AsksParts bounds splits tables query (parts_of splits range) result) desk.old desk.new }
 {
     if let Some(part) = only_part(desk.splits(), range) {
         return ask_part(desk, policy, part, query.over(range));
@@ -197,7 +206,7 @@ fn ask_several<D: Desk>(
     parts: &[(u32, KeyRange)],
 ) -> Answer
     requires { length parts.now ≤ 64 }
-    ensures { AsksDesk D.limit D.splits D.tables (λ limit splits tables. AsksSeveral limit splits tables query parts.now result) desk.old desk.new }
+    ensures { AsksDesk D.bounds D.splits D.tables (λ bounds splits tables. AsksSeveral bounds splits tables query parts.now result) desk.old desk.new }
 {
     match Vec::with_capacity(alloc, parts.len()) {
         Ok(mut replies) => match ask_each(desk, policy, query, parts, &mut replies) {
@@ -219,7 +228,7 @@ fn ask_each<D: Desk>(
 ) -> Result<(), Refusal>
     requires none { replies.old.items ≡ [] }
     requires room { length parts.now ≤ vec_capacity replies.old }
-    ensures asks { AsksDesk D.limit D.splits D.tables (λ limit splits tables. AsksInTurn limit splits query tables parts.now (result_and result (Ok replies.new.items))) desk.old desk.new }
+    ensures asks { AsksDesk D.bounds D.splits D.tables (λ bounds splits tables. AsksInTurn bounds splits query tables parts.now (result_and result (Ok replies.new.items))) desk.old desk.new }
     ensures small { All (λ (r : PartReply). IsSmall r.reply) replies.new.items }
     ensures few { length replies.new.items ≤ length parts.now }
 {
@@ -241,6 +250,16 @@ fn lay_out<D: Desk>(desk: &D, part: u32) -> Answer
 {
     match desk.layout(part) {
         Ok(layout) => Answer::Laid { part, layout },
+        Err(refusal) => Answer::Refused(refusal),
+    }
+}
+
+/// Makes a checkpoint of one partition.
+fn fold_part<D: Desk>(desk: &mut D, part: u32) -> Answer
+    ensures { AsksDesk D.bounds D.splits D.tables (λ bounds splits tables. IsFolded tables part result) desk.old desk.new }
+{
+    match desk.checkpoint(part) {
+        Ok(count) => Answer::Folded(count),
         Err(refusal) => Answer::Refused(refusal),
     }
 }

@@ -1,7 +1,8 @@
 //! A core as a desk, asked by worker 0.
-ghost use Rattle.std.specs.Prelude.{◌≡◌, ◌+◌, [], ◌∷◌, is_ok, IfOk, if◌then◌else◌};
+ghost use Rattle.std.specs.Prelude.{◌≡◌, ◌+◌, [], ◌∷◌, is_ok, IfOk, OnOk, slice_get, if◌then◌else◌};
 ghost use Rattle.crack_plain.specs.Plain.{IsSmall};
-ghost use Rattle.crack_core.specs.Steps.{expected_at, IsOutcome, tables_of, tables_after, pasts_of, accepted_by, KeepsEntries};
+ghost use Rattle.crack_core.specs.Steps.{bounds_of, IsOutcomeAt, IsFoldOutcome, tables_of, tables_after, tables_folded, pasts_of, accepted_by, KeepsEntries};
+ghost use Rattle.crack_core.specs.Jobs.{FoldsAt};
 
 use crate::desk::Desk;
 use crack_core::{Core, Step};
@@ -9,11 +10,11 @@ use crack_row::{Bound, Command, Layout, Policy, Refusal, Reply};
 
 impl Desk for Core {
     ghost use Rattle.std.specs.Prelude.{Some};
-    ghost use Rattle.crack_core.specs.Steps.{tables_of, accepted_by};
+    ghost use Rattle.crack_core.specs.Steps.{bounds_of, tables_of, accepted_by};
 
     ghost tables = { λ c. Some (tables_of c.parts) };
 
-    ghost limit = { λ c. c.limits.history };
+    ghost bounds = { λ c. bounds_of c.limits };
 
     ghost splits = { λ c. c.splits };
 
@@ -23,7 +24,7 @@ impl Desk for Core {
     fn ask(&mut self, part: u32, command: Command, policy: Policy) -> Result<Reply, Refusal>
         // It is one step of worker 0, whose entry the partition keeps.
         ensures kept { KeepsEntries (pasts_of self.old.parts) (record { worker = 0; part = part; command = command; policy = policy } ∷ []) (result ∷ []) (pasts_of self.new.parts) }
-        ensures outcome { IsOutcome (expected_at self.old.limits.history self.old.splits (tables_of self.old.parts) part command) result }
+        ensures outcome { IsOutcomeAt (bounds_of self.old.limits) self.old.splits (tables_of self.old.parts) part command result }
         ensures after { tables_of self.new.parts ≡ tables_after (tables_of self.old.parts) part command result }
         ensures small { IfOk result IsSmall }
         ensures opened { (self.new.splits ≡ self.old.splits) × (self.new.limits ≡ self.old.limits) }
@@ -35,6 +36,17 @@ impl Desk for Core {
             command,
             policy,
         })
+    }
+
+    fn checkpoint(&mut self, part: u32) -> Result<u64, Refusal>
+        ensures outcome { IsFoldOutcome (slice_get (tables_of self.old.parts) part) result }
+        ensures after { tables_of self.new.parts ≡ tables_folded (tables_of self.old.parts) part result }
+        // The partition that is named is folded, and nothing else is changed.
+        ensures folds { OnOk result (FoldsAt part self.old.parts self.new.parts) }
+        ensures opened { (self.new.splits ≡ self.old.splits) × (self.new.limits ≡ self.old.limits) }
+        ensures accepted { accepted_by self.new.parts ≡ accepted_by self.old.parts }
+    {
+        Core::checkpoint(self, part)
     }
 
     fn layout(&self, part: u32) -> Result<Layout, Refusal> {

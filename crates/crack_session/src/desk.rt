@@ -2,7 +2,7 @@
 ghost use Rattle.std.specs.Prelude.{◌≡◌, ℕ, ◌+◌, List, length, All, is_ok, Some, IfOk, slice_get, if◌then◌else◌};
 ghost use Rattle.crack_plain.specs.Plain.{PlainView, IsNumbered, IsSmall};
 ghost use Rattle.crack_core.specs.Routes.{AreSplits, keys_of_part};
-ghost use Rattle.crack_core.specs.Steps.{expected_at, IsOutcome, IsLayoutOutcome, tables_after};
+ghost use Rattle.crack_core.specs.Steps.{IsOutcomeAt, IsLayoutOutcome, IsFoldOutcome, tables_after, tables_folded};
 
 use crack_row::{Bound, Command, Layout, Policy, Refusal, Reply};
 
@@ -11,12 +11,13 @@ pub trait Desk {
     ghost use Rattle.std.specs.Prelude.{ℕ, Option, List};
     ghost use Rattle.crack_row.specs.declared.Bound.{Bound};
     ghost use Rattle.crack_plain.specs.Plain.{PlainView};
+    ghost use Rattle.crack_core.specs.Steps.{Bounds};
 
-    /// The plain rows of each partition and how many entries its history has, where they are known.
+    /// The plain rows of each partition, and how many commands it accepted up to its last checkpoint and since, where they are known.
     ghost tables: { Self → Option (List PlainView) };
 
-    /// How many entries the history of a partition may have.
-    ghost limit: { Self → ℕ };
+    /// Why a partition accepts no command more, if so, and how many cells its rows may take.
+    ghost bounds: { Self → Bounds };
 
     /// Where one partition ends and the next begins, in rising order.
     ghost splits: { Self → List Bound };
@@ -25,20 +26,34 @@ pub trait Desk {
     ghost receipts: { Self → ℕ };
 
     /// Asks one partition. Refused, with the rows and histories as they were, with 5 where there is no such partition,
-    /// with 4 where the command brings a key that isn't the partition's, with 6 where its history is full,
-    /// and with 8 where no memory is found.
+    /// with 4 where the command brings a key that isn't the partition's, with 6 where its history is full, with 10 where it accepts no
+    /// command more at all, with 9 where no cell is free for a row and it has as many as it may have, and with 8 where no memory is found.
     fn ask(&mut self, part: u32, command: Command, policy: Policy) -> Result<Reply, Refusal>
-        // It is the reply of the plain rows, or the refusal that they call for; in place of a reply it may be 8.
+        // It is the reply of the plain rows, or the refusal that they call for; in place of a reply it may be 8, or 9.
         ensures outcome { (known : List PlainView) → tables self.old ≡ Some known →
-            IsOutcome (expected_at (limit self.old) (splits self.old) known part command) result }
+            IsOutcomeAt (bounds self.old) (splits self.old) known part command result }
         // The plain rows change as the reply says, and a refusal leaves them.
         ensures after { (known : List PlainView) → tables self.old ≡ Some known →
             tables self.new ≡ Some (tables_after known part command result) }
 
         ensures small { IfOk result IsSmall }
         ensures splits { splits self.new ≡ splits self.old }
-        ensures limit { limit self.new ≡ limit self.old }
+        ensures bounds { bounds self.new ≡ bounds self.old }
         ensures receipts { receipts self.new ≡ (if is_ok result then receipts self.old + 1 else receipts self.old) };
+
+    /// Makes a checkpoint of one partition, and tells how many commands it accepted since the last one: its rows are kept as they are, and
+    /// what it was asked no more. It isn't kept itself. Refused with 5 where there is no such partition, and with 8 where no memory is
+    /// found; nothing has changed then.
+    fn checkpoint(&mut self, part: u32) -> Result<u64, Refusal>
+        ensures outcome { (known : List PlainView) → tables self.old ≡ Some known →
+            IsFoldOutcome (slice_get known part) result }
+        // The plain rows stay, and a refusal leaves all as it was.
+        ensures after { (known : List PlainView) → tables self.old ≡ Some known →
+            tables self.new ≡ Some (tables_folded known part result) }
+
+        ensures splits { splits self.new ≡ splits self.old }
+        ensures bounds { bounds self.new ≡ bounds self.old }
+        ensures receipts { receipts self.new ≡ receipts self.old };
 
     /// What stands where in one partition. It cracks and merges nothing, and isn't kept. Refused with 5 where there is no
     /// such partition, and with 8 where no memory is found.

@@ -6,14 +6,16 @@ use crack_row::{Bound, Command, Layout, Policy, Refusal, Reply};
 
 impl Desk for PlainTable {
     ghost use Rattle.std.specs.Prelude.{Some, [], ◌∷◌};
+    ghost use Rattle.crack_plain.specs.Plain.{accepted_of};
+    ghost use Rattle.crack_session.specs.Plains.{plain_bounds};
 
     ghost tables = { λ t. Some (t ∷ []) };
 
-    ghost limit = { λ t. 4294967295 };
+    ghost bounds = { λ t. plain_bounds };
 
     ghost splits = { λ t. [] };
 
-    ghost receipts = { λ t. t.accepted };
+    ghost receipts = { λ t. accepted_of t };
 
     fn ask(&mut self, part: u32, command: Command, _policy: Policy) -> Result<Reply, Refusal> {
         if part != 0 {
@@ -23,6 +25,13 @@ impl Desk for PlainTable {
         let _rows = self.rows();
         let _accepted = self.accepted();
         self.apply(&command)
+    }
+
+    fn checkpoint(&mut self, part: u32) -> Result<u64, Refusal> {
+        match part {
+            0 => Ok(PlainTable::checkpoint(self)),
+            _ => Err(Refusal::NoSuchPartition),
+        }
     }
 
     fn layout(&self, part: u32) -> Result<Layout, Refusal> {

@@ -32,7 +32,7 @@ pub struct End {
     pub how: How,
     /// How many statements were answered.
     pub statements: u64,
-    /// The number, from 1, of the first statement that was refused for want of room (6 or 8).
+    /// The number, from 1, of the first statement that was refused for want of room (6, 8, 9 or 10).
     pub first_short: Option<u64>,
 }
 
@@ -43,7 +43,7 @@ pub struct Fault {
     pub refusal: Refusal,
     /// How many statements were answered by a text that was written whole.
     pub done: u64,
-    /// The number, from 1, of the first statement that was refused for want of room (6 or 8).
+    /// The number, from 1, of the first statement that was refused for want of room (6, 8, 9 or 10).
     pub first_short: Option<u64>,
 }
 
@@ -102,7 +102,7 @@ fn respond<D: Desk, W: Write>(
     writer: &mut Watched<W>,
 ) -> Result<(), Refusal>
     requires { progress.old.statements + 1 < 2 ^ 64 }
-    ensures { Responds D.limit D.splits D.tables W.contents reading progress.old progress.new result desk.old desk.new writer.old writer.new }
+    ensures { Responds D.bounds D.splits D.tables W.contents reading progress.old progress.new result desk.old desk.new writer.old writer.new }
 {
     if let Some((key, payload)) = inserted(&reading) {
         return respond_to_insert(desk, key, payload, progress, writer);
@@ -120,7 +120,7 @@ fn respond_to_any<D: Desk, W: Write>(
     writer: &mut Watched<W>,
 ) -> Result<(), Refusal>
     requires { progress.old.statements + 1 < 2 ^ 64 }
-    ensures { Responds D.limit D.splits D.tables W.contents reading progress.old progress.new result desk.old desk.new writer.old writer.new }
+    ensures { Responds D.bounds D.splits D.tables W.contents reading progress.old progress.new result desk.old desk.new writer.old writer.new }
 {
     let answer = answer_reading(alloc, desk, progress.policy, reading);
     tell(&answer, progress, writer)
@@ -151,7 +151,7 @@ fn respond_to_insert<D: Desk, W: Write>(
     writer: &mut Watched<W>,
 ) -> Result<(), Refusal>
     requires { progress.old.statements + 1 < 2 ^ 64 }
-    ensures { Responds D.limit D.splits D.tables W.contents (Ok (Statement.Insert key payload)) progress.old progress.new result desk.old desk.new writer.old writer.new }
+    ensures { Responds D.bounds D.splits D.tables W.contents (Ok (Statement.Insert key payload)) progress.old progress.new result desk.old desk.new writer.old writer.new }
 {
     let part = part_of(desk, key);
     match desk.ask(part, Command::Insert { key, payload }, progress.policy) {
@@ -231,7 +231,7 @@ fn finish<W: Write>(writer: &mut Watched<W>, progress: Progress, how: How) -> Re
 /// Answers the statements of a reader, each whole line before it reads again, until its input ends or a statement
 /// is `quit`; what was read beyond that is dropped. An insert goes to the partition that holds its key, a delete or update to the one that
 /// its row number names, a layout to the one that it names. A range is asked of each partition that holds a part of it, in rising order: counts and
-/// sums are added, and rows are listed partition by partition, without a copy. The first refusal is the reply. The desk is asked by `policy` until a statement names another.
+/// sums are added, and rows are listed partition by partition, without a copy. The first refusal is the reply. A checkpoint is of the partition that it names. The desk is asked by `policy` until a statement names another.
 /// What is written is handed on by a flush before each read and at the end: behind a buffer that holds the replies
 /// to one read there is at most one write more than reads. Rows and pieces are written one at a time.
 /// Takes no memory but what the desk takes, and for the replies of several partitions to one statement; none for a line, so it is
@@ -250,7 +250,7 @@ pub fn serve<D: Desk, R: Read, W: Write>(
     ensures served { IfOk result (λ end. (bytes out : List ℕ) (tables : List PlainView) →
         R.remaining (device reader.old) ≡ Some bytes → W.contents (device writer.old) ≡ Some out →
         D.tables desk.old ≡ Some tables →
-        IsServed (D.limit desk.old) (D.splits desk.old) tables bytes out end (D.tables desk.new) (W.contents (device writer.new))) }
+        IsServed (D.bounds desk.old) (D.splits desk.old) tables bytes out end (D.tables desk.new) (W.contents (device writer.new))) }
     // How many statements are done where the session was cut off.
     ensures done { IfErr result (λ fault. (bytes : List ℕ) → R.remaining (device reader.old) ≡ Some bytes →
         IsDone bytes fault (R.remaining (device reader.new))) }
@@ -258,10 +258,10 @@ pub fn serve<D: Desk, R: Read, W: Write>(
     ensures cut_off { IfErr result (λ fault. (bytes out : List ℕ) (tables : List PlainView) →
         R.remaining (device reader.old) ≡ Some bytes → W.contents (device writer.old) ≡ Some out →
         D.tables desk.old ≡ Some tables →
-        IsCutOff (D.limit desk.old) (D.splits desk.old) tables bytes out fault (D.tables desk.new) (W.contents (device writer.new))) }
-    // Whatever came, the desk's limit and splits are as they were, so another session, or an export, over it goes on from there.
+        IsCutOff (D.bounds desk.old) (D.splits desk.old) tables bytes out fault (D.tables desk.new) (W.contents (device writer.new))) }
+    // Whatever came, the desk's bounds and splits are as they were, so another session, or an export, over it goes on from there.
     ensures splits { D.splits desk.new ≡ D.splits desk.old }
-    ensures limit { D.limit desk.new ≡ D.limit desk.old }
+    ensures bounds { D.bounds desk.new ≡ D.bounds desk.old }
     // Where it isn't cut off, no device has failed.
     ensures unfailed { OnOk result ((has_failed reader.new ≡ has_failed reader.old)
         × (has_failed writer.new ≡ has_failed writer.old)) }

@@ -98,6 +98,32 @@ fn answer(rt: &impl Abort, table: &mut PlainTable) -> Result<(), Refusal> {
     Ok(())
 }
 
+/// Asserts how many commands were accepted since the last checkpoint, and that those in all don't change with this one.
+fn assert_since(rt: &impl Abort, table: &mut PlainTable, since: u64, accepted: u64) {
+    assert_eq!(rt; table.checkpoint(), since);
+    assert_eq!(rt; table.accepted(), accepted);
+}
+
+fn fold(rt: &impl Abort, table: &mut PlainTable) -> Result<(), Refusal> {
+    assert_since(rt, table, 0, 0);
+    insert(rt, table, row(0, 7, 70))?;
+    insert(rt, table, row(1, 8, 50))?;
+    assert_since(rt, table, 2, 2);
+    count(rt, table)?;
+    assert_since(rt, table, 3, 5);
+    assert_since(rt, table, 0, 5);
+    insert(rt, table, row(2, 9, 90))
+}
+
+/// A checkpoint tells what came since the last one, and changes no row.
+#[test]
+fn plain_table_counts_since_its_checkpoint(rt: HostRuntime) -> Result<(), Refusal> {
+    let mut table = PlainTable::new(rt.alloc());
+    let told = fold(&rt, &mut table);
+    drop(table);
+    told
+}
+
 /// Each command, those that find no row among them: all are accepted.
 #[test]
 fn plain_table_answers(rt: HostRuntime) -> Result<(), Refusal> {

@@ -3,6 +3,7 @@ mod EdgeLemmas
 mod AdmitLemmas
 mod CrackLemmas
 mod HandLemmas
+mod LiveLemmas
 mod RememberLemmas
 mod PointLemmas
 mod WayLemmas

@@ -8,6 +8,7 @@ mod ascent;
 pub mod carrying;
 mod cracking;
 mod inside;
+pub mod live;
 mod notes;
 pub mod onward;
 pub mod points;

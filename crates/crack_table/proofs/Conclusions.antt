@@ -1,6 +1,6 @@
 -- From marks, strangers and late receipts to a cover, or to the place of its fault.
-use Rattle.std.proofs.Common.{◌≡◌, ◌≢◌, ◌<◌, ℕ, List, [], ◌∷◌, ◌++◌, length, map, Bool, true, false, cond, ◌||◌, not, Option, Some, None, refl, ap, arith, sym, get_or, zero, suc, ◌∙◌, subst, append-nil, inl, inr, ⊎_elim, ◌⊎◌, length-append, append_assoc}
-use Rattle.std.specs.Prelude.{filter, All, AllPairs, if◌then◌else◌}
+use Rattle.std.proofs.Common.{◌≡◌, ◌<◌, ℕ, List, [], ◌∷◌, ◌++◌, length, Bool, true, false, cond, ◌||◌, not, Option, Some, None, refl, ap, arith, sym, get_or, zero, suc, ◌∙◌, subst, append-nil, inl, inr, ⊎_elim, ◌⊎◌, length-append, append_assoc}
+use Rattle.std.specs.Prelude.{All, AllPairs, if◌then◌else◌}
 use Rattle.std.specs.List.{list_any}
 use Rattle.std.specs.Option.{option_map}
 use Rattle.std.proofs.lemmas.Bool.Decides.{nat_tests}
@@ -8,50 +8,19 @@ use Rattle.std.proofs.lemmas.List.Elements.{All-nil, All-cons, All-head, All-tai
 use Rattle.std.proofs.lemmas.List.Folds.{Any-from_list_any}
 use Rattle.std.proofs.lemmas.List.{get_or_append_left, get_or_at, get_or_default}
 use Rattle.std.proofs.lemmas.List.Quantifiers.{all_pairs_push}
-use Rattle.crack_row.specs.declared.command.Entry.{Entry}
-use Rattle.crack_plain.specs.Past.{Past}
 use Rattle.crack_core.specs.declared.receipt.Receipt.{Receipt}
-use Rattle.crack_core.specs.Receipts.{entry_of}
-use Rattle.crack_table.specs.declared.marks.Naming.{Naming}
-use Rattle.crack_table.specs.declared.marks.Naming.TheVariants.{Unnamed, Met, Failed}
-use Rattle.crack_table.specs.Cover.{entry_in, names, has_place, AllMet, IsLeastUnmet, first_stranger, first_late, is_late, Rises, IsFault, Covers}
-use Rattle.crack_table.specs.Marks.{at, named_place, MarkIs, MarkIsAt, Marked, IsFirstOpen}
-
-met_at : (e : Entry) (o : Option Naming) (named : List Receipt) → MarkIsAt (Some e) o named → ((k : Naming) → o ≡ Some k → k ≡ Met) → map entry_of named ≡ e ∷ []
-met_at e None named is all = absurd is
-met_at e (Some m) named is all = let P : Naming → Type 0 = λ k. MarkIs k e named in subst P (all m refl) is
-
-pub met_all : (pasts : List Past) (ms : List (List Naming)) (rs : List Receipt) → Marked pasts ms rs → ((q n : ℕ) (k : Naming) → at ms q n ≡ Some k → k ≡ Met) → AllMet pasts rs
-met_all pasts ms rs marked all p n e is = met_at e (at ms p n) (filter (names p n) rs) (rw is at (marked p n)) (all p n)
-
-entry_there : (o : Option Entry) (m : Naming) (named : List Receipt) → MarkIsAt o (Some m) named → m ≢ Met → (e : Entry) × (o ≡ Some e) × (map entry_of named ≢ e ∷ [])
-entry_there None m named is ne = absurd is
-entry_there (Some e) Unnamed named is ne = (e, refl, λ h. no_empty named e is h)
-  where
-    no_empty : (named : List Receipt) (e : Entry) → named ≡ [] → map entry_of named ≡ e ∷ [] → ⊥
-    no_empty [] e is h = cc
-    no_empty (x ∷ xs) e is h = cc
-entry_there (Some e) Met named is ne = absurd (ne refl)
-entry_there (Some e) Failed named is ne = (e, refl, is.1)
-
-pub unmet_least : (pasts : List Past) (ms : List (List Naming)) (rs : List Receipt) (place : ℕ × ℕ) → Marked pasts ms rs → IsFirstOpen ms place → IsLeastUnmet pasts rs place.0 place.1
-unmet_least pasts ms rs place marked first =
-    let there = entry_there (entry_in pasts place.0 place.1) first.0 (filter (names place.0 place.1) rs) (rw first.1 at (marked place.0 place.1)) first.2 in (
-      there.0,
-      there.1,
-      there.2,
-      λ q m d before is. met_at d (at ms q m) (filter (names q m) rs) (rw is at (marked q m)) (λ k k_is. first.3 q m k before k_is),
-    )
+use Rattle.crack_table.specs.Cover.{KeptState, has_place, AllSettled, IsSettled, IsGap, first_stranger, first_late, is_late, Rises, IsFault, Covers}
+use Rattle.crack_table.specs.Marks.{named_place}
 
 tail_none : (b : Bool) (r : Receipt) (o : Option Receipt) → cond (not b) (Some r) o ≡ None → (b ≡ true) × (o ≡ None)
 tail_none true r o is = (refl, is)
 tail_none false r o is = cc
 
-pub all_placed : (pasts : List Past) (rs : List Receipt) → first_stranger pasts rs ≡ None → All (λ r. has_place pasts r ≡ true) rs
-all_placed pasts [] none = All-nil (λ r. has_place pasts r ≡ true)
-all_placed pasts (r ∷ rs) none =
-    let t = tail_none (has_place pasts r) r (first_stranger pasts rs) none in
-    All-cons (λ r. has_place pasts r ≡ true) r rs t.0 (all_placed pasts rs t.1)
+pub all_placed : (kept : List KeptState) (rs : List Receipt) → first_stranger kept rs ≡ None → All (λ r. has_place kept r ≡ true) rs
+all_placed kept [] none = All-nil (λ r. has_place kept r ≡ true)
+all_placed kept (r ∷ rs) none =
+    let t = tail_none (has_place kept r) r (first_stranger kept rs) none in
+    All-cons (λ r. has_place kept r ≡ true) r rs t.0 (all_placed kept rs t.1)
 
 or_parts : (a b : Bool) → (a || b) ≡ false → (a ≡ false) × (b ≡ false)
 or_parts true b is = cc
@@ -83,20 +52,20 @@ from_map : (o : Option Receipt) (place : ℕ × ℕ) → Some place ≡ option_m
 from_map None place is = cc
 from_map (Some r) place is = let e : place ≡ named_place r = cc in (r, refl, sym (ap (λ p. p.0) e), sym (ap (λ p. p.1) e))
 
-pub stranger_fault : (pasts : List Past) (rs : List Receipt) (place : ℕ × ℕ) → AllMet pasts rs → Some place ≡ option_map named_place (first_stranger pasts rs) → IsFault pasts rs place.0 place.1
-stranger_fault pasts rs place met is = inr (inl (met, from_map (first_stranger pasts rs) place is))
+pub stranger_fault : (kept : List KeptState) (rs : List Receipt) (place : ℕ × ℕ) → AllSettled kept rs → Some place ≡ option_map named_place (first_stranger kept rs) → IsFault kept rs place.0 place.1
+stranger_fault kept rs place met is = inr (inl (met, from_map (first_stranger kept rs) place is))
 
-pub late_fault : (pasts : List Past) (rs : List Receipt) (place : ℕ × ℕ) → AllMet pasts rs → first_stranger pasts rs ≡ None → Some place ≡ option_map named_place (first_late [] rs) → IsFault pasts rs place.0 place.1
-late_fault pasts rs place met none is = inr (inr (met, none, from_map (first_late [] rs) place is))
+pub late_fault : (kept : List KeptState) (rs : List Receipt) (place : ℕ × ℕ) → AllSettled kept rs → first_stranger kept rs ≡ None → Some place ≡ option_map named_place (first_late [] rs) → IsFault kept rs place.0 place.1
+late_fault kept rs place met none is = inr (inr (met, none, from_map (first_late [] rs) place is))
 
 found_absurd : (b : Bool) (r s : Receipt) (o : Option Receipt) → b ≡ true → cond (not b) (Some s) o ≡ Some r → o ≡ Some r
 found_absurd true r s o b_is is = is
 found_absurd false r s o b_is is = cc
 
-stranger_absurd : (pasts : List Past) (rs : List Receipt) (r : Receipt) → first_stranger pasts rs ≡ Some r → All (λ r. has_place pasts r ≡ true) rs → ⊥
-stranger_absurd pasts [] r is all = cc
-stranger_absurd pasts (s ∷ ss) r is all =
-    stranger_absurd pasts ss r (found_absurd (has_place pasts s) r s (first_stranger pasts ss) (All-head (λ r. has_place pasts r ≡ true) s ss all) is) (All-tail (λ r. has_place pasts r ≡ true) s ss all)
+stranger_absurd : (kept : List KeptState) (rs : List Receipt) (r : Receipt) → first_stranger kept rs ≡ Some r → All (λ r. has_place kept r ≡ true) rs → ⊥
+stranger_absurd kept [] r is all = cc
+stranger_absurd kept (s ∷ ss) r is all =
+    stranger_absurd kept ss r (found_absurd (has_place kept s) r s (first_stranger kept ss) (All-head (λ r. has_place kept r ≡ true) s ss all) is) (All-tail (λ r. has_place kept r ≡ true) s ss all)
 
 late_positions : (a x : Receipt) → is_late a x ≡ true → Rises a x → ⊥
 late_positions a x late rises =
@@ -128,13 +97,16 @@ late_absurd done (x ∷ rs) r is rises =
     (λ later. late_absurd (done ++ x ∷ []) rs r later (subst P (sym (append_assoc done (x ∷ []) rs)) rises))
     (if_some (list_any (λ a. is_late a x) done) r x (first_late (done ++ x ∷ []) rs) is)
 
--- where a place is at fault the receipts don't cover the pasts
-pub fault_uncovered : (pasts : List Past) (rs : List Receipt) (p n : ℕ) → IsFault pasts rs p n → Covers pasts rs → ⊥
-fault_uncovered pasts rs p n fault covers =
+gap_absurd : (rs : List Receipt) (p : ℕ) (k : KeptState) (n : ℕ) → IsGap rs p k n → IsSettled rs p k → ⊥
+gap_absurd rs p k n gap settled = ⊎_elim (λ unmet. unmet.2 (settled.met n unmet.0 unmet.1)) (λ miscount. miscount.1 settled.counted) gap
+
+-- where a place is at fault the receipts are no cover
+pub fault_uncovered : (kept : List KeptState) (rs : List Receipt) (p n : ℕ) → IsFault kept rs p n → Covers kept rs → ⊥
+fault_uncovered kept rs p n fault covers =
     ⊎_elim
-    (λ unmet. unmet.2 (covers.met p n unmet.0 unmet.1))
+    (λ first. gap_absurd rs p first.0 n first.2 (covers.settled p first.0 first.1))
     (λ other. ⊎_elim
-    (λ strange. stranger_absurd pasts rs strange.1.0 strange.1.1 covers.placed)
+    (λ strange. stranger_absurd kept rs strange.1.0 strange.1.1 covers.placed)
     (λ late. late_absurd [] rs late.2.0 late.2.1 covers.rising)
     other)
     fault

@@ -1,5 +1,5 @@
--- Receipts that cover histories have the same sums.
-use Rattle.std.proofs.Common.{◌≡◌, ◌<◌, ℕ, ◌+◌, List, [], ◌∷◌, length, map, Bool, true, false, cond, ◌==◌, ◌&&◌, Option, Some, None, refl, ap, arith, sym, zero, suc, ◌∙◌, add-zero}
+-- Receipts that cover what partitions lived through have the same sums.
+use Rattle.std.proofs.Common.{◌≡◌, ◌<◌, ℕ, ◌+◌, ◌-◌, List, [], ◌∷◌, length, map, Bool, true, false, cond, ◌==◌, ◌&&◌, Option, Some, None, refl, ap, arith, sym, zero, suc, ◌∙◌, add-zero}
 use Rattle.std.specs.Prelude.{filter, All, is_some, nat_lt, sum_by}
 use Rattle.std.specs.List.{slice_get}
 use Rattle.std.proofs.lemmas.Bool.Decides.{nat_tests}
@@ -9,9 +9,9 @@ use Rattle.std.proofs.lemmas.Option.{slice_get_within}
 use Rattle.crack_row.specs.declared.command.Entry.{Entry}
 use Rattle.crack_core.specs.declared.receipt.Receipt.{Receipt}
 use Rattle.crack_core.specs.Receipts.{entry_of}
-use Rattle.crack_table.specs.Cover.{unfolded, names, has_place, IsMetBy, Covers}
-use Rattle.crack_table.specs.Marks.{at}
-use Rattle.crack_table.proofs.Places.{row_of, entry_in-unfolded}
+use Rattle.crack_plain.specs.Totals.{is_placed, is_gone, inserted, deleted}
+use Rattle.crack_table.specs.Cover.{KeptState, Place, Folded, Standing, place_at, place_in, names, has_place, IsSole, IsMetBy, folded_entries, AllSettled, Covers}
+use Rattle.crack_table.proofs.Places.{part_of, places}
 
 -- g 0 + .. + g (n - 1)
 abbrev pub sum_upto : (ℕ → ℕ) → ℕ → ℕ
@@ -90,60 +90,116 @@ some_of : {X : Type 0} (o : Option X) → is_some o ≡ true → (x : X) × (o �
 some_of None is = cc
 some_of (Some x) is = (x, refl)
 
--- whether a receipt names a place of these tails
-abbrev is_there : List (List Entry) → Receipt → Bool
-is_there hs r = is_some (at hs r.part r.position)
+sum_from : (key : Receipt → ℕ) (F : Receipt → ℕ) (rs : List Receipt) (base n : ℕ) → sum_by F (filter (λ r. nat_lt (key r) (base + n)) rs) ≡ sum_by F (filter (λ r. nat_lt (key r) base) rs) + sum_upto (λ k. sum_by F (filter (λ r. key r == base + k) rs)) n
+sum_from key F rs base zero = let e : base + 0 ≡ base = omega arith in rw e (omega arith)
+sum_from key F rs base (suc n) =
+    let e : base + suc n ≡ suc (base + n) = omega arith in
+    let more = split_more key F rs (base + n) in
+    let rest = sum_from key F rs base n in
+    rw e (omega (arith, more, rest))
 
--- what a cover says of tails before which nothing was folded
-record AreMet (hs : List (List Entry)) (rs : List Receipt) : Type 0 where
-  met : (p n : ℕ) (e : Entry) → at hs p n ≡ Some e → IsMetBy rs p n e
-  placed : All (λ r. is_there hs r ≡ true) rs
+-- the sum of the keys below a base, and of those from there on, key by key
+pub by_key_from : (key : Receipt → ℕ) (F : Receipt → ℕ) (rs : List Receipt) (base n : ℕ) → All (λ r. nat_lt (key r) (base + n) ≡ true) rs → sum_by F rs ≡ sum_by F (filter (λ r. nat_lt (key r) base) rs) + sum_upto (λ k. sum_by F (filter (λ r. key r == base + k) rs)) n
+by_key_from key F rs base n all = ap (λ l. sum_by F l) (sym (filter_always (λ r. nat_lt (key r) (base + n)) rs all)) ∙ sum_from key F rs base n
 
-AreMet-covers : (hs : List (List Entry)) (rs : List Receipt) → Covers (map unfolded hs) rs → AreMet hs rs
-AreMet-covers hs rs covers = record {
-  met = λ p n e is. covers.met p n e (entry_in-unfolded hs p n ∙ is);
-  placed = All-weaker (λ r. has_place (map unfolded hs) r ≡ true) (λ r. is_there hs r ≡ true) (λ r is. sym (ap is_some (entry_in-unfolded hs r.part r.position)) ∙ is) rs covers.placed;
-}
+-- what a cover says of the places
+record AreMet (kept : List KeptState) (rs : List Receipt) : Type 0 where
+  settled : AllSettled kept rs
+  placed : All (λ r. has_place kept r ≡ true) rs
 
-place_row : (hs : List (List Entry)) (r : Receipt) → is_there hs r ≡ true → (row : List Entry) × (slice_get hs r.part ≡ Some row) × (r.position < length row)
-place_row hs r is =
-    let e = some_of (at hs r.part r.position) is in
-    let row = row_of (slice_get hs r.part) r.position e.0 e.1 in (row.0, row.1, slice_get_within row.0 r.position e.0 row.2)
+place_row : (kept : List KeptState) (r : Receipt) → has_place kept r ≡ true → (k : KeptState) × (slice_get kept r.part ≡ Some k) × (nat_lt r.position (k.folded + length k.tail) ≡ true)
+place_row kept r is =
+    let e = some_of (place_in kept r.part r.position) is in
+    let k = part_of kept r.part r.position e.0 e.1 in (k.0, k.1, sym (places k.0 r.position) ∙ rw k.2 refl)
 
-parts_within : (hs : List (List Entry)) (rs : List Receipt) → All (λ r. is_there hs r ≡ true) rs → All (λ r. nat_lt r.part (length hs) ≡ true) rs
-parts_within hs rs all =
-    All-weaker (λ r. is_there hs r ≡ true) (λ r. nat_lt r.part (length hs) ≡ true)
-    (λ r is. let row = place_row hs r is in let lt = slice_get_within hs r.part row.0 row.1 in grind (arith, nat_tests, lt))
+parts_within : (kept : List KeptState) (rs : List Receipt) → All (λ r. has_place kept r ≡ true) rs → All (λ r. nat_lt r.part (length kept) ≡ true) rs
+parts_within kept rs all =
+    All-weaker (λ r. has_place kept r ≡ true) (λ r. nat_lt r.part (length kept) ≡ true)
+    (λ r is. let row = place_row kept r is in let lt = slice_get_within kept r.part row.0 row.1 in grind (arith, nat_tests, lt))
     rs all
 
-position_within : (hs : List (List Entry)) (p : ℕ) (h : List Entry) (r : Receipt) → slice_get hs p ≡ Some h → is_there hs r ≡ true → (r.part == p) ≡ true → nat_lt r.position (length h) ≡ true
-position_within hs p h r h_is is same =
-    let row = place_row hs r is in
+position_within : (kept : List KeptState) (p : ℕ) (k : KeptState) (r : Receipt) → slice_get kept p ≡ Some k → has_place kept r ≡ true → (r.part == p) ≡ true → nat_lt r.position (k.folded + length k.tail) ≡ true
+position_within kept p k r k_is is same =
+    let row = place_row kept r is in
     let e : r.part ≡ p = grind (arith, nat_tests) in
-    let row_is : slice_get hs p ≡ Some row.0 = rw (← e) row.1 in
-    let one : row.0 ≡ h = cc in
-    let lt : r.position < length h = rw (← one) row.2 in
-    grind (arith, nat_tests, lt)
+    let row_is : slice_get kept p ≡ Some row.0 = rw (← e) row.1 in
+    let one : row.0 ≡ k = cc in
+    rw (← one) row.2
 
-positions_within : (hs : List (List Entry)) (p : ℕ) (h : List Entry) → slice_get hs p ≡ Some h → (rs : List Receipt) → All (λ r. is_there hs r ≡ true) rs → All (λ r. nat_lt r.position (length h) ≡ true) (filter (λ r. r.part == p) rs)
-positions_within hs p h h_is [] all = All-nil (λ r. nat_lt r.position (length h) ≡ true)
-positions_within hs p h h_is (r ∷ rs) all =
-    all_cond (λ r. nat_lt r.position (length h) ≡ true) (r.part == p) r (filter (λ r. r.part == p) rs)
-    (position_within hs p h r h_is (All-head (λ r. is_there hs r ≡ true) r rs all))
-    (positions_within hs p h h_is rs (All-tail (λ r. is_there hs r ≡ true) r rs all))
+positions_within : (kept : List KeptState) (p : ℕ) (k : KeptState) → slice_get kept p ≡ Some k → (rs : List Receipt) → All (λ r. has_place kept r ≡ true) rs → All (λ r. nat_lt r.position (k.folded + length k.tail) ≡ true) (filter (λ r. r.part == p) rs)
+positions_within kept p k k_is [] all = All-nil (λ r. nat_lt r.position (k.folded + length k.tail) ≡ true)
+positions_within kept p k k_is (r ∷ rs) all =
+    all_cond (λ r. nat_lt r.position (k.folded + length k.tail) ≡ true) (r.part == p) r (filter (λ r. r.part == p) rs)
+    (position_within kept p k r k_is (All-head (λ r. has_place kept r ≡ true) r rs all))
+    (positions_within kept p k k_is rs (All-tail (λ r. has_place kept r ≡ true) r rs all))
 
-place_counted : (f : Entry → ℕ) (rs : List Receipt) (p n : ℕ) (e : Entry) → IsMetBy rs p n e → sum_by (λ r. f (entry_of r)) (filter (λ r. r.position == n) (filter (λ r. r.part == p) rs)) ≡ f e
-place_counted f rs p n e met =
-    ap (λ l. sum_by (λ r. f (entry_of r)) l) (filter_filter (λ r. r.part == p) (λ r. r.position == n) rs)
-    ∙ (sum_entries f (filter (names p n) rs) ∙ rw met (sum_by-cons f e [] ∙ add-zero (f e)))
+sole_sum : (f : Entry → ℕ) (place : Place) (named : List Receipt) → (sole : IsSole place named) → sum_by (λ r. f (entry_of r)) named ≡ f (entry_of sole.0)
+sole_sum f place named sole = rw sole.1 (sum_by-cons (λ r. f (entry_of r)) sole.0 [] ∙ add-zero (f (entry_of sole.0)))
 
-part_counted : (f : Entry → ℕ) (hs : List (List Entry)) (rs : List Receipt) → AreMet hs rs → (p : ℕ) (h : List Entry) → slice_get hs p ≡ Some h → sum_by (λ r. f (entry_of r)) (filter (λ r. r.part == p) rs) ≡ sum_by f h
-part_counted f hs rs covers p h h_is =
-    by_key (λ r. r.position) (λ r. f (entry_of r)) (filter (λ r. r.part == p) rs) (length h) (positions_within hs p h h_is rs covers.placed)
-    ∙ sum_list f h (λ n. sum_by (λ r. f (entry_of r)) (filter (λ r. r.position == n) (filter (λ r. r.part == p) rs))) (λ n e e_is. place_counted f rs p n e (covers.met p n e (rw h_is e_is)))
+place_sum : (f : Entry → ℕ) (rs : List Receipt) (p n : ℕ) (place : Place) → (met : IsMetBy rs p n place) → sum_by (λ r. f (entry_of r)) (filter (λ r. r.position == n) (filter (λ r. r.part == p) rs)) ≡ f (entry_of met.0)
+place_sum f rs p n place met =
+    ap (λ l. sum_by (λ r. f (entry_of r)) l) (filter_filter (λ r. r.part == p) (λ r. r.position == n) rs) ∙ sole_sum f place (filter (names p n) rs) met
 
-pub counted : (f : Entry → ℕ) (hs : List (List Entry)) (rs : List Receipt) → Covers (map unfolded hs) rs → sum_by (λ r. f (entry_of r)) rs ≡ sum_by (λ h. sum_by f h) hs
-counted f hs rs covers =
-    let are = AreMet-covers hs rs covers in
-    by_key (λ r. r.part) (λ r. f (entry_of r)) rs (length hs) (parts_within hs rs are.placed)
-    ∙ sum_list (λ h. sum_by f h) hs (λ p. sum_by (λ r. f (entry_of r)) (filter (λ r. r.part == p) rs)) (part_counted f hs rs are)
+standing_at : (k : KeptState) (n : ℕ) (e : Entry) → slice_get k.tail n ≡ Some e → place_at k (k.folded + n) ≡ Some (Standing e)
+standing_at k n e is =
+    let above : nat_lt (k.folded + n) k.folded ≡ false = grind (arith, nat_tests) in
+    let same : k.folded + n - k.folded ≡ n = omega arith in
+    rw (above, same, is) refl
+
+folded_at : (k : KeptState) (n : ℕ) → n < k.folded → place_at k n ≡ Some Folded
+folded_at k n lt = let below : nat_lt n k.folded ≡ true = grind (arith, nat_tests, lt) in rw below refl
+
+-- the receipts of a partition come to those of its folded places and the entries that stand
+part_counted : (f : Entry → ℕ) (kept : List KeptState) (rs : List Receipt) → AreMet kept rs → (p : ℕ) (k : KeptState) → slice_get kept p ≡ Some k
+    → sum_by (λ r. f (entry_of r)) (filter (λ r. r.part == p) rs) ≡ sum_by (λ r. f (entry_of r)) (filter (λ r. nat_lt r.position k.folded) (filter (λ r. r.part == p) rs)) + sum_by f k.tail
+part_counted f kept rs are p k k_is =
+    let whole = by_key_from (λ r. r.position) (λ r. f (entry_of r)) (filter (λ r. r.part == p) rs) k.folded (length k.tail) (positions_within kept p k k_is rs are.placed) in
+    let rest = sum_list f k.tail (λ n. sum_by (λ r. f (entry_of r)) (filter (λ r. r.position == k.folded + n) (filter (λ r. r.part == p) rs)))
+    (λ n e e_is.
+    let met = (are.settled p k k_is).met (k.folded + n) (Standing e) (standing_at k n e e_is) in
+    place_sum f rs p (k.folded + n) (Standing e) met ∙ ap f met.2) in
+    whole ∙ ap (λ s. sum_by (λ r. f (entry_of r)) (filter (λ r. nat_lt r.position k.folded) (filter (λ r. r.part == p) rs)) + s) rest
+
+sum_ones : (n : ℕ) → sum_upto (λ k. 1) n ≡ n
+sum_ones zero = refl
+sum_ones (suc n) = let h = sum_ones n in omega (arith, h)
+
+-- each folded place has one receipt
+folded_once : (kept : List KeptState) (rs : List Receipt) → AreMet kept rs → (p : ℕ) (k : KeptState) → slice_get kept p ≡ Some k
+    → sum_by (λ r. 1) (filter (λ r. nat_lt r.position k.folded) (filter (λ r. r.part == p) rs)) ≡ k.folded
+folded_once kept rs are p k k_is =
+    split_upto (λ r. r.position) (λ r. 1) (filter (λ r. r.part == p) rs) k.folded
+    ∙ (sum_upto_same (λ n. sum_by (λ r. 1) (filter (λ r. r.position == n) (filter (λ r. r.part == p) rs))) (λ n. 1) k.folded
+    (λ n lt. place_sum (λ e. 1) rs p n Folded ((are.settled p k k_is).met n Folded (folded_at k n lt)))
+    ∙ sum_ones k.folded)
+
+-- the folded receipts, by their entries
+folded_sum : (f : Entry → ℕ) (rs : List Receipt) (p folded : ℕ) → sum_by (λ r. f (entry_of r)) (filter (λ r. nat_lt r.position folded) (filter (λ r. r.part == p) rs)) ≡ sum_by f (folded_entries rs p folded)
+folded_sum f rs p folded =
+    ap (λ l. sum_by (λ r. f (entry_of r)) l) (filter_filter (λ r. r.part == p) (λ r. nat_lt r.position folded) rs)
+    ∙ sum_entries f (filter (λ r. (r.part == p) && nat_lt r.position folded) rs)
+
+-- receipts that cover come to what was folded, counted by f, and to the entries that stand
+counted : (f : Entry → ℕ) (base : KeptState → ℕ) (kept : List KeptState) (rs : List Receipt) → AreMet kept rs
+    → ((p : ℕ) (k : KeptState) → slice_get kept p ≡ Some k → sum_by (λ r. f (entry_of r)) (filter (λ r. nat_lt r.position k.folded) (filter (λ r. r.part == p) rs)) ≡ base k)
+    → sum_by (λ r. f (entry_of r)) rs ≡ sum_by (λ k. base k + sum_by f k.tail) kept
+counted f base kept rs are folded =
+    by_key (λ r. r.part) (λ r. f (entry_of r)) rs (length kept) (parts_within kept rs are.placed)
+    ∙ sum_list (λ k. base k + sum_by f k.tail) kept (λ p. sum_by (λ r. f (entry_of r)) (filter (λ r. r.part == p) rs))
+    (λ p k k_is. part_counted f kept rs are p k k_is ∙ ap (λ s. s + sum_by f k.tail) (folded p k k_is))
+
+met_by : (kept : List KeptState) (rs : List Receipt) → Covers kept rs → AreMet kept rs
+met_by kept rs covers = record { settled = covers.settled; placed = covers.placed }
+
+pub all_counted : (kept : List KeptState) (rs : List Receipt) → Covers kept rs → sum_by (λ r. 1) rs ≡ sum_by (λ k. k.folded + sum_by (λ (e : Entry). 1) k.tail) kept
+all_counted kept rs covers = counted (λ e. 1) (λ k. k.folded) kept rs (met_by kept rs covers) (folded_once kept rs (met_by kept rs covers))
+
+pub placed_counted : (kept : List KeptState) (rs : List Receipt) → Covers kept rs → sum_by (λ r. cond (is_placed (entry_of r).reply) 1 0) rs ≡ sum_by (λ k. k.placed + inserted k.tail) kept
+placed_counted kept rs covers =
+    counted (λ e. cond (is_placed e.reply) 1 0) (λ k. k.placed) kept rs (met_by kept rs covers)
+    (λ p k k_is. folded_sum (λ e. cond (is_placed e.reply) 1 0) rs p k.folded ∙ (covers.settled p k k_is).counted.0)
+
+pub gone_counted : (kept : List KeptState) (rs : List Receipt) → Covers kept rs → sum_by (λ r. cond (is_gone (entry_of r).reply) 1 0) rs ≡ sum_by (λ k. k.gone + deleted k.tail) kept
+gone_counted kept rs covers =
+    counted (λ e. cond (is_gone e.reply) 1 0) (λ k. k.gone) kept rs (met_by kept rs covers)
+    (λ p k k_is. folded_sum (λ e. cond (is_gone e.reply) 1 0) rs p k.folded ∙ (covers.settled p k k_is).counted.1)

@@ -1,5 +1,6 @@
 mod Places
 mod Marking
+mod Tallies
 mod Opens
 mod Lates
 mod Conclusions

@@ -1,65 +1,124 @@
--- Blank marks, and the first mark that isn't Met.
-use Rattle.std.proofs.Common.{◌≡◌, ◌<◌, ◌≤◌, ℕ, List, [], ◌∷◌, ◌++◌, length, replicate, zero, suc, Some, refl, arith, sym, get_or, ⊎_elim, ◌+◌, ◌⊎◌, ◌∙◌, map, take}
+-- Blank marks, and the first gap.
+use Rattle.std.proofs.Common.{◌≡◌, ◌≢◌, ◌<◌, ◌≤◌, ℕ, List, [], ◌∷◌, ◌++◌, length, replicate, zero, suc, true, false, Option, Some, None, refl, arith, sym, get_or, inl, inr, ⊎_elim, ◌+◌, ◌-◌, ◌⊎◌, ◌∙◌, map, take, subst}
+use Rattle.std.specs.Prelude.{All, is_some, nat_lt, filter, MatchOption}
 use Rattle.std.specs.List.{slice_get}
+use Rattle.std.proofs.lemmas.Bool.Decides.{nat_tests}
 use Rattle.std.proofs.lemmas.Option.{slice_get_within, slice_get_read}
 use Rattle.std.proofs.lemmas.List.{take_more, length-map, length-take, map-append}
-use denote.Ref.{Bor}
-use Rattle.crack_row.specs.declared.command.Entry.{Entry}
+use Rattle.std.proofs.lemmas.List.Elements.{All-head, All-tail}
+use Rattle.crack_core.specs.declared.receipt.Receipt.{Receipt}
+use Rattle.crack_table.specs.declared.kept.Kept.{Kept}
+use Rattle.crack_table.specs.declared.kinds.KindsLeft.{KindsLeft}
 use Rattle.crack_table.specs.declared.marks.Naming.{Naming}
-use Rattle.crack_table.specs.declared.marks.Naming.TheVariants.{Unnamed, Met}
-use Rattle.crack_plain.specs.Past.{Past}
-use Rattle.crack_table.specs.Cover.{unfolded}
-use Rattle.crack_table.specs.Marks.{at, MarkIsAt, Marked, IsOpenIn, IsFirstOpen}
-use Rattle.crack_table.proofs.Places.{row_of, entry_at-unfolded}
+use Rattle.crack_table.specs.declared.marks.Naming.TheVariants.{Unnamed, Met, Failed}
+use Rattle.crack_table.specs.Cover.{KeptState, told, IsKept, Place, place_at, names, IsSole, IsMetBy, IsCounted, IsSettled, SettledBelow, AllSettled, IsLeastUnmet, IsGap}
+use Rattle.crack_table.specs.Marks.{at, MarkIs, MarkIsAt, Marked, IsOpenIn, is_below, RowNoted, AreNoted}
+use Rattle.crack_table.proofs.Places.{places, read_told}
+use Rattle.crack_table.proofs.Tallies.{counted_now, counted_all, counted_unfolded}
 
-blank_row : (h : List Entry) (n : ℕ) → MarkIsAt (slice_get h n) (slice_get (replicate (length h) Unnamed) n) []
-blank_row [] n = tt
-blank_row (e ∷ es) zero = refl
-blank_row (e ∷ es) (suc n) = blank_row es n
+blank_at : (o : Option Place) (count n : ℕ) → is_some o ≡ nat_lt n count → MarkIsAt o (slice_get (replicate count Unnamed) n) []
+blank_at None zero n there = tt
+blank_at (Some place) zero n there = absurd (let f : nat_lt n 0 ≡ false = grind (arith, nat_tests) in let w : true ≡ false = there ∙ f in cc)
+blank_at None (suc count) zero there = absurd (let f : nat_lt 0 (suc count) ≡ true = grind (arith, nat_tests) in let w : false ≡ true = there ∙ f in cc)
+blank_at (Some place) (suc count) zero there = refl
+blank_at o (suc count) (suc n) there = let f : nat_lt (suc n) (suc count) ≡ nat_lt n count = grind (arith, nat_tests) in blank_at o count n (there ∙ f)
 
-pub blank_more : (pasts : List Past) (ms : List (List Naming)) (h : List Entry) → length pasts ≡ length ms → Marked pasts ms [] → Marked (pasts ++ unfolded h ∷ []) (ms ++ replicate (length h) Unnamed ∷ []) []
-blank_more [] [] h long marked zero n = rw (entry_at-unfolded h n) (blank_row h n)
-blank_more [] [] h long marked (suc p) n = tt
-blank_more [] (y ∷ ys) h long marked p n = absurd (cc)
-blank_more (x ∷ xs) [] h long marked p n = absurd (cc)
-blank_more (x ∷ xs) (y ∷ ys) h long marked zero n = marked zero n
-blank_more (x ∷ xs) (y ∷ ys) h long marked (suc p) n = blank_more xs ys h (cc) (λ q m. marked (suc q) m) p n
+pub blank_more : (kept : List KeptState) (ms : List (List Naming)) (k : KeptState) → length kept ≡ length ms → Marked kept ms [] → Marked (kept ++ k ∷ []) (ms ++ replicate (k.folded + length k.tail) Unnamed ∷ []) []
+blank_more [] [] k long marked zero n = blank_at (place_at k n) (k.folded + length k.tail) n (places k n)
+blank_more [] [] k long marked (suc p) n = tt
+blank_more [] (y ∷ ys) k long marked p n = absurd (cc)
+blank_more (x ∷ xs) [] k long marked p n = absurd (cc)
+blank_more (x ∷ xs) (y ∷ ys) k long marked zero n = marked zero n
+blank_more (x ∷ xs) (y ∷ ys) k long marked (suc p) n = blank_more xs ys k (cc) (λ q m. marked (suc q) m) p n
 
-at_row : (mss : List (List Naming)) (p n : ℕ) (row : List Naming) → slice_get mss p ≡ Some row → at mss p n ≡ slice_get row n
-at_row mss p n row is = rw is refl
+pub blank_read : (ks : List Kept) (ms : List (List Naming)) (i : ℕ) (k : Kept) → i < length ks → length ms ≡ i → k ≡ get_or ks i k → Marked (map told (take i ks)) ms [] → Marked (map told (take (i + 1) ks)) (ms ++ replicate (k.folded + length k.tail.now) Unnamed ∷ []) []
+blank_read ks ms i k lt long read marked =
+    let l : length (map told (take i ks)) ≡ length ms = simp (length-map, length-take) (omega arith) in
+    rw (take_more ks i k lt, ← read, map-append) (blank_more (map told (take i ks)) ms (told k) l marked)
 
-pub open_found : (mss : List (List Naming)) (p i : ℕ) (row : List Naming) → p < length mss → row ≡ get_or mss p row → IsOpenIn row i
-    → ((q n : ℕ) (k : Naming) → q < p → at mss q n ≡ Some k → k ≡ Met) → IsFirstOpen mss (p, i)
-open_found mss p i row lt read first before =
-    let row_is : slice_get mss p ≡ Some row = slice_get_read mss (length mss) p row refl lt read in (
-      first.0,
-      at_row mss p i row row_is ∙ first.1,
-      first.2,
-      λ q n k at_before is. ⊎_elim
-          (λ below. before q n k below is)
-          (λ here. first.3 n k here.1 (sym (at_row mss p n row row_is) ∙ (rw here.0 at is)))
-          at_before,
-    )
+-- a place whose mark is Met
+met_at : (place : Place) (o : Option Naming) (named : List Receipt) → MarkIsAt (Some place) o named → ((k : Naming) → o ≡ Some k → k ≡ Met) → IsSole place named
+met_at place None named is all = absurd is
+met_at place (Some m) named is all = let P : Naming → Type 0 = λ k. MarkIs k place named in subst P (all m refl) is
+
+met_there : (kept : KeptState) (row : List Naming) (left : KindsLeft) (p : ℕ) (rs : List Receipt) → RowNoted kept row left p rs → (n : ℕ) (place : Place) → ((k : Naming) → slice_get row n ≡ Some k → k ≡ Met) → place_at kept n ≡ Some place → IsMetBy rs p n place
+met_there kept row left p rs noted n place met is = met_at place (slice_get row n) (filter (names p n) rs) (rw is at (noted.marked n)) met
+
+-- a mark that isn't
+unmet_at : (o : Option Place) (m : Naming) (named : List Receipt) → MarkIsAt o (Some m) named → m ≢ Met → (place : Place) × (o ≡ Some place) × (¬ IsSole place named)
+unmet_at None m named is ne = absurd is
+unmet_at (Some place) Unnamed named is ne = (place, refl, λ sole. let e : [] ≡ sole.0 ∷ [] = sym is ∙ sole.1 in cc)
+unmet_at (Some place) Met named is ne = absurd (ne refl)
+unmet_at (Some place) Failed named is ne = (place, refl, is.1)
+
+pub settled : (kept : KeptState) (row : List Naming) (left : KindsLeft) (first : Option ℕ) → MatchOption first ((n : ℕ) (m : Naming) → slice_get row n ≡ Some m → m ≡ Met) (IsOpenIn row) → first ≡ None → (left.placed ≡ Some 0) × (left.gone ≡ Some 0) → (p : ℕ) (rs : List Receipt) → RowNoted kept row left p rs → IsSettled rs p kept
+settled kept row left None met is none p rs noted = record {
+  met = λ n place there. met_there kept row left p rs noted n place (met n) there;
+  counted = counted_now left rs p kept noted.counted none;
+}
+settled kept row left (Some n) met is none p rs noted = cc
+
+least_unmet : (kept : KeptState) (row : List Naming) (left : KindsLeft) (p : ℕ) (rs : List Receipt) (n : ℕ) → RowNoted kept row left p rs → IsOpenIn row n → (kept.folded ≤ n → IsCounted rs p kept) → IsLeastUnmet rs p kept n
+least_unmet kept row left p rs n noted first counted =
+    let there = unmet_at (place_at kept n) first.0 (filter (names p n) rs) (rw first.1 at (noted.marked n)) first.2 in
+    (there.0, there.1, there.2, λ m place lt is. met_there kept row left p rs noted m place (λ k k_is. first.3 m k lt k_is) is, counted)
+
+-- the gap is an first place, which is folded, or where all folded ones are counted
+pub open_gap : (kept : KeptState) (row : List Naming) (left : KindsLeft) (n : ℕ) → IsOpenIn row n → (nat_lt n kept.folded ≡ false → (left.placed ≡ Some 0) × (left.gone ≡ Some 0)) → (p : ℕ) (rs : List Receipt) → RowNoted kept row left p rs → IsGap rs p kept n
+open_gap kept row left n first none p rs noted =
+    inl (least_unmet kept row left p rs n noted first (λ above. let f : nat_lt n kept.folded ≡ false = grind (arith, nat_tests, above) in counted_now left rs p kept noted.counted (none f)))
+
+met_up_to : (row : List Naming) (first : Option ℕ) (bound : ℕ) → MatchOption first ((n : ℕ) (m : Naming) → slice_get row n ≡ Some m → m ≡ Met) (IsOpenIn row) → is_below first bound ≡ false → (n : ℕ) (k : Naming) → n < bound → slice_get row n ≡ Some k → k ≡ Met
+met_up_to row None bound met not_below n k lt is = met n k is
+met_up_to row (Some i) bound first not_below n k lt is = let l : n < i = grind (arith, nat_tests, lt, not_below) in first.3 n k l is
+
+-- there is something folded where it isn't counted
+pub some_folded : (kept : KeptState) (row : List Naming) (left : KindsLeft) (p : ℕ) (rs : List Receipt) → IsKept kept → RowNoted kept row left p rs → ¬ ((left.placed ≡ Some 0) × (left.gone ≡ Some 0)) → 0 < kept.folded
+some_folded kept row left p rs few noted not_none = by kept.folded refl
+  where
+    by : (n : ℕ) → kept.folded ≡ n → 0 < kept.folded
+    by zero is = absurd (not_none (counted_all left rs p kept noted.counted (counted_unfolded rs p kept few is)))
+    by (suc n) is = omega (arith, is)
+
+-- the gap is the last folded place, where all of these are met and not counted
+pub miscount_gap : (kept : KeptState) (row : List Naming) (left : KindsLeft) (first : Option ℕ) (n : ℕ) → MatchOption first ((n : ℕ) (m : Naming) → slice_get row n ≡ Some m → m ≡ Met) (IsOpenIn row) → is_below first kept.folded ≡ false → ¬ ((left.placed ≡ Some 0) × (left.gone ≡ Some 0)) → n + 1 ≡ kept.folded → (p : ℕ) (rs : List Receipt) → RowNoted kept row left p rs → IsGap rs p kept n
+miscount_gap kept row left first n met not_below not_none last p rs noted =
+    inr (last, λ counted. not_none (counted_all left rs p kept noted.counted counted), λ m place lt is. met_there kept row left p rs noted m place (λ k k_is. met_up_to row first kept.folded met not_below m k lt k_is) is)
+
+-- a partition's row among all
+pub row_noted : (kept : List KeptState) (ms : List (List Naming)) (kinds : List KindsLeft) (rs : List Receipt) (p : ℕ) (k : KeptState) (row : List Naming) (left : KindsLeft) → slice_get kept p ≡ Some k → slice_get ms p ≡ Some row → slice_get kinds p ≡ Some left → AreNoted kept ms kinds rs → RowNoted k row left p rs
+row_noted kept ms kinds rs p k row left k_is row_is left_is noted = record {
+  marked = λ n. rw (k_is, row_is) at (noted.marked p n);
+  counted = noted.counted p k left k_is left_is;
+}
+
+-- the same by what was read
+pub row_read : (ks : List Kept) (ms : List (List Naming)) (kinds : List KindsLeft) (rs : List Receipt) (p : ℕ) (k : Kept) (row : List Naming) (left : KindsLeft) → p < length ks → k ≡ get_or ks p k → row ≡ get_or ms p row → left ≡ get_or kinds p left → AreNoted (map told ks) ms kinds rs → RowNoted (told k) row left p rs
+row_read ks ms kinds rs p k row left lt k_is row_is left_is noted =
+    let long : length (map told ks) ≡ length ks = simp length-map refl in
+    let a : p < length ms = omega (arith, noted.rows, long, lt) in
+    let b : p < length kinds = omega (arith, noted.counts, long, lt) in
+    row_noted (map told ks) ms kinds rs p (told k) row left (read_told ks p k lt k_is) (slice_get_read ms (length ms) p row refl a row_is) (slice_get_read kinds (length kinds) p left refl b left_is) noted
+
+-- the totals that a caller tells
+pub kept_at : (ks : List Kept) (i : ℕ) (k : Kept) → All IsKept (map told ks) → i < length ks → k ≡ get_or ks i k → IsKept (told k)
+kept_at [] i k all lt read = absurd (omega arith)
+kept_at (x ∷ xs) zero k all lt read = let h = All-head IsKept (told x) (map told xs) all in let e : x ≡ k = sym read in subst (λ (y : Kept). IsKept (told y)) e h
+kept_at (x ∷ xs) (suc i) k all lt read = kept_at xs i k (All-tail IsKept (told x) (map told xs) all) (omega arith) read
 
 below_or : (q p : ℕ) → q < p + 1 → (q < p) ⊎ (q ≡ p)
 below_or q p below = grind arith
 
-pub row_met : (mss : List (List Naming)) (p : ℕ) (row : List Naming) → p < length mss → row ≡ get_or mss p row → ((n : ℕ) (m : Naming) → slice_get row n ≡ Some m → m ≡ Met)
-    → ((q n : ℕ) (k : Naming) → q < p → at mss q n ≡ Some k → k ≡ Met) → (q n : ℕ) (k : Naming) → q < p + 1 → at mss q n ≡ Some k → k ≡ Met
-row_met mss p row lt read met before q n k below is =
-    let row_is : slice_get mss p ≡ Some row = slice_get_read mss (length mss) p row refl lt read in
+-- one more partition is settled
+pub settled_more : (kept : List KeptState) (rs : List Receipt) (p : ℕ) (k : KeptState) → slice_get kept p ≡ Some k → IsSettled rs p k → SettledBelow kept rs p → SettledBelow kept rs (p + 1)
+settled_more kept rs p k k_is here before q j lt j_is =
     ⊎_elim
-    (λ (less : q < p). before q n k less is)
-    (λ (here : q ≡ p). met n k (sym (at_row mss p n row row_is) ∙ (rw here at is)))
-    (below_or q p below)
+    (λ (less : q < p). before q j less j_is)
+    (λ (same : q ≡ p).
+    let there : slice_get kept p ≡ Some j = rw same at j_is in
+    let one : k ≡ j = cc in
+    rw (same, ← one) here)
+    (below_or q p lt)
 
-pub all_met : (mss : List (List Naming)) (l : ℕ) → length mss ≤ l → ((q n : ℕ) (k : Naming) → q < l → at mss q n ≡ Some k → k ≡ Met) → (q n : ℕ) (k : Naming) → at mss q n ≡ Some k → k ≡ Met
-all_met mss l long met q n k is =
-    let row = row_of (slice_get mss q) n k is in
-    let w = slice_get_within mss q row.0 row.1 in
-    met q n k (omega (arith, w)) is
-
-pub blank_read : (hs : List (Bor (List Entry))) (ms : List (List Naming)) (i : ℕ) (h : Bor (List Entry)) → i < length hs → length ms ≡ i → h ≡ get_or hs i h → Marked (map (λ h. unfolded h.now) (take i hs)) ms [] → Marked (map (λ h. unfolded h.now) (take (i + 1) hs)) (ms ++ replicate (length h.now) Unnamed ∷ []) []
-blank_read hs ms i h lt long read marked =
-    let l : length (map (λ h. unfolded h.now) (take i hs)) ≡ length ms = simp (length-map, length-take) (omega arith) in
-    rw (take_more hs i h lt, ← read, map-append) (blank_more (map (λ h. unfolded h.now) (take i hs)) ms h.now l marked)
+pub all_settled : (kept : List KeptState) (rs : List Receipt) (bound : ℕ) → length kept ≤ bound → SettledBelow kept rs bound → AllSettled kept rs
+all_settled kept rs bound long below q k is = let w = slice_get_within kept q k is in below q k (omega (arith, w, long)) is

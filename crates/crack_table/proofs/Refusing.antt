@@ -7,11 +7,10 @@ use Rattle.crack_part.specs.Parts.{Part}
 use Rattle.crack_core.specs.Opening.{AreParts}
 use Rattle.crack_core.specs.Receipts.{BookState}
 use Rattle.crack_table.specs.Cover.{MayNotCover}
-use Rattle.crack_core.specs.Steps.{pasts_of}
-use Rattle.crack_table.specs.Gather.{receipts_of, MayNotAgree}
+use Rattle.crack_table.specs.Gather.{kept_by, receipts_of, MayNotAgree}
 
--- pasts that the receipts don't cover
-pub uncovered : (splits : List Bound) (limits : Limits) (parts : List Part) (workers : List BookState) (e : Refusal) → AreParts splits limits parts → MayNotCover (pasts_of parts) (receipts_of workers) e → MayNotAgree splits limits workers e
+-- what is kept that the receipts don't cover
+pub uncovered : (splits : List Bound) (limits : Limits) (parts : List Part) (workers : List BookState) (e : Refusal) → AreParts splits limits parts → MayNotCover (kept_by parts) (receipts_of workers) e → MayNotAgree splits limits workers e
 uncovered splits limits parts workers e are fault =
     ⊎_elim
     (λ short. inl short)

@@ -1,66 +1,127 @@
 -- When receipts cover what partitions lived through, and which place a fault names.
-use Rattle.std.specs.Prelude.{ℕ, Bool, List, [], ◌∷◌, ◌++◌, map, ◌≡◌, ◌-◌, ◌<◌, ◌⊎◌, ◌&&◌, ◌==◌, nat_lt, nat_le, not, Option, Some, None, is_some, slice_get, filter, find, All, AllPairs, if◌then◌else◌, true}
+use Rattle.std.specs.Prelude.{ℕ, Bool, List, [], ◌∷◌, ◌++◌, ◌≡◌, ◌+◌, ◌-◌, ◌<◌, ◌≤◌, ◌⊎◌, ◌&&◌, ◌==◌, nat_lt, nat_le, not, Option, Some, None, is_some, slice_get, filter, find, All, AllPairs, if◌then◌else◌, true}
 use Rattle.std.specs.List.{list_any}
-use Rattle.std.specs.Option.{option_and_then}
+use Rattle.std.specs.Option.{option_map, option_and_then}
 use Rattle.crack_row.specs.declared.command.Entry.{Entry}
 use Rattle.crack_row.specs.declared.refusal.Refusal.{Refusal}
 use Rattle.crack_row.specs.declared.refusal.Refusal.TheVariants.{OutOfMemory, StrangeReceipt}
-use Rattle.crack_plain.specs.Past.{no_base, Past}
+use Rattle.crack_plain.specs.Past.{Past}
+use Rattle.crack_plain.specs.Totals.{inserted, deleted}
 use Rattle.crack_core.specs.declared.receipt.Receipt.{Receipt}
-use Rattle.crack_core.specs.Receipts.{entry_of}
+use Rattle.crack_core.specs.Receipts.{entry_of, entries_of}
+use Rattle.crack_table.specs.declared.kept.Kept.{Kept}
 
--- the past of a partition that has folded nothing and has this tail
-abbrev pub unfolded : List Entry → Past
-unfolded tail = record { base = no_base; tail = tail }
+-- what a cover is told of a partition: how many of its commands are folded, how many of these placed a row and how many took one out, and
+-- the entries since, in order
+pub record KeptState : Type 0 where
+  pub folded : ℕ
+  pub placed : ℕ
+  pub gone : ℕ
+  pub tail : List Entry
 
--- the entry at a position of a past, counted from its opening; there is none where it was folded
-abbrev pub entry_at : Past → ℕ → Option Entry
-entry_at past position = if nat_lt position past.base.folded then None else slice_get past.tail (position - past.base.folded)
+-- what it is told by a caller
+abbrev pub told : Kept → KeptState
+told kept = record { folded = kept.folded; placed = kept.inserted; gone = kept.deleted; tail = kept.tail.now }
 
--- the entry at a place, if there is such a place
-abbrev pub entry_in : List Past → ℕ → ℕ → Option Entry
-entry_in pasts part position = option_and_then (λ past. entry_at past position) (slice_get pasts part)
+-- what is kept of a past
+abbrev pub kept_of : Past → KeptState
+kept_of past = record { folded = past.base.folded; placed = past.base.placed; gone = past.base.gone; tail = past.tail }
+
+-- no more folded commands placed rows or took them out than there are
+abbrev pub IsKept : KeptState → Type 0
+IsKept kept = kept.placed + kept.gone ≤ kept.folded
+
+-- what is known of a place: nothing but that there is one, where its entry is folded, or its entry
+pub data Place : Type 0 where
+  Folded : Place
+  Standing : Entry → Place
+
+-- the place at a position, which counts from the opening, if there is one
+abbrev pub place_at : KeptState → ℕ → Option Place
+place_at kept position = if nat_lt position kept.folded then Some Folded else option_map Standing (slice_get kept.tail (position - kept.folded))
+
+-- the place at a position of a partition, if there is one
+abbrev pub place_in : List KeptState → ℕ → ℕ → Option Place
+place_in kept part position = option_and_then (λ k. place_at k position) (slice_get kept part)
 
 -- whether a receipt names a place
 abbrev pub names : ℕ → ℕ → Receipt → Bool
 names part position r = (r.part == part) && (r.position == position)
 
--- just one receipt names the place, and its entry is this one
-abbrev pub IsMetBy : List Receipt → ℕ → ℕ → Entry → Type 0
-IsMetBy receipts part position entry = map entry_of (filter (names part position) receipts) ≡ entry ∷ []
+-- an entry is right for a place: the one that stands there, or any where it is folded
+abbrev pub IsRight : Place → Entry → Type 0
+IsRight Folded entry = Unit {0}
+IsRight (Standing own) entry = entry ≡ own
 
--- each entry is met
-abbrev pub AllMet : List Past → List Receipt → Type 0
-AllMet pasts receipts = (part position : ℕ) (entry : Entry) → entry_in pasts part position ≡ Some entry → IsMetBy receipts part position entry
+-- there is just one receipt, and its entry is right for the place
+abbrev pub IsSole : Place → List Receipt → Type 0
+IsSole place named = (r : Receipt) × (named ≡ r ∷ []) × IsRight place (entry_of r)
 
--- whether a receipt names a place of the pasts
-abbrev pub has_place : List Past → Receipt → Bool
-has_place pasts r = is_some (entry_in pasts r.part r.position)
+-- just one receipt names the place, and its entry is right there
+abbrev pub IsMetBy : List Receipt → ℕ → ℕ → Place → Type 0
+IsMetBy receipts part position place = IsSole place (filter (names part position) receipts)
+
+-- each place below a bound is met
+abbrev pub MetBelow : List Receipt → ℕ → KeptState → ℕ → Type 0
+MetBelow receipts part kept bound = (position : ℕ) (place : Place) → position < bound → place_at kept position ≡ Some place → IsMetBy receipts part position place
+
+-- the entries of the receipts that name folded places of a partition
+abbrev pub folded_entries : List Receipt → ℕ → ℕ → List Entry
+folded_entries receipts part folded = entries_of (filter (λ r. (r.part == part) && nat_lt r.position folded) receipts)
+
+-- as many of these placed a row, and took one out, as the partition tells
+abbrev pub IsCounted : List Receipt → ℕ → KeptState → Type 0
+IsCounted receipts part kept = (inserted (folded_entries receipts part kept.folded) ≡ kept.placed) × (deleted (folded_entries receipts part kept.folded) ≡ kept.gone)
+
+-- the receipts settle a partition: each place is met, and the folded ones are counted
+pub record IsSettled (receipts : List Receipt) (part : ℕ) (kept : KeptState) : Type 0 where
+  pub met : (position : ℕ) (place : Place) → place_at kept position ≡ Some place → IsMetBy receipts part position place
+  pub counted : IsCounted receipts part kept
+
+-- each partition below a bound is settled
+abbrev pub SettledBelow : List KeptState → List Receipt → ℕ → Type 0
+SettledBelow kept receipts bound = (part : ℕ) (k : KeptState) → part < bound → slice_get kept part ≡ Some k → IsSettled receipts part k
+
+-- each partition is settled
+abbrev pub AllSettled : List KeptState → List Receipt → Type 0
+AllSettled kept receipts = (part : ℕ) (k : KeptState) → slice_get kept part ≡ Some k → IsSettled receipts part k
+
+-- whether a receipt names a place that there is
+abbrev pub has_place : List KeptState → Receipt → Bool
+has_place kept r = is_some (place_in kept r.part r.position)
 
 -- of two receipts of one worker in one partition the later names the later place
 abbrev pub Rises : Receipt → Receipt → Type 0
 Rises earlier later = earlier.worker ≡ later.worker → earlier.part ≡ later.part → earlier.position < later.position
 
--- the receipts cover the pasts: each entry is met, no receipt names another place, and the receipts of one worker in one partition
--- name rising places
-pub record Covers (pasts : List Past) (receipts : List Receipt) : Type 0 where
-  pub met : AllMet pasts receipts
-  pub placed : All (λ r. has_place pasts r ≡ true) receipts
+-- the receipts cover what is kept of the partitions: each partition is settled, no receipt names another place, and the receipts of one
+-- worker in one partition name rising places
+pub record Covers (kept : List KeptState) (receipts : List Receipt) : Type 0 where
+  pub settled : AllSettled kept receipts
+  pub placed : All (λ r. has_place kept r ≡ true) receipts
   pub rising : AllPairs Rises receipts
 
--- one place stands before another: the partition first
-abbrev pub IsBefore : ℕ → ℕ → ℕ → ℕ → Type 0
-IsBefore q n part position = (q < part) ⊎ ((q ≡ part) × (n < position))
+-- the least place of a partition that isn't met, where the folded ones, if they stand below it, are counted
+abbrev pub IsLeastUnmet : List Receipt → ℕ → KeptState → ℕ → Type 0
+IsLeastUnmet receipts part kept position =
+    (place : Place) × (place_at kept position ≡ Some place) × (¬ IsMetBy receipts part position place)
+    × MetBelow receipts part kept position × (kept.folded ≤ position → IsCounted receipts part kept)
 
--- the least place whose entry isn't met
-abbrev pub IsLeastUnmet : List Past → List Receipt → ℕ → ℕ → Type 0
-IsLeastUnmet pasts receipts part position =
-    (entry : Entry) × (entry_in pasts part position ≡ Some entry) × (¬ IsMetBy receipts part position entry)
-    × ((q n : ℕ) (e : Entry) → IsBefore q n part position → entry_in pasts q n ≡ Some e → IsMetBy receipts q n e)
+-- the last folded place of a partition, where all of these are met and not counted
+abbrev pub IsMiscount : List Receipt → ℕ → KeptState → ℕ → Type 0
+IsMiscount receipts part kept position = (position + 1 ≡ kept.folded) × (¬ IsCounted receipts part kept) × MetBelow receipts part kept kept.folded
 
--- the first receipt that names no place of the pasts
-abbrev pub first_stranger : List Past → List Receipt → Option Receipt
-first_stranger pasts receipts = find (λ r. not (has_place pasts r)) receipts
+-- what keeps a partition from being settled first
+abbrev pub IsGap : List Receipt → ℕ → KeptState → ℕ → Type 0
+IsGap receipts part kept position = IsLeastUnmet receipts part kept position ⊎ IsMiscount receipts part kept position
+
+-- the gap of the first partition that isn't settled
+abbrev pub IsFirstGap : List KeptState → List Receipt → ℕ → ℕ → Type 0
+IsFirstGap kept receipts part position = (k : KeptState) × (slice_get kept part ≡ Some k) × IsGap receipts part k position × SettledBelow kept receipts part
+
+-- the first receipt that names no place
+abbrev pub first_stranger : List KeptState → List Receipt → Option Receipt
+first_stranger kept receipts = find (λ r. not (has_place kept r)) receipts
 
 -- whether a receipt's place isn't above that of an earlier one of its worker in its partition
 abbrev pub is_late : Receipt → Receipt → Bool
@@ -75,16 +136,16 @@ first_late done (r ∷ rs) = if list_any (λ earlier. is_late earlier r) done th
 abbrev pub IsPlaceOf : Option Receipt → ℕ → ℕ → Type 0
 IsPlaceOf found part position = (r : Receipt) × (found ≡ Some r) × (r.part ≡ part) × (r.position ≡ position)
 
--- the place that a fault names: the least whose entry isn't met; where all are, that of the first stranger; where there is none,
+-- the place that a fault names: that of the first gap; where there is none, that of the first stranger; where there is none,
 -- that of the first late receipt
-abbrev pub IsFault : List Past → List Receipt → ℕ → ℕ → Type 0
-IsFault pasts receipts part position =
-    IsLeastUnmet pasts receipts part position
-    ⊎ (AllMet pasts receipts × IsPlaceOf (first_stranger pasts receipts) part position)
-    ⊎ (AllMet pasts receipts × (first_stranger pasts receipts ≡ None) × IsPlaceOf (first_late [] receipts) part position)
+abbrev pub IsFault : List KeptState → List Receipt → ℕ → ℕ → Type 0
+IsFault kept receipts part position =
+    IsFirstGap kept receipts part position
+    ⊎ (AllSettled kept receipts × IsPlaceOf (first_stranger kept receipts) part position)
+    ⊎ (AllSettled kept receipts × (first_stranger kept receipts ≡ None) × IsPlaceOf (first_late [] receipts) part position)
 
 -- why a cover may be refused: 8, or 16 at the place of a fault
-abbrev pub MayNotCover : List Past → List Receipt → Refusal → Type 0
-MayNotCover pasts receipts e =
+abbrev pub MayNotCover : List KeptState → List Receipt → Refusal → Type 0
+MayNotCover kept receipts e =
     (e ≡ OutOfMemory)
-    ⊎ ((part : ℕ) × (position : ℕ) × (e ≡ StrangeReceipt part position) × IsFault pasts receipts part position)
+    ⊎ ((part : ℕ) × (position : ℕ) × (e ≡ StrangeReceipt part position) × IsFault kept receipts part position)

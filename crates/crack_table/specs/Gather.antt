@@ -1,5 +1,5 @@
 -- What a table comes to when its workers are gathered.
-use Rattle.std.specs.Prelude.{ℕ, pos, ◌-ℤ◌, zero, suc, List, length, ◌≡◌, ◌≢◌, ◌+◌, ◌^◌, ◌<◌, ◌⊎◌, ◌==◌, Some, slice_get, All, sum_by, if◌then◌else◌}
+use Rattle.std.specs.Prelude.{ℕ, pos, ◌-ℤ◌, zero, suc, List, length, map, ◌≡◌, ◌≢◌, ◌+◌, ◌^◌, ◌<◌, ◌⊎◌, ◌==◌, Some, slice_get, All, sum_by, if◌then◌else◌}
 use Rattle.std.specs.List.{list_any, flat_map}
 use Rattle.crack_row.specs.declared.Bound.{Bound}
 use Rattle.crack_row.specs.declared.limit.Limits.{Limits}
@@ -12,9 +12,8 @@ use Rattle.crack_core.specs.declared.receipt.Receipt.{Receipt}
 use Rattle.crack_core.specs.Receipts.{BookState}
 use Rattle.crack_core.specs.Opening.{AreParts}
 use Rattle.crack_core.specs.Routes.{keys_of_part}
-use Rattle.crack_core.specs.Steps.{pasts_of}
 use Rattle.crack_table.specs.Tables.{TableState}
-use Rattle.crack_table.specs.Cover.{IsFault}
+use Rattle.crack_table.specs.Cover.{KeptState, kept_of, IsFault}
 
 -- one bit for each number below the count that no worker has
 abbrev pub missing_below : List BookState → ℕ → ℕ
@@ -24,6 +23,10 @@ missing_below workers (suc number) = missing_below workers number + (if list_any
 -- the receipts of all workers, as one list
 abbrev pub receipts_of : List BookState → List Receipt
 receipts_of workers = flat_map (λ (w : BookState). w.receipts) workers
+
+-- what is kept of what partitions lived through
+abbrev pub kept_by : List Part → List KeptState
+kept_by parts = map (λ (p : Part). kept_of p.past) parts
 
 -- the partition of this number has the table's keys and limits
 abbrev pub IsTables : List Bound → Limits → ℕ → Part → Type 0
@@ -48,7 +51,7 @@ pub record AreTotals (parts : List Part) (answers placed gone left : ℕ) : Type
 abbrev pub IsWrongAt : List Bound → Limits → List Part → List BookState → ℕ → ℕ → Type 0
 IsWrongAt splits limits parts workers part position =
     (IsFirstOther splits limits parts part × (position ≡ 0))
-    ⊎ (AreParts splits limits parts × IsFault (pasts_of parts) (receipts_of workers) part position)
+    ⊎ (AreParts splits limits parts × IsFault (kept_by parts) (receipts_of workers) part position)
 
 -- why workers and the partitions behind so many locks may not come to one account: 8, or 16 at the place at which they don't
 abbrev pub MayNotAgree : List Bound → Limits → List BookState → Refusal → Type 0

@@ -1,17 +1,16 @@
 -- What private clauses alone cite.
 -- What is noted of the receipts on the way to a cover.
-use Rattle.std.specs.Prelude.{ℕ, Bool, true, false, List, [], ◌∷◌, map, ◌≡◌, ◌≢◌, ◌<◌, nat_le, Option, Some, None, filter, slice_get}
+use Rattle.std.specs.Prelude.{ℕ, zero, suc, Bool, true, false, List, [], length, ◌≡◌, ◌≢◌, ◌+◌, ◌<◌, nat_lt, nat_le, Option, Some, None, filter, slice_get}
 use Rattle.std.specs.List.{list_any}
 use Rattle.std.specs.Option.{option_and_then}
 use Rattle.std.specs.Ordering.{nat_cmp, ordering_then}
 use Rattle.std.specs.declared.cmp.Ordering.{Ordering}
-use Rattle.crack_row.specs.declared.command.Entry.{Entry}
-use Rattle.crack_plain.specs.Past.{Past}
+use Rattle.crack_plain.specs.Totals.{inserted, deleted}
 use Rattle.crack_core.specs.declared.receipt.Receipt.{Receipt}
-use Rattle.crack_core.specs.Receipts.{entry_of}
+use Rattle.crack_table.specs.declared.kinds.KindsLeft.{KindsLeft}
 use Rattle.crack_table.specs.declared.marks.Naming.{Naming}
 use Rattle.crack_table.specs.declared.marks.Naming.TheVariants.{Unnamed, Met, Failed}
-use Rattle.crack_table.specs.Cover.{entry_in, names, is_late, IsBefore}
+use Rattle.crack_table.specs.Cover.{KeptState, Place, IsSole, place_at, place_in, names, folded_entries, is_late}
 use Rattle.crack_row.specs.declared.refusal.Refusal.{Refusal}
 use Rattle.crack_row.specs.declared.refusal.Refusal.TheVariants.{HistoryFull}
 
@@ -19,39 +18,77 @@ use Rattle.crack_row.specs.declared.refusal.Refusal.TheVariants.{HistoryFull}
 abbrev pub at : {X : Type 0} → List (List X) → ℕ → ℕ → Option X
 at lists part position = option_and_then (λ list. slice_get list position) (slice_get lists part)
 
--- the mark of a place after one more receipt that names it, by whether its entry is the place's
+-- the mark of a place after one more receipt that names it, by whether its entry is right there
 abbrev pub mark_after : Naming → Bool → Naming
 mark_after Unnamed true = Met
 mark_after Unnamed false = Failed
-mark_after Met same = Failed
-mark_after Failed same = Failed
+mark_after Met right = Failed
+mark_after Failed right = Failed
 
 -- what a mark says of the receipts that name its place
-abbrev pub MarkIs : Naming → Entry → List Receipt → Type 0
-MarkIs Unnamed entry named = named ≡ []
-MarkIs Met entry named = map entry_of named ≡ entry ∷ []
-MarkIs Failed entry named = (named ≢ []) × (map entry_of named ≢ entry ∷ [])
+abbrev pub MarkIs : Naming → Place → List Receipt → Type 0
+MarkIs Unnamed place named = named ≡ []
+MarkIs Met place named = IsSole place named
+MarkIs Failed place named = (named ≢ []) × (¬ IsSole place named)
 
--- the place has a mark where it has an entry, and what it says is so
-abbrev pub MarkIsAt : Option Entry → Option Naming → List Receipt → Type 0
-MarkIsAt (Some entry) (Some mark) named = MarkIs mark entry named
+-- there is a mark where there is a place, and what it says is so
+abbrev pub MarkIsAt : Option Place → Option Naming → List Receipt → Type 0
+MarkIsAt (Some place) (Some mark) named = MarkIs mark place named
 MarkIsAt None None named = Unit {0}
 MarkIsAt None (Some mark) named = ⊥
-MarkIsAt (Some entry) None named = ⊥
+MarkIsAt (Some place) None named = ⊥
 
 -- the marks are those of these receipts
-abbrev pub Marked : List Past → List (List Naming) → List Receipt → Type 0
-Marked pasts marks receipts = (part position : ℕ) → MarkIsAt (entry_in pasts part position) (at marks part position) (filter (names part position) receipts)
+abbrev pub Marked : List KeptState → List (List Naming) → List Receipt → Type 0
+Marked kept marks receipts = (part position : ℕ) → MarkIsAt (place_in kept part position) (at marks part position) (filter (names part position) receipts)
+
+-- how many are still to come, after one more that counts or doesn't; nothing where more came than were told
+abbrev pub left_after : Bool → Option ℕ → Option ℕ
+left_after false left = left
+left_after true None = None
+left_after true (Some zero) = None
+left_after true (Some (suc left)) = Some left
+
+-- so many are still to come of those told, or more came
+abbrev pub LeftIs : Option ℕ → ℕ → ℕ → Type 0
+LeftIs (Some left) told came = left + came ≡ told
+LeftIs None told came = told < came
+
+-- how many folded receipts of each kind are still to come
+abbrev pub AreLeft : KindsLeft → List Receipt → ℕ → KeptState → Type 0
+AreLeft left receipts part kept =
+    LeftIs left.placed kept.placed (inserted (folded_entries receipts part kept.folded))
+    × LeftIs left.gone kept.gone (deleted (folded_entries receipts part kept.folded))
+
+-- whether a position of a partition, if there is one, is folded
+abbrev pub in_folded : Option KeptState → ℕ → Bool
+in_folded None position = false
+in_folded (Some kept) position = nat_lt position kept.folded
+
+-- the same of each partition
+abbrev pub Counted : List KeptState → List KindsLeft → List Receipt → Type 0
+Counted kept kinds receipts = (part : ℕ) (k : KeptState) (left : KindsLeft) → slice_get kept part ≡ Some k → slice_get kinds part ≡ Some left → AreLeft left receipts part k
+
+-- a partition's row of marks, and what is still to come, are those of these receipts
+pub record RowNoted (kept : KeptState) (row : List Naming) (left : KindsLeft) (part : ℕ) (receipts : List Receipt) : Type 0 where
+  pub marked : (position : ℕ) → MarkIsAt (place_at kept position) (slice_get row position) (filter (names part position) receipts)
+  pub counted : AreLeft left receipts part kept
+
+-- the receipts that were noted are these
+pub record AreNoted (kept : List KeptState) (marks : List (List Naming)) (kinds : List KindsLeft) (receipts : List Receipt) : Type 0 where
+  pub rows : length marks ≡ length kept
+  pub counts : length kinds ≡ length kept
+  pub marked : Marked kept marks receipts
+  pub counted : Counted kept kinds receipts
 
 -- the first place of a row whose mark isn't Met
 abbrev pub IsOpenIn : List Naming → ℕ → Type 0
 IsOpenIn row place = (m : Naming) × (slice_get row place ≡ Some m) × (m ≢ Met) × ((n : ℕ) (k : Naming) → n < place → slice_get row n ≡ Some k → k ≡ Met)
 
--- the first place whose mark isn't Met
-abbrev pub IsFirstOpen : List (List Naming) → ℕ × ℕ → Type 0
-IsFirstOpen marks place =
-    (m : Naming) × (at marks place.0 place.1 ≡ Some m) × (m ≢ Met)
-    × ((q n : ℕ) (k : Naming) → IsBefore q n place.0 place.1 → at marks q n ≡ Some k → k ≡ Met)
+-- whether a place is below a bound, if there is one
+abbrev pub is_below : Option ℕ → ℕ → Bool
+is_below None bound = false
+is_below (Some place) bound = nat_lt place bound
 
 -- whether a position isn't above the last one, if there is one
 abbrev pub is_late_at : Option ℕ → ℕ → Bool

@@ -10,7 +10,7 @@ use Rattle.crack_row.specs.declared.command.Command.{Command}
 use Rattle.crack_row.specs.declared.command.Reply.{Reply}
 use Rattle.crack_row.specs.declared.layout.Layout.{Layout}
 use Rattle.crack_row.specs.declared.refusal.Refusal.{Refusal}
-use Rattle.crack_row.specs.declared.refusal.Refusal.TheVariants.{KeyOutside, NoSuchPartition, HistoryFull, GateGaveUp, OutOfMemory}
+use Rattle.crack_row.specs.declared.refusal.Refusal.TheVariants.{KeyOutside, NoSuchPartition, HistoryFull, GateGaveUp, OutOfMemory, NoCell, LifeOver}
 use Rattle.crack_plain.specs.Plain.{IsSmall}
 use Rattle.crack_core.specs.Receipts.{BookState}
 use Rattle.crack_core.specs.Routes.{AreSplits}
@@ -40,6 +40,8 @@ MayRefuse table may_refuse part command NoSuchPartition = length table.splits < 
 MayRefuse table may_refuse part command (HistoryFull entries) = entries ≡ table.limits.history
 MayRefuse table may_refuse part command GateGaveUp = (turn : ℕ) → turn < GATE_TURNS → may_refuse turn
 MayRefuse table may_refuse part command OutOfMemory = Unit {0}
+MayRefuse table may_refuse part command NoCell = Unit {0}
+MayRefuse table may_refuse part command LifeOver = Unit {0}
 MayRefuse table may_refuse part command _ = ⊥
 
 -- A worker asks one partition: it is answered, and its book has a receipt of that, or refused for a cause, and its book has those that it had.
@@ -55,6 +57,12 @@ pub record AsksTable (table : TableState) (may_refuse : ℕ → Type 0) (part : 
 -- A worker looks at one partition: it is told a layout of ends of its own, or refused where there is no such partition, and for want of memory.
 pub record LooksAt (table : TableState) (part : ℕ) (result : Result Layout Refusal) : Type 0 where
   pub equations : IfOk result (λ layout. (ends : Range) × IsLayout ends layout)
+  pub there : OnOk result (part ≤ length table.splits)
+  pub nowhere : length table.splits < part → result ≡ Err NoSuchPartition
+  pub err : part ≤ length table.splits → IfErr result (λ e. e ≡ OutOfMemory)
+
+-- A worker folds one partition: it is told how many entries went, or refused where there is no such partition, and for want of memory.
+pub record FoldsAt (table : TableState) (part : ℕ) (result : Result ℕ Refusal) : Type 0 where
   pub there : OnOk result (part ≤ length table.splits)
   pub nowhere : length table.splits < part → result ≡ Err NoSuchPartition
   pub err : part ≤ length table.splits → IfErr result (λ e. e ≡ OutOfMemory)

@@ -6,15 +6,15 @@ ghost use Rattle.crack_part.specs.Parts.{IsSound};
 ghost use Rattle.crack_core.specs.Receipts.{BookState, AreShares, entries_of};
 ghost use Rattle.crack_core.specs.Opening.{AreParts};
 ghost use Rattle.crack_core.specs.Routes.{AreSplits};
-ghost use Rattle.crack_core.specs.Steps.{pasts_of};
-ghost use Rattle.crack_table.specs.Cover.{unfolded, Covers};
-ghost use Rattle.crack_table.specs.Gather.{receipts_of, IsTables, IsFirstOther, AreTotals, MayNotAgree};
+ghost use Rattle.crack_table.specs.Cover.{told, kept_of, Covers};
+ghost use Rattle.crack_table.specs.Gather.{kept_by, receipts_of, IsTables, IsFirstOther, AreTotals, MayNotAgree};
 
 use crate::covering::cover;
+use crate::kept::Kept;
 use crate::worker::Worker;
 use crack_core::{Receipt, keys_of_part};
 use crack_part::Partition;
-use crack_row::{Bound, Entry, Limits, Refusal};
+use crack_row::{Bound, Limits, Refusal};
 use std::alloc::{AllocError, Global};
 
 /// The sums of the workers' shares, and how many rows are left.
@@ -26,7 +26,7 @@ pub(crate) struct Sums {
     pub(crate) held: u64,
 }
 
-/// The sums where the partitions are those of the splits and the limits, and the workers' receipts cover their histories.
+/// The sums where the partitions are those of the splits and the limits, and the workers' receipts cover what they lived through.
 /// Refused with 16 at the first partition that is another, or as `cover` is; with 8 where it finds no memory.
 pub(crate) fn account(
     alloc: Global,
@@ -38,7 +38,7 @@ pub(crate) fn account(
     requires count { length parts.now.items ≡ length splits.now + 1 }
     requires rising { AreSplits splits.now }
     ensures parts { OnOk result (AreParts splits.now limits parts.now.items) }
-    ensures covered { OnOk result (Covers (pasts_of parts.now.items) (receipts_of workers.now.items)) }
+    ensures covered { OnOk result (Covers (kept_by parts.now.items) (receipts_of workers.now.items)) }
     ensures shares { IfOk result (λ s. AreShares (receipts_of workers.now.items) s.accepted s.inserted s.deleted) }
     ensures totals { IfOk result (λ s. AreTotals parts.now.items s.accepted s.inserted s.deleted s.held) }
     ensures causes { IfErr result (MayNotAgree splits.now limits workers.now.items) }
@@ -47,9 +47,9 @@ pub(crate) fn account(
     if let Some(part) = first_other(splits, limits, parts) {
         return Err(Refusal::StrangeReceipt { part, position: 0 });
     }
-    let histories = histories_in(alloc, parts)?;
+    let kept = kept_in(alloc, parts)?;
     let receipts = receipts_in(alloc, workers)?;
-    match cover(alloc, histories.as_slice(), receipts.as_slice()) {
+    match cover(alloc, kept.as_slice(), receipts.as_slice()) {
         Ok(()) => Ok(sums_of(parts, workers)),
         Err(refusal) => Err(refusal),
     }
@@ -89,19 +89,28 @@ fn is_tables(splits: &[Bound], limits: Limits, part: usize, partition: &Partitio
     partition.keys() == keys_of_part(splits, part) && partition.limits() == limits
 }
 
-/// The histories of partitions.
-fn histories_in<'a>(
-    alloc: Global,
-    parts: &'a Vec<Partition>,
-) -> Result<Vec<&'a [Entry]>, AllocError>
+/// What partitions keep of what they lived through.
+fn kept_in<'a>(alloc: Global, parts: &'a Vec<Partition>) -> Result<Vec<Kept<'a>>, AllocError>
     requires sound { All IsSound parts.now.items }
-    ensures { IfOk result (λ v. map (λ h. unfolded h.now) v.items ≡ pasts_of parts.now.items) }
+    ensures { IfOk result (λ v. map told v.items ≡ kept_by parts.now.items) }
 {
-    let mut histories = Vec::with_capacity(alloc, parts.len())?;
+    let mut kept = Vec::with_capacity(alloc, parts.len())?;
     'parts: for part in parts {
-        histories.push(part.history())?;
+        kept.push(kept_of(part))?;
     }
-    Ok(histories)
+    Ok(kept)
+}
+
+/// What a partition keeps of what it lived through.
+fn kept_of(part: &Partition) -> Kept<'_>
+    ensures { told result ≡ kept_of part.now.past }
+{
+    Kept {
+        folded: part.folded(),
+        inserted: part.folded_insertions(),
+        deleted: part.folded_deletions(),
+        tail: part.history(),
+    }
 }
 
 /// The receipts of workers, a list for each.
@@ -118,9 +127,9 @@ fn receipts_in<'a>(
     Ok(receipts)
 }
 
-/// The sums of the shares of workers whose receipts cover the histories of partitions: O(workers).
+/// The sums of the shares of workers whose receipts cover what partitions lived through: O(workers).
 fn sums_of(parts: &Vec<Partition>, workers: &Vec<Worker>) -> Sums
-    requires covered { Covers (pasts_of parts.now.items) (receipts_of workers.now.items) }
+    requires covered { Covers (kept_by parts.now.items) (receipts_of workers.now.items) }
     requires sound { All IsSound parts.now.items }
     requires few { length parts.now.items ≤ 64 }
     ensures shares { AreShares (receipts_of workers.now.items) result.accepted result.inserted result.deleted }

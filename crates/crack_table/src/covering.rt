@@ -1,36 +1,47 @@
-//! Whether receipts cover histories.
-ghost use Rattle.std.specs.Prelude.{◌≡◌, ◌<◌, ◌≤◌, ◌^◌, ℕ, List, [], ◌∷◌, ◌++◌, map, length, IfOk, IfErr, OnOk, IsTrue, ◌↔◌, IfSome, IfNone, Some, vec_len};
+//! Whether receipts cover what partitions lived through.
+ghost use Rattle.std.specs.Prelude.{◌≡◌, ◌≤◌, ◌^◌, ℕ, List, [], ◌∷◌, ◌++◌, map, length, All, IfOk, IfErr, IfSome, IfNone, MatchOption, OnOk, None, Some, slice_get};
+ghost use Rattle.std.specs.Bool.{Decides};
 ghost use Rattle.std.specs.List.{flat_map};
-ghost use Rattle.std.specs.Option.{option_map, option_copied};
-ghost use Rattle.crack_plain.specs.Past.{Past};
+ghost use Rattle.std.specs.Option.{option_map};
 ghost use Rattle.crack_core.specs.declared.receipt.Receipt.{Receipt};
 ghost use Rattle.crack_core.specs.Receipts.{entry_of};
-ghost use Rattle.crack_table.specs.declared.marks.Naming.{Naming};
-ghost use Rattle.crack_table.specs.declared.marks.Naming.TheVariants.{Met};
-ghost use Rattle.crack_table.specs.Cover.{unfolded, entry_in, first_stranger, Covers, IsFault, MayNotCover};
-ghost use Rattle.crack_table.specs.Marks.{at, named_place, Marked, IsFirstOpen};
+ghost use Rattle.crack_table.specs.Cover.{told, KeptState, IsKept, Place, place_in, IsRight, AllSettled, IsFirstGap, first_stranger, Covers, IsFault, MayNotCover};
+ghost use Rattle.crack_table.specs.Marks.{named_place, in_folded, Marked, Counted, AreNoted};
 
+use crate::gaps::gap_in;
+use crate::kept::Kept;
+use crate::kinds::KindsLeft;
 use crate::marks::MarkRow;
 use crate::order::first_late;
 use crack_core::Receipt;
-use crack_row::{Entry, Refusal};
+use crack_row::Refusal;
 use std::alloc::{AllocError, Global};
 
-/// Whether the receipts, read as one list, cover the histories: each entry's place is named by exactly one receipt, which has that entry,
-/// no receipt names another place, and one worker's receipts in one partition name rising places in the order of the list.
-/// Refused with 16 at the least place (partition first) whose entry fails; where all entries are met, at the place that the first stranger
-/// in the list names; where there is no stranger, at that of the first receipt whose place isn't above that of an earlier one of its worker
-/// in that partition. Refused with 8 where it finds no memory, of which it takes a byte for each entry.
-/// O(entries + receipts), but for a logarithm of the workers and partitions that the receipts name.
-/// The histories are at most as many as 32 bits number, since a refusal names one of them by its number.
-pub fn cover(alloc: Global, histories: &[&[Entry]], receipts: &[&[Receipt]]) -> Result<(), Refusal>
-    requires few { length histories.now ≤ 2 ^ 32 }
-    ensures covers { OnOk result (Covers (map (λ h. unfolded h.now) histories.now) (flat_map (λ r. r.now) receipts.now)) }
-    ensures fault { IfErr result (MayNotCover (map (λ h. unfolded h.now) histories.now) (flat_map (λ r. r.now) receipts.now)) }
+/// What is noted of the receipts: a row of marks for each partition, and how many receipts of its folded commands are still to come.
+#[derive(Drop)]
+pub(crate) struct Notes {
+    marks: Vec<MarkRow>,
+    kinds: Vec<KindsLeft>,
+}
+
+/// Whether the receipts, read as one list, cover what is kept of the partitions: each place is named by exactly one receipt, which has the
+/// entry that stands there, if it isn't folded; as many receipts of folded places placed a row, and took one out, as the partition tells;
+/// no receipt names another place; and one worker's receipts in one partition name rising places in the order of the list.
+/// Refused with 16 at the least place (partition first) that fails. Of one partition the folded places go first, then their totals, which
+/// fail at the last of these places, and then the entries that stand. Where all of them are met it is the place that the first stranger in
+/// the list names; where there is no stranger, that of the first receipt whose place isn't above that of an earlier one of its worker
+/// in that partition. Refused with 8 where it finds no memory, of which it takes a byte for each place.
+/// O(places + receipts), but for a logarithm of the workers and partitions that the receipts name.
+/// The partitions are at most as many as 32 bits number, since a refusal names one of them by its number.
+pub fn cover(alloc: Global, kept: &[Kept<'_>], receipts: &[&[Receipt]]) -> Result<(), Refusal>
+    requires few { length kept.now ≤ 2 ^ 32 }
+    requires kept { All IsKept (map told kept.now) }
+    ensures covers { OnOk result (Covers (map told kept.now) (flat_map (λ r. r.now) receipts.now)) }
+    ensures fault { IfErr result (MayNotCover (map told kept.now) (flat_map (λ r. r.now) receipts.now)) }
 {
-    let mut marks = blank(alloc, histories)?;
-    let stranger = note_lists(histories, &mut marks, receipts);
-    if let Some((part, position)) = first_open(&marks) {
+    let mut notes = blank(alloc, kept)?;
+    let stranger = note_lists(kept, &mut notes, receipts);
+    if let Some((part, position)) = first_gap(kept, &notes) {
         return Err(Refusal::StrangeReceipt { part, position });
     }
     if let Some((part, position)) = stranger {
@@ -44,102 +55,141 @@ pub fn cover(alloc: Global, histories: &[&[Entry]], receipts: &[&[Receipt]]) -> 
 
 /// States that receipts with a fault don't cover what partitions lived through, so that `cover` answers Ok exactly where they do, and does nothing.
 pub fn a_fault_is_no_cover()
-    ensures { (pasts : List Past) (receipts : List Receipt) (part position : ℕ) → IsFault pasts receipts part position → ¬ Covers pasts receipts }
+    ensures { (kept : List KeptState) (receipts : List Receipt) (part position : ℕ) → IsFault kept receipts part position → ¬ Covers kept receipts }
 {}
 
-/// A mark for each entry, which no receipt names yet.
-fn blank(alloc: Global, histories: &[&[Entry]]) -> Result<Vec<MarkRow>, AllocError>
-    ensures long { IfOk result (λ v. vec_len v ≡ length histories.now) }
-    ensures marked { IfOk result (λ v. Marked (map (λ h. unfolded h.now) histories.now) v.items []) }
+/// The notes of no receipts.
+fn blank(alloc: Global, kept: &[Kept<'_>]) -> Result<Notes, Refusal>
+    ensures noted { IfOk result (λ n. AreNoted (map told kept.now) n.marks.items n.kinds.items []) }
+    ensures err { IfErr result (λ e. e ≡ Refusal.OutOfMemory) }
 {
-    let mut marks = Vec::with_capacity(alloc, histories.len())?;
-    'histories: for history in histories {
-        let row = MarkRow::new(alloc, history.len())?;
+    let marks = blank_marks(alloc, kept)?;
+    let kinds = all_kinds(alloc, kept)?;
+    Ok(Notes { marks, kinds })
+}
+
+/// A mark for each place, which no receipt names yet.
+fn blank_marks(alloc: Global, kept: &[Kept<'_>]) -> Result<Vec<MarkRow>, Refusal>
+    ensures long { IfOk result (λ v. length v.items ≡ length kept.now) }
+    ensures marked { IfOk result (λ v. Marked (map told kept.now) v.items []) }
+    ensures err { IfErr result (λ e. e ≡ Refusal.OutOfMemory) }
+{
+    let mut marks = Vec::with_capacity(alloc, kept.len())?;
+    'parts: for each in kept {
+        let row = MarkRow::new(alloc, each.places()?)?;
         marks.push(row)?;
     }
     Ok(marks)
 }
 
+/// Of each partition all folded receipts are still to come.
+fn all_kinds(alloc: Global, kept: &[Kept<'_>]) -> Result<Vec<KindsLeft>, AllocError>
+    ensures long { IfOk result (λ v. length v.items ≡ length kept.now) }
+    ensures counted { IfOk result (λ v. Counted (map told kept.now) v.items []) }
+{
+    let mut kinds = Vec::with_capacity(alloc, kept.len())?;
+    'parts: for each in kept {
+        kinds.push(KindsLeft {
+            placed: Some(each.inserted),
+            gone: Some(each.deleted),
+        })?;
+    }
+    Ok(kinds)
+}
+
 /// Notes the receipts of all lists, and answers the place of the first that names none.
-fn note_lists(
-    histories: &[&[Entry]],
-    marks: &mut Vec<MarkRow>,
-    receipts: &[&[Receipt]],
-) -> Option<(u32, u64)>
-    requires { Marked (map (λ h. unfolded h.now) histories.now) marks.old.items [] }
-    ensures long { vec_len marks.new ≡ vec_len marks.old }
-    ensures marked { Marked (map (λ h. unfolded h.now) histories.now) marks.new.items (flat_map (λ r. r.now) receipts.now) }
-    ensures stranger { result ≡ option_map named_place (first_stranger (map (λ h. unfolded h.now) histories.now) (flat_map (λ r. r.now) receipts.now)) }
+fn note_lists(kept: &[Kept<'_>], notes: &mut Notes, receipts: &[&[Receipt]]) -> Option<(u32, u64)>
+    requires { AreNoted (map told kept.now) notes.old.marks.items notes.old.kinds.items [] }
+    ensures noted { AreNoted (map told kept.now) notes.new.marks.items notes.new.kinds.items (flat_map (λ r. r.now) receipts.now) }
+    ensures stranger { result ≡ option_map named_place (first_stranger (map told kept.now) (flat_map (λ r. r.now) receipts.now)) }
 {
     let mut stranger = None;
     'lists: for list in receipts {
-        let found = note_all(histories, marks, list);
+        let found = note_all(kept, notes, list);
         stranger = stranger.or(found);
     }
     stranger
 }
 
 /// Notes the receipts of one list, and answers the place of the first that names none.
-fn note_all(
-    histories: &[&[Entry]],
-    marks: &mut Vec<MarkRow>,
-    list: &[Receipt],
-) -> Option<(u32, u64)>
-    requires { (done : List Receipt) × Marked (map (λ h. unfolded h.now) histories.now) marks.old.items done }
-    ensures long { vec_len marks.new ≡ vec_len marks.old }
-    ensures marked { (done : List Receipt) → Marked (map (λ h. unfolded h.now) histories.now) marks.old.items done → Marked (map (λ h. unfolded h.now) histories.now) marks.new.items (done ++ list.now) }
-    ensures stranger { result ≡ option_map named_place (first_stranger (map (λ h. unfolded h.now) histories.now) list.now) }
+fn note_all(kept: &[Kept<'_>], notes: &mut Notes, list: &[Receipt]) -> Option<(u32, u64)>
+    requires { (done : List Receipt) × AreNoted (map told kept.now) notes.old.marks.items notes.old.kinds.items done }
+    ensures noted { (done : List Receipt) → AreNoted (map told kept.now) notes.old.marks.items notes.old.kinds.items done → AreNoted (map told kept.now) notes.new.marks.items notes.new.kinds.items (done ++ list.now) }
+    ensures stranger { result ≡ option_map named_place (first_stranger (map told kept.now) list.now) }
 {
     let mut stranger = None;
     'list: for receipt in list {
-        let found = note(histories, marks, receipt);
+        let found = note(kept, notes, receipt);
         stranger = stranger.or(found);
     }
     stranger
 }
 
 /// Notes one receipt, and answers its place if there is none such.
-fn note(histories: &[&[Entry]], marks: &mut Vec<MarkRow>, receipt: &Receipt) -> Option<(u32, u64)>
-    requires { (done : List Receipt) × Marked (map (λ h. unfolded h.now) histories.now) marks.old.items done }
-    ensures long { vec_len marks.new ≡ vec_len marks.old }
-    ensures marked { (done : List Receipt) → Marked (map (λ h. unfolded h.now) histories.now) marks.old.items done → Marked (map (λ h. unfolded h.now) histories.now) marks.new.items (done ++ receipt.now ∷ []) }
-    ensures stranger { result ≡ option_map named_place (first_stranger (map (λ h. unfolded h.now) histories.now) (receipt.now ∷ [])) }
+fn note(kept: &[Kept<'_>], notes: &mut Notes, receipt: &Receipt) -> Option<(u32, u64)>
+    requires { (done : List Receipt) × AreNoted (map told kept.now) notes.old.marks.items notes.old.kinds.items done }
+    ensures noted { (done : List Receipt) → AreNoted (map told kept.now) notes.old.marks.items notes.old.kinds.items done → AreNoted (map told kept.now) notes.new.marks.items notes.new.kinds.items (done ++ receipt.now ∷ []) }
+    ensures stranger { result ≡ option_map named_place (first_stranger (map told kept.now) (receipt.now ∷ [])) }
 {
-    let Some(entry) = entry_at(histories, receipt) else {
+    count(kept, &mut notes.kinds, receipt);
+    mark(kept, &mut notes.marks, receipt)
+}
+
+/// Counts one receipt, where it names a folded place.
+fn count(kept: &[Kept<'_>], kinds: &mut Vec<KindsLeft>, receipt: &Receipt)
+    requires { length kinds.old.items ≡ length kept.now }
+    ensures long { length kinds.new.items ≡ length kinds.old.items }
+    ensures counted { (done : List Receipt) → Counted (map told kept.now) kinds.old.items done → Counted (map told kept.now) kinds.new.items (done ++ receipt.now ∷ []) }
+{
+    if is_folded(kept, receipt) {
+        let left = &mut kinds[receipt.part as usize];
+        left.note(&receipt.reply);
+    }
+}
+
+/// Whether a receipt names a folded place.
+fn is_folded(kept: &[Kept<'_>], receipt: &Receipt) -> bool
+    ensures { result ≡ in_folded (slice_get (map told kept.now) receipt.now.part) receipt.now.position }
+{
+    match kept.get(receipt.part as usize) {
+        Some(each) => receipt.position < each.folded,
+        None => false,
+    }
+}
+
+/// Marks the place of one receipt, and answers it if there is none such.
+fn mark(kept: &[Kept<'_>], marks: &mut Vec<MarkRow>, receipt: &Receipt) -> Option<(u32, u64)>
+    requires { (done : List Receipt) × Marked (map told kept.now) marks.old.items done }
+    ensures long { length marks.new.items ≡ length marks.old.items }
+    ensures marked { (done : List Receipt) → Marked (map told kept.now) marks.old.items done → Marked (map told kept.now) marks.new.items (done ++ receipt.now ∷ []) }
+    ensures stranger { result ≡ option_map named_place (first_stranger (map told kept.now) (receipt.now ∷ [])) }
+{
+    let Some(right) = is_right(kept, receipt) else {
         return Some((receipt.part, receipt.position));
     };
-    let same = is_entry(entry, receipt);
     let row = &mut marks[receipt.part as usize];
-    row.note(receipt.position as usize, same);
+    row.note(receipt.position as usize, right);
     None
 }
 
-/// The entry at the place that a receipt names.
-fn entry_at<'a>(histories: &[&'a [Entry]], receipt: &Receipt) -> Option<&'a Entry>
-    ensures { option_copied result ≡ entry_in (map (λ h. unfolded h.now) histories.now) receipt.now.part receipt.now.position }
+/// Whether a receipt's entry is right for its place. `None` where there is no such place.
+fn is_right(kept: &[Kept<'_>], receipt: &Receipt) -> Option<bool>
+    ensures { MatchOption result (place_in (map told kept.now) receipt.now.part receipt.now.position ≡ None) (λ right. (place : Place) × (place_in (map told kept.now) receipt.now.part receipt.now.position ≡ Some place) × Decides right (IsRight place (entry_of receipt.now))) }
 {
-    let history: &'a [Entry] = histories.get(receipt.part as usize)?;
-    history.get(receipt.position as usize)
+    kept.get(receipt.part as usize)?.is_right(receipt)
 }
 
-/// Whether a receipt has this entry.
-fn is_entry(entry: &Entry, receipt: &Receipt) -> bool
-    ensures { IsTrue result ↔ (entry_of receipt.now ≡ entry.now) }
+/// The place of the first gap.
+fn first_gap(kept: &[Kept<'_>], notes: &Notes) -> Option<(u32, u64)>
+    requires few { length kept.now ≤ 2 ^ 32 }
+    requires kept { All IsKept (map told kept.now) }
+    requires noted { (receipts : List Receipt) × AreNoted (map told kept.now) notes.now.marks.items notes.now.kinds.items receipts }
+    ensures none { IfNone result ((receipts : List Receipt) → AreNoted (map told kept.now) notes.now.marks.items notes.now.kinds.items receipts → AllSettled (map told kept.now) receipts) }
+    ensures some { IfSome result (λ place. (receipts : List Receipt) → AreNoted (map told kept.now) notes.now.marks.items notes.now.kinds.items receipts → IsFirstGap (map told kept.now) receipts place.0 place.1) }
 {
-    entry.worker == receipt.worker
-        && entry.command == receipt.command
-        && entry.reply.is_same(&receipt.reply)
-}
-
-/// The first place whose entry isn't met.
-fn first_open(marks: &Vec<MarkRow>) -> Option<(u32, u64)>
-    requires { length marks.now.items ≤ 2 ^ 32 }
-    ensures none { IfNone result ((part position : ℕ) (m : Naming) → at marks.now.items part position ≡ Some m → m ≡ Met) }
-    ensures some { IfSome result (IsFirstOpen marks.now.items) }
-{
-    'rows: for (part, row) in marks.iter().enumerate() {
-        if let Some(position) = row.first_open() {
-            return Some((part as u32, position as u64));
+    'parts: for (part, each) in kept.iter().enumerate() {
+        if let Some(position) = gap_in(each, &notes.marks[part], &notes.kinds[part]) {
+            return Some((part as u32, position));
         }
     }
     None

@@ -4,9 +4,8 @@ ghost use Rattle.std.specs.List.{list_any};
 ghost use Rattle.crack_core.specs.Receipts.{AreShares, BookState};
 ghost use Rattle.crack_core.specs.Opening.{AreParts};
 ghost use Rattle.crack_core.specs.Routes.{AreSplits};
-ghost use Rattle.crack_core.specs.Steps.{pasts_of};
 ghost use Rattle.crack_table.specs.Cover.{Covers};
-ghost use Rattle.crack_table.specs.Gather.{missing_below, receipts_of, AreTotals, MayNotAgree, MayNotGather};
+ghost use Rattle.crack_table.specs.Gather.{kept_by, missing_below, receipts_of, AreTotals, MayNotAgree, MayNotGather};
 
 use crate::account::account;
 use crate::locks::{lock, unlock};
@@ -47,7 +46,7 @@ pub struct GatherRefused {
 pub fn gather(alloc: Global, table: Table, workers: Vec<Worker>) -> Result<Closed, GatherRefused>
     ensures all { OnOk result (missing_below workers.items table.workers ≡ 0) }
     ensures parts { IfOk result (λ c. AreParts table.splits table.limits c.parts.items) }
-    ensures covered { IfOk result (λ c. Covers (pasts_of c.parts.items) (receipts_of workers.items)) }
+    ensures covered { IfOk result (λ c. Covers (kept_by c.parts.items) (receipts_of workers.items)) }
     ensures shares { IfOk result (λ c. AreShares (receipts_of workers.items) c.accepted c.inserted c.deleted) }
     ensures totals { IfOk result (λ c. AreTotals c.parts.items c.accepted c.inserted c.deleted c.held) }
 
@@ -96,7 +95,7 @@ fn close(
     requires all { vec_len locks.old ≡ length splits.now + 1 }
     requires rising { AreSplits splits.now }
     ensures parts { IfOk result (λ c. AreParts splits.now limits c.parts.items) }
-    ensures covered { IfOk result (λ c. Covers (pasts_of c.parts.items) (receipts_of workers.now.items)) }
+    ensures covered { IfOk result (λ c. Covers (kept_by c.parts.items) (receipts_of workers.now.items)) }
     ensures shares { IfOk result (λ c. AreShares (receipts_of workers.now.items) c.accepted c.inserted c.deleted) }
     ensures totals { IfOk result (λ c. AreTotals c.parts.items c.accepted c.inserted c.deleted c.held) }
     ensures locked { OnErr result (vec_len locks.new ≡ vec_len locks.old) }
@@ -126,7 +125,7 @@ fn settle(
     requires rising { AreSplits splits.now }
     ensures taken { IfOk result (λ c. c.parts.items ≡ parts.items) }
     ensures parts { IfOk result (λ c. AreParts splits.now limits c.parts.items) }
-    ensures covered { IfOk result (λ c. Covers (pasts_of c.parts.items) (receipts_of workers.now.items)) }
+    ensures covered { IfOk result (λ c. Covers (kept_by c.parts.items) (receipts_of workers.now.items)) }
     ensures shares { IfOk result (λ c. AreShares (receipts_of workers.now.items) c.accepted c.inserted c.deleted) }
     ensures totals { IfOk result (λ c. AreTotals c.parts.items c.accepted c.inserted c.deleted c.held) }
     ensures back { IfErr result (λ e. e.1.items ≡ parts.items) }

@@ -1,10 +1,13 @@
-//! A table of partitions, each under a lock of its own; the workers that ask it, each with its receipts; and whether these cover the histories.
+//! A table of partitions, each under a lock of its own; the workers that ask it, each with its receipts; and whether these cover what the partitions lived through.
 #![tactic(auto)]
 
 mod account;
 pub mod covering;
+mod gaps;
 pub mod gate;
 pub mod gathering;
+pub mod kept;
+mod kinds;
 mod locks;
 mod marks;
 mod order;
@@ -14,6 +17,7 @@ pub mod worker;
 pub use covering::cover;
 pub use gate::{Gate, OpenGate};
 pub use gathering::{Closed, GatherRefused, gather};
+pub use kept::Kept;
 pub use table::Table;
 pub use worker::Worker;
 

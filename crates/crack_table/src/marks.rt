@@ -1,4 +1,4 @@
-//! A mark for each place of a history.
+//! A mark for each place of a partition.
 ghost use Rattle.std.specs.Prelude.{◌≡◌, ◌<◌, ℕ, length, replicate, IfOk, slice_get, slice_set, Some, MatchOption};
 ghost use Rattle.crack_table.specs.declared.marks.Naming.{Naming};
 ghost use Rattle.crack_table.specs.declared.marks.Naming.TheVariants.{Unnamed, Met};
@@ -12,13 +12,13 @@ use std::marker::Model;
 pub(crate) enum Naming {
     /// None names it.
     Unnamed,
-    /// One names it, with its entry.
+    /// One names it, with an entry that is right there.
     Met,
     /// One names it with another entry, or several name it.
     Failed,
 }
 
-/// The marks of a history. Contracts see the list.
+/// The marks of a partition. Contracts see the list.
 #[derive(Drop)]
 pub(crate) struct MarkRow {
     marks: Vec<Naming>,
@@ -42,13 +42,13 @@ impl MarkRow {
         Ok(MarkRow { marks })
     }
 
-    /// Notes one more receipt of a place, by whether its entry is the place's.
-    pub(crate) fn note(&mut self, place: usize, same: bool)
+    /// Notes one more receipt of a place, by whether its entry is right there.
+    pub(crate) fn note(&mut self, place: usize, right: bool)
         requires { place < length self.old }
-        ensures { (m : Naming) → slice_get self.old place ≡ Some m → self.new ≡ slice_set self.old place (mark_after m same) }
+        ensures { (m : Naming) → slice_get self.old place ≡ Some m → self.new ≡ slice_set self.old place (mark_after m right) }
     {
         self.marks[place] = match self.marks[place] {
-            Naming::Unnamed if same => Naming::Met,
+            Naming::Unnamed if right => Naming::Met,
             _ => Naming::Failed,
         };
     }

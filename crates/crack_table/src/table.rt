@@ -8,7 +8,7 @@ ghost use Rattle.crack_table.specs.Tables.{AreNew};
 use crate::MOST_WORKERS;
 use crate::locks::lock;
 use crate::worker::Worker;
-use crack_core::{limit_fault, open_partitions, splits_fault};
+use crack_core::{limits_fault, open_partitions, splits_fault};
 use crack_part::Partition;
 use crack_row::{Bound, Limits, Refusal};
 use std::alloc::{AllocError, Global};
@@ -38,9 +38,7 @@ impl Model for Table {
 
 impl Table {
     /// A table without rows, and its workers, numbered from 0: each split ends one partition and begins the next, and each partition's history
-    /// may have `limit` entries. Refused, in this order: with 11 where the splits don't rise strictly or one isn't 1 to `GREATEST_KEY`, with 12
-    /// where there are more than `MOST_SPLITS` of crack_core, with 13 where there aren't 1 to `MOST_WORKERS` workers, with 14 where the limit isn't 1 to
-    /// `GREATEST_LIMIT`, with 8 where it finds no memory. O(partitions + workers).
+    /// may have `limit` entries, with the greatest of the other limits. Refused as `open_with` is. O(partitions + workers).
     pub fn open(
         alloc: Global,
         splits: &[Bound],
@@ -50,19 +48,38 @@ impl Table {
         ensures table { IfOk result (λ opened. opened.0 ≡ record { splits = splits.now; limits = of_history limit; workers = workers }) }
         ensures count { IfOk result (λ opened. vec_len opened.1 ≡ workers) }
         ensures workers { IfOk result (λ opened. AreNew opened.1.items) }
-        ensures none { OnOk result (table_fault splits.now limit workers ≡ None) }
-        ensures fault { IfErr result (MayNotOpen splits.now limit workers) }
+        ensures none { OnOk result (table_fault splits.now (of_history limit) workers ≡ None) }
+        ensures fault { IfErr result (MayNotOpen splits.now (of_history limit) workers) }
     {
-        if let Some(refusal) = fault(splits, limit, workers) {
+        Table::open_with(alloc, splits, Limits::of_history(limit), workers)
+    }
+
+    /// A table without rows, and its workers, numbered from 0: each split ends one partition and begins the next, and each partition has these
+    /// limits. Refused, in this order: with 11 where the splits don't rise strictly or one isn't 1 to `GREATEST_KEY`, with 12
+    /// where there are more than `MOST_SPLITS` of crack_core, with 13 where there aren't 1 to `MOST_WORKERS` workers, with 14 where a limit
+    /// isn't 1 to the greatest of its kind, with 8 where it finds no memory. O(partitions + workers).
+    pub fn open_with(
+        alloc: Global,
+        splits: &[Bound],
+        limits: Limits,
+        workers: u64,
+    ) -> Result<(Table, Vec<Worker>), Refusal>
+        ensures table { IfOk result (λ opened. opened.0 ≡ record { splits = splits.now; limits = limits; workers = workers }) }
+        ensures count { IfOk result (λ opened. vec_len opened.1 ≡ workers) }
+        ensures workers { IfOk result (λ opened. AreNew opened.1.items) }
+        ensures none { OnOk result (table_fault splits.now limits workers ≡ None) }
+        ensures fault { IfErr result (MayNotOpen splits.now limits workers) }
+    {
+        if let Some(refusal) = fault(splits, limits, workers) {
             return Err(refusal);
         }
-        let locks = locks_of(alloc, splits, limit)?;
+        let locks = locks_of(alloc, splits, limits)?;
         let splits = Vec::from_slice(alloc, splits)?;
         let hands = hire(alloc, workers)?;
         let table = Table {
             locks,
             splits,
-            limits: Limits::of_history(limit),
+            limits,
             workers,
         };
         Ok((table, hands))
@@ -86,9 +103,9 @@ impl Table {
 }
 
 /// The first fault of an opening.
-fn fault(splits: &[Bound], limit: u64, workers: u64) -> Option<Refusal>
-    ensures value { result ≡ table_fault splits.now limit workers }
-    ensures good { result ≡ None → AreSplits splits.now × AreLimits (of_history limit) × (workers ≤ 64) }
+fn fault(splits: &[Bound], limits: Limits, workers: u64) -> Option<Refusal>
+    ensures value { result ≡ table_fault splits.now limits workers }
+    ensures good { result ≡ None → AreSplits splits.now × AreLimits limits × (workers ≤ 64) }
 {
     if let Some(refusal) = splits_fault(splits) {
         return Some(refusal);
@@ -96,18 +113,22 @@ fn fault(splits: &[Bound], limit: u64, workers: u64) -> Option<Refusal>
     if workers == 0 || workers > MOST_WORKERS {
         return Some(Refusal::BadWorkerCount);
     }
-    limit_fault(limit)
+    limits_fault(limits)
 }
 
 /// The partitions of splits, each behind a lock.
-fn locks_of(alloc: Global, splits: &[Bound], limit: u64) -> Result<Vec<Mutex<Partition>>, Refusal>
+fn locks_of(
+    alloc: Global,
+    splits: &[Bound],
+    limits: Limits,
+) -> Result<Vec<Mutex<Partition>>, Refusal>
     requires splits { AreSplits splits.now }
-    requires limit { AreLimits (of_history limit) }
+    requires limited { AreLimits limits }
     ensures all { IfOk result (λ locks. vec_len locks ≡ length splits.now + 1) }
     ensures err { IfErr result (λ e. e ≡ Refusal.OutOfMemory) }
 {
     let mut locks = Vec::with_capacity(alloc, splits.len() + 1)?;
-    let mut parts = open_partitions(alloc, splits, limit)?;
+    let mut parts = open_partitions(alloc, splits, limits)?;
     lock(&mut parts, &mut locks);
     Ok(locks)
 }

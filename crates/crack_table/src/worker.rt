@@ -1,6 +1,6 @@
 //! Workers.
 ghost use Rattle.std.specs.Prelude.{◌≡◌, []};
-ghost use Rattle.crack_table.specs.Tables.{AsksTable, LooksAt};
+ghost use Rattle.crack_table.specs.Tables.{AsksTable, FoldsAt, LooksAt};
 ghost use Rattle.crack_table.specs.Marks.{with_limit};
 
 use crate::gate::{Gate, pass};
@@ -45,7 +45,7 @@ impl Worker {
 
     /// Asks partition `part` of a table, under its lock, which it may wait for.
     /// Refused, in this order: with 5 where there is no such partition; with 8 where there is no memory for its receipt; under the lock with 7
-    /// where the gate says no at each turn; then as `Partition::apply` is, with 4, 6 and 8. After each refusal the book is as it was.
+    /// where the gate says no at each turn; then as `Partition::apply` is, with 4, 6, 10, 9 and 8. After each refusal the book is as it was.
     /// Besides what `Partition::apply` takes it is O(1), amortised, and the gate's turns.
     pub fn ask<R: Wait, G: Gate>(
         &mut self,
@@ -67,6 +67,20 @@ impl Worker {
         self.book
             .ask(part, &mut partition, command, policy)
             .map_err(|refusal| with_limit(refusal, table.limits.history))
+    }
+
+    /// Folds the history of partition `part` of a table into its base, under its lock, which it may wait for, and tells how many entries
+    /// went: for all workers its rows stay as they are, and its history begins anew. It cracks and merges nothing, and isn't kept.
+    /// Refused with 5 where there is no such partition, and with 8 where it finds no memory; nothing has changed then. It holds this one
+    /// lock, for the time that `Partition::checkpoint` takes.
+    pub fn checkpoint<R: Wait>(&self, rt: &R, table: &Table, part: u32) -> Result<u64, Refusal>
+        ensures { FoldsAt table.now part result }
+    {
+        let Some(lock) = table.locks.get(part as usize) else {
+            return Err(Refusal::NoSuchPartition);
+        };
+        let mut partition = lock.lock(rt);
+        partition.checkpoint()
     }
 
     /// What stands where in partition `part` of a table, read under its lock, which it may wait for. It cracks and merges nothing, and isn't kept.

@@ -1,7 +1,9 @@
-//! Receipts beside histories.
+//! Receipts beside what partitions keep.
+ghost use Rattle.std.specs.Prelude.{◌+◌, ◌≤◌};
+
 use crack_core::Receipt;
 use crack_row::{Command, Entry, Key, KeyRange, Payload, Refusal, Reply, Serial};
-use crack_table::cover;
+use crack_table::{Kept, cover};
 use std::alloc::Global;
 
 /// A count of all keys by worker 3, which found none, as an entry.
@@ -24,6 +26,28 @@ fn receipt(part: u32, position: u64) -> Receipt {
     }
 }
 
+/// What a partition keeps that has folded nothing.
+fn standing(tail: &[Entry]) -> Kept<'_> {
+    Kept {
+        folded: 0,
+        inserted: 0,
+        deleted: 0,
+        tail,
+    }
+}
+
+/// What a partition keeps that has folded two commands, of which so many placed a row and took one out.
+fn two_folded(inserted: u64, deleted: u64, tail: &[Entry]) -> Kept<'_>
+    requires { inserted + deleted ≤ 2 }
+{
+    Kept {
+        folded: 2,
+        inserted,
+        deleted,
+        tail,
+    }
+}
+
 /// Refusal 16 at this place.
 fn strange(part: u32, position: u64) -> Result<(), Refusal> {
     Err(Refusal::StrangeReceipt { part, position })
@@ -34,7 +58,7 @@ fn receipts_of_all_entries_cover_them(rt: HostRuntime) {
     let history = [entry(), entry()];
     let found = cover(
         rt.alloc(),
-        &[&history, &[]],
+        &[standing(&history), standing(&[])],
         &[&[receipt(0, 0)], &[receipt(0, 1)]],
     );
     assert_eq!(rt; found, Ok(()));
@@ -42,46 +66,61 @@ fn receipts_of_all_entries_cover_them(rt: HostRuntime) {
 
 #[test]
 fn a_receipt_without_entries_is_strange(rt: HostRuntime) {
-    let found = cover(rt.alloc(), &[&[]], &[&[receipt(0, 0)]]);
+    let found = cover(rt.alloc(), &[standing(&[])], &[&[receipt(0, 0)]]);
     assert_eq!(rt; found, strange(0, 0));
 }
 
 #[test]
 fn a_receipt_given_twice_is_strange(rt: HostRuntime) {
     let history = [entry()];
-    let found = cover(rt.alloc(), &[&history], &[&[receipt(0, 0), receipt(0, 0)]]);
+    let found = cover(
+        rt.alloc(),
+        &[standing(&history)],
+        &[&[receipt(0, 0), receipt(0, 0)]],
+    );
     assert_eq!(rt; found, strange(0, 0));
 }
 
 #[test]
 fn an_entry_without_receipt_goes_before_a_stranger(rt: HostRuntime) {
     let history = [entry()];
-    let found = cover(rt.alloc(), &[&[], &history], &[&[receipt(5, 7)]]);
+    let found = cover(
+        rt.alloc(),
+        &[standing(&[]), standing(&history)],
+        &[&[receipt(5, 7)]],
+    );
     assert_eq!(rt; found, strange(1, 0));
 }
 
 #[test]
 fn a_receipt_of_another_place_is_a_stranger(rt: HostRuntime) {
     let history = [entry()];
-    let found = cover(rt.alloc(), &[&history], &[&[receipt(0, 0), receipt(5, 7)]]);
+    let found = cover(
+        rt.alloc(),
+        &[standing(&history)],
+        &[&[receipt(0, 0), receipt(5, 7)]],
+    );
     assert_eq!(rt; found, strange(5, 7));
 }
 
 #[test]
 fn receipts_out_of_order_are_strange(rt: HostRuntime) {
     let history = [entry(), entry()];
-    let found = cover(rt.alloc(), &[&history], &[&[receipt(0, 1), receipt(0, 0)]]);
+    let found = cover(
+        rt.alloc(),
+        &[standing(&history)],
+        &[&[receipt(0, 1), receipt(0, 0)]],
+    );
     assert_eq!(rt; found, strange(0, 0));
 }
 
-/// A history's number is one of 32 bits, so there may be more of them than partitions.
+/// A partition's number is one of 32 bits, so more may be kept than a table has.
 #[test]
-fn more_histories_than_partitions_are_covered(rt: HostRuntime) {
+fn more_than_a_table_has_are_covered(rt: HostRuntime) {
     let history = [entry()];
-    let empty: [Entry; 0] = [];
-    let mut histories = [empty.as_slice(); 101];
-    histories[100] = history.as_slice();
-    let found = cover(rt.alloc(), &histories, &[&[receipt(100, 0)]]);
+    let mut kept = [standing(&[]); 101];
+    kept[100] = standing(&history);
+    let found = cover(rt.alloc(), &kept, &[&[receipt(100, 0)]]);
     assert_eq!(rt; found, Ok(()));
 }
 
@@ -107,6 +146,89 @@ fn an_altered_receipt_is_strange(rt: HostRuntime) {
         command: insert(2),
         reply: Reply::Placed(Serial(0)),
     }];
-    let found = cover(rt.alloc(), &[&history], &[&altered]);
+    let found = cover(rt.alloc(), &[standing(&history)], &[&altered]);
+    assert_eq!(rt; found, strange(0, 0));
+}
+
+/// What worker 5 was replied to an insert or a delete, at this position of partition 0.
+fn changed(position: u64, reply: Reply) -> Receipt {
+    Receipt {
+        part: 0,
+        position,
+        worker: 5,
+        command: insert(1),
+        reply,
+    }
+}
+
+/// A row was placed.
+fn placed() -> Reply {
+    Reply::Placed(Serial(0))
+}
+
+#[test]
+fn folded_places_are_named_by_position_alone(rt: HostRuntime) {
+    let history = [entry()];
+    let kept = [two_folded(0, 0, &history)];
+    let receipts = [receipt(0, 1), receipt(0, 2)];
+    let other = [changed(0, Reply::NoRow)];
+    let found = cover(rt.alloc(), &kept, &[&receipts, &other]);
+    assert_eq!(rt; found, Ok(()));
+}
+
+#[test]
+fn a_folded_place_named_by_two_workers_is_strange(rt: HostRuntime) {
+    let kept = [two_folded(0, 0, &[])];
+    let other = [changed(0, Reply::NoRow)];
+    let found = cover(rt.alloc(), &kept, &[&[receipt(0, 0)], &other]);
+    assert_eq!(rt; found, strange(0, 0));
+}
+
+#[test]
+fn a_folded_place_without_receipt_is_strange(rt: HostRuntime) {
+    let kept = [two_folded(0, 0, &[])];
+    let found = cover(rt.alloc(), &kept, &[&[receipt(0, 0)]]);
+    assert_eq!(rt; found, strange(0, 1));
+}
+
+#[test]
+fn folded_totals_are_those_of_the_receipts(rt: HostRuntime) {
+    let kept = [two_folded(1, 0, &[])];
+    let receipts = [changed(0, Reply::NoRow), changed(1, placed())];
+    let found = cover(rt.alloc(), &kept, &[&receipts]);
+    assert_eq!(rt; found, Ok(()));
+}
+
+#[test]
+fn other_folded_totals_are_strange_at_the_last_place(rt: HostRuntime) {
+    let history = [entry()];
+    let kept = [two_folded(0, 1, &history)];
+    let receipts = [changed(0, Reply::NoRow), changed(1, placed())];
+    let found = cover(rt.alloc(), &kept, &[&receipts]);
+    assert_eq!(rt; found, strange(0, 1));
+}
+
+#[test]
+fn more_folded_rows_than_told_are_strange(rt: HostRuntime) {
+    let kept = [two_folded(1, 0, &[])];
+    let receipts = [changed(0, placed()), changed(1, placed())];
+    let found = cover(rt.alloc(), &kept, &[&receipts]);
+    assert_eq!(rt; found, strange(0, 1));
+}
+
+#[test]
+fn an_entry_of_an_earlier_partition_goes_before_a_folded_place(rt: HostRuntime) {
+    let history = [entry()];
+    let kept = [standing(&history), two_folded(0, 0, &[])];
+    let found = cover(rt.alloc(), &kept, &[&[receipt(1, 0)]]);
+    assert_eq!(rt; found, strange(0, 0));
+}
+
+#[test]
+fn the_order_is_tested_over_folded_places_too(rt: HostRuntime) {
+    let history = [entry()];
+    let kept = [two_folded(0, 0, &history)];
+    let receipts = [receipt(0, 1), receipt(0, 2), receipt(0, 0)];
+    let found = cover(rt.alloc(), &kept, &[&receipts]);
     assert_eq!(rt; found, strange(0, 0));
 }

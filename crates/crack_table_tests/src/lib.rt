@@ -6,6 +6,8 @@ mod covers;
 #[cfg(test)]
 mod desks;
 #[cfg(test)]
+mod folds;
+#[cfg(test)]
 mod loads;
 #[cfg(test)]
 mod memory;

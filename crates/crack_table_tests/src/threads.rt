@@ -150,15 +150,40 @@ fn sees_own_rows<R: Wait>(rt: &R, worker: &mut Worker, table: &Table, own: u16) 
     shown && matches!(counted, Ok(Reply::Counted(1)))
 }
 
+/// 1000 inserts and 250 deletes of one worker.
+fn insert_all<R: Wait>(rt: &R, worker: &mut Worker, table: &Table, own: u16) -> bool {
+    let mut fine = true;
+    'rows: for number in 0..1000u16 {
+        fine = insert_one(rt, worker, table, own, number) && fine;
+    }
+    fine
+}
+
 /// 1000 inserts and 250 deletes of one worker, and what it sees then.
 fn work<R: Wait>(rt: &R, mut worker: Worker, table: &Table) -> (Worker, bool) {
     let own = (worker.book().worker() % 64) as u16 * 1000;
+    let placed = insert_all(rt, &mut worker, table, own);
+    let seen = sees_own_rows(rt, &mut worker, table, own);
+    (worker, placed && seen)
+}
+
+/// Whether a worker that folds both partitions is told that they were.
+fn folds_both<R: Wait>(rt: &R, worker: &Worker, table: &Table) -> bool {
+    worker.checkpoint(rt, table, 0).is_ok() && worker.checkpoint(rt, table, 1).is_ok()
+}
+
+/// The same, with a checkpoint of each partition by worker 0 between each hundred of its rows.
+fn work_and_fold<R: Wait>(rt: &R, mut worker: Worker, table: &Table) -> (Worker, bool) {
+    let own = (worker.book().worker() % 64) as u16 * 1000;
     let mut fine = true;
-    for number in 0..1000u16 {
+    'rows: for number in 0..1000u16 {
+        if own == 0 && number % 100 == 50 {
+            fine = folds_both(rt, &worker, table) && fine;
+        }
         fine = insert_one(rt, &mut worker, table, own, number) && fine;
     }
-    fine = sees_own_rows(rt, &mut worker, table, own) && fine;
-    (worker, fine)
+    let seen = sees_own_rows(rt, &mut worker, table, own);
+    (worker, fine && seen)
 }
 
 #[test]
@@ -168,6 +193,27 @@ fn four_workers_come_to_one_account(rt: HostRuntime) -> Result<(), Fail> {
     let shared = &table;
     let runtime = &rt;
     let done = thread::map_vec(&rt, workers, &|worker| work(runtime, worker, shared))?;
+    let mut back = Vec::new(alloc);
+    for (worker, fine) in done {
+        assert!(rt; fine);
+        back.push(worker)?;
+    }
+    assert_eq!(rt; totals(alloc, table, back), Ok([5004, 4000, 1000, 3000]));
+    Ok(())
+}
+
+/// The same totals, where partitions are folded amid the work.
+#[test]
+fn four_workers_come_to_one_account_over_folded_histories(rt: HostRuntime) -> Result<(), Fail> {
+    let alloc: Global = rt.alloc();
+    let (table, workers) = Table::open(alloc, &SPLITS, 1000000, 4)?;
+    let shared = &table;
+    let runtime = &rt;
+    let done = thread::map_vec(
+        &rt,
+        workers,
+        &|worker| { work_and_fold(runtime, worker, shared) },
+    )?;
     let mut back = Vec::new(alloc);
     for (worker, fine) in done {
         assert!(rt; fine);

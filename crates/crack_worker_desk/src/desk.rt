@@ -1,6 +1,6 @@
 //! A worker of a table as a desk.
 ghost use Rattle.std.specs.Prelude.{◌≡◌, ◌+◌, length, is_ok, if◌then◌else◌};
-ghost use Rattle.crack_table.specs.Tables.{AsksTable, LooksAt};
+ghost use Rattle.crack_table.specs.Tables.{AsksTable, FoldsAt, LooksAt};
 
 use crack_row::{Bound, Command, Layout, Policy, Refusal, Reply};
 use crack_session::Desk;
@@ -42,10 +42,11 @@ impl<'a, R: Wait, G: Gate> WorkerDesk<'a, R, G> {
 
 impl<'a, R: Wait, G: Gate> Desk for WorkerDesk<'a, R, G> {
     ghost use Rattle.std.specs.Prelude.{None, length};
+    ghost use Rattle.crack_core.specs.Steps.{bounds_of};
 
     ghost tables = { λ d. None };
 
-    ghost limit = { λ d. d.table.now.limits.history };
+    ghost bounds = { λ d. bounds_of d.table.now.limits };
 
     ghost splits = { λ d. d.table.now.splits };
 
@@ -59,6 +60,15 @@ impl<'a, R: Wait, G: Gate> Desk for WorkerDesk<'a, R, G> {
     {
         self.worker
             .ask(self.rt, self.table, self.gate, part, command, policy)
+    }
+
+    fn checkpoint(&mut self, part: u32) -> Result<u64, Refusal>
+        // The worker folds a partition of its table, for all workers; nothing is known of how many entries went.
+        ensures folds { FoldsAt self.old.table.now part result }
+        ensures worker { self.new.worker ≡ self.old.worker }
+        ensures table { self.new.table.now ≡ self.old.table.now }
+    {
+        self.worker.checkpoint(self.rt, self.table, part)
     }
 
     fn layout(&self, part: u32) -> Result<Layout, Refusal>

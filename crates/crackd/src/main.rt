@@ -34,7 +34,7 @@ fn words(rt: &HostRuntime) -> io::Result<Vec<String>> {
 
 /// Answers the statements of standard input on standard output.
 fn script(rt: &HostRuntime, opening: &Opening) -> Result<(), Refusal> {
-    let mut core = Core::open(rt.alloc(), opening.splits.as_slice(), opening.limit)?;
+    let mut core = Core::open_with(rt.alloc(), opening.splits.as_slice(), opening.limits)?;
     let served = serve_input(rt, &mut core, opening.policy);
     drop(core);
     served
@@ -57,7 +57,7 @@ fn serve_input(rt: &HostRuntime, core: &mut Core, policy: Policy) -> Result<(), 
 
 /// Loads the CSV records of standard input, and writes the rows to standard output.
 fn csv(rt: &HostRuntime, opening: &Opening) -> Result<(), Refusal> {
-    let mut core = Core::open(rt.alloc(), opening.splits.as_slice(), opening.limit)?;
+    let mut core = Core::open_with(rt.alloc(), opening.splits.as_slice(), opening.limits)?;
     let copied = copy_csv(rt, &mut core, opening.policy);
     drop(core);
     copied
@@ -89,7 +89,7 @@ fn batch<H: Threads + Wait + Sync>(
         handle,
         rt.alloc(),
         opening.splits.as_slice(),
-        opening.limit,
+        opening.limits,
         opening.policy,
         staffed.workers,
         &OpenGate,
@@ -105,10 +105,10 @@ fn serve_port<H: Threads + Wait + Net<Listener = TcpListener, Stream = TcpStream
     service: &Service,
 ) -> Result<(), Refusal> {
     let Staffed { opening, workers } = &service.table;
-    let (table, workers) = Table::open(
+    let (table, workers) = Table::open_with(
         rt.alloc(),
         opening.splits.as_slice(),
-        opening.limit,
+        opening.limits,
         *workers,
     )?;
     let mut writer = rt.stdout();

@@ -3,7 +3,7 @@ use Rattle.std.proofs.lemmas.List.{take_more}
 use Rattle.crack_plain.specs.Plain.{PlainView}
 use Rattle.crack_core.specs.declared.step.Step.{Step}
 use Rattle.crack_core.specs.Routes.{keys_of_part}
-use Rattle.crack_core.specs.Steps.{expected, IsOutcome, tables_of, pasts_of}
+use Rattle.crack_core.specs.Steps.{bounds_of, IsOutcome, tables_of, pasts_of}
 use Rattle.crack_core.proofs.StepLaws.{Keeps-push, AreExpectedReplies-push, MakesAll-push, table_at-kept}
 use Rattle.crack_core.proofs.cores.run_all.Goals as goal
 
@@ -24,8 +24,8 @@ steps-preserved c =
     record {
       room = omega (arith, before.room, c.push_reserved.ensures.capacity);
       count = omega (arith, before.count, ap length c.push_reserved.ensures.items, length-append results (r ∷ []));
-      replies = λ splits limits are. rw (grown, c.push_reserved.ensures.items) (AreExpectedReplies-push limits.history splits (tables_of old) front results s r (before.replies splits limits are)
-          (subst (λ (t : Option PlainView). IsOutcome (expected limits.history (keys_of_part splits s.part) t s.command) r) (table_at-kept old now s.part front results before.kept) (c.ask_at-result.ensures.outcome splits limits (before.parts splits limits are))));
+      replies = λ splits limits are. rw (grown, c.push_reserved.ensures.items) (AreExpectedReplies-push (bounds_of limits) splits (tables_of old) front results s r (before.replies splits limits are)
+          (subst (λ (t : Option PlainView). IsOutcome (bounds_of limits) (keys_of_part splits s.part) t s.command r) (table_at-kept old now s.part front results before.kept) (c.ask_at-result.ensures.outcome splits limits (before.parts splits limits are))));
       kept = rw (grown, c.push_reserved.ensures.items) (Keeps-push (pasts_of old) (pasts_of now) (pasts_of c.ask_at-result.new.partitions) front results s r long before.kept c.ask_at-result.ensures.kept);
       stores = λ splits limits are. rw (grown, c.push_reserved.ensures.items) (MakesAll-push splits limits front results s r old now c.ask_at-result.new.partitions (before.stores splits limits are) (record {
         parts = c.ask_at-result.ensures.parts splits limits (before.parts splits limits are);

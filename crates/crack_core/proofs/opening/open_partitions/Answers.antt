@@ -3,7 +3,6 @@ use Rattle.std.proofs.lemmas.List.{get_or_append_left}
 use Rattle.std.proofs.lemmas.Bool.{cases_lt}
 use Rattle.std.proofs.lemmas.List.Elements.{All-push}
 use Rattle.std.proofs.Math.Seq.{get_or-append_seam}
-use Rattle.crack_row.specs.Limits.{of_history}
 use Rattle.crack_row.specs.declared.Bound.{Bound}
 use Rattle.crack_plain.specs.Past.{no_past}
 use Rattle.crack_store.specs.Inside.{no_cells}
@@ -30,7 +29,7 @@ loop-part-preserved c =
     rw c.in_ok-push.ensures.items (record {
       count = omega (arith, length-append parts (p ∷ []), before.count);
       keys = keys-push c.args.splits.now parts p before.keys keys;
-      alike = All-push (λ (part : Part). part.limits ≡ of_history c.args.limit) parts p before.alike opened.1;
+      alike = All-push (λ (part : Part). part.limits ≡ c.args.limits) parts p before.alike opened.1;
       sound = All-push IsSound parts p before.sound c.facts.ensures;
       fresh = All-push (λ (part : Part). part.past ≡ no_past) parts p before.fresh opened.2;
       empty = All-push (λ (part : Part). part.store ≡ no_cells part.keys part.store.column_room part.store.in_room) parts p before.empty (rw opened.0 c.in_ok-partition.ensures.empty);

@@ -1,5 +1,4 @@
 use Rattle.std.proofs.Common.{◌≡◌, ◌<◌, ℕ, length, get_or, All}
-use Rattle.crack_row.specs.Limits.{of_history}
 use Rattle.crack_plain.specs.Past.{no_past}
 use Rattle.crack_store.specs.Inside.{no_cells}
 use Rattle.crack_part.specs.Parts.{Part, IsSound}
@@ -10,7 +9,7 @@ abbrev pub invariant-loop-part : goal.invariant-loop-part
 invariant-loop-part l = record {
   count : length l.parts.items ≡ l.part;
   keys : (k : ℕ) (d : Part) → k < length l.parts.items → (get_or l.parts.items k d).keys ≡ keys_of_part l.splits k;
-  alike : All (λ (part : Part). part.limits ≡ of_history l.limit) l.parts.items;
+  alike : All (λ (part : Part). part.limits ≡ l.limits) l.parts.items;
   sound : All IsSound l.parts.items;
   fresh : All (λ (part : Part). part.past ≡ no_past) l.parts.items;
   empty : All (λ (part : Part). part.store ≡ no_cells part.keys part.store.column_room part.store.in_room) l.parts.items;

@@ -10,7 +10,7 @@ parts-preserved g c = record {
   unfailed = c.in-Ok.ensures.unfailed ∙ c.parts.invariant.unfailed;
   receipts = let more = c.in-Ok.ensures.receipts in let was = c.parts.invariant.receipts in omega (arith, more, was);
   splits = c.export_part.ensures.splits ∙ c.parts.invariant.splits;
-  limit = c.export_part.ensures.limit ∙ c.parts.invariant.limit;
+  bounds = c.export_part.ensures.bounds ∙ c.parts.invariant.bounds;
 }
 
 pub returns-in-Ok-flush-clause-exported : goal.returns-in-Ok-flush-clause-exported
@@ -26,7 +26,7 @@ returns-in-Err-clause-cut g c = λ tables e. header_unsent _ _ tables _ _ _ _ _ 
 pub returns-in-Err-export_part-clause-cut : goal.returns-in-Err-export_part-clause-cut
 returns-in-Err-export_part-clause-cut g c = λ tables e.
     Exporting-cut _ _ _ _ _ _ _ _ _ (c.parts.invariant.exporting tables e) c.parts.invariant.receipts
-    (rw (c.parts.invariant.limit, c.parts.invariant.splits, c.parts.invariant.unfailed) at c.in-Err-export_part.ensures.cut)
+    (rw (c.parts.invariant.bounds, c.parts.invariant.splits, c.parts.invariant.unfailed) at c.in-Err-export_part.ensures.cut)
 
 pub returns-in-Err-flush-clause-cut : goal.returns-in-Err-flush-clause-cut
 returns-in-Err-flush-clause-cut g c = λ tables e.

@@ -11,5 +11,5 @@ invariant-parts g l = record {
   unfailed : has_failed l.writer ≡ has_failed l.fn.writer;
   receipts : g.D.Desk.receipts l.desk ≡ g.D.Desk.receipts l.fn.desk + l.part;
   splits : g.D.Desk.splits l.desk ≡ g.D.Desk.splits l.fn.desk;
-  limit : g.D.Desk.limit l.desk ≡ g.D.Desk.limit l.fn.desk;
+  bounds : g.D.Desk.bounds l.desk ≡ g.D.Desk.bounds l.fn.desk;
 }

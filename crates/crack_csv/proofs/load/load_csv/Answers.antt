@@ -21,7 +21,7 @@ records-init g c =
       few = omega arith;
       receipts = omega arith;
       splits = refl;
-      limit = refl;
+      bounds = refl;
     }
 
 pub returns-in-Ok-false-clause-loaded : goal.returns-in-Ok-false-clause-loaded
@@ -40,7 +40,7 @@ records-preserved-then-is_header_at g c = record {
   few = c.records.invariant.few;
   receipts = c.records.invariant.receipts;
   splits = c.records.invariant.splits;
-  limit = c.records.invariant.limit;
+  bounds = c.records.invariant.bounds;
 }
 
 pub returns-then-loaded-eq-MOST_RECORDS-clause-cut_short : goal.returns-then-loaded-eq-MOST_RECORDS-clause-cut_short
@@ -56,7 +56,7 @@ returns-in-Err-insert_record-clause-cut_short g c = λ bytes tables e f.
     c.in-Err-insert_record.ensures.kept
     (λ known h. inr (
       let few = c.records.invariant.few in let more = c.if-loaded-eq-MOST_RECORDS.false in omega (arith, few, more),
-      rw (c.records.invariant.limit, c.records.invariant.splits) at c.in-Err-insert_record.ensures.refused known h,
+      rw (c.records.invariant.bounds, c.records.invariant.splits) at c.in-Err-insert_record.ensures.refused known h,
     ))
 
 pub returns-clause-cut_short : goal.returns-clause-cut_short
@@ -72,5 +72,5 @@ records-preserved g c = record {
   few = let few = c.records.invariant.few in let more = c.if-loaded-eq-MOST_RECORDS.false in omega (arith, few, more);
   receipts = let more = c.in-Ok.ensures.receipts in let was = c.records.invariant.receipts in omega (arith, more, was);
   splits = c.insert_record.ensures.splits ∙ c.records.invariant.splits;
-  limit = c.insert_record.ensures.limit ∙ c.records.invariant.limit;
+  bounds = c.insert_record.ensures.bounds ∙ c.records.invariant.bounds;
 }

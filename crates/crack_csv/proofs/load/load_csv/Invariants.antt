@@ -12,5 +12,5 @@ invariant-records g l = record {
   few : l.loaded ≤ MOST_RECORDS;
   receipts : g.D.Desk.receipts l.desk ≡ g.D.Desk.receipts l.fn.desk + l.loaded;
   splits : g.D.Desk.splits l.desk ≡ g.D.Desk.splits l.fn.desk;
-  limit : g.D.Desk.limit l.desk ≡ g.D.Desk.limit l.fn.desk;
+  bounds : g.D.Desk.bounds l.desk ≡ g.D.Desk.bounds l.fn.desk;
 }

@@ -4,7 +4,7 @@ use Rattle.crack_session.proofs.answer.answer_statement.Goals as goal
 pub returns : goal.returns
 returns g c = record {
   is = search rules;
-  limit_is = c.ask_part.ensures.limit_is;
+  bounds_are = c.ask_part.ensures.bounds_are;
   splits_are = c.ask_part.ensures.splits_are;
 }
 

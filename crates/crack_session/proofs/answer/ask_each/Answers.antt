@@ -13,7 +13,7 @@ parts-init g c = record {
   count = let none = ap length c.requires.none in omega (arith, none);
   room = c.requires.room;
   splits = refl;
-  limit = refl;
+  bounds = refl;
 }
 
 pub returns-in-Err-clause-asks : goal.returns-in-Err-clause-asks
@@ -22,10 +22,10 @@ returns-in-Err-clause-asks g c = record {
       let was = c.parts.invariant.asked tables e in (
         was.0,
         AsksInTurn-stops c.args.query tables c.args.parts.now c.parts.part-index c.part-item.result c.over.result c.parts.replies.items c.in-Err.refusal was.0
-            c.parts-test.true c.part-item.is c.over.ensures was.1 (rw (c.parts.invariant.limit, c.parts.invariant.splits) at c.in-Err.ensures.outcome was.0 was.2),
+            c.parts-test.true c.part-item.is c.over.ensures was.1 (rw (c.parts.invariant.bounds, c.parts.invariant.splits) at c.in-Err.ensures.outcome was.0 was.2),
         c.in-Err.ensures.after was.0 was.2,
       );
-  limit_is = c.ask.ensures.limit ∙ c.parts.invariant.limit;
+  bounds_are = c.ask.ensures.bounds ∙ c.parts.invariant.bounds;
   splits_are = c.ask.ensures.splits ∙ c.parts.invariant.splits;
 }
 
@@ -35,12 +35,12 @@ parts-preserved g c = record {
       let was = c.parts.invariant.asked tables e in (
         _,
         AsksInTurn-more c.args.query tables c.args.parts.now c.parts.part-index c.part-item.result c.over.result c.parts.replies.items _ c.in-Ok.reply was.0
-            c.parts-test.true c.part-item.is c.over.ensures c.push_reserved.ensures.items was.1 (rw (c.parts.invariant.limit, c.parts.invariant.splits) at c.in-Ok.ensures.outcome was.0 was.2),
+            c.parts-test.true c.part-item.is c.over.ensures c.push_reserved.ensures.items was.1 (rw (c.parts.invariant.bounds, c.parts.invariant.splits) at c.in-Ok.ensures.outcome was.0 was.2),
         c.in-Ok.ensures.after was.0 was.2,
       );
   small = rw c.push_reserved.ensures.items (All-push (λ (r : PartReply). IsSmall r.reply) c.parts.replies.items _ c.parts.invariant.small c.in-Ok.ensures.small);
   count = let len = c.push_reserved.ensures.len in omega (arith, len, c.parts.invariant.count);
   room = let same = c.push_reserved.ensures.capacity in omega (arith, same, c.parts.invariant.room);
   splits = c.ask.ensures.splits ∙ c.parts.invariant.splits;
-  limit = c.ask.ensures.limit ∙ c.parts.invariant.limit;
+  bounds = c.ask.ensures.bounds ∙ c.parts.invariant.bounds;
 }

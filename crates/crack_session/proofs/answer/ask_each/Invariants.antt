@@ -7,10 +7,10 @@ use Rattle.crack_session.proofs.answer.ask_each.Given as goal
 
 abbrev pub invariant-parts : goal.invariant-parts
 invariant-parts g l = record {
-  asked : (tables : List PlainView) → g.D.Desk.tables l.fn.desk ≡ Some tables → (new : List PlainView) × AsksInTurn (g.D.Desk.limit l.fn.desk) (g.D.Desk.splits l.fn.desk) l.query tables (take l.part-index l.parts) (Ok l.replies.items) new × (g.D.Desk.tables l.desk ≡ Some new);
+  asked : (tables : List PlainView) → g.D.Desk.tables l.fn.desk ≡ Some tables → (new : List PlainView) × AsksInTurn (g.D.Desk.bounds l.fn.desk) (g.D.Desk.splits l.fn.desk) l.query tables (take l.part-index l.parts) (Ok l.replies.items) new × (g.D.Desk.tables l.desk ≡ Some new);
   small : All (λ (r : PartReply). IsSmall r.reply) l.replies.items;
   count : vec_len l.replies ≡ l.part-index;
   room : length l.parts ≤ vec_capacity l.replies;
   splits : g.D.Desk.splits l.desk ≡ g.D.Desk.splits l.fn.desk;
-  limit : g.D.Desk.limit l.desk ≡ g.D.Desk.limit l.fn.desk;
+  bounds : g.D.Desk.bounds l.desk ≡ g.D.Desk.bounds l.fn.desk;
 }

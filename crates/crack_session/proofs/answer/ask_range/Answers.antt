@@ -10,7 +10,7 @@ returns-in-Some g c =
     let asked = c.ask_part.ensures in
     record {
       is = λ tables e. let said = asked.is tables e in (said.0, rw one (rw c.over.ensures at said.1), said.2);
-      limit_is = asked.limit_is;
+      bounds_are = asked.bounds_are;
       splits_are = asked.splits_are;
     }
 
@@ -20,13 +20,13 @@ returns-in-Ok g c =
     let asked = c.ask_several.ensures in
     record {
       is = λ tables e. let said = asked.is tables e in (said.0, AsksParts-several _ (rw c.splits.ensures.value at c.in_default.ensures.several) (rw all at said.1), said.2);
-      limit_is = asked.limit_is;
+      bounds_are = asked.bounds_are;
       splits_are = asked.splits_are;
     }
 
 pub returns-in-Err : goal.returns-in-Err
 returns-in-Err g c = record {
   is = λ tables e. (tables, AsksParts-several _ (rw c.splits.ensures.value at c.in_default.ensures.several) (inr (rw c.in-Err.ensures.err refl, refl)), e);
-  limit_is = refl;
+  bounds_are = refl;
   splits_are = refl;
 }

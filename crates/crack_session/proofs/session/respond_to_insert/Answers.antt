@@ -13,7 +13,7 @@ returns-in-Ok g c = record {
       rw (← c.part_of-part.ensures) record { outcome = Ok c.in-Ok.reply; comes_out = c.in-Ok.ensures.outcome tables e; answer_is = refl; new_is = refl },
       c.in-Ok.ensures.after tables e,
     );
-    limit_is = c.ask.ensures.limit;
+    bounds_are = c.ask.ensures.bounds;
     splits_are = c.ask.ensures.splits;
   };
   tells = c.tell_reply.ensures;
@@ -28,7 +28,7 @@ returns-in-Err g c = record {
       rw (← c.part_of-part.ensures) record { outcome = Err c.in-Err.refusal; comes_out = c.in-Err.ensures.outcome tables e; answer_is = refl; new_is = refl },
       c.in-Err.ensures.after tables e,
     );
-    limit_is = c.ask.ensures.limit;
+    bounds_are = c.ask.ensures.bounds;
     splits_are = c.ask.ensures.splits;
   };
   tells = c.tell_refusal.ensures;

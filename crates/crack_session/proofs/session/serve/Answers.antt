@@ -19,7 +19,7 @@ lines-init g c = record {
   reader = refl;
   writer = refl;
   splits = refl;
-  limit = refl;
+  bounds = refl;
   end = λ over. absurd (let ended = c.new-input.ensures.ended in search rules);
   paid = λ goes_on. (refl, λ bytes e. (bytes, e, let reads = c.new-input.ensures.reads in omega (arith, reads)));
   reads = (omega (arith, c.reads-reads.ensures, c.reads-reads.type_inv, c.new-input.ensures.reads), omega (arith, c.new-input.ensures.reads));
@@ -43,29 +43,29 @@ returns-in-Err-clause-cut_off g c = λ bytes out s e f h.
 pub returns-in-Err-clause-splits : goal.returns-in-Err-clause-splits
 returns-in-Err-clause-splits g c = c.lines.invariant.splits
 
-pub returns-in-Err-clause-limit : goal.returns-in-Err-clause-limit
-returns-in-Err-clause-limit g c = c.lines.invariant.limit
+pub returns-in-Err-clause-bounds : goal.returns-in-Err-clause-bounds
+returns-in-Err-clause-bounds g c = c.lines.invariant.bounds
 
 pub returns-in-Ok-false-clause-splits : goal.returns-in-Ok-false-clause-splits
 returns-in-Ok-false-clause-splits g c = c.lines.invariant.splits
 
-pub returns-in-Ok-false-clause-limit : goal.returns-in-Ok-false-clause-limit
-returns-in-Ok-false-clause-limit g c = c.lines.invariant.limit
+pub returns-in-Ok-false-clause-bounds : goal.returns-in-Ok-false-clause-bounds
+returns-in-Ok-false-clause-bounds g c = c.lines.invariant.bounds
 
 pub returns-then-says_quit-clause-splits : goal.returns-then-says_quit-clause-splits
 returns-then-says_quit-clause-splits g c = c.respond.ensures.asks.splits_are ∙ c.lines.invariant.splits
 
-pub returns-then-says_quit-clause-limit : goal.returns-then-says_quit-clause-limit
-returns-then-says_quit-clause-limit g c = c.respond.ensures.asks.limit_is ∙ c.lines.invariant.limit
+pub returns-then-says_quit-clause-bounds : goal.returns-then-says_quit-clause-bounds
+returns-then-says_quit-clause-bounds g c = c.respond.ensures.asks.bounds_are ∙ c.lines.invariant.bounds
 
 pub returns-in-Err-respond-clause-splits : goal.returns-in-Err-respond-clause-splits
 returns-in-Err-respond-clause-splits g c = c.respond.ensures.asks.splits_are ∙ c.lines.invariant.splits
 
-pub returns-in-Err-respond-clause-limit : goal.returns-in-Err-respond-clause-limit
-returns-in-Err-respond-clause-limit g c = c.respond.ensures.asks.limit_is ∙ c.lines.invariant.limit
+pub returns-in-Err-respond-clause-bounds : goal.returns-in-Err-respond-clause-bounds
+returns-in-Err-respond-clause-bounds g c = c.respond.ensures.asks.bounds_are ∙ c.lines.invariant.bounds
 
 -- the input has ended
-at_end : (g : Over) (c : After-finish g) → IsOver (g.D.Desk.limit c.args.desk.now) (g.D.Desk.splits c.args.desk.now) (g.R.Read.remaining (device c.args.reader.now)) c.lines.progress InputEnded (g.D.Desk.tables c.args.desk.now) (g.D.Desk.tables c.lines.desk) (g.W.Write.contents (device c.args.writer.now)) (g.W.Write.contents (device c.finish.new.writer))
+at_end : (g : Over) (c : After-finish g) → IsOver (g.D.Desk.bounds c.args.desk.now) (g.D.Desk.splits c.args.desk.now) (g.R.Read.remaining (device c.args.reader.now)) c.lines.progress InputEnded (g.D.Desk.tables c.args.desk.now) (g.D.Desk.tables c.lines.desk) (g.W.Write.contents (device c.args.writer.now)) (g.W.Write.contents (device c.finish.new.writer))
 at_end g c = λ bytes e.
     let inv = c.lines.invariant.going bytes e in
     let none = rw c.in-Ok-false.field-0-test at c.in-Ok-false.ensures.line in
@@ -85,14 +85,14 @@ pub returns-in-Ok-false-clause-cut_off : goal.returns-in-Ok-false-clause-cut_off
 returns-in-Ok-false-clause-cut_off g c = finish-cut_off c.finish.result c.lines.progress InputEnded c.finish.ensures.fault (at_end g c)
 
 -- the statement was a quit
-at_quit : (g : Over) (c : After-finish-then-says_quit g) → IsOver (g.D.Desk.limit c.args.desk.now) (g.D.Desk.splits c.args.desk.now) (g.R.Read.remaining (device c.args.reader.now)) c.respond.new.progress Quit (g.D.Desk.tables c.args.desk.now) (g.D.Desk.tables c.respond.new.desk) (g.W.Write.contents (device c.args.writer.now)) (g.W.Write.contents (device c.finish-then-says_quit.new.writer))
+at_quit : (g : Over) (c : After-finish-then-says_quit g) → IsOver (g.D.Desk.bounds c.args.desk.now) (g.D.Desk.splits c.args.desk.now) (g.R.Read.remaining (device c.args.reader.now)) c.respond.new.progress Quit (g.D.Desk.tables c.args.desk.now) (g.D.Desk.tables c.respond.new.desk) (g.W.Write.contents (device c.args.writer.now)) (g.W.Write.contents (device c.finish-then-says_quit.new.writer))
 at_quit g c = λ bytes e.
     let inv = c.lines.invariant.going bytes e in
     let some = rw c.in-Ok-true.field-0-test at c.in-Ok-true.ensures.line in
     let next = some inv.0 inv.1 in
     let said = sym c.in-Some.ensures in
     let more = Going-answered g.W.Write.contents inv.0 c.next_line.new.input.line c.in-Some.reading c.in_default-respond.ensures.answer c.lines.progress c.respond.new.progress _ c.next_line.new.writer c.respond.new.writer inv.2 c.next_line.ensures.bytes next.0 next.1 said
-    (Answered-desk c.in-Some.reading c.in_default-respond.ensures.answer c.in_default-respond.ensures.asks.is c.lines.invariant.limit c.lines.invariant.splits) c.in_default-respond.ensures.tells in
+    (Answered-desk c.in-Some.reading c.in_default-respond.ensures.answer c.in_default-respond.ensures.asks.is c.lines.invariant.bounds c.lines.invariant.splits) c.in_default-respond.ensures.tells in
     let quit : is_quit c.in-Some.reading ≡ true = sym c.says_quit.ensures ∙ c.if-says_quit.true in
     Going-kept _ _ (Going-quit (statements (after_line inv.0)) (is_quit c.in-Some.reading) more quit) c.finish-then-says_quit.ensures.bytes
 
@@ -121,7 +121,7 @@ returns-in-Err-respond-clause-cut_off g c = λ bytes out s e f h.
     let said = sym c.in-Some.ensures in
     let left = Going-line _ _ inv.0 c.next_line.new.input.line c.in-Some.reading inv.2 c.next_line.ensures.bytes next.0 next.1 said in
     Going-cut_in g.W.Write.contents bytes out s c.fault-in-Err-respond.result c.in-Some.reading c.in-Err-respond.ensures.answer c.lines.progress c.respond.new.progress c.in-Err-respond.refusal _ c.next_line.new.writer c.respond.new.writer left
-    (Answered-desk c.in-Some.reading c.in-Err-respond.ensures.answer c.in-Err-respond.ensures.asks.is c.lines.invariant.limit c.lines.invariant.splits) c.in-Err-respond.ensures.tells
+    (Answered-desk c.in-Some.reading c.in-Err-respond.ensures.answer c.in-Err-respond.ensures.asks.is c.lines.invariant.bounds c.lines.invariant.splits) c.in-Err-respond.ensures.tells
     (ap (λ (x : Fault). x.done) c.fault-in-Err-respond.ensures) (ap (λ (x : Fault). x.first_short) c.fault-in-Err-respond.ensures) (ap (λ (x : Fault). x.refusal) c.fault-in-Err-respond.ensures) h f
 
 pub lines-preserved-else-says_quit : goal.lines-preserved-else-says_quit
@@ -134,7 +134,7 @@ lines-preserved-else-says_quit g c =
           let next = some inv.0 inv.1 in
           let said = sym c.in-Some.ensures in
           let more = Going-answered g.W.Write.contents inv.0 c.next_line.new.input.line c.in-Some.reading c.in_default-respond.ensures.answer c.lines.progress c.respond.new.progress _ c.next_line.new.writer c.respond.new.writer inv.2 c.next_line.ensures.bytes next.0 next.1 said
-          (Answered-desk c.in-Some.reading c.in_default-respond.ensures.answer c.in_default-respond.ensures.asks.is c.lines.invariant.limit c.lines.invariant.splits) c.in_default-respond.ensures.tells in
+          (Answered-desk c.in-Some.reading c.in_default-respond.ensures.answer c.in_default-respond.ensures.asks.is c.lines.invariant.bounds c.lines.invariant.splits) c.in_default-respond.ensures.tells in
           let goes : is_quit c.in-Some.reading ≡ false = sym c.says_quit.ensures ∙ c.if-says_quit.false in (
             after_line inv.0,
             next.2,
@@ -145,7 +145,7 @@ lines-preserved-else-says_quit g c =
       reader = let ok = c.in-Ok-true.ensures.unfailed in ok.0 ∙ c.lines.invariant.reader;
       writer = let ok = c.in-Ok-true.ensures.unfailed in c.in_default-respond.ensures.tells.writes.unfailed ∙ ok.1 ∙ c.lines.invariant.writer;
       splits = c.respond.ensures.asks.splits_are ∙ c.lines.invariant.splits;
-      limit = c.respond.ensures.asks.limit_is ∙ c.lines.invariant.limit;
+      bounds = c.respond.ensures.asks.bounds_are ∙ c.lines.invariant.bounds;
       end = c.next_line.ensures.end;
       paid = IsPaid-then start_input c.lines.input c.next_line.new.input _ _ _ c.lines.invariant.paid c.in-Ok-true.ensures.paid;
       reads = counted-then (reads_of c.args.reader.now) c.lines.input.reads c.next_line.new.input.reads 1000000000 (reads_of c.lines.reader) _ c.lines.invariant.reads.0 c.lines.invariant.reads.1 c.next_line.ensures.counted.0 c.next_line.ensures.counted.1;
@@ -169,7 +169,7 @@ lines-preserved g c = record {
   reader = let ok = c.in-Ok-true.ensures.unfailed in ok.0 ∙ c.lines.invariant.reader;
   writer = let ok = c.in-Ok-true.ensures.unfailed in ok.1 ∙ c.lines.invariant.writer;
   splits = c.lines.invariant.splits;
-  limit = c.lines.invariant.limit;
+  bounds = c.lines.invariant.bounds;
   end = c.next_line.ensures.end;
   paid = IsPaid-then start_input c.lines.input c.next_line.new.input _ _ _ c.lines.invariant.paid c.in-Ok-true.ensures.paid;
   reads = counted-then (reads_of c.args.reader.now) c.lines.input.reads c.next_line.new.input.reads 1000000000 (reads_of c.lines.reader) _ c.lines.invariant.reads.0 c.lines.invariant.reads.1 c.next_line.ensures.counted.0 c.next_line.ensures.counted.1;

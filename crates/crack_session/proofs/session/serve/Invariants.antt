@@ -11,11 +11,11 @@ use Rattle.crack_session.proofs.session.serve.Given as goal
 
 abbrev pub invariant-lines : goal.invariant-lines
 invariant-lines g l = record {
-  going : (bytes : List ℕ) → g.R.Read.remaining (device l.fn.reader) ≡ Some bytes → (u : List ℕ) × (ahead l.input (g.R.Read.remaining (device l.reader)) ≡ Some u) × Going (g.D.Desk.limit l.fn.desk) (g.D.Desk.splits l.fn.desk) (statements bytes) (statements u) l.progress.statements l.progress.first_short InputEnded (g.D.Desk.tables l.fn.desk) (g.D.Desk.tables l.desk) (g.W.Write.contents (device l.fn.writer)) (g.W.Write.contents (device l.writer)) × (l.input.ended ≡ false → AreUsed bytes u l.progress.statements);
+  going : (bytes : List ℕ) → g.R.Read.remaining (device l.fn.reader) ≡ Some bytes → (u : List ℕ) × (ahead l.input (g.R.Read.remaining (device l.reader)) ≡ Some u) × Going (g.D.Desk.bounds l.fn.desk) (g.D.Desk.splits l.fn.desk) (statements bytes) (statements u) l.progress.statements l.progress.first_short InputEnded (g.D.Desk.tables l.fn.desk) (g.D.Desk.tables l.desk) (g.W.Write.contents (device l.fn.writer)) (g.W.Write.contents (device l.writer)) × (l.input.ended ≡ false → AreUsed bytes u l.progress.statements);
   reader : has_failed l.reader ≡ has_failed l.fn.reader;
   writer : has_failed l.writer ≡ has_failed l.fn.writer;
   splits : g.D.Desk.splits l.desk ≡ g.D.Desk.splits l.fn.desk;
-  limit : g.D.Desk.limit l.desk ≡ g.D.Desk.limit l.fn.desk;
+  bounds : g.D.Desk.bounds l.desk ≡ g.D.Desk.bounds l.fn.desk;
   end : KnowsEnd l.input (g.R.Read.remaining (device l.reader));
   paid : IsPaid start_input l.input (g.R.Read.remaining (device l.fn.reader)) (g.R.Read.remaining (device l.reader));
   reads : (reads_of l.reader ≡ min (reads_of l.fn.reader + (1000000000 - l.input.reads)) (2 ^ 64 - 1)) × (l.input.reads ≤ 1000000000);

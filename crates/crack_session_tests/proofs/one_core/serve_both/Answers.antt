@@ -10,5 +10,5 @@ returns-in-Ok-serve g c = λ bytes more out e f h.
       tables_of c.serve.new.desk.parts,
       out ++ concat one.texts,
       rw one.written_is at one,
-      rw (c.serve.ensures.limit, c.serve.ensures.splits) at other,
+      rw (c.serve.ensures.bounds, c.serve.ensures.splits) at other,
     )

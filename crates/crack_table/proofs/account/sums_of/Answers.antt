@@ -18,9 +18,9 @@ overflow_sub-result c =
 
 pub returns-clause-totals : goal.returns-clause-totals
 returns-clause-totals c =
-    let a = accepted_are c.args.parts.now.items c.args.workers.now.items c.requires.covered c.requires.sound in
-    let i = inserted_are c.args.parts.now.items c.args.workers.now.items c.requires.covered c.requires.sound in
-    let d = deleted_are c.args.parts.now.items c.args.workers.now.items c.requires.covered c.requires.sound in
+    let a = accepted_are c.args.parts.now.items c.args.workers.now.items c.requires.covered in
+    let i = inserted_are c.args.parts.now.items c.args.workers.now.items c.requires.covered in
+    let d = deleted_are c.args.parts.now.items c.args.workers.now.items c.requires.covered in
     let h = held_difference c.args.parts.now.items c.requires.sound in record {
       accepted_is = c.accepted_by.ensures ∙ a;
       inserted_is = c.inserted_by-inserted.ensures ∙ i;

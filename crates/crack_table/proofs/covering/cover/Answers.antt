@@ -1,16 +1,27 @@
 use Rattle.std.proofs.Common.{ℕ, refl, inl, inr, sym, ◌∙◌}
 use Rattle.crack_table.proofs.Lates.{map_none}
-use Rattle.crack_table.proofs.Conclusions.{met_all, unmet_least, all_placed, none_rise}
+use Rattle.crack_table.proofs.Conclusions.{all_placed, none_rise, stranger_fault, late_fault}
 use Rattle.crack_table.proofs.covering.cover.Goals as goal
 
 pub returns-clause-covers : goal.returns-clause-covers
 returns-clause-covers c = record {
-  met = met_all _ c.note_lists-stranger.new.marks.items _ c.note_lists-stranger.ensures.marked c.in_default.ensures.none;
+  settled = c.in_default.ensures.none _ c.note_lists-stranger.ensures.noted;
   placed = all_placed _ _ (map_none _ c.in_default-stranger.ensures.stranger);
   rising = none_rise _ (map_none _ (sym c.in_default-2.is ∙ c.in_ok-part.ensures));
 }
 
 pub returns-in-Some-clause-fault : goal.returns-in-Some-clause-fault
-returns-in-Some-clause-fault c =
-    let place : ℕ × ℕ = (c.in-Some.part, c.in-Some.position) in
-    inr (c.in-Some.part, c.in-Some.position, refl, inl (unmet_least _ c.note_lists-stranger.new.marks.items _ place c.note_lists-stranger.ensures.marked c.in-Some.ensures.some))
+returns-in-Some-clause-fault c = inr (c.in-Some.part, c.in-Some.position, refl, inl (c.in-Some.ensures.some _ c.note_lists-stranger.ensures.noted))
+
+pub returns-in-Some-stranger-clause-fault : goal.returns-in-Some-stranger-clause-fault
+returns-in-Some-stranger-clause-fault c =
+    let place : ℕ × ℕ = (c.in-Some-stranger.part, c.in-Some-stranger.position) in
+    let settled = c.in_default.ensures.none _ c.note_lists-stranger.ensures.noted in
+    inr (c.in-Some-stranger.part, c.in-Some-stranger.position, refl, stranger_fault _ _ place settled (sym c.in-Some-stranger.is ∙ c.note_lists-stranger.ensures.stranger))
+
+pub returns-in-Some-2-clause-fault : goal.returns-in-Some-2-clause-fault
+returns-in-Some-2-clause-fault c =
+    let place : ℕ × ℕ = (c.in-Some-2.part, c.in-Some-2.position) in
+    let settled = c.in_default.ensures.none _ c.note_lists-stranger.ensures.noted in
+    let none = map_none _ c.in_default-stranger.ensures.stranger in
+    inr (c.in-Some-2.part, c.in-Some-2.position, refl, late_fault _ _ place settled none (sym c.in-Some-2.is ∙ c.in_ok-part.ensures))

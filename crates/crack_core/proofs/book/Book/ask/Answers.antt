@@ -40,5 +40,11 @@ returns-clause-outside c = search rules
 pub returns-clause-full : goal.returns-clause-full
 returns-clause-full c = search rules
 
+pub returns-clause-over : goal.returns-clause-over
+returns-clause-over c = search rules
+
+pub returns-clause-no_cell : goal.returns-clause-no_cell
+returns-clause-no_cell c = search rules
+
 pub returns-clause-memory : goal.returns-clause-memory
 returns-clause-memory c = search rules

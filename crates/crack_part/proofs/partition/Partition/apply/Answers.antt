@@ -3,11 +3,12 @@ use Rattle.std.proofs.lemmas.Bool.{false≢true}
 use Rattle.crack_row.specs.Commands.{range_of}
 use Rattle.crack_row.specs.declared.command.Entry.{Entry}
 use Rattle.crack_row.specs.declared.command.Reply.{Reply}
-use Rattle.crack_plain.specs.Past.{state_after}
+use Rattle.crack_plain.specs.Past.{Past, state_after}
 use Rattle.crack_plain.specs.Plain.{IsSmall}
-use Rattle.crack_plain.proofs.PastLaws.{state_after-push, IsNumbered-after_past, length_rows-le-accepted}
+use Rattle.crack_plain.proofs.PastLaws.{state_after-push, IsNumbered-after_past}
+use Rattle.crack_part.proofs.CellLemmas.{fits-served}
 use Rattle.crack_part.proofs.KeepLemmas.{Keeps-spared, IsIntact-spared, Keeps-prepared, Spares-prepared}
-use Rattle.crack_part.proofs.SoundLemmas.{unfolded, accepted-le-limit, next-le-limit, MayPerform-prepared, IsSound-kept, IsSound-served, Spends-served}
+use Rattle.crack_part.proofs.SoundLemmas.{lived, few_rows, next-le-life, MayPerform-prepared, IsSound-kept, IsSound-served, Spends-served}
 use Rattle.crack_part.proofs.PointLemmas.{on_err}
 use Rattle.crack_part.proofs.partition.Partition.apply.Goals as goal
 
@@ -17,7 +18,7 @@ answer-requires-clause-admissible c =
     λ ready prepared. MayPerform-prepared c.args.policy _ c.args.command ready c.self.invariant kept.0 prepared
 
 pub answer-requires-clause-small : goal.answer-requires-clause-small
-answer-requires-clause-small c = let next = next-le-limit _ c.self.invariant in omega (arith, next)
+answer-requires-clause-small c = let next = next-le-life _ c.self.invariant in omega (arith, next)
 
 pub invariant_of-self-in_err-reply : goal.invariant_of-self-in_err-reply
 invariant_of-self-in_err-reply c =
@@ -46,23 +47,25 @@ pub invariant_of-self-2 : goal.invariant_of-self-2
 invariant_of-self-2 c =
     let e : Entry = record { worker = c.args.worker; command = c.args.command; reply = c.in_ok-copies.copies.kept } in
     let kept = rw (← c.self.view_is) at c.in_ok-may_keep.ensures.ok in
-    let past = unfolded c.self.inside.history.items in
+    let past = lived c.self.inside.base.rows.items c.self.inside.base.folded c.self.inside.base.placed c.self.inside.base.gone c.self.inside.history.items in
     let plain = state_after past in
     let said = c.in_ok-reply.ensures.replies plain (IsNumbered-after_past past c.self.invariant.legal.base) c.self.invariant.faithful in
     let faithful = c.in_ok-reply.ensures.faithful plain c.self.invariant.faithful in
     let spends = Spends-served c.args.policy _ c.args.command c.answer.new.store c.self.invariant kept.0 c.in_ok-reply.ensures.served in
     let grown = c.push_reserved.ensures ∙ ap (λ (h : List Entry). h ++ e ∷ []) c.make_room.ensures.same in
-    rw grown (IsSound-served _ e c.answer.new.next c.answer.new.store c.self.invariant kept.1 kept.0 (c.in_ok-copies.ensures.ok.2 ∙ said) c.in_ok-reply.ensures.intact faithful spends)
+    let fits = fits-served c.args.policy c.self.inside.keys _ c.self.inside.next c.args.command c.self.inside.store c.answer.new.store c.self.invariant.cells kept.3 c.in_ok-reply.ensures.served in
+    rw grown (IsSound-served _ e c.answer.new.next c.answer.new.store c.self.invariant kept.1 kept.2 fits kept.0 (c.in_ok-copies.ensures.ok.2 ∙ said) c.in_ok-reply.ensures.intact faithful spends)
 
 pub returns-clause-state : goal.returns-clause-state
 returns-clause-state c =
     let e : Entry = record { worker = c.args.worker; command = c.args.command; reply = c.in_ok-copies.copies.kept } in
     let grown = c.push_reserved.ensures ∙ ap (λ (h : List Entry). h ++ e ∷ []) c.make_room.ensures.same in
-    rw (← c.self.view_is) (ap (λ (h : List Entry). state_after (unfolded h)) grown ∙ state_after-push (unfolded c.self.inside.history.items) e)
+    let lived_with : List Entry → Past = λ h. lived c.self.inside.base.rows.items c.self.inside.base.folded c.self.inside.base.placed c.self.inside.base.gone h in
+    rw (← c.self.view_is) (ap (λ (h : List Entry). state_after (lived_with h)) grown ∙ state_after-push (lived_with c.self.inside.history.items) e)
 
 pub returns-clause-replies : goal.returns-clause-replies
 returns-clause-replies c =
-    let past = unfolded c.self.inside.history.items in
+    let past = lived c.self.inside.base.rows.items c.self.inside.base.folded c.self.inside.base.placed c.self.inside.base.gone c.self.inside.history.items in
     let said = c.in_ok-reply.ensures.replies (state_after past) (IsNumbered-after_past past c.self.invariant.legal.base) c.self.invariant.faithful in
     rw (← c.self.view_is) (c.in_ok-copies.ensures.ok.0 ∙ said, c.in_ok-copies.ensures.ok.1 ∙ sym c.in_ok-copies.ensures.ok.0)
 
@@ -70,14 +73,13 @@ pub returns-clause-kept : goal.returns-clause-kept
 returns-clause-kept c =
     let entry : Reply → Entry = λ r. record { worker = c.args.worker; command = c.args.command; reply = r } in
     let grown = c.push_reserved.ensures ∙ ap (λ (h : List Entry). h ++ entry c.in_ok-copies.copies.kept ∷ []) c.make_room.ensures.same in
-    rw (← c.self.view_is) (ap unfolded (grown ∙ ap (λ r. c.self.inside.history.items ++ entry r ∷ []) (c.in_ok-copies.ensures.ok.2 ∙ sym c.in_ok-copies.ensures.ok.0)))
+    rw (← c.self.view_is) (ap (λ (h : List Entry). lived c.self.inside.base.rows.items c.self.inside.base.folded c.self.inside.base.placed c.self.inside.base.gone h) (grown ∙ ap (λ r. c.self.inside.history.items ++ entry r ∷ []) (c.in_ok-copies.ensures.ok.2 ∙ sym c.in_ok-copies.ensures.ok.0)))
 
 pub returns-clause-store : goal.returns-clause-store
 returns-clause-store c = rw (← c.self.view_is) c.in_ok-reply.ensures.served
 
 pub returns-clause-small : goal.returns-clause-small
 returns-clause-small c =
-    let past = unfolded c.self.inside.history.items in
-    let rows = length_rows-le-accepted past c.self.invariant.legal.base c.self.invariant.legal.replies in
-    let few : length (state_after past).rows < 2 ^ 32 = omega (arith, rows, accepted-le-limit _ c.self.invariant) in
+    let past = lived c.self.inside.base.rows.items c.self.inside.base.folded c.self.inside.base.placed c.self.inside.base.gone c.self.inside.history.items in
+    let few : length (state_after past).rows < 2 ^ 32 = few_rows _ c.self.invariant in
     subst IsSmall (sym c.in_ok-copies.ensures.ok.0) (c.in_ok-reply.ensures.small (state_after past) (IsNumbered-after_past past c.self.invariant.legal.base) c.self.invariant.faithful few)

@@ -6,6 +6,3 @@ returns-clause-value c = search rules
 
 pub returns-clause-legal : goal.returns-clause-legal
 returns-clause-legal c = search rules
-
-pub returns-clause-begun : goal.returns-clause-begun
-returns-clause-begun c = search rules

@@ -12,3 +12,9 @@ returns-clause-outside c = search rules
 
 pub returns-clause-full : goal.returns-clause-full
 returns-clause-full c = search rules
+
+pub returns-clause-over : goal.returns-clause-over
+returns-clause-over c = search rules
+
+pub returns-clause-no_cell : goal.returns-clause-no_cell
+returns-clause-no_cell c = search rules

@@ -1,6 +1,8 @@
 -- A desk's clauses of a table that is known say nothing here: it isn't known.
-use Rattle.std.proofs.Common.{◌≡◌, Some, None, is_some, ap}
+use Rattle.std.proofs.Common.{◌≡◌, length, Some, None, is_some, ap}
 use Rattle.std.proofs.lemmas.Bool.{false≢true}
+use Rattle.crack_core.specs.Receipts.{BookState}
+use Rattle.crack_core.specs.Steps.{bounds_of}
 use Rattle.crack_table.specs.Tables.{TableState}
 use Rattle.crack_worker_desk.proofs.desk.WorkerDeskDesk.TheImpl.Goals as goal
 
@@ -13,8 +15,17 @@ ask-tells g c = record {
   after = λ tables known. unknown tables known;
   small = c.ensures.asks.small;
   splits = ap (λ t. t.splits) c.ensures.table;
-  limit = ap (λ (t : TableState). t.limits.history) c.ensures.table;
+  bounds = ap (λ (t : TableState). bounds_of t.limits) c.ensures.table;
   receipts = c.ensures.receipts;
+}
+
+pub checkpoint-tells : goal.checkpoint-tells
+checkpoint-tells g c = record {
+  outcome = λ tables known. unknown tables known;
+  after = λ tables known. unknown tables known;
+  splits = ap (λ (t : TableState). t.splits) c.ensures.table;
+  bounds = ap (λ (t : TableState). bounds_of t.limits) c.ensures.table;
+  receipts = ap (λ (w : BookState). length w.receipts) c.ensures.worker;
 }
 
 pub layout-tells : goal.layout-tells

@@ -1,5 +1,5 @@
 use Rattle.std.proofs.Common.{rules}
-use Rattle.crack_table.proofs.table.Table.open.Goals as goal
+use Rattle.crack_table.proofs.table.Table.open_with.Goals as goal
 
 pub returns-clause-table : goal.returns-clause-table
 returns-clause-table c = search rules

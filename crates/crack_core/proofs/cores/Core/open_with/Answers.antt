@@ -1,5 +1,5 @@
 use Rattle.std.proofs.Common.{rules}
-use Rattle.crack_core.proofs.cores.Core.open.Goals as goal
+use Rattle.crack_core.proofs.cores.Core.open_with.Goals as goal
 
 pub returns-clause-opened : goal.returns-clause-opened
 returns-clause-opened c = search rules

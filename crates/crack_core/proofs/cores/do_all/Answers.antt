@@ -1,0 +1,42 @@
+use Rattle.std.proofs.Common.{◌≡◌, ◌+◌, ◌<◌, ◌++◌, [], ◌∷◌, length, take, Option, arith, ap, sym, subst, ◌∙◌, length-append, length-take-le, take_all}
+use Rattle.std.proofs.lemmas.List.{take_more}
+use Rattle.crack_plain.specs.Plain.{PlainView}
+use Rattle.crack_core.specs.declared.step.Job.{Job}
+use Rattle.crack_core.specs.Steps.{bounds_of, tables_of, pasts_of}
+use Rattle.crack_core.specs.Jobs.{part_of, IsJobOutcome}
+use Rattle.crack_core.proofs.JobLaws.{KeepsJobs-push, AreExpectedOutcomes-push, DoesAll-push, table_through-kept}
+use Rattle.crack_core.proofs.cores.do_all.Goals as goal
+
+pub jobs-preserved : goal.jobs-preserved
+jobs-preserved c =
+    let jobs = c.args.jobs.now in
+    let i = c.jobs.job-index in
+    let results = c.jobs.results.items in
+    let j = c.job-item.result in
+    let r = c.do_job-result.result in
+    let old = c.args.partitions.now in
+    let now = c.jobs.partitions in
+    let before = c.jobs.invariant in
+    let within : i < length jobs = omega arith in
+    let front = take i jobs in
+    let grown : take (i + 1) jobs ≡ front ++ j ∷ [] = take_more jobs i j within ∙ ap (λ (x : Job). front ++ x ∷ []) (sym c.job-item.is) in
+    let long : length results ≡ length front = before.count ∙ sym (length-take-le i jobs (omega (arith, within))) in
+    record {
+      room = omega (arith, before.room, c.push_reserved.ensures.capacity);
+      count = omega (arith, before.count, ap length c.push_reserved.ensures.items, length-append results (r ∷ []));
+      replies = λ splits limits are. rw (grown, c.push_reserved.ensures.items) (AreExpectedOutcomes-push (bounds_of limits) splits (tables_of old) front results j r (before.replies splits limits are)
+          (subst (λ (t : Option PlainView). IsJobOutcome (bounds_of limits) splits t j r) (table_through-kept old now (part_of j) front results before.kept) (c.do_job-result.ensures.outcome splits limits (before.parts splits limits are))));
+      kept = rw (grown, c.push_reserved.ensures.items) (KeepsJobs-push (pasts_of old) (pasts_of now) (pasts_of c.do_job-result.new.partitions) front results j r long before.kept c.do_job-result.ensures.kept);
+      stores = λ splits limits are. rw (grown, c.push_reserved.ensures.items) (DoesAll-push splits limits front results j r old now c.do_job-result.new.partitions (before.stores splits limits are) (c.do_job-result.ensures.does splits limits (before.parts splits limits are)));
+      parts = λ splits limits are. c.do_job-result.ensures.parts splits limits (before.parts splits limits are);
+    }
+
+pub returns-clause-replies : goal.returns-clause-replies
+returns-clause-replies c = λ splits limits are.
+    let all : take c.jobs.job-index c.args.jobs.now ≡ c.args.jobs.now = take_all c.jobs.job-index c.args.jobs.now (omega arith) in
+    rw all at (c.jobs.invariant.replies splits limits are)
+
+pub returns-clause-stores : goal.returns-clause-stores
+returns-clause-stores c = λ splits limits are.
+    let all : take c.jobs.job-index c.args.jobs.now ≡ c.args.jobs.now = take_all c.jobs.job-index c.args.jobs.now (omega arith) in
+    rw all at (c.jobs.invariant.stores splits limits are)

@@ -1,0 +1,96 @@
+-- What steps and checkpoints, one after the other, are to be answered, and what they leave.
+use Rattle.std.specs.Prelude.{◌≡◌, ℕ, ◌==◌, List, [], ◌∷◌, length, take, Option, None, Some, Result, Ok, Err, OnOk, OnErr, slice_get, if◌then◌else◌}
+use Rattle.std.specs.Option.{option_map}
+use Rattle.crack_row.specs.declared.Bound.{Bound}
+use Rattle.crack_row.specs.declared.limit.Limits.{Limits}
+use Rattle.crack_row.specs.declared.command.Reply.{Reply}
+use Rattle.crack_row.specs.declared.refusal.Refusal.{Refusal}
+use Rattle.crack_plain.specs.Plain.{PlainView, checkpointed}
+use Rattle.crack_plain.specs.Past.{Past, with_entry, folded}
+use Rattle.crack_part.specs.Parts.{Part, folded_part}
+use Rattle.crack_core.specs.Routes.{keys_of_part}
+use Rattle.crack_core.specs.Opening.{AreParts}
+use Rattle.crack_core.specs.Steps.{Bounds, IsOutcome, table_after, IsFoldOutcome, tables_of}
+use Rattle.crack_core.specs.Cores.{Makes}
+use Rattle.crack_core.specs.declared.step.Job.{Job}
+use Rattle.crack_core.specs.declared.step.Job.TheVariants.{Perform, Fold}
+use Rattle.crack_core.specs.declared.step.Done.{Done}
+use Rattle.crack_core.specs.declared.step.Done.TheVariants.{Replied, Folded}
+
+-- the partition that a job names
+abbrev pub part_of : Job → ℕ
+part_of (Perform step) = step.part
+part_of (Fold part) = part
+
+-- what comes of a job whose step came out so
+abbrev pub performed : Result Reply Refusal → Result Done Refusal
+performed (Ok reply) = Ok (Replied reply)
+performed (Err e) = Err e
+
+-- what comes of a job whose checkpoint came out so
+abbrev pub folding : Result ℕ Refusal → Result Done Refusal
+folding (Ok count) = Ok (Folded count)
+folding (Err e) = Err e
+
+-- what one partition lived through, after a job: a step of its own that was answered is one entry more, and a checkpoint of its own folds
+-- its tail into its base
+abbrev pub past_after : ℕ → Job → Result Done Refusal → Past → Past
+past_after part (Perform step) (Ok (Replied reply)) past = if step.part == part then with_entry past (record { worker = step.worker; command = step.command; reply = reply }) else past
+past_after part (Fold number) (Ok (Folded count)) past = if number == part then folded past else past
+past_after part job result past = past
+
+-- the same after these jobs, one after the other
+abbrev pub past_at : ℕ → List Job → List (Result Done Refusal) → Past → Past
+past_at part [] results past = past
+past_at part (job ∷ jobs) [] past = past
+past_at part (job ∷ jobs) (result ∷ results) past = past_at part jobs results (past_after part job result past)
+
+-- each partition lived through what it had, and then through its own jobs
+abbrev pub KeepsJobs : List Past → List Job → List (Result Done Refusal) → List Past → Type 0
+KeepsJobs old jobs results new = (part : ℕ) → slice_get new part ≡ option_map (past_at part jobs results) (slice_get old part)
+
+-- one partition as plain rows, after a job
+abbrev pub table_done : ℕ → Job → Result Done Refusal → PlainView → PlainView
+table_done part (Perform step) (Ok (Replied reply)) table = if step.part == part then table_after table step.command else table
+table_done part (Fold number) (Ok (Folded count)) table = if number == part then checkpointed table else table
+table_done part job result table = table
+
+-- the same after these jobs, one after the other
+abbrev pub table_through : ℕ → List Job → List (Result Done Refusal) → PlainView → PlainView
+table_through part [] results table = table
+table_through part (job ∷ jobs) [] table = table
+table_through part (job ∷ jobs) (result ∷ results) table = table_through part jobs results (table_done part job result table)
+
+-- what comes of a job whose partition is this: a step comes out as its partition is to answer, and a checkpoint tells how many commands it
+-- accepted since the last one
+abbrev pub IsJobOutcome : Bounds → List Bound → Option PlainView → Job → Result Done Refusal → Type 0
+IsJobOutcome bounds splits table (Perform step) result = (outcome : Result Reply Refusal) × (result ≡ performed outcome) × IsOutcome bounds (keys_of_part splits step.part) table step.command outcome
+IsJobOutcome bounds splits table (Fold part) result = (outcome : Result ℕ Refusal) × (result ≡ folding outcome) × IsFoldOutcome table outcome
+
+-- the expected replies over jobs: each comes out as its partition is to answer after those of its own jobs that were done before; neither
+-- workers nor policies nor other partitions' jobs matter
+pub record AreExpectedOutcomes (bounds : Bounds) (splits : List Bound) (tables : List PlainView) (jobs : List Job) (results : List (Result Done Refusal)) : Type 0 where
+  pub each : length results ≡ length jobs
+  pub outcomes : (k : ℕ) (job : Job) (result : Result Done Refusal) → slice_get jobs k ≡ Some job → slice_get results k ≡ Some result →
+      IsJobOutcome bounds splits (option_map (table_through (part_of job) (take k jobs) (take k results)) (slice_get tables (part_of job))) job result
+
+-- the partition of this number is folded, and the others are as they were
+abbrev pub FoldsAt : ℕ → List Part → List Part → Type 0
+FoldsAt number old new = (k : ℕ) → slice_get new k ≡ option_map (λ part. if number == k then folded_part part else part) (slice_get old k)
+
+-- what a checkpoint does to the partitions of these splits: each stays one, the one that is named is folded, and a refusal changes nothing
+pub record Folds (splits : List Bound) (limits : Limits) (number : ℕ) (result : Result ℕ Refusal) (old new : List Part) : Type 0 where
+  pub parts : AreParts splits limits new
+  pub folds : OnOk result (FoldsAt number old new)
+  pub same : OnErr result (new ≡ old)
+
+-- what a job does to the partitions of these splits
+abbrev pub Does : List Bound → Limits → Job → Result Done Refusal → List Part → List Part → Type 0
+Does splits limits (Perform step) result old new = (outcome : Result Reply Refusal) × (result ≡ performed outcome) × Makes splits limits step outcome old new
+Does splits limits (Fold part) result old new = (outcome : Result ℕ Refusal) × (result ≡ folding outcome) × Folds splits limits part outcome old new
+
+-- the jobs are done one after the other, each on the partitions that those before it left
+abbrev pub DoesAll : List Bound → Limits → List Job → List (Result Done Refusal) → List Part → List Part → Type 0
+DoesAll splits limits [] [] old new = new ≡ old
+DoesAll splits limits (job ∷ jobs) (result ∷ results) old new = (between : List Part) × Does splits limits job result old between × DoesAll splits limits jobs results between new
+DoesAll splits limits _ _ old new = ⊥

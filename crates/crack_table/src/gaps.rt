@@ -1,0 +1,38 @@
+//! What keeps a partition from being settled.
+ghost use Rattle.std.specs.Prelude.{◌≡◌, ℕ, List, IfSome, IfNone};
+ghost use Rattle.crack_core.specs.declared.receipt.Receipt.{Receipt};
+ghost use Rattle.crack_table.specs.Cover.{told, IsKept, IsSettled, IsGap};
+ghost use Rattle.crack_table.specs.Marks.{RowNoted, is_below};
+
+use crate::kept::Kept;
+use crate::kinds::KindsLeft;
+use crate::marks::MarkRow;
+
+/// The first gap of a partition: its least place that isn't met, but that the totals of the folded places go before the entries that stand.
+pub(crate) fn gap_in(kept: &Kept<'_>, row: &MarkRow, left: &KindsLeft) -> Option<u64>
+    requires kept { IsKept (told kept.now) }
+    requires noted { (part : ℕ) × (receipts : List Receipt) × RowNoted (told kept.now) row.now left.now part receipts }
+    ensures none { IfNone result ((part : ℕ) (receipts : List Receipt) → RowNoted (told kept.now) row.now left.now part receipts → IsSettled receipts part (told kept.now)) }
+    ensures some { IfSome result (λ position. (part : ℕ) (receipts : List Receipt) → RowNoted (told kept.now) row.now left.now part receipts → IsGap receipts part (told kept.now) position) }
+{
+    let open = row.first_open();
+    let is_folded = is_below(open, kept.folded);
+    let is_counted = left.are_none();
+    if !is_folded && !is_counted {
+        return Some(kept.folded - 1);
+    }
+    match open {
+        Some(place) => Some(place as u64),
+        None => None,
+    }
+}
+
+/// Whether a place is below a bound, if there is one.
+fn is_below(place: Option<usize>, bound: u64) -> bool
+    ensures { result ≡ is_below place bound }
+{
+    match place {
+        Some(place) => (place as u64) < bound,
+        None => false,
+    }
+}

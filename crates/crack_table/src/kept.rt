@@ -1,0 +1,54 @@
+//! What a cover is told of a partition.
+ghost use Rattle.std.specs.Prelude.{◌≡◌, ◌+◌, length, None, Some, IfOk, IfErr, IsTrue, ◌↔◌, MatchOption};
+ghost use Rattle.std.specs.Bool.{Decides};
+ghost use Rattle.crack_core.specs.Receipts.{entry_of};
+ghost use Rattle.crack_table.specs.Cover.{told, place_at, IsRight, Place};
+
+use crack_core::Receipt;
+use crack_row::{Entry, Refusal};
+
+/// What a partition keeps of the commands that it answered: totals of those folded, and the entries since.
+#[derive(Clone, Copy, Drop)]
+pub struct Kept<'a> {
+    /// How many commands are folded.
+    pub folded: u64,
+    /// How many of these placed a row.
+    pub inserted: u64,
+    /// How many of these took a row out.
+    pub deleted: u64,
+    /// The entries since, in order.
+    pub tail: &'a [Entry],
+}
+
+impl Kept<'_> {
+    /// How many places it has. Refused with 8 where no list could be so long.
+    pub(crate) fn places(&self) -> Result<usize, Refusal>
+        ensures ok { IfOk result (λ n. n ≡ self.now.folded + length self.now.tail.now) }
+        ensures err { IfErr result (λ e. e ≡ Refusal.OutOfMemory) }
+    {
+        match self.folded.checked_add(self.tail.len() as u64) {
+            Some(places) => Ok(places as usize),
+            None => Err(Refusal::OutOfMemory),
+        }
+    }
+
+    /// Whether a receipt's entry is right for its place: any is where that is folded. `None` where there is no such place.
+    pub(crate) fn is_right(&self, receipt: &Receipt) -> Option<bool>
+        ensures { MatchOption result (place_at (told self.now) receipt.now.position ≡ None) (λ right. (place : Place) × (place_at (told self.now) receipt.now.position ≡ Some place) × Decides right (IsRight place (entry_of receipt.now))) }
+    {
+        if receipt.position < self.folded {
+            return Some(true);
+        }
+        let entry = self.tail.get((receipt.position - self.folded) as usize)?;
+        Some(is_entry(entry, receipt))
+    }
+}
+
+/// Whether a receipt has this entry.
+fn is_entry(entry: &Entry, receipt: &Receipt) -> bool
+    ensures { IsTrue result ↔ (entry_of receipt.now ≡ entry.now) }
+{
+    entry.worker == receipt.worker
+        && entry.command == receipt.command
+        && entry.reply.is_same(&receipt.reply)
+}

@@ -1,0 +1,43 @@
+//! How many folded receipts of each kind are still to come.
+ghost use Rattle.std.specs.Prelude.{◌≡◌, Some, IsTrue, ◌↔◌, true};
+ghost use Rattle.crack_plain.specs.Totals.{is_placed, is_gone};
+ghost use Rattle.crack_table.specs.Marks.{left_after};
+
+use crack_row::Reply;
+
+/// How many receipts that placed a row, and that took one out, are still to come of those that a partition folded; `None` where more came.
+#[derive(Clone, Copy, Debug, Drop)]
+pub(crate) struct KindsLeft {
+    pub(crate) placed: Option<u64>,
+    pub(crate) gone: Option<u64>,
+}
+
+impl KindsLeft {
+    /// Notes a receipt with this reply.
+    pub(crate) fn note(&mut self, reply: &Reply)
+        ensures { self.new ≡ record { placed = left_after (is_placed reply.now) self.old.placed; gone = left_after (is_gone reply.now) self.old.gone } }
+    {
+        match reply {
+            Reply::Placed(_) => self.placed = one_less(self.placed),
+            Reply::Gone(_) => self.gone = one_less(self.gone),
+            _ => {}
+        }
+    }
+
+    /// Whether all came, and no more.
+    pub(crate) fn are_none(&self) -> bool
+        ensures { IsTrue result ↔ ((self.now.placed ≡ Some 0) × (self.now.gone ≡ Some 0)) }
+    {
+        self.placed == Some(0) && self.gone == Some(0)
+    }
+}
+
+/// What is left once one more came.
+fn one_less(left: Option<u64>) -> Option<u64>
+    ensures { result ≡ left_after true left }
+{
+    match left {
+        Some(left) if left > 0 => Some(left - 1),
+        _ => None,
+    }
+}

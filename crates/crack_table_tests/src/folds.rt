@@ -1,0 +1,184 @@
+//! What one worker is told under small limits, with checkpoints amid its commands.
+use crate::values::{ask, insert, totals};
+use crack_commands::{write_folded, write_refusal, write_reply};
+use crack_row::{
+    Command, GREATEST_LIMIT, Key, KeyRange, Limits, Payload, Refusal, Serial, Watched,
+};
+use crack_table::{Table, Worker};
+use std::alloc::Global;
+use std::io::Write;
+use std::sync::Wait;
+use std::test::Fail;
+
+/// A command at partition 0, or a checkpoint of a partition.
+#[derive(Clone, Copy)]
+enum Turn {
+    Ask(Command),
+    Fold(u32),
+}
+
+/// An insert of a row whose payload is its key.
+fn place(key: u32) -> Turn {
+    Turn::Ask(Command::Insert {
+        key: Key(key),
+        payload: Payload(key),
+    })
+}
+
+fn delete(serial: u64) -> Turn {
+    Turn::Ask(Command::Delete {
+        serial: Serial(serial),
+    })
+}
+
+fn update(serial: u64, key: u32, payload: u32) -> Turn {
+    Turn::Ask(Command::Update {
+        serial: Serial(serial),
+        key: Key(key),
+        payload: Payload(payload),
+    })
+}
+
+fn count_all() -> Turn {
+    Turn::Ask(Command::Count(KeyRange::all()))
+}
+
+/// Writes what a worker is told at one turn.
+fn tell<R: Wait, W: Write>(
+    rt: &R,
+    worker: &mut Worker,
+    table: &Table,
+    turn: Turn,
+    writer: &mut Watched<W>,
+) -> Result<(), Refusal> {
+    match turn {
+        Turn::Ask(command) => match ask(rt, worker, table, 0, command) {
+            Ok(reply) => write_reply(0, &reply, writer),
+            Err(refusal) => write_refusal(&refusal, writer),
+        },
+        Turn::Fold(part) => match worker.checkpoint(rt, table, part) {
+            Ok(count) => write_folded(count, writer),
+            Err(refusal) => write_refusal(&refusal, writer),
+        },
+    }
+}
+
+/// What a worker is told at these turns, as a text; nothing where it can't be written.
+fn told<R: Wait>(
+    rt: &R,
+    alloc: Global,
+    worker: &mut Worker,
+    table: &Table,
+    turns: &[Turn],
+) -> Vec<u8> {
+    let mut writer = Watched::new(Vec::new(alloc));
+    let mut fine = true;
+    'turns: for turn in turns {
+        fine = tell(rt, worker, table, *turn, &mut writer).is_ok() && fine;
+    }
+    if fine {
+        writer.into_inner()
+    } else {
+        Vec::new(alloc)
+    }
+}
+
+/// The greatest limits.
+fn greatest() -> Limits {
+    Limits::of_history(GREATEST_LIMIT)
+}
+
+#[test]
+fn a_full_history_goes_on_behind_a_checkpoint(rt: HostRuntime) -> Result<(), Fail> {
+    let alloc: Global = rt.alloc();
+    let limits = Limits::of_history(2);
+    let (table, mut workers) = Table::open_with(alloc, &[], limits, 1)?;
+    let mut worker = workers.pop().ok_or("worker")?;
+    let turns = [
+        place(1),
+        place(2),
+        count_all(),
+        Turn::Fold(0),
+        count_all(),
+        place(3),
+        place(4),
+        Turn::Fold(0),
+        Turn::Fold(0),
+        delete(0),
+        Turn::Fold(1),
+    ];
+    let text = told(&rt, alloc, &mut worker, &table, &turns);
+    let wanted =
+        b"row 0.0\nrow 0.1\nrefused 6 2\nfolded 2\ncount 2\nrow 0.2\nrefused 6 2\nfolded 2\nfolded 0\ngone 1 1\nrefused 5\n";
+    assert_eq!(rt; text.as_slice(), wanted.as_slice());
+    workers.push(worker)?;
+    assert_eq!(rt; totals(alloc, table, workers), Ok([5, 3, 1, 2]));
+    Ok(())
+}
+
+#[test]
+fn a_worker_is_refused_where_no_cell_is_free(rt: HostRuntime) -> Result<(), Fail> {
+    let alloc: Global = rt.alloc();
+    let limits = Limits {
+        cells: 2,
+        ..greatest()
+    };
+    let (table, mut workers) = Table::open_with(alloc, &[], limits, 1)?;
+    let mut worker = workers.pop().ok_or("worker")?;
+    let turns = [
+        place(1),
+        place(2),
+        place(3),
+        count_all(),
+        delete(0),
+        place(3),
+        count_all(),
+        place(3),
+        update(1, 2, 9),
+        update(2, 4, 4),
+    ];
+    let text = told(&rt, alloc, &mut worker, &table, &turns);
+    let wanted =
+        b"row 0.0\nrow 0.1\nrefused 9\ncount 2\ngone 1 1\nrefused 9\ncount 1\nrow 0.2\nrefused 9\nchanged\n";
+    assert_eq!(rt; text.as_slice(), wanted.as_slice());
+    workers.push(worker)?;
+    assert_eq!(rt; totals(alloc, table, workers), Ok([7, 3, 1, 2]));
+    Ok(())
+}
+
+/// A checkpoint gives no life back.
+#[test]
+fn a_worker_is_refused_where_the_life_is_over(rt: HostRuntime) -> Result<(), Fail> {
+    let alloc: Global = rt.alloc();
+    let limits = Limits {
+        life: 3,
+        ..greatest()
+    };
+    let (table, mut workers) = Table::open_with(alloc, &[], limits, 1)?;
+    let mut worker = workers.pop().ok_or("worker")?;
+    let counting = Turn::Ask(Command::Count(KeyRange::new(0, 9)?));
+    let turns = [place(1), counting, Turn::Fold(0), counting, counting];
+    let text = told(&rt, alloc, &mut worker, &table, &turns);
+    let wanted = b"row 0.0\ncount 1\nfolded 2\ncount 1\nrefused 10\n";
+    assert_eq!(rt; text.as_slice(), wanted.as_slice());
+    workers.push(worker)?;
+    assert_eq!(rt; totals(alloc, table, workers), Ok([3, 1, 0, 1]));
+    Ok(())
+}
+
+/// Commands of two workers are folded by one of them, and the other goes on: receipts keep their positions.
+#[test]
+fn a_checkpoint_folds_for_all_workers(rt: HostRuntime) -> Result<(), Fail> {
+    let alloc: Global = rt.alloc();
+    let (table, mut workers) = Table::open(alloc, &[], 10, 2)?;
+    let mut second = workers.pop().ok_or("second")?;
+    let mut first = workers.pop().ok_or("first")?;
+    assert!(rt; ask(&rt, &mut first, &table, 0, insert(1)).is_ok());
+    assert!(rt; ask(&rt, &mut second, &table, 0, insert(2)).is_ok());
+    assert_eq!(rt; first.checkpoint(&rt, &table, 0), Ok(2));
+    assert!(rt; ask(&rt, &mut second, &table, 0, insert(3)).is_ok());
+    workers.push(second)?;
+    workers.push(first)?;
+    assert_eq!(rt; totals(alloc, table, workers), Ok([3, 3, 0, 3]));
+    Ok(())
+}
