@@ -126,6 +126,20 @@ impl<T> Arena<T> {
         }
     }
 
+    /// The value of the cell of this number, if it has one: a free cell has none, and neither has a number from `cells()` on. O(1), takes
+    /// no memory.
+    pub fn value_in(&self, slot: u32) -> Option<&T>
+        ensures { option_copied result ≡ (cell_at self.now.cells slot).value }
+    {
+        match self.cells.get(slot as usize) {
+            Some(cell) => match &cell.content {
+                Content::Full(value) => Some(value),
+                Content::Free(_) => None,
+            },
+            None => None,
+        }
+    }
+
     /// Makes room, so that as many puts that follow take no memory.
     pub fn reserve(&mut self, additional: usize) -> Result<(), Refusal>
         ensures same { self.new ≡ record self.old { room = self.new.room } }
@@ -264,7 +278,7 @@ impl<T> Arena<T> {
     fn reads(&self, slot: usize, generation: u64) -> bool
         ensures { result ≡ is_some (read self.now.cells (record { slot = slot; generation = generation })) }
     {
-        match self.cells.get(slot) {
+        match self.cells.get(slot as usize) {
             Some(
                 Cell {
                     generation: now,
