@@ -7,6 +7,7 @@ import random
 import sys
 import tempfile
 import unittest
+import unittest.mock
 
 import compare
 import csv_input
@@ -22,19 +23,21 @@ STAND_IN = pathlib.Path(stand_in.__file__).resolve()
 FAULTS = ["drop", "double", "change", "short"]
 
 
-def seen_of(given, wrote, short=0, limit=random_script.MOST_ENTRIES, splits=()):
-    return compare.compare(plain_session.statements(given), wrote, plain_session.Session(splits, limit), short)
+def seen_of(given, wrote, short=0, limits=random_script.Limits(), splits=()):
+    return compare.compare(plain_session.statements(given), wrote, plain_session.Session(splits, limits), short)
 
 
 class Grammar(unittest.TestCase):
     def test_lines_are_read_as_the_rules_say(self):
         refused = [b"insert 1", b"insert 1 2 3", b"INSERT 1 2", b"insert 1 -2", b"insert 1\t2", b"quit now", b"delete 0 .1", b"insert 1 1\r", b" " * 201]
         refused += [b"delete 4294967296.0", b"delete 0.18446744073709551616", b"count 000000000000000000001 5", b"insert 4294967296 1", b"layout 4294967296"]
+        refused += [b"checkpoint", b"checkpoint x", b"checkpoint 0 0", b"checkpoint 0.0", b"checkpoint 4294967296", b"CHECKPOINT 0", b"checkpoint0"]
         for line in refused:
             self.assertEqual(plain_session.read_line(line), "refused 1", line)
         for line in [b"count 18446744073709551616 0", b"count 0 99999999999999999999", b"sum 0 4294967297"]:
             self.assertEqual(plain_session.read_line(line), "refused 2", line)
         self.assertEqual(plain_session.read_line(b"  insert   007   08  "), ("insert", [7, 8]))
+        self.assertEqual(plain_session.read_line(b"  checkpoint   00000000000000000007  "), ("checkpoint", [7]))
         self.assertEqual(plain_session.read_line(b"insert 1 1".ljust(200)), ("insert", [1, 1]))
         self.assertEqual(plain_session.read_line(b"delete 0.18446744073709551615"), ("delete", [0, 2**64 - 1]))
         self.assertEqual([plain_session.read_line(it) for it in [b"", b" " * 200]], [plain_session.BLANK] * 2)
@@ -46,7 +49,7 @@ class Grammar(unittest.TestCase):
 
 
 class Comparison(unittest.TestCase):
-    GIVEN = b"insert 1 10\ninsert 2 20\ndelete 0.7\nselect 0 5\nlayout 0\nnonsense\ndelete 0.0\nsum 0 5\nlayout 0\nquit\n"
+    GIVEN = b"insert 1 10\ninsert 2 20\ndelete 0.7\nselect 0 5\nlayout 0\ncheckpoint 0\nnonsense\ndelete 0.0\nsum 0 5\nlayout 0\ncheckpoint 0\nquit\n"
 
     def setUp(self):
         self.lines = stand_in.session_text(self.GIVEN, plain_session.Session(), [0, 0, 0]).splitlines(keepends=True)
@@ -90,7 +93,123 @@ class Comparison(unittest.TestCase):
             wrong = seen_of(given, b"".join([*right[:at], b"refused 8\n", *right[at + 1 :]]), 1, splits=[100]).wrong
             self.assertEqual(wrong is None, at == 0, at)
         self.assertIsNotNone(seen_of(b"insert 1 1\n" * 2, b"refused 8\n" * 2, 1).wrong)
-        self.assertIsNotNone(seen_of(b"count 0 5\n" * 2, b"count 0\nrefused 8\n", 1, limit=1).wrong)
+        self.assertIsNotNone(seen_of(b"count 0 5\n" * 2, b"count 0\nrefused 8\n", 1, random_script.Limits(1)).wrong)
+
+
+class Folds(unittest.TestCase):
+    """Checkpoints, and limits that are small. Each text is of statements, each with its right replies, and what may not stand in their place."""
+
+    def assert_right(self, text, right, limits=random_script.Limits(), short=0, splits=()):
+        self.assertIsNone(seen_of(text, right, short, limits, splits).wrong)
+
+    def assert_wrong(self, text, wrong, limits=random_script.Limits(), short=0, splits=()):
+        self.assertIsNotNone(seen_of(text, wrong, short, limits, splits).wrong)
+
+    def test_a_checkpoint_tells_how_many_entries_went(self):
+        given = b"insert 1 1\ncount 0 9\ncheckpoint 0\ncheckpoint 0\ndelete 0.0\ncheckpoint 0\n"
+        self.assert_right(given, b"row 0.0\ncount 1\nfolded 2\nfolded 0\ngone 1 1\nfolded 1\n")
+        for wrong in [b"folded 1\nfolded 0\ngone 1 1\nfolded 1\n", b"folded 2\nfolded 2\ngone 1 1\nfolded 1\n", b"folded 2\nfolded 0\nnone\nfolded 1\n"]:
+            self.assert_wrong(given, b"row 0.0\ncount 1\n" + wrong)
+        self.assert_wrong(given, b"row 0.0\ncount 1\nfolded 2\nfolded 0\ngone 1 1\nfolded 3\n")
+
+    def test_a_checkpoint_that_found_no_memory_leaves_all_as_it_was(self):
+        given, limits = b"insert 1 1\ncheckpoint 0\ncount 0 9\ncheckpoint 0\ncount 0 9\n", random_script.Limits(1)
+        self.assert_right(given, b"row 0.0\nrefused 8\nrefused 6 1\nfolded 1\ncount 1\n", limits, 1)
+        self.assert_wrong(given, b"row 0.0\nrefused 8\ncount 1\nfolded 1\ncount 1\n", limits, 1)
+        self.assert_wrong(given, b"row 0.0\nrefused 8\nrefused 6 1\nfolded 0\ncount 1\n", limits, 1)
+        self.assert_wrong(given, b"row 0.0\nrefused 8\nrefused 6 1\nfolded 1\ncount 0\n", limits, 1)
+        self.assert_wrong(given, b"row 0.0\nrefused 8\nrefused 6 1\nfolded 1\ncount 1\n", limits)
+
+    def test_a_checkpoint_of_no_partition_asks_for_no_memory(self):
+        self.assert_right(b"checkpoint 1\n", b"refused 5\n")
+        self.assert_wrong(b"checkpoint 1\n", b"refused 8\n", short=1)
+
+    def test_what_a_range_that_found_no_memory_left_in_histories_is_not_known(self):
+        given = b"count 0 200\ncheckpoint 0\ncheckpoint 1\n"
+        for wrote in [b"refused 8\nfolded 0\nfolded 0\n", b"refused 8\nfolded 1\nfolded 0\n"]:
+            self.assert_right(given, wrote, short=1, splits=[100])
+        for wrote in [b"refused 8\nfolded 2\nfolded 0\n", b"refused 8\nfolded 0\nfolded 1\n", b"count 0\nfolded 2\nfolded 1\n", b"count 0\nfolded 0\nfolded 1\n"]:
+            self.assert_wrong(given, wrote, short=1, splits=[100])
+
+    def test_a_life_counts_from_the_opening(self):
+        given, limits = b"insert 1 1\ncheckpoint 0\ncount 0 9\ncount 0 9\n", random_script.Limits(life=2)
+        self.assert_right(given, b"row 0.0\nfolded 1\ncount 1\nrefused 10\n", limits)
+        for wrong in [b"row 0.0\nfolded 1\ncount 1\ncount 1\n", b"row 0.0\nfolded 1\nrefused 10\nrefused 10\n", b"row 0.0\nfolded 1\ncount 1\nrefused 8\n"]:
+            self.assert_wrong(given, wrong, limits, 1)
+        both = random_script.Limits(1, 1, 1)
+        self.assert_right(b"insert 1 1\ninsert 2 2\n", b"row 0.0\nrefused 6 1\n", both)
+        self.assert_wrong(b"insert 1 1\ninsert 2 2\n", b"row 0.0\nrefused 10\n", both)
+        self.assert_wrong(b"insert 1 1\ninsert 2 2\n", b"row 0.0\nrefused 9\n", both)
+
+    def test_a_row_is_refused_where_there_is_no_cell(self):
+        limits, two = random_script.Limits(cells=2), b"insert 1 1\ninsert 2 2\n"
+        rows = b"row 0.0\nrow 0.1\n"
+        self.assert_right(two + b"insert 3 3\ncount 0 9\n", rows + b"refused 9\ncount 2\n", limits)
+        self.assert_wrong(two + b"insert 3 3\n", rows + b"row 0.2\n", limits)
+        self.assert_wrong(two + b"insert 3 3\n", rows + b"refused 8\n", limits, 1)
+        self.assert_wrong(two, b"row 0.0\nrefused 9\n", limits)
+        # (a row that came since the last range stands in no column)
+        self.assert_wrong(two + b"update 0.0 3 3\n", rows + b"refused 9\n", limits)
+        self.assert_wrong(two + b"count 0 9\nupdate 0.7 3 3\n", rows + b"count 2\nrefused 9\n", limits)
+        self.assert_wrong(two + b"count 0 9\ndelete 0.0\n", rows + b"count 2\nrefused 9\n", limits)
+        self.assert_right(two + b"count 0 9\nupdate 0.0 3 3\n", rows + b"count 2\nrefused 9\n", limits)
+        # (a row that went is buried by a range that has its key, and not before)
+        gone = two + b"count 0 9\ndelete 0.0\n"
+        self.assert_right(gone + b"insert 3 3\n", rows + b"count 2\ngone 1 1\nrefused 9\n", limits)
+        self.assert_right(gone + b"count 5 9\ninsert 3 3\n", rows + b"count 2\ngone 1 1\ncount 0\nrefused 9\n", limits)
+        self.assert_wrong(gone + b"count 0 2\ninsert 3 3\n", rows + b"count 2\ngone 1 1\ncount 0\nrefused 9\n", limits)
+
+    def test_a_layout_tells_whether_there_is_a_cell(self):
+        given, limits = b"insert 1 1\ninsert 2 2\ncount 0 9\ndelete 0.0\nlayout 0\ninsert 3 3\n", random_script.Limits(cells=2)
+        replies = b"row 0.0\nrow 0.1\ncount 2\ngone 1 1\n"
+        waits = b"layout 0 rows 1 column 2 out 1 in 0 cells 2 free 0 pieces 2\npiece 0 9 2\npiece 9 4294967296 0\n"
+        buried = b"layout 0 rows 1 column 1 out 0 in 0 cells 2 free 1 pieces 2\npiece 0 9 1\npiece 9 4294967296 0\n"
+        self.assert_right(given, replies + waits + b"refused 9\n", limits)
+        self.assert_right(given, replies + buried + b"row 0.2\n", limits)
+        self.assert_wrong(given, replies + waits + b"row 0.2\n", limits)
+        self.assert_wrong(given, replies + buried + b"refused 9\n", limits)
+        self.assert_wrong(given, replies + buried.replace(b"cells 2 free 1", b"cells 3 free 2") + b"row 0.2\n", limits)
+
+    def test_a_layout_that_a_refused_checkpoint_changed_is_found(self):
+        given = b"insert 1 1\nlayout 0\ncheckpoint 0\nlayout 0\n"
+        pending = b"layout 0 rows 1 column 0 out 0 in 1 cells 1 free 0 pieces 1\npiece 0 4294967296 0\n"
+        merged = b"layout 0 rows 1 column 1 out 0 in 0 cells 1 free 0 pieces 1\npiece 0 4294967296 1\n"
+        whole = seen_of(given, b"row 0.0\n" + pending + b"folded 1\n" + pending)
+        self.assertIsNone(whole.wrong)
+        self.assertIsNone(memory.other_layout(seen_of(given, b"row 0.0\n" + pending + b"refused 8\n" + pending, 1), whole))
+        self.assertEqual(memory.other_layout(seen_of(given, b"row 0.0\n" + pending + b"refused 8\n" + merged, 1), whole), 3)
+
+
+class RandomScripts(unittest.TestCase):
+    """Statements over limits that are so small that all refusals come."""
+
+    SEED = 16
+
+    def setUp(self):
+        self.words, pairs, _ = random_script.script(self.SEED)
+        self.statements = [statement for statement, _ in pairs]
+        options, splits = stand_in.options_of(self.words[1:])
+        given = "".join(f"{it}\n" for it in self.statements).encode("ascii")
+        self.wrote = stand_in.session_text(given, plain_session.Session(splits, stand_in.limits_of(options)), [0, 0, 0]).decode("ascii").splitlines()
+
+    def wrong(self, lines):
+        """What is found wrong with these lines."""
+        _, pairs, table = random_script.script(self.SEED)
+        return random_script.misfit_of_all(table, pairs, lines)
+
+    def test_the_right_replies_pass_and_all_refusals_are_among_them(self):
+        self.assertIsNone(self.wrong(self.wrote))
+        self.assertGreaterEqual({it.split(" ")[1] for it in self.wrote if it.startswith("refused")}, {"1", "2", "4", "5", "6", "9", "10"})
+
+    def test_each_reply_of_a_kind_that_is_another_is_found(self):
+        seen = set()
+        for at, line in enumerate(self.wrote):
+            kind = line if line.startswith("refused") else line.split(" ")[0].split(".")[0]
+            if kind not in seen:
+                seen.add(kind)
+                for other in ["refused 6 19", "refused 9", "refused 10", "folded 0", "folded 77", "row 0.0", "none", "changed"]:
+                    if other != line:
+                        self.assertIsNotNone(self.wrong([*self.wrote[:at], other, *self.wrote[at + 1 :]]), (at, line, other))
 
 
 class Batches(unittest.TestCase):
@@ -120,8 +239,10 @@ class Records(unittest.TestCase):
         self.assertEqual(csv_input.records(b'1,"2""3"4\r\n\r\n"a\nb",\r5'), [[b"1", b'2"34'], [b"a\nb", b""], [b"5"]])
         self.assertEqual(csv_input.records(csv_input.MARK + b"1,2"), [[b"1", b"2"]])
         self.assertEqual(csv_input.exported(csv_input.SMALL, [100]), (0, b"key,payload\n50,5\n150,6\n", b""))
-        self.assertEqual(csv_input.exported(b"1,2\n3,4\n", [], 2), (1, b"key,payload\n", b"crackd: refused 6 2\n"))
-        self.assertEqual(csv_input.exported(b"1,2\n3,4\n", [], 1), (1, b"", b"crackd: refused 6 1\n"))
+        self.assertEqual(csv_input.exported(b"1,2\n3,4\n", [], random_script.Limits(2)), (1, b"key,payload\n", b"crackd: refused 6 2\n"))
+        self.assertEqual(csv_input.exported(b"1,2\n3,4\n", [], random_script.Limits(1)), (1, b"", b"crackd: refused 6 1\n"))
+        self.assertEqual(csv_input.exported(b"1,2\n3,4\n", [], random_script.Limits(cells=1)), (1, b"", b"crackd: refused 9\n"))
+        self.assertEqual(csv_input.exported(b"1,2\n3,4\n", [], random_script.Limits(life=2)), (1, b"key,payload\n", b"crackd: refused 10\n"))
 
 
 class StandIns(unittest.TestCase):
@@ -163,6 +284,15 @@ class StandIns(unittest.TestCase):
         # (no call that the stand-in makes has so high a number)
         which = {"from": memory.FOR_EVER, "to": memory.FOR_EVER}
         self.assert_finds(lambda program: memory.fault_of_run(program, ["script"], given, check, which)[0])
+
+    @unittest.skipUnless(memory.library(), "no C compiler works here")
+    def test_a_sweep_that_refuses_no_checkpoint_is_found(self):
+        limits, statements = memory.FOLDS["checkpoints of a full history"]
+        given = memory.text_of(statements, True)
+        ways = {**memory.WAYS, "alone": lambda _: {"from": memory.FOR_EVER, "to": memory.FOR_EVER}}
+        with unittest.mock.patch.object(memory, "WAYS", ways):
+            found = memory.sweep_folds(self.program("none"), ["script", *limits.words()], given, "alone", limits)
+        self.assertEqual(found[0], "no checkpoint was refused")
 
 
 def run_all():

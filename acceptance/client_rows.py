@@ -66,7 +66,7 @@ class Own:
         """Holds a layout against its equations. It has at least the own rows of its partition."""
         number = int(statement.split()[1])
         ends = [0, *self.splits, MOST]
-        part = random_script.Part(number, *ends[number : number + 2], 0)
+        part = random_script.Part(number, *ends[number : number + 2])
         told = int(lines[0].split(" ")[3]) if lines and lines[0].startswith(f"layout {number} rows ") else -1
         misfit, taken = random_script.misfit_of_layout(lines, part, told)
         own = sum(it == number for it, _ in self.rows)

@@ -1,8 +1,8 @@
 """Holds what a session wrote against the lists of plain_session.py, also where some statements may have been refused for want of memory.
 
 Each statement that is answered `refused 8` must be one that asks a partition, and one that nothing else refuses before; the lists then never see it.
-(A range over several partitions may have been answered in part: that is kept in their histories, and changes no row.) All else that is written must be
-the list's answer, to the last byte; a layout must meet its equations and have the list's number of rows.
+(A range over several partitions may have been answered in part: that is kept in their histories, so a checkpoint may tell of so many entries more, and changes
+no row.) All else that is written must be the list's answer, to the last byte; a layout must meet its equations and have the list's number of rows.
 """
 
 import random_script
@@ -16,13 +16,15 @@ class Seen:
 
     def __init__(self):
         self.wrong, self.short = None, 0
+        # which statements these were, by their numbers from 0, and the lines of each layout
+        self.shorts, self.layouts = [], {}
         self.inserted = self.deleted = 0
         # the fewest and the most commands that histories keep: a range that was refused may have been answered in part
         self.accepted = self.accepted_most = 0
 
     def count(self, said, parts, answer):
         """Counts the answer to a statement that asks so many partitions."""
-        if isinstance(answer, Layout) or not parts or said[0] == "layout" or answer[0].startswith("refused"):
+        if isinstance(answer, Layout) or not parts or said[0] in ("layout", "checkpoint") or answer[0].startswith("refused"):
             return
         self.accepted += parts
         self.accepted_most += parts
@@ -32,7 +34,7 @@ class Seen:
     def count_short(self, said, parts):
         """Counts a refusal for want of memory."""
         self.short += 1
-        if said[0] not in ("layout", "insert", "delete", "update"):
+        if said[0] in ("count", "sum", "select"):
             self.accepted_most += parts - 1
 
 
@@ -41,19 +43,48 @@ def may_be_short(session, said, may_be_first):
     return session.parts_asked(said) > 0 and (may_be_first or not session.is_refused_without_memory(said))
 
 
+def folded_answer(session, said, line):
+    """The answer to a checkpoint: as many entries as the list has kept, or more by some of those that nobody was told of."""
+    (part,) = session.parts_of(said)
+    least, most = part.kept, part.kept + part.untold
+    told = random_script.numbers_of(line, ["folded"])
+    if told and least < told[0] <= most:
+        part.kept = told[0]
+    return session.answer(said)
+
+
+def answer_of(session, said, line):
+    """The list's answer to what was said, where that may depend on the first line that was written."""
+    if isinstance(said, str) or not session.parts_asked(said):
+        return session.answer(said)
+    if said[0] == "checkpoint":
+        return folded_answer(session, said, line)
+    if line == random_script.NO_CELL and said[0] in ("insert", "update"):
+        return session.table.without_cell(*said)
+    return session.answer(said)
+
+
+def held_short(session, said, seen, may_be_first):
+    """Holds a refusal for want of memory against the rules. What is wrong, or None."""
+    seen.count_short(said, session.parts_asked(said))
+    if not may_be_short(session, said, may_be_first):
+        return f"{SHORT} where no memory is asked for"
+    session.leave_without_memory(said)
+    return None
+
+
 def held(session, said, lines, at, seen, may_be_first):
     """Holds the answer that begins at this line against the list's. What is wrong or None, and how many lines the answer has."""
-    parts = session.parts_asked(said)
-    if lines[at : at + 1] == [SHORT]:
-        seen.count_short(said, parts)
-        return (None if may_be_short(session, said, may_be_first) else f"{SHORT} where no memory is asked for"), 1
-    answer = session.answer(said)
-    seen.count(said, parts, answer)
+    line = lines[at] if at < len(lines) else ""
+    if line == SHORT:
+        return held_short(session, said, seen, may_be_first), 1
+    answer = answer_of(session, said, line)
+    seen.count(said, session.parts_asked(said), answer)
     if isinstance(answer, Layout):
         # (as many pieces as the head line tells)
-        pieces = lines[at].rpartition(" ")[2] if at < len(lines) else ""
+        pieces = line.rpartition(" ")[2]
         wanted = lines[at : at + 1 + int(pieces)] if pieces.isdecimal() else lines[at : at + 1]
-        return random_script.misfit_of_layout(wanted, answer.part, answer.rows)
+        return random_script.misfit_of_look(answer.part, wanted)
     got = lines[at : at + len(answer)]
     return (None if got == answer else f"wanted {answer[:4]!r}, got {got[:4]!r}"), len(answer)
 
@@ -71,14 +102,19 @@ def compare(said, wrote, session=None, short=0, may_be_first=False):
     if lines is None:
         seen.wrong = f"no lines of text: {wrote[-80:]!r}"
         return seen
-    for number, one in enumerate(said, 1):
+    for number, one in enumerate(said):
+        shorts = seen.short
         try:
             wrong, taken = held(session, one, lines, at, seen, may_be_first)
         except ValueError as error:
             wrong, taken = f"no number: {error}", 1
         if wrong:
-            seen.wrong = f"statement {number}, {one!r}: {wrong}"
+            seen.wrong = f"statement {number + 1}, {one!r}: {wrong}"
             return seen
+        if seen.short > shorts:
+            seen.shorts.append(number)
+        elif one[0] == "layout":
+            seen.layouts[number] = lines[at : at + taken]
         at += taken
     if at < len(lines):
         seen.wrong = f"{len(lines) - at} lines too many, {lines[at]!r} first"

@@ -70,9 +70,9 @@ def records(given):
     return reader.end()
 
 
-def loaded(given, splits, limit):
-    """A table with the rows of these bytes; or the number of the first record that is none, or the length of a history that is full."""
-    table = random_script.Table(splits, limit)
+def loaded(given, splits, limits):
+    """A table with the rows of these bytes; or the number of the first record that is none, or what is refused where a partition is at a limit."""
+    table = random_script.Table(splits, limits)
     for number, fields in enumerate(records(given), 1):
         if number == 1 and fields == [b"key", b"payload"]:
             continue
@@ -83,11 +83,11 @@ def loaded(given, splits, limit):
     return table
 
 
-def exported(given, splits=(), limit=random_script.MOST_ENTRIES):
+def exported(given, splits=(), limits=random_script.Limits()):
     """The status, what is exported, and the complaint."""
     wrote = b""
     try:
-        table = loaded(given, list(splits), limit)
+        table = loaded(given, list(splits), limits)
         wrote += HEADER
         for part in table.parts:
             wrote += b"".join(b"%d,%d\n" % (key, payload) for _, key, payload in part.between(0, random_script.MOST))
@@ -96,10 +96,10 @@ def exported(given, splits=(), limit=random_script.MOST_ENTRIES):
     return 0, wrote, b""
 
 
-def fault_of_input(program, given, splits=(), limit=random_script.MOST_ENTRIES, piece=65536, wanted=None):
+def fault_of_input(program, given, splits=(), limits=random_script.Limits(), piece=65536, wanted=None):
     """What is wrong with what comes of these bytes, given in pieces; or None."""
-    words = ["csv", "--limit", str(limit), *map(str, splits)]
-    wanted = exported(given, splits, limit) if wanted is None else wanted
+    words = ["csv", *limits.words(), *map(str, splits)]
+    wanted = exported(given, splits, limits) if wanted is None else wanted
     got = lines.answered(program, words, given, piece)
     return None if got == wanted else f"{given[:80]!r} (of {len(given)} bytes, in pieces of {piece}): wanted {wanted!r:.300}, got {got!r:.300}"
 
@@ -191,11 +191,12 @@ def fault(program, seed):
     """What is wrong with what comes of the random records of a seed, whole, cut off, and with a byte that was changed; or None."""
     numbers = random.Random(seed)
     splits = sorted(numbers.sample(range(1, 300), numbers.randrange(4)))
-    limit = numbers.choice([100, random_script.MOST_ENTRIES, random_script.MOST_ENTRIES])
+    small = [random_script.Limits(100), random_script.Limits(cells=100), random_script.Limits(life=100)]
+    limits = numbers.choice([random_script.Limits()] * 5 + small)
     given = random_input(numbers)
     cuts = [given[: numbers.randrange(len(given) + 1)] for _ in range(10)]
     places = [numbers.randrange(len(given) + 1) for _ in range(10)]
     changed = [given[:at] + bytes([numbers.choice(b'",\r\n 09\0') if numbers.random() < 0.7 else numbers.randrange(256)]) + given[at + 1 :] for at in places]
     piece = numbers.choice([1, 3, 64, 4096, 65536])
-    wrong = first_of(fault_of_input(program, it, splits, limit, piece) for it in [given, *cuts, *changed])
-    return wrong and f"csv, seed {seed}, splits {splits}, limit {limit}: {wrong}"
+    wrong = first_of(fault_of_input(program, it, splits, limits, piece) for it in [given, *cuts, *changed])
+    return wrong and f"csv, seed {seed}, splits {splits}, {limits}: {wrong}"

@@ -240,7 +240,7 @@ def fault(program, seed):
     """What is wrong where the replies to the random session of a seed go to a file that takes some of them; or None."""
     numbers = random.Random(seed)
     splits = sorted(numbers.sample(range(1, 1000), numbers.randrange(4)))
-    text = memory.random_text(numbers, splits, random_script.MOST_ENTRIES, 1000)
+    text = memory.random_text(numbers, splits, random_script.Limits(), 1000)
     given = b"".join(it + b"\n" for it in text.splitlines() if not it.startswith(b"layout"))
     wanted = plain_session.replies(given, splits)
     sizes = [numbers.randrange(len(wanted) + 2) for _ in range(20)] + [4096, 8192, len(wanted) - 1, len(wanted)]

@@ -66,6 +66,10 @@ def named_sweeps(program):
         for policy in random_script.POLICIES:
             for way in memory.WAYS:
                 yield Case(f"memory {way} {policy} {name}", memory.fault_of_named, program, name, policy, way)
+    for name in memory.FOLDS:
+        for policy in random_script.POLICIES:
+            for way in memory.WAYS:
+                yield Case(f"memory {way} {policy} {name}", memory.fault_of_folds, program, name, policy, way)
     for name, given in memory.TEXTS.items():
         for way in memory.WAYS:
             yield Case(f"memory {way} {name}", memory.fault_of_text, program, *given, way)

@@ -20,13 +20,13 @@ SESSION_LINES = 5000
 LONG_LINE = 64 * 2**20
 NUMBERS = [0, 1, 2, 9, 10, 99, 100, 101, 2**32 - 2, 2**32 - 1, 2**32, 2**32 + 1, 2**64 - 1, 2**64, 10**19, 10**20 - 1, 10**20]
 ODD_NUMBERS = [b"", b"-1", b"+1", b"1.0", b"0x1", b"1e3", b"1_0", b"\xb2", b"00000000000000000001", b"000000000000000000001", b"0" * 20, b"0" * 21]
-WORDS = [b"insert", b"delete", b"update", b"count", b"sum", b"select", b"layout", b"policy", b"quit", b"complete", b"gradual", b"ripple"]
-ODD_WORDS = [b"INSERT", b"inser", b"inserts", b"insert1", b"row", b"refused", b"bye", b"none", b"checkpoint", b"\xc3\xa9", b"\0", b"#", b"--"]
+WORDS = [b"insert", b"delete", b"update", b"count", b"sum", b"select", b"layout", b"checkpoint", b"policy", b"quit", b"complete", b"gradual", b"ripple"]
+ODD_WORDS = [b"INSERT", b"inser", b"inserts", b"insert1", b"row", b"refused", b"bye", b"none", b"checkpoints", b"fold", b"\xc3\xa9", b"\0", b"#", b"--"]
 # how many bytes are written at a time
 PIECES = [1, 2, 3, 7, 199, 201, 4095, 4096, 4097, 65536]
 STATEMENTS = [
     b"insert 7 70", b"  insert   007   08  ", b"delete 0.0", b"update 0.0 8 80", b"count 0 4294967296", b"sum 5 10", b"select 0 4294967296", b"layout 0",
-    b"policy gradual", b"quit", b"delete 4294967295.18446744073709551615", b"count 18446744073709551616 0",
+    b"checkpoint 0", b"policy gradual", b"quit", b"delete 4294967295.18446744073709551615", b"count 18446744073709551616 0",
 ]  # fmt: skip
 
 
@@ -57,7 +57,7 @@ def random_words(numbers):
             words = [random_row(numbers)]
         case b"update":
             words = [random_row(numbers), random_number(numbers), random_number(numbers)]
-        case b"layout":
+        case b"layout" | b"checkpoint":
             words = [b"%d" % numbers.randrange(5) if numbers.random() < 0.7 else random_number(numbers)]
         case b"policy":
             words = [numbers.choice(WORDS[-3:])]
@@ -139,21 +139,21 @@ def answered(program, words, given, piece):
     return it.returncode, wrote, complained
 
 
-def fault_of_session(program, given, splits=(), limit=random_script.MOST_ENTRIES, piece=65536):
+def fault_of_session(program, given, splits=(), limits=random_script.Limits(), piece=65536):
     """What is wrong with what a session is answered, given in pieces of so many bytes; or None."""
-    status, wrote, complained = answered(program, ["script", "--limit", str(limit), *map(str, splits)], given, piece)
+    status, wrote, complained = answered(program, ["script", *limits.words(), *map(str, splits)], given, piece)
     if status or complained:
         return f"status {status}, standard error {complained!r}"
-    return compare.compare(plain_session.statements(given), wrote, plain_session.Session(splits, limit)).wrong
+    return compare.compare(plain_session.statements(given), wrote, plain_session.Session(splits, limits)).wrong
 
 
 def fault(program, seed):
     """What is wrong with what the random lines of a seed are answered, or None."""
     numbers = random.Random(seed)
     splits = sorted(numbers.sample([1, 10, 99, 100, 101, 2**32 - 2, 2**32 - 1], numbers.randrange(4)))
-    limit = numbers.choice([200, random_script.MOST_ENTRIES])
+    limits = numbers.choice([random_script.Limits(), random_script.Limits(200), random_script.Limits(100, 50, 1000)])
     piece = PIECES[seed % len(PIECES)]
-    wrong = fault_of_session(program, random_input(numbers, SESSION_LINES), splits, limit, piece)
+    wrong = fault_of_session(program, random_input(numbers, SESSION_LINES), splits, limits, piece)
     return wrong and f"lines, seed {seed}, in pieces of {piece}: {wrong}"
 
 
@@ -163,7 +163,10 @@ def each_line_on_a_fresh_table(program):
         b"insert 1\n", b"insert 1 2 3\n", b"INSERT 1 2\n", b"insert 1 -2\n", b"insert 1\t2\n", b"quit now\n", b"delete 0 .1\n", b"delete 4294967296.0\n",
         b"delete 0.18446744073709551616\n", b"count 000000000000000000000 5\n", b"insert 1 1\r\r\n", b" " * 201 + b"\n", b"count 18446744073709551616 0\n",
         b"count 0 99999999999999999999\n", b"delete 1.0\n", b"layout 4294967295\n", b"delete 0.18446744073709551615\n", b"  insert   007   08  \n",
-        b"insert 1 1".ljust(200) + b"\n", b"insert 1 1".ljust(200) + b"\r\n", b"\r\n", b"\r",
+        b"insert 1 1".ljust(200) + b"\n", b"insert 1 1".ljust(200) + b"\r\n", b"\r\n", b"\r", b"checkpoint\n", b"checkpoint x\n", b"checkpoint 0 0\n",
+        b"checkpoint 0.0\n", b"checkpoint -0\n", b"checkpoint\t0\n", b"checkpoint 0\r\r\n", b"Checkpoint 0\n", b"checkpoint0\n", b"check point 0\n",
+        b"checkpoint 4294967296\n", b"checkpoint 000000000000000000000\n", b"checkpoint 0".ljust(201) + b"\n", b"checkpoint 1\n", b"checkpoint 4294967295\n",
+        b"checkpoint 00000000000000000000\n", b"  checkpoint   0  \r\n", b"checkpoint 0".ljust(200) + b"\n", b"checkpoint 0",
     ]  # fmt: skip
     found = ((it, fault_of_session(program, it)) for it in given)
     return next((f"{it!r}: {wrong}" for it, wrong in found if wrong), None)

@@ -41,6 +41,34 @@ SCRIPTS = {
     "rows are updated": ["insert 5 50", "update 0.0 6 60", ALL, "update 0.0 8 80", f"select 0 {random_script.MOST}"],
     "rows wait near the range and far off": [*FOUR, "insert 17 0", "insert 90 0", "count 15 25"],
 }
+# checkpoints amid merges; of a history that is full, again and again; of rows whose cells were freed and used again; of cells and a life that end; and of so
+# long a history that its memory is given back
+FOLDS = {
+    "a checkpoint amid rows that come and go": (
+        random_script.Limits(),
+        [*FOUR, "insert 17 0", "count 15 25", "delete 0.0", "update 0.3 41 41", "checkpoint 0", "count 15 25", f"select 0 {random_script.MOST}",
+         "checkpoint 0", "update 0.4 18 8", "insert 50 5", "delete 0.5", "checkpoint 0", f"sum 0 {random_script.MOST}"],
+    ),
+    "checkpoints of a full history": (
+        random_script.Limits(3),
+        ["insert 1 1", "insert 2 2", "count 0 9", "insert 3 3", "checkpoint 0", "insert 3 3", "delete 0.1", "update 0.0 5 5", "sum 0 9", "checkpoint 0",
+         "checkpoint 0", "sum 0 9", "select 0 9", "insert 4 4", "checkpoint 0", "delete 0.0", "select 0 9"],
+    ),
+    "a checkpoint of cells that were used again": (
+        random_script.Limits(),
+        ["insert 1 1", "insert 2 2", "insert 3 3", "insert 4 4", "delete 0.2", "delete 0.0", "insert 5 5", "insert 6 6", "insert 7 7", "checkpoint 0", ALL,
+         "delete 0.3", "delete 0.1", ALL, "insert 8 8", "insert 9 9", "checkpoint 0", f"select 0 {random_script.MOST}"],
+    ),
+    "checkpoints of cells and a life that end": (
+        random_script.Limits(3, 2, 7),
+        ["insert 1 1", "insert 2 2", "insert 3 3", "checkpoint 0", "insert 3 3", "delete 0.1", "insert 3 3", "checkpoint 0", "select 0 9", "update 0.0 4 4",
+         "count 0 9", "checkpoint 0", "count 0 9", "sum 0 9", "checkpoint 0", "count 0 9"],
+    ),
+    "a checkpoint of a long history": (
+        random_script.Limits(),
+        [*(f"insert {key * 7 % 5000} {key}" for key in range(4200)), "delete 0.7", "checkpoint 0", "count 100 200", "checkpoint 0", "layout 0", "insert 1 1"],
+    ),
+}  # fmt: skip
 # runs that write one text: their words, and what they are given
 TEXTS = {
     "csv": (["csv", "100", "200"], b"key,payload\n" + b"".join(b'%d,"%d"\n' % (key, key % 7) for key in range(0, 400, 9))),
@@ -136,14 +164,41 @@ def fault_of_sweep(program, words, given, check, way, text=b""):
     return None, runs
 
 
-def sweep_script(program, words, given, way, splits=(), limit=random_script.MOST_ENTRIES):
+def sweep_script(program, words, given, way, splits=(), limits=random_script.Limits()):
     """Sweeps one way over a session."""
     said = plain_session.statements(given)
 
     def check(wrote, refused):
-        return compare.compare(said, wrote, plain_session.Session(splits, limit), refused).wrong
+        return compare.compare(said, wrote, plain_session.Session(splits, limits), refused).wrong
 
     return fault_of_sweep(program, words, given, check, way)
+
+
+def other_layout(seen, whole):
+    """The number of the first layout that isn't as it is where no memory is refused; None where there is none."""
+    return next((number for number, lines in seen.layouts.items() if lines != whole.layouts[number]), None)
+
+
+def sweep_folds(program, words, given, way, limits):
+    """Sweeps one way over a session over one partition. Where checkpoints and layouts alone are refused, all layouts are as without: a checkpoint changes
+    none, whether it is answered or refused. Where calls are refused one by one, a checkpoint must have been refused in some run."""
+    said, refused_once = plain_session.statements(given), set()
+    ran = subprocess.run([program, *words], input=given, capture_output=True, timeout=SECONDS, check=True)
+    whole = compare.compare(said, ran.stdout, plain_session.Session((), limits))
+    if whole.wrong:
+        return whole.wrong, 1
+
+    def check(wrote, refused):
+        seen = compare.compare(said, wrote, plain_session.Session((), limits), refused)
+        kinds = {said[number][0] for number in seen.shorts}
+        refused_once.update(kinds)
+        other = None if seen.wrong or kinds - {"checkpoint", "layout"} else other_layout(seen, whole)
+        return seen.wrong if other is None else f"statement {other + 1}: another layout than without {said[seen.shorts[0]]} refused"
+
+    wrong, runs = fault_of_sweep(program, words, given, check, way)
+    if wrong is None and way == "alone" and "checkpoint" not in refused_once:
+        wrong = "no checkpoint was refused"
+    return wrong, runs
 
 
 def text_of(statements, with_layouts):
@@ -162,6 +217,14 @@ def fault_of_named(program, name, policy, way):
     return found, runs
 
 
+def fault_of_folds(program, name, policy, way):
+    """Sweeps one way over a script of `FOLDS` under a policy, with a layout behind each statement of a short one that finds memory again. What is wrong, or
+    None, and how many runs there were."""
+    limits, statements = FOLDS[name]
+    given = text_of(statements, way != "all" and len(statements) < STATEMENTS)
+    return sweep_folds(program, ["script", "--policy", policy, *limits.words()], given, way, limits)
+
+
 def fault_of_text(program, words, given, way):
     """Sweeps one way over a run that writes one text, or a front of it where it ends with 8. What is wrong, or None, and how many runs there were."""
     text = subprocess.run([program, *words], input=given, capture_output=True, timeout=SECONDS, check=True).stdout
@@ -172,27 +235,28 @@ def fault_of_text(program, words, given, way):
     return fault_of_sweep(program, words, given, check, way, text)
 
 
-def random_text(numbers, splits, limit, most, statements=STATEMENTS):
+def random_text(numbers, splits, limits, most, statements=STATEMENTS):
     """A random session of so many statements over these splits."""
-    table = random_script.Table(splits, limit)
+    table = random_script.Table(splits, limits)
     return "".join(f"{random_script.random_statement(numbers, table, most)[0]}\n" for _ in range(statements)).encode("ascii")
 
 
 def random_session(seed):
-    """The words of the command line, the bytes of a session, its splits and its limit, drawn by a seed. Where histories get full there is one
+    """The words of the command line, the bytes of a session, its splits and its limits, drawn by a seed. Where limits are small there is one
     partition: of a range over several that is refused with 8 nobody is told which have kept their part."""
     numbers = random.Random(seed)
     most = numbers.choice(random_script.KEYS)
     splits = sorted(numbers.sample(range(1, min(most, random_script.MOST - 2) + 1), numbers.choice([0, 1, 3, 8, 15])))
-    limit = numbers.choice([STATEMENTS // 2, random_script.MOST_ENTRIES]) if not splits else random_script.MOST_ENTRIES
-    words = ["script", "--policy", numbers.choice(random_script.POLICIES), "--limit", str(limit), *map(str, splits)]
-    return words, random_text(numbers, splits, limit, most), splits, limit
+    greatest, small = random_script.Limits(), [random_script.Limits(STATEMENTS // 2), random_script.Limits(STATEMENTS // 10, 20, STATEMENTS // 2)]
+    limits = greatest if splits else numbers.choice([greatest, *small])
+    words = ["script", "--policy", numbers.choice(random_script.POLICIES), *limits.words(), *map(str, splits)]
+    return words, random_text(numbers, splits, limits, most), splits, limits
 
 
 def fault_of_random(program, seed, way):
     """Sweeps one way over the random script of a seed. What is wrong, or None, and how many runs there were."""
-    words, given, splits, limit = random_session(seed)
-    return sweep_script(program, words, given, way, splits, limit)
+    words, given, splits, limits = random_session(seed)
+    return sweep_script(program, words, given, way, splits, limits)
 
 
 def is_there():

@@ -35,7 +35,7 @@ def own_statement(numbers, session, parts):
     first, last = sorted(numbers.choice([low, key, parts[-1].low, high]) for _ in range(2))
     row = f"{part.number}.{numbers.randrange(part.next + 2)}"
     near = min(max(key, part.low), part.high - 1)
-    kind = numbers.choices(["insert", "delete", "update", "range", "layout", "policy"], [8, 3, 3, 6, 1, 1])[0]
+    kind = numbers.choices(["insert", "delete", "update", "range", "layout", "checkpoint", "policy"], [8, 3, 3, 6, 1, 2, 1])[0]
     return {
         "insert": f"insert {key} {payload}",
         "delete": f"delete {row}",
@@ -43,6 +43,7 @@ def own_statement(numbers, session, parts):
         # (an empty range at the end of these partitions would ask the one behind them)
         "range": f"{numbers.choice(['count', 'sum', 'select'])} {first if first < high else low} {last}",
         "layout": f"layout {part.number}",
+        "checkpoint": f"checkpoint {part.number}",
         "policy": f"policy {numbers.choice(random_script.POLICIES)}",
     }[kind]
 

@@ -116,19 +116,21 @@ class Layout:
 class Session:
     """The partitions of a session's table, and what its statements are answered."""
 
-    def __init__(self, splits=(), limit=random_script.MOST_ENTRIES):
-        self.table = random_script.Table(list(splits), limit)
+    def __init__(self, splits=(), limits=random_script.Limits()):
+        self.table = random_script.Table(list(splits), limits)
+
+    def parts_of(self, said):
+        """The partitions that what was said asks."""
+        if isinstance(said, str) or said[0] in ("policy", "quit"):
+            return []
+        kind, told = said
+        if kind in ("delete", "update", "layout", "checkpoint"):
+            return self.table.parts[told[0] : told[0] + 1]
+        return [self.table.part_of(told[0])] if kind == "insert" else self.table.parts_of(*told)
 
     def parts_asked(self, said):
         """How many partitions what was said asks."""
-        if isinstance(said, str) or said[0] in ("policy", "quit"):
-            return 0
-        kind, told = said
-        if kind in ("delete", "update", "layout", "checkpoint"):
-            return int(told[0] < len(self.table.parts))
-        if kind == "insert" or told[0] == told[1]:
-            return 1
-        return sum(part.low < told[1] and told[0] < part.high for part in self.table.parts)
+        return len(self.parts_of(said))
 
     def answer(self, said):
         """The lines that what was said is answered, or the layout that is to be told."""
@@ -150,14 +152,24 @@ class Session:
         """Whether what was said is refused for a cause that goes before want of memory, in the one partition that it asks."""
         if isinstance(said, str) or said[0] in ("layout", "checkpoint") or self.parts_asked(said) != 1:
             return False
-        kind, told = said
-        part = self.table.parts[told[0]] if kind in ("delete", "update") else self.table.part_of(told[0])
+        (kind, told), (part,) = said, self.parts_of(said)
         is_outside = kind == "update" and not part.low <= told[2] < part.high
-        return is_outside or part.kept == part.limit
+        is_over = part.kept == part.limits.history or part.folded + part.kept == part.limits.life
+        return is_outside or is_over or (kind == "insert" and part.has_no_cell())
+
+    def leave_without_memory(self, said):
+        """What was said is refused for want of memory. Partitions of a range may have merged their rows, and those before the last one have kept it."""
+        if said[0] in ("count", "sum", "select"):
+            parts = self.parts_of(said)
+            for part in parts:
+                part.fresh.clear()
+                part.has_cell = None
+            for part in parts[:-1]:
+                part.untold += 1
 
 
-def replies(given, splits=(), limit=random_script.MOST_ENTRIES):
+def replies(given, splits=()):
     """The text of the replies to a session without layouts."""
-    session = Session(splits, limit)
+    session = Session(splits)
     found = [session.answer(said) for said in statements(given)]
     return "".join(f"{line}\n" for answer in found for line in answer).encode("ascii")

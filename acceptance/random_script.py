@@ -6,9 +6,11 @@ more; all three policies answer alike. A seed says how many splits there are, ho
 so small that statements are often refused with 6, 9 and 10. Keys and ends of ranges are often splits, or beside one. Checkpoints stand amid
 the other statements. A layout is compared by its equations, since no rule fixes more of it: the pieces' sizes add up to
 the column; column, pending insertions and free cells make up the cells; the rows are the column less the pending deletions and the pending
-insertions, and as many as the list has; the pieces join from one end of the partition's keys to the other. Whether a row finds a cell no list
-knows: an insert or an update may be refused with 9 once its partition has accepted as many commands as it may have cells, and then changes
-nothing; behind a layout of its partition an insert is refused with 9 exactly where that told as many cells as there may be, and none free.
+insertions, and as many as the list has; the pieces join from one end of the partition's keys to the other.
+Cells are what the list's rows take, one each, and rows that went or were changed where they stood in a column, until a range that has their key buries
+them. A row that came or was changed since the last range stands in no column. So an insert is refused with 9 where the rows alone are as many as there may be
+cells; it isn't where these and all that may wait for their burial are fewer; behind a layout of its partition it is so exactly where that told as many
+cells as there may be, and none free. An update that is refused with 9 is of a row that may stand in the column.
 """
 
 import pathlib
@@ -16,6 +18,7 @@ import random
 import re
 import subprocess
 import sys
+import typing
 
 MOST = 4294967296
 STATEMENTS = 1000
@@ -24,9 +27,10 @@ POLICIES = ["complete", "gradual", "ripple"]
 SEEDS = range(18)
 # by the seed, whether limits are small
 TIGHT = [False, True]
-# by the seed: the greatest key; and how many splits, with how many entries histories have that get full, which those of the greatest keys do
+# by the seed: the greatest key; and how many splits, with how many entries histories have that get full, which those of the greatest keys do, and
+# about how many commands a partition accepts in all where limits are small
 KEYS = [20, 1000, MOST - 1]
-SPLITS = [(0, 700), (4, 200), (15, 200)]
+SPLITS = [(0, 700, 500), (4, 200, 230), (15, 200, 110)]
 MOST_ENTRIES, MOST_CELLS, MOST_LIFE = 1000000, 1048576, 1099511627776
 COMMANDS = ("insert", "delete", "update", "count", "sum", "select", "checkpoint")
 NO_CELL = "refused 9"
@@ -36,20 +40,36 @@ class Refused(Exception):
     """What a refused statement is answered."""
 
 
-class Part:
-    """The rows of a partition by their serial."""
+class Limits(typing.NamedTuple):
+    """What bounds each partition: the entries of a history, the cells, and the commands in all."""
 
-    def __init__(self, number, low, high, limit, cells=MOST_CELLS, life=MOST_LIFE):
-        self.number, self.low, self.high, self.limit, self.cells, self.life = number, low, high, limit, cells, life
+    history: int = MOST_ENTRIES
+    cells: int = MOST_CELLS
+    life: int = MOST_LIFE
+
+    def words(self):
+        """The options of a command line."""
+        return ["--limit", str(self.history), "--cells", str(self.cells), "--life", str(self.life)]
+
+
+class Part:
+    """The rows of a partition by their serial, what bounds them, and what is known of their cells."""
+
+    def __init__(self, number, low, high, limits=Limits()):
+        self.number, self.low, self.high, self.limits = number, low, high, limits
         self.rows, self.next, self.kept, self.folded = {}, 0, 0, 0
+        # how many commands may have been kept besides, of which nobody was told
+        self.untold = 0
         # whether there is a cell for one row more, as a layout told; None where none told it since the last command
         self.has_cell = None
+        # the serials of rows that stand in no column, and the keys of those that may stand there and wait for their burial
+        self.fresh, self.doomed = set(), []
 
     def test(self):
         """Refuses a command where no more is accepted."""
-        if self.kept == self.limit:
-            raise Refused(f"refused 6 {self.limit}")
-        if self.folded + self.kept == self.life:
+        if self.kept == self.limits.history:
+            raise Refused(f"refused 6 {self.kept}")
+        if self.folded + self.kept == self.limits.life:
             raise Refused("refused 10")
 
     def keep(self):
@@ -58,33 +78,46 @@ class Part:
         self.kept += 1
         self.has_cell = None
 
-    def lack_cell(self, kind, key):
-        """An insert or an update that is refused with 9, if it may be."""
+    def lack_cell(self, serial, key):
+        """An insert, or an update of a serial, that is refused with 9, if it may be."""
         if not self.low <= key < self.high:
             raise Refused("refused 4")
         self.test()
-        if self.has_cell or self.folded + self.kept < self.cells:
-            raise Refused(f"no {NO_CELL}: the {kind} has a cell")
+        if self.has_cell or len(self.rows) + len(self.doomed) < self.limits.cells:
+            raise Refused(f"no {NO_CELL}: there is a cell")
+        if serial is not None and (serial not in self.rows or serial in self.fresh):
+            raise Refused(f"no {NO_CELL}: the row {serial} stands in no column")
         raise Refused(NO_CELL)
 
     def checkpoint(self):
-        count, self.kept = self.kept, 0
+        count, self.kept, self.untold = self.kept, 0, 0
         self.folded += count
         return [f"folded {count}"]
 
+    def has_no_cell(self):
+        """Whether it is known that there is no cell for one row more."""
+        return self.has_cell is False or len(self.rows) == self.limits.cells
+
     def insert(self, key, payload):
         self.test()
-        if self.has_cell is False:
+        if self.has_no_cell():
             raise Refused(NO_CELL)
         self.keep()
         self.rows[self.next] = (key, payload)
+        self.fresh.add(self.next)
         self.next += 1
         return [f"row {self.number}.{self.next - 1}"]
 
+    def leave(self, serial):
+        """A row leaves its cell. Where it may stand in the column, the cell may wait for its burial."""
+        if serial not in self.fresh:
+            self.doomed.append(self.rows[serial][0])
+        self.fresh.discard(serial)
+        return self.rows.pop(serial)
+
     def delete(self, serial):
         self.keep()
-        row = self.rows.pop(serial, None)
-        return [f"gone {row[0]} {row[1]}" if row else "none"]
+        return ["gone {} {}".format(*self.leave(serial))] if serial in self.rows else ["none"]
 
     def update(self, serial, key, payload):
         if not self.low <= key < self.high:
@@ -92,22 +125,27 @@ class Part:
         self.keep()
         if serial not in self.rows:
             return ["none"]
+        self.leave(serial)
         self.rows[serial] = (key, payload)
+        self.fresh.add(serial)
         return ["changed"]
 
     def between(self, low, high):
         """The rows of a range, each with its number."""
         self.keep()
+        if low < high:
+            self.fresh.clear()
+            self.doomed = [key for key in self.doomed if not low <= key < high]
         return [(f"{self.number}.{serial}", *row) for serial, row in sorted(self.rows.items()) if low <= row[0] < high]
 
 
 class Table:
     """The partitions between splits."""
 
-    def __init__(self, splits, limit, cells=MOST_CELLS, life=MOST_LIFE):
+    def __init__(self, splits, limits=Limits()):
         ends = [0, *splits, MOST]
         self.splits = splits
-        self.parts = [Part(number, low, high, limit, cells, life) for number, (low, high) in enumerate(zip(ends, ends[1:]))]
+        self.parts = [Part(number, low, high, limits) for number, (low, high) in enumerate(zip(ends, ends[1:]))]
 
     def part(self, number):
         if number >= len(self.parts):
@@ -118,12 +156,15 @@ class Table:
         """The partition of a key; of the bound above all keys the last one."""
         return [part for part in self.parts if part.low <= key][-1]
 
+    def parts_of(self, low, high):
+        """The partitions that a range asks, an empty one that of its low end."""
+        return [part for part in self.parts if part.low < high and low < part.high] if low < high else [self.part_of(low)]
+
     def between(self, low, high):
-        """The rows of a range, partition by partition; an empty range asks that of its low end."""
+        """The rows of a range, partition by partition."""
         if low > high:
             raise Refused("refused 2")
-        asked = [part for part in self.parts if part.low < high and low < part.high] if low < high else [self.part_of(low)]
-        return [row for part in asked for row in part.between(low, high)]
+        return [row for part in self.parts_of(low, high) for row in part.between(low, high)]
 
     def answer(self, kind, numbers):
         """The lines of the answer to a command."""
@@ -142,8 +183,8 @@ class Table:
         """The lines of the answer to an insert or an update that was refused with 9."""
         try:
             if kind == "insert":
-                self.part_of(numbers[0]).lack_cell(kind, numbers[0])
-            self.part(numbers[0]).lack_cell(kind, numbers[2])
+                self.part_of(numbers[0]).lack_cell(None, numbers[0])
+            self.part(numbers[0]).lack_cell(*numbers[1:3])
         except Refused as refused:
             return [str(refused)]
 
@@ -229,11 +270,11 @@ def misfit_of_layout(lines, part, rows):
     return None if right else f"equations: {lines[0]!r}, sizes {sizes}, rows {rows}", pieces + 1
 
 
-def limits_of(numbers, tight, limit, parts):
-    """The limits of histories, cells and lives: the last two small where `tight` says so, and the first then smaller than this one."""
-    if not tight:
-        return limit, MOST_CELLS, MOST_LIFE
-    return numbers.randrange(5, 60), numbers.randrange(3, 30), numbers.randrange(1000, 3000) // parts
+def limits_of(numbers, is_tight, limit, life):
+    """The limits of histories, cells and lives: small ones where `is_tight` says so, and else only that of histories, which is then this one."""
+    if not is_tight:
+        return Limits(limit)
+    return Limits(numbers.randrange(5, 60), numbers.randrange(3, 30), numbers.randrange(3 * life // 4, life))
 
 
 def is_full(answer):
@@ -244,19 +285,18 @@ def is_full(answer):
 def script(seed):
     """The words of the command line, the statements, for each the lines of its answer where it asks no partition, and an empty table for the others."""
     numbers, pairs = random.Random(seed), []
-    most, (count, small) = KEYS[seed % 3], SPLITS[seed // 3 % 3]
+    most, (count, small, life) = KEYS[seed % 3], SPLITS[seed // 3 % 3]
     limit = small if most == KEYS[-1] else MOST_ENTRIES
     splits = sorted(numbers.sample(range(1, min(most, MOST - 2) + 1), count))
-    tight = TIGHT[seed // 9 % 2]
-    limits = limits_of(numbers, tight, limit, count + 1)
-    table, policy = Table(splits, *limits), numbers.choice(POLICIES)
+    is_tight = TIGHT[seed // 9 % 2]
+    limits = limits_of(numbers, is_tight, limit, life)
+    table, policy = Table(splits, limits), numbers.choice(POLICIES)
     while len(pairs) < STATEMENTS - 1:
         pairs.append(random_statement(numbers, table, most))
-        if tight and is_full(pairs[-1][1]) and numbers.random() < 0.2:
+        if is_tight and is_full(pairs[-1][1]) and numbers.random() < 0.2:
             pairs += [(f"checkpoint {part.number}", part.checkpoint()) for part in table.parts]
-    named = [word for pair in zip(["--limit", "--cells", "--life"], map(str, limits)) for word in pair]
-    words = ["script", *map(str, splits[:2]), *named, "--policy", policy, *map(str, splits[2:])]
-    return words, [*pairs, ("quit", ["bye"])], Table(splits, *limits)
+    words = ["script", *map(str, splits[:2]), *limits.words(), "--policy", policy, *map(str, splits[2:])]
+    return words, [*pairs, ("quit", ["bye"])], Table(splits, limits)
 
 
 def misfit_of_command(table, statement, lines):
@@ -266,24 +306,33 @@ def misfit_of_command(table, statement, lines):
     return (None if lines[: len(answer)] == answer else f"wanted {answer!r}, got {lines[:len(answer)]!r}"), len(answer)
 
 
-def misfit_of_look(table, statement, lines):
+def misfit_of_look(part, lines):
     """The same of a layout, which tells whether there is a cell for one row more."""
-    part = table.parts[int(statement.split(" ")[1])]
     misfit, taken = misfit_of_layout(lines, part, len(part.rows))
     if misfit is None:
         cells, free = (int(lines[0].split(" ")[place]) for place in (11, 13))
-        part.has_cell = cells < part.cells or free > 0
-        misfit = f"{cells} cells of at most {part.cells}" if cells > part.cells else None
+        part.has_cell = cells < part.limits.cells or free > 0
+        misfit = f"{cells} cells of at most {part.limits.cells}" if cells > part.limits.cells else None
     return misfit, taken
 
 
 def misfit_of(table, statement, answer, lines):
     """What is wrong with the answer to a statement at the front of these lines, and how many lines it has."""
     if isinstance(answer, Part):
-        return misfit_of_look(table, statement, lines)
+        return misfit_of_look(table.parts[answer.number], lines)
     if statement.split(" ")[0] in COMMANDS and answer != ["refused 1"]:
         return misfit_of_command(table, statement, lines)
     return (None if lines[: len(answer)] == answer else f"wanted {answer!r}, got {lines[:len(answer)]!r}"), len(answer)
+
+
+def misfit_of_all(table, pairs, lines):
+    """What is wrong with the lines that all statements were answered over an empty table; None where they are right."""
+    for number, (statement, answer) in enumerate(pairs, 1):
+        wrong, taken = misfit_of(table, statement, answer, lines)
+        if wrong:
+            return f"statement {number}, {statement!r}: {wrong}"
+        lines = lines[taken:]
+    return f"{len(lines)} lines too many" if lines else None
 
 
 def fault(program, seed):
@@ -291,13 +340,8 @@ def fault(program, seed):
     words, pairs, table = script(seed)
     given = "".join(f"{statement}\n" for statement, _ in pairs)
     ran = subprocess.run([program, *words], input=given, stdout=subprocess.PIPE, text=True, timeout=SECONDS, check=False)
-    lines = ran.stdout.splitlines()
-    for number, (statement, answer) in enumerate(pairs, 1):
-        wrong, taken = misfit_of(table, statement, answer, lines)
-        if wrong:
-            return f"seed {seed}, statement {number}, {statement!r}: {wrong}"
-        lines = lines[taken:]
-    return f"seed {seed}: status {ran.returncode}, {len(lines)} lines too many" if ran.returncode or lines else None
+    wrong = misfit_of_all(table, pairs, ran.stdout.splitlines()) or (f"status {ran.returncode}" if ran.returncode else None)
+    return wrong and f"seed {seed}: {wrong}"
 
 
 def run(program, seeds=SEEDS):

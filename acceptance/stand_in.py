@@ -9,8 +9,10 @@ import os
 import sys
 
 import csv_input
-import memory_workers
 import plain_session
+import random_script
+
+LIMITS = {"--limit": "history", "--cells": "cells", "--life": "life"}
 
 
 def doctored(text, fault):
@@ -46,7 +48,7 @@ def session_text(given, session, totals):
     text = b""
     for said in plain_session.statements(given):
         answer = session.answer(said)
-        if session.parts_asked(said) and said[0] != "layout" and not answer[0].startswith("refused"):
+        if session.parts_asked(said) and said[0] not in ("layout", "checkpoint") and not answer[0].startswith("refused"):
             totals[0] += session.parts_asked(said)
             totals[1] += said[0] == "insert"
             totals[2] += answer[0].startswith("gone")
@@ -73,17 +75,22 @@ def options_of(words):
     return pairs, [int(it) for at, it in enumerate(words) if not it.startswith("--") and at not in values]
 
 
+def limits_of(options):
+    """What bounds a partition by these options."""
+    return random_script.Limits(**{field: int(options[name]) for name, field in LIMITS.items() if name in options})
+
+
 def main(fault, subcommand, *words):
     options, splits = options_of(words)
-    limit = int(options.get("--limit", memory_workers.random_script.MOST_ENTRIES))
+    limits = limits_of(options)
     given, status, complained = sys.stdin.buffer.read(), 0, b""
     match subcommand:
         case "script":
-            text = session_text(given, plain_session.Session(splits, limit), [0, 0, 0])
+            text = session_text(given, plain_session.Session(splits, limits), [0, 0, 0])
         case "batch":
             text = batch_text(given, splits, int(options["--workers"]))
         case _:
-            status, text, complained = csv_input.exported(given, splits, limit)
+            status, text, complained = csv_input.exported(given, splits, limits)
     text = doctored(text, fault)
     try:
         done = 0
