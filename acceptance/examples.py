@@ -10,17 +10,21 @@ import shutil
 import subprocess
 import sys
 
+import plain_session
+import random_script
 import server
 import shell_cases
 
 EXAMPLES = pathlib.Path(__file__).resolve().parent.parent / "examples"
+# of a script that goes on for ever: how long its histories may be, and how many times as many statements it is given
+LIMIT, FOR_EVER, SPLITS = 20, 20, [100]
 
 
-def printed(example, given, *interpreter):
-    """What an example prints that is given a port, or the program."""
+def printed(example, given, *interpreter, more=(), text=""):
+    """What an example prints that is given a port, or the program, and more words, and this text to read."""
     ran = subprocess.run(
-        [*interpreter, str(EXAMPLES / example), str(given)],
-        stdin=subprocess.DEVNULL,
+        [*interpreter, str(EXAMPLES / example), str(given), *more],
+        input=text,
         capture_output=True,
         text=True,
         timeout=server.SECONDS,
@@ -54,8 +58,33 @@ def csv(program):
     server.expect("csv.sh", "3|6|30\n", printed("csv.sh", program, "sh"))
 
 
+def statements_for_ever():
+    """Some times as many statements as a history's limit: rows come, change and go, and are counted and listed, in both partitions or in one."""
+    for number in range(0, FOR_EVER * LIMIT, 5):
+        part, key = number % 2, number % 2 * 100 + number % 97
+        yield f"insert {key} {number}"
+        yield f"update {part}.{number // 20} {key} {number + 1}"
+        yield f"delete {part}.{number // 30}" if number % 3 else f"insert {key} 7"
+        yield f"{['count', 'sum', 'select'][number % 3]} {number % 150} {number % 150 + 60}"
+        yield "" if number % 7 else f"count 9 {number % 9}"
+
+
+def for_ever(program):
+    """A script whose histories get full again and again is answered as if they had no limit."""
+    text = "".join(f"{it}\n" for it in statements_for_ever())
+    wanted = plain_session.replies(text.encode("ascii"), SPLITS).decode("ascii")
+    small = plain_session.Session(SPLITS, random_script.Limits(LIMIT))
+    answers = [small.answer(it) for it in plain_session.statements(text.encode("ascii"))]
+    asked = len(answers)
+    if asked < 10 * LIMIT or [f"refused 6 {LIMIT}"] not in answers or "refused 6" in wanted:
+        raise server.Wrong(f"for_ever.py: {asked} statements, and no history of {LIMIT} entries gets full")
+    words = [str(LIMIT), *map(str, SPLITS)]
+    server.expect("for_ever.py", wanted, printed("for_ever.py", program, sys.executable, more=words, text=text))
+    server.expect("for_ever.py", wanted + "bye\n", printed("for_ever.py", program, sys.executable, more=words, text=text + "quit\ninsert 1 1\n"))
+
+
 # each with the program that it needs
-CASES = [(first, sys.executable), (client, sys.executable), (session, "nc"), (csv, "sqlite3"), *((it, sys.executable) for it in shell_cases.CASES)]
+CASES = [(first, sys.executable), (for_ever, sys.executable), (client, sys.executable), (session, "nc"), (csv, "sqlite3"), *((it, sys.executable) for it in shell_cases.CASES)]
 
 
 def run(program):

@@ -236,7 +236,8 @@ def random_statement(numbers, table, most):
             name = numbers.choice(POLICIES)
             return f"policy {name}", [f"policy {name}"]
         case "other part":
-            return numbers.choice([f"delete {other}.{serial}", f"update {other}.{serial} {key} {payload}", f"layout {other}", f"checkpoint {other}"]), ["refused 5"]
+            of_others = [f"delete {other}.{serial}", f"update {other}.{serial} {key} {payload}", f"layout {other}", f"checkpoint {other}"]
+            return numbers.choice(of_others), ["refused 5"]
         case "bad range":
             return f"{numbers.choice(['count', 'sum', 'select'])} {high + 1} {high}", ["refused 2"]
         case _:

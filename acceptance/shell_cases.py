@@ -88,6 +88,24 @@ def statements(program):
         end(shell, (4, 1, 1, 0))
 
 
+def checkpoints(program):
+    """A full history is told in words, and goes on behind a checkpoint; so is a want of cells, and a life that is over."""
+    with talking("--program", program, "--limit", "2", "--cells", "2", "--life", "4") as (shell, _):
+        ask(shell, "insert 1 10", "row 0.0" + TIME)
+        ask(shell, "insert 2 20", "row 0.1" + TIME)
+        ask(shell, f"count {EVERYTHING}", r"refused 6 2: the history is full: .*; checkpoint P makes room .*" + TIME)
+        ask(shell, "checkpoint 0", "folded 2" + TIME)
+        ask(shell, "insert 3 30", "refused 9: no cell is free .*" + TIME)
+        ask(shell, f"count {EVERYTHING}", "count 2" + TIME)
+        ask(shell, "checkpoint 1", "refused 5: there is no such partition" + TIME)
+        ask(shell, "checkpoint", "refused 1: .*" + TIME)
+        ask(shell, "delete 0.0", "gone 1 10" + TIME)
+        ask(shell, "checkpoint 0", "folded 2" + TIME)
+        ask(shell, f"sum {EVERYTHING}", "refused 10: the partition's life is over.*" + TIME)
+        ask(shell, "layout 0", "layout 0 rows 1 column 2 out 1 in 0 cells 2 free 0 pieces 1\npiece 0 4294967296 2\n", TIME.strip())
+        end(shell, (4, 2, 1, 1))
+
+
 def control_c_at_the_prompt(program):
     """A line that was begun is left out, and a new prompt comes."""
     with talking("--program", program) as (shell, _):
@@ -220,7 +238,7 @@ def commands_that_are_not_done(program):
         ask(shell, ".load missing", "shell: missing: No such file or directory\n")
         ask(shell, ".load", "shell: .load needs a file\n")
         ask(shell, ".foo", "shell: there is no .foo; .help tells what there is\n")
-        ask(shell, ".help", r"insert K V(.|\n)*\.load FILE(.|\n)* stay\.\n")
+        ask(shell, ".help", r"insert K V(.|\n)*\ncheckpoint P (.|\n)*\.load FILE(.|\n)* stay\.\n")
         ask(shell, ".quit", "accepted 0 inserted 0 deleted 0 held 0\n")
         shell.expect_end(0)
 
@@ -333,6 +351,7 @@ def as_a_filter(program):
 
 CASES = [
     statements,
+    checkpoints,
     control_c_at_the_prompt,
     load,
     load_of_a_bad_record,

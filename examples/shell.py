@@ -1,5 +1,6 @@
 #!/usr/bin/env python3
-"""A shell over `crackd serve`, for a person or as a filter: shell.py [--program PATH] [--limit N] [--policy NAME] [SPLIT ..], or shell.py --port N
+"""A shell over `crackd serve`, for a person or as a filter: shell.py [--program PATH] [--limit N] [--cells N] [--life N] [--policy NAME] [SPLIT ..],
+or shell.py --port N
 
 Without a port it starts a server of its own, which ends with it. On a terminal it prompts, says what a refusal means, and how long each statement
 took; `.help` tells what can be said. Where its input or output is no terminal it answers line by line and says nothing else. The status is 0; 1 where no
@@ -304,10 +305,10 @@ def program_of(path):
 
 def talk_to_own(options, interrupts):
     """A session with a server of its own. Whether all was done."""
-    limit = ["--limit", options.limit] if options.limit else []
-    policy = ["--policy", options.policy] if options.policy else []
+    named = {"--limit": options.limit, "--cells": options.cells, "--life": options.life, "--policy": options.policy}
+    words = [word for name, value in named.items() if value for word in (name, value)]
     with interrupts.breaking_in():
-        server = Server(program_of(options.program), [*limit, *policy, *options.splits])
+        server = Server(program_of(options.program), [*words, *options.splits])
     try:
         is_done = talk(server.port, options.policy or POLICY_OF_A_SERVER, True, interrupts)
         totals = server.totals()
@@ -325,14 +326,16 @@ def options_of(words):
     parser = argparse.ArgumentParser(description="A shell over `crackd serve`. Without a port it starts a server of its own.")
     parser.add_argument("--program", metavar="PATH", help="the program crackd [default: the one that is built beside this script, else that of PATH]")
     parser.add_argument("--port", metavar="N", type=int, help="the port of a server on this machine")
-    parser.add_argument("--limit", metavar="N", help="how many commands a partition answers, 1 to 1000000")
+    parser.add_argument("--limit", metavar="N", help="how many commands a partition answers from one checkpoint to the next, 1 to 1000000")
+    parser.add_argument("--cells", metavar="N", help="how many cells for rows a partition has, 1 to 1048576")
+    parser.add_argument("--life", metavar="N", help="how many commands a partition answers in all, 1 to 1099511627776")
     parser.add_argument("--policy", metavar="NAME", choices=POLICIES, help="how rows that came or went are merged: complete, gradual or ripple")
     parser.add_argument("splits", metavar="SPLIT", nargs="*", help="where the keys are parted, rising, each 1 to 4294967295")
     options = parser.parse_args(words)
     if options.port is not None and not 1 <= options.port <= GREATEST_PORT:
         parser.error(f"a port is 1 to {GREATEST_PORT}")
-    if options.port is not None and (options.program or options.limit or options.splits):
-        parser.error("program, limit and splits are for a server that is started, and a port is of one that is there")
+    if options.port is not None and (options.program or options.limit or options.cells or options.life or options.splits):
+        parser.error("program, limits and splits are for a server that is started, and a port is of one that is there")
     return options
 
 

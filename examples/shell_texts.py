@@ -12,13 +12,15 @@ MEANINGS = {
     "2": "the low end of the range is above its high end, or that is above 4294967296",
     "4": "the key is of another partition, and a row never leaves its own",
     "5": "there is no such partition",
-    "6": "the history is full: it has as many entries as the limit says, and no further command is answered",
+    "6": "the history is full: it has as many entries as the limit says; checkpoint P makes room in partition P, and its rows stay",
     "7": "a gate said no a thousand times",
     "8": "no memory was found; no row has changed",
+    "9": "no cell is free for the row; a deleted or updated row may hold one until a query over its key",
+    "10": "the partition's life is over: it has answered as many commands as it ever may",
     "11": "the splits don't rise, or one isn't 1 to 4294967295",
     "12": "there are more than 63 splits",
     "13": "the workers aren't 1 to 64",
-    "14": "the limit isn't 1 to 1000000",
+    "14": "a limit is out of its range: histories 1 to 1000000, cells 1 to 1048576, lives 1 to 1099511627776",
     "15": "a worker's receipts are missing",
     "16": "receipts and histories don't agree",
     "17": "reading failed, or the port can't be listened on",
@@ -34,6 +36,7 @@ count LO HI       how many rows have keys from LO up to and without HI; 0 429496
 sum LO HI         the sum of their payloads
 select LO HI      these rows, a line P.S K V for each
 layout P          what stands where in partition P, as numbers
+checkpoint P      the history of partition P begins anew, and its rows stay; the reply is how many entries went
 policy NAME       how rows that came or went are merged: complete, gradual or ripple
 quit              ends the session
 
