@@ -10,7 +10,7 @@ import struct
 import threading
 import time
 
-from client_rows import part_of
+from client_rows import part_of, parts_asked
 from server import SECONDS, Client, Wrong, expect
 
 # how long a client waits for a worker and its reply
@@ -19,8 +19,10 @@ PIPELINED = 200_000
 FLOODED, CHUNK = 64 * 2**20, 2**20
 # a client that reads nothing: how many rows it lists, how often, how many bytes its system takes for it, and how long it waits
 LISTED, LISTINGS, FEW_BYTES, PATIENCE = 2000, 150, 4096, 1
+# how often a client makes room in a history that others fill again
+ROUNDS = 20
 # no line of random bytes may begin so, since it might be a statement
-WORDS = re.compile(rb" *(insert|delete|update|count|sum|select|layout|policy|quit)\b")
+WORDS = re.compile(rb" *(insert|delete|update|count|sum|select|layout|checkpoint|policy|quit)\b")
 FEW = b"cdeinorstu0123456789  \r\n\n\0\xff"
 
 
@@ -81,14 +83,28 @@ class Guest:
         return f"{kind} {self.own.low} {self.own.high}"
 
     def ask(self, connection, statement):
-        connection.send(statement + "\n")
-        self.own.take(statement, connection.reply())
+        self.ask_all(connection, [statement])
 
     def ask_all(self, connection, statements):
-        """Sends statements at once, cut anywhere, and takes their replies."""
+        """Sends statements at once, cut anywhere, and takes their replies. Those that a full history refused are sent again behind checkpoints."""
+        for _ in range(ROUNDS):
+            refused = self.ask_once(connection, statements)
+            if not refused:
+                return
+            parts = {part for statement in refused for part in parts_asked(self.own.splits, statement)}
+            self.ask_once(connection, [f"checkpoint {part}" for part in sorted(parts)])
+            statements = refused
+
+    def ask_once(self, connection, statements):
+        """The same without sending any again: those that a full history refused."""
+        refused = []
         connection.send_in_pieces(self.numbers, "".join(it + "\n" for it in statements))
         for statement in statements:
-            self.own.take(statement, connection.reply())
+            lines = connection.reply()
+            self.own.take(statement, lines)
+            if lines[0].startswith("refused 6 "):
+                refused.append(statement)
+        return refused
 
     def end(self, connection):
         """Ends a session by a `quit`, or by sending nothing more."""
@@ -105,7 +121,8 @@ def any_statement(guest):
     low, high = sorted(numbers.choice([numbers.randrange(own.low, own.high), own.low, own.high]) for _ in range(2))
     part, serial = numbers.choice(own.given) if own.given else (part_of(own.splits, own.low), 10**15)
     kind = numbers.choices(
-        ["insert", "delete", "update", "count", "sum", "select", "layout", "policy", "no statement", "bad range"], [40, 12, 12, 12, 8, 8, 3, 2, 2, 1]
+        ["insert", "delete", "update", "count", "sum", "select", "layout", "checkpoint", "policy", "no statement", "bad range"],
+        [40, 12, 12, 12, 8, 8, 3, 2, 2, 2, 1],
     )[0]
     match kind:
         case "insert":
@@ -118,10 +135,12 @@ def any_statement(guest):
             return f"{kind} {low} {high}"
         case "layout":
             return f"layout {part}"
+        case "checkpoint":
+            return f"checkpoint {part if numbers.random() < 0.9 else len(own.splits) + 1}"
         case "policy":
             return f"policy {numbers.choice(['complete', 'gradual', 'ripple'])}"
         case "no statement":
-            return numbers.choice(["nonsense", f"insert {low}", f"count {low} x", "x" * 201])
+            return numbers.choice(["nonsense", f"insert {low}", f"count {low} x", "checkpoint", "x" * 201])
     return f"count {high + 1} {low}"
 
 

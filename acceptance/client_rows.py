@@ -2,7 +2,9 @@
 
 Written from docs/SPECIFICATION.md alone. Each client has keys of its own, so its rows are known to it whatever the others do: each reply is held against a
 list of them. Of statements whose replies weren't read a front was accepted, since a session answers in order; how long a front, the rows that stand in
-the end tell.
+the end tell. Where limits are small a command may be refused with 6, 9 or 10 by what others did, and then changes nothing; that these come for their
+causes is held against what all clients were answered. A checkpoint folds what all have asked of a partition, each entry once: what all checkpoints tell
+comes to all that was accepted.
 """
 
 import bisect
@@ -10,12 +12,16 @@ import collections
 import re
 
 import random_script
+from random_script import MOST_CELLS, MOST_ENTRIES, MOST_LIFE, Limits
 from server import MOST, Wrong, expect
 
 BYTES_OF_A_COMMAND, BYTES_OF_A_LISTED_ROW, BYTES_OF_A_SESSION = 270, 40, 100_000
 INSERT = re.compile(r" *insert +(\d{1,20}) +(\d{1,20}) *")
 RANGE = re.compile(r" *(count|sum|select) +(\d{1,20}) +(\d{1,20}) *")
+ROW = re.compile(r"(delete|update) (\d+)\.(\d+)( (\d+) \d+)?")
 POLICY = re.compile(r" *policy +(complete|gradual|ripple) *")
+CHECKPOINT = re.compile(r"checkpoint (\d+)")
+FULL, NO_CELL, OVER = 6, 9, 10
 
 
 def part_of(splits, key):
@@ -24,31 +30,96 @@ def part_of(splits, key):
 
 
 def parts_met(splits, low, high):
-    """How many partitions answer a range: of an empty one that of its low end, of none that is bad."""
-    if low >= high:
-        return int(low == high)
-    return part_of(splits, high - 1) - part_of(splits, low) + 1
+    """The partitions that answer a range: of an empty one that of its low end, of none that is bad."""
+    if low > high or high > MOST:
+        return range(0)
+    first = part_of(splits, low)
+    return range(first, (part_of(splits, high - 1) if low < high else first) + 1)
+
+
+def parts_asked(splits, statement):
+    """The partitions that a statement's command asks in turn, where a key isn't outside."""
+    inserted, ranged, rowed = INSERT.fullmatch(statement), RANGE.fullmatch(statement), ROW.fullmatch(statement)
+    if inserted:
+        part = part_of(splits, int(inserted[1]))
+        return range(part, part + 1)
+    if ranged:
+        return parts_met(splits, *map(int, ranged.groups()[1:]))
+    if not rowed or (rowed[5] and part_of(splits, int(rowed[5])) != int(rowed[2])):
+        return range(0)
+    return range(int(rowed[2]), int(rowed[2]) + 1)
 
 
 class Own:
     """The rows of one client, by partition and serial: those whose keys are from `low` to below `high`."""
 
-    def __init__(self, splits, low, high):
-        self.splits, self.low, self.high = splits, low, high
+    def __init__(self, splits, low, high, limits=Limits()):
+        self.splits, self.low, self.high, self.limits = splits, low, high, limits
         self.rows, self.newest, self.given = {}, {}, []
-        self.accepted = self.inserted = self.deleted = self.listed = 0
+        # by partition: commands that were accepted, and those that may have been besides; rows that went; entries that checkpoints folded
+        self.kept, self.untold, self.gone, self.folded = (collections.Counter() for _ in range(4))
+        # which refusals came of which partition alone
+        self.refused = set()
+        self.inserted = self.listed = 0
         # statements that were sent, in order, and whose replies weren't read
         self.unread = []
 
+    @property
+    def accepted(self):
+        return sum(self.kept.values())
+
+    @property
+    def deleted(self):
+        return sum(self.gone.values())
+
     def take(self, statement, lines):
         """Holds a reply against the own rows, and does to them what the statement says. Wrong where it isn't the right one."""
-        inserted = INSERT.fullmatch(statement)
+        inserted, folded, asked = INSERT.fullmatch(statement), CHECKPOINT.fullmatch(statement), parts_asked(self.splits, statement)
+        refusal = self.refusal_of(statement, asked, lines)
+        if refusal:
+            self.note_refusal(refusal, asked)
+            return
+        if len(asked) == 1 and (OVER, asked[0]) in self.refused:
+            raise Wrong(f"{statement}: the life of its partition was over, got {lines}")
         if inserted:
             self.place(statement, *map(int, inserted.groups()), lines)
+        elif folded:
+            self.fold(statement, int(folded[1]), lines)
         elif statement.startswith("layout "):
             self.look_at(statement, lines)
         else:
             expect(statement, self.reply(statement), lines)
+
+    def refusal_of(self, statement, asked, lines):
+        """The number of a refusal for a limit that may come; None where it is none of these."""
+        if not asked or len(lines) != 1:
+            return None
+        rowed = ROW.fullmatch(statement)
+        needs_cell = INSERT.fullmatch(statement) or (rowed and rowed[1] == "update" and (int(rowed[2]), int(rowed[3])) in self.rows)
+        right = {
+            f"refused {FULL} {self.limits.history}": FULL if self.limits.history < MOST_ENTRIES else None,
+            f"refused {NO_CELL}": NO_CELL if needs_cell and self.limits.cells < MOST_CELLS else None,
+            f"refused {OVER}": OVER if self.limits.life < MOST_LIFE else None,
+        }
+        found = right.get(lines[0])
+        is_over = len(asked) == 1 and (OVER, asked[0]) in self.refused
+        return found if found == OVER or not is_over else None
+
+    def note_refusal(self, refusal, asked):
+        """Notes a refusal. Of a range the partitions before the one that refused have kept their parts; nobody is told which that is."""
+        if len(asked) == 1:
+            self.refused.add((refusal, asked[0]))
+        self.untold.update(asked[:-1])
+
+    def fold(self, statement, part, lines):
+        """Holds the reply to a checkpoint. It tells how many entries went, of all clients together."""
+        if part > len(self.splits):
+            expect(statement, ["refused 5"], lines)
+            return
+        told = random_script.numbers_of(lines[0], ["folded"]) if len(lines) == 1 else None
+        if told is None or told[0] > self.limits.history:
+            raise Wrong(f"{statement}: wanted at most {self.limits.history} entries, got {lines}")
+        self.folded[part] += told[0]
 
     def place(self, statement, key, payload, lines):
         """Keeps a row that was inserted. Its number is the partition's, and greater than those before it."""
@@ -59,7 +130,7 @@ class Own:
         self.rows[part, number[1]] = (key, payload)
         self.newest[part] = number[1]
         self.given.append((part, number[1]))
-        self.accepted += 1
+        self.kept[part] += 1
         self.inserted += 1
 
     def look_at(self, statement, lines):
@@ -92,14 +163,14 @@ class Own:
 
     def remove(self, number):
         row = self.rows.pop(number, None)
-        self.accepted += 1
-        self.deleted += row is not None
+        self.kept[number[0]] += 1
+        self.gone[number[0]] += row is not None
         return [f"gone {row[0]} {row[1]}" if row else "none"]
 
     def rewrite(self, number, key, payload):
         if part_of(self.splits, key) != number[0]:
             return ["refused 4"]
-        self.accepted += 1
+        self.kept[number[0]] += 1
         if number not in self.rows:
             return ["none"]
         self.rows[number] = (key, payload)
@@ -110,33 +181,39 @@ class Own:
         if low > high or high > MOST:
             return ["refused 2"]
         rows = [(f"{part}.{serial}", *row) for (part, serial), row in sorted(self.rows.items()) if low <= row[0] < high]
-        self.accepted += parts_met(self.splits, low, high)
+        self.kept.update(parts_met(self.splits, low, high))
         if kind == "select":
             self.listed += len(rows)
         return random_script.told(kind, rows)
 
-    def front(self, standing):
-        """What became of the statements whose replies weren't read, given the rows that stand within the own keys: the least and the greatest number of
-        commands that were accepted of them, and the most rows that their selects listed."""
-        expect("own rows", self.rows, {number: row for number, row in standing.items() if number in self.rows})
+    def front(self, standing, closed=()):
+        """What became of the statements whose replies weren't read, given the rows that stand within the own keys, but for those in partitions that are
+        closed, whose rows nobody can read: by partition the least and the greatest number of commands that were accepted of them, and the most rows
+        that their selects listed. Where limits are small any of them may have been refused."""
+        own = {number: row for number, row in self.rows.items() if number[0] not in closed}
+        expect("own rows", own, {number: row for number, row in standing.items() if number in own})
         found = collections.defaultdict(collections.deque)
-        for number in sorted(standing.keys() - self.rows.keys()):
+        for number in sorted(standing.keys() - own.keys()):
             found[number[0]].append(number)
-        least = most = listed = 0
+        least, most, listed, may_refuse = collections.Counter(), collections.Counter(), 0, self.limits != Limits()
         for statement in self.unread:
             inserted, ranged = INSERT.fullmatch(statement), RANGE.fullmatch(statement)
             if inserted:
                 key, payload = map(int, inserted.groups())
+                part = part_of(self.splits, key)
                 # (a partition numbers its rows in the order of their coming)
-                at = found[part_of(self.splits, key)]
-                if not at or standing[at[0]] != (key, payload):
+                if found[part] and standing[found[part][0]] == (key, payload):
+                    self.keep(found[part].popleft(), (key, payload))
+                    most[part] += 1
+                    least[part] += 1
+                    least = least if may_refuse else most.copy()
+                elif part in closed:
+                    most[part] += 1
+                elif not may_refuse:
                     break
-                self.keep(at.popleft(), (key, payload))
-                most += 1
-                least = most
             elif ranged:
                 low, high = map(int, ranged.groups()[1:])
-                most += parts_met(self.splits, low, high)
+                most.update(parts_met(self.splits, low, high))
                 listed += sum(low <= key < high for key, _ in self.rows.values()) if ranged[1] == "select" else 0
         if any(found.values()):
             raise Wrong(f"{self.low} to {self.high}: rows that no front of what was sent leaves: {[it[0] for it in found.values() if it]}")
@@ -153,15 +230,19 @@ class Own:
 
 
 class Account:
-    """What stands once all clients have gone: all rows by partition and serial, and for each partition how many rows it was given."""
+    """What stands once all clients have gone: all rows by partition and serial, for each partition how many rows it was given, and for each whose life is
+    over, so that nobody reads its rows, how many it has."""
 
     def __init__(self, splits):
-        self.splits, self.rows, self.given = splits, {}, [0] * (len(splits) + 1)
+        self.splits, self.rows, self.given, self.closed = splits, {}, [0] * (len(splits) + 1), {}
+        # what the look itself asked: commands that were accepted, rows that it was given, and entries that its checkpoints folded
+        self.asked = self.inserted = 0
+        self.folded = collections.Counter()
 
     def read_rows(self, lines):
-        """Takes the lines of a select of all keys."""
+        """Takes the lines of a select of all keys, or of those of partitions in turn."""
         expect("lines of all rows", f"rows {len(lines) - 1}", lines[0])
-        before = (0, -1)
+        before = max(self.rows, default=(0, -1))
         for line in lines[1:]:
             number, key, payload = line.split(" ")
             number = tuple(map(int, number.split(".")))
@@ -182,22 +263,56 @@ class Account:
         return parted
 
 
+def check_numbers(account, clients, unread):
+    """Each number of a row was given once. In a closed partition some may be those of inserts whose replies weren't read."""
+    given = sorted(number for client in clients for number in client.given)
+    if not account.closed:
+        expect("numbers of rows, each given once", [(part, it) for part, count in enumerate(account.given) for it in range(count)], given)
+        return
+    if len(set(given)) != len(given) or any(number >= account.given[part] for part, number in given):
+        raise Wrong(f"numbers of rows, of {account.given} that were given: one came twice, or is none of these")
+    for part, count in enumerate(account.given):
+        missing = count - sum(number[0] == part for number in given)
+        if missing > (unread[part] if part in account.closed else 0):
+            raise Wrong(f"partition {part} was given {count} rows, and {missing} of them to nobody")
+
+
+def check_causes(account, clients, least, most):
+    """Limits hold, and refusals come for their causes: no partition has accepted more than its life, and one whose life was over just so many; one that was
+    full, or had no cell, as many as its limit at least."""
+    refused, limits = set().union(*(client.refused for client in clients)), clients[0].limits
+    for part in range(len(account.given)):
+        rows = account.closed.get(part, sum(number[0] == part for number in account.rows))
+        if least[part] > limits.life or rows > limits.cells:
+            raise Wrong(f"partition {part} accepted {least[part]} commands or more, and has {rows} rows: {limits}")
+        causes = {FULL: limits.history, NO_CELL: limits.cells, OVER: limits.life}
+        early = [number for number, bound in causes.items() if (number, part) in refused and most[part] < bound]
+        if early or (part in account.closed and most[part] < limits.life):
+            raise Wrong(f"partition {part} accepted at most {most[part]} commands, and refused with {early or OVER}: {limits}")
+
+
 def come_to(account, clients):
     """Holds the clients' rows against all that stands: the counts that the totals have to agree with. Wrong where a row is lost, changed or nobody's, or a
-    number was given twice."""
+    number was given twice, or a limit was passed, or told before it was reached."""
     clients = sorted(clients, key=lambda it: it.low)
-    least = most = listed = 0
+    least, most, unread, listed = collections.Counter(), collections.Counter(), collections.Counter(), 0
     for client, standing in zip(clients, account.of_owners(clients)):
-        of_unread = client.front(standing)
-        least += client.accepted + of_unread[0]
-        most += client.accepted + of_unread[1]
+        of_unread = client.front(standing, account.closed)
+        least += client.kept + of_unread[0]
+        most += client.kept + client.untold + of_unread[1]
+        unread += of_unread[1]
         listed += client.listed + of_unread[2]
-    given = sorted(number for client in clients for number in client.given)
-    expect("numbers of rows, each given once", [(part, it) for part, count in enumerate(account.given) for it in range(count)], given)
-    inserted = sum(client.inserted for client in clients)
+    check_numbers(account, clients, unread)
+    check_causes(account, clients, least, most)
+    inserted = sum(account.given) if account.closed else sum(client.inserted for client in clients)
     deleted = sum(client.deleted for client in clients)
-    expect("rows held", inserted - deleted, len(account.rows))
-    return {"least": least, "most": most, "inserted": inserted, "deleted": deleted, "listed": listed}
+    expect("rows held", inserted - deleted, len(account.rows) + sum(account.closed.values()))
+    return {"least": sum(least.values()), "most": sum(most.values()), "inserted": inserted, "deleted": deleted, "listed": listed}
+
+
+def check_folded(accepted, folded):
+    """Each command that was accepted was folded once, since the last checkpoint of each partition came at the end."""
+    expect("entries that checkpoints folded", accepted, folded)
 
 
 def check_totals(line, counts):

@@ -4,8 +4,9 @@
 Some connect and close, reset the connection, send half a line, one byte a second, random bytes, 64 MB without a line feed or 200,000 statements at once, say
 nothing, or have large lists written to them and read none. In between are honest ones. Each has keys of its own: every reply that is read is held against a
 list of the client's own rows, and when all have gone the rows that stand, the totals and the memory that the server took are held against what all of them
-were answered (client_rows.py). The server has to end by itself once its sessions are served. A seed gives the same clients again; in which order a server
-comes to them it doesn't say. Without options it runs the cases of `make test`, and prints 'clients: N passed, M failed' at its end.
+were answered (client_rows.py). Honest ones ask for checkpoints amid their work, and where a history is full; of three seeds two have small limits. The server has
+to end by itself once its sessions are served. A seed gives the same clients again; in which order a server comes to them it doesn't say. Without options it
+runs the cases of `make test`, and prints 'clients: N passed, M failed' at its end.
 """
 
 import argparse
@@ -18,7 +19,8 @@ import threading
 import time
 
 from client_kinds import ABRUPT, KINDS, TAKE_LONG, Connection, Guest, honest, silent
-from client_rows import Account, Own, check_totals, come_to, most_bytes
+from client_rows import Account, Own, check_folded, check_totals, come_to, most_bytes
+from random_script import MOST_LIFE, Limits
 from server import MOST, MOST_WORKERS, SECONDS, Wrong, expect, started
 
 SEED, SESSIONS, SLOW_SECONDS = 1, 400, 8
@@ -26,6 +28,8 @@ MOST_SESSIONS, MOST_SECONDS = 3000, 40
 # how many keys each client has, how many splits there are, and how many connections may wait for a worker
 WIDTH, SPLITS, WAITING = 1_000_000, 7, 32
 BACKLOG = 16
+# what bounds a partition, by the seed: histories that get full, and lives that may end; nothing that is reached; histories, and cells that may run out
+LIMITS = [Limits(2000, life=20_000), Limits(), Limits(500, 30_000)]
 # what a wrong reply or a lost connection comes to
 FAULTS = (Wrong, OSError, ValueError, IndexError, subprocess.TimeoutExpired)
 
@@ -103,6 +107,61 @@ def visit(guest, kind):
     return None
 
 
+class Look:
+    """A last look at all partitions, by a session that is alone: what it learns stands in an account."""
+
+    def __init__(self, connection, account, clients, limits):
+        self.connection, self.account, self.clients, self.limits = connection, account, clients, limits
+        self.ends = [0, *account.splits, MOST]
+        self.parts = range(len(account.given))
+
+    def ask(self, statement):
+        self.connection.send(f"{statement}\n")
+        return self.connection.reply()
+
+    def fold(self):
+        """Folds each history."""
+        for part in self.parts:
+            (line,) = self.ask(f"checkpoint {part}")
+            self.account.folded[part] += int(line.removeprefix("folded "))
+
+    def take(self):
+        """Reads all rows behind checkpoints, so that no history is full, learns how many rows each partition was given, and folds once more."""
+        self.fold()
+        if self.limits.life == MOST_LIFE:
+            self.account.read_rows(self.ask(f"select 0 {MOST}"))
+            self.account.asked += len(self.parts)
+        else:
+            for part in self.parts:
+                self.read_part(part)
+        self.fold()
+        for part in self.parts:
+            self.account.given[part] = self.given(part)
+        self.fold()
+
+    def read_part(self, part):
+        """Reads the rows of a partition. Where its life is over its layout tells how many there are."""
+        lines = self.ask(f"select {self.ends[part]} {self.ends[part + 1]}")
+        if lines == ["refused 10"]:
+            self.account.closed[part] = int(self.ask(f"layout {part}")[0].split(" ")[3])
+        else:
+            self.account.read_rows(lines)
+            self.account.asked += 1
+
+    def given(self, part):
+        """How many rows a partition was given: the number of one more; where it takes none, those that it has and those that went."""
+        (line,) = self.ask(f"insert {self.ends[part]} 0") if part not in self.account.closed else [""]
+        if line.startswith(f"row {part}."):
+            self.account.asked += 1
+            self.account.inserted += 1
+            return int(line.removeprefix(f"row {part}."))
+        allowed = [""] + ["refused 9"] * (self.limits != Limits()) + ["refused 10"] * (self.limits.life < MOST_LIFE)
+        if line not in allowed:
+            raise Wrong(f"an insert into partition {part}: {line!r}")
+        rows = self.account.closed.get(part, sum(number[0] == part for number in self.account.rows))
+        return rows + sum(client.gone[part] for client in self.clients)
+
+
 class Storm:
     """A server, and clients of all kinds that a seed gives."""
 
@@ -117,12 +176,13 @@ class Storm:
         self.splits = sorted(it * WIDTH + numbers.choice([0, WIDTH // 2]) for it in places)
         self.seed = numbers.randrange(MOST)
         self.policy = numbers.choice(["complete", "gradual", "ripple"])
+        self.limits = LIMITS[seed % len(LIMITS)]
         self.clients = []
 
     def run(self):
         """Runs it. What it came to, as numbers by their names."""
         before = time.monotonic()
-        words = ["--policy", self.policy, *map(str, self.splits)]
+        words = ["--policy", self.policy, *self.limits.words(), *map(str, self.splits)]
         server, port = started(self.program, self.workers, self.sessions, *words)
         try:
             peak = Peak(server.pid)
@@ -145,7 +205,7 @@ class Storm:
         with concurrent.futures.ThreadPoolExecutor(self.workers + min(self.workers, BACKLOG)) as pool:
             visits = []
             for number, (kind, times) in enumerate(self.plan):
-                own = Own(self.splits, self.lows[number], self.lows[number] + WIDTH)
+                own = Own(self.splits, self.lows[number], self.lows[number] + WIDTH, self.limits)
                 guest = Guest(port, own, self.seed + number, times, self.seconds, others_gone)
                 self.clients.append(own)
                 visits.append((kind, pool.submit(visit, guest, kind)))
@@ -157,19 +217,14 @@ class Storm:
 
     def look(self, port, peak):
         """What stands once all have gone. So many connections as there are workers are served at once, so no worker is at an earlier one; one of them
-        reads all rows, and then learns by an insert into each partition how many that was given."""
+        takes a look."""
         account = Account(self.splits)
         last = [Connection(port) for _ in range(self.workers)]
         for it in last:
             it.send("nonsense\n")
         for it in last:
             expect("of one worker each", ["refused 1"], it.reply())
-        last[0].send(f"select 0 {MOST}\n")
-        account.read_rows(last[0].reply())
-        for part, key in enumerate([0, *self.splits]):
-            last[0].send(f"insert {key} 0\n")
-            (line,) = last[0].reply()
-            account.given[part] = int(line.removeprefix(f"row {part}."))
+        Look(last[0], account, self.clients, self.limits).take()
         peak.often.set()
         for it in last:
             it.send("quit\n")
@@ -182,11 +237,10 @@ class Storm:
     def hold(self, account, wrote, peak):
         """Holds rows, totals and memory against what the clients were answered."""
         counts = come_to(account, self.clients)
-        parts = len(account.given)
-        # (the last select asked each partition, and each was given one row more)
-        own = {"least": 2 * parts, "most": 2 * parts, "inserted": parts, "deleted": 0, "listed": len(account.rows)}
+        own = {"least": account.asked, "most": account.asked, "inserted": account.inserted, "deleted": 0, "listed": len(account.rows)}
         counts = {name: it + own[name] for name, it in counts.items()}
         accepted = check_totals(wrote, counts)
+        check_folded(accepted, sum(account.folded.values()) + sum(sum(it.folded.values()) for it in self.clients))
         took, most = peak.bytes - peak.first, most_bytes(accepted, counts["listed"], self.sessions)
         if took > most:
             raise Wrong(f"memory: at most {most} bytes were wanted, and {took} taken")
@@ -225,6 +279,16 @@ def among_all_kinds(program):
     print(told(storm(program)), flush=True)
 
 
+def under_small_limits(program):
+    """The same, where histories get full and cells may run out."""
+    print(told(storm(program, SEED + 1)), flush=True)
+
+
+def under_short_lives(program):
+    """The same, where histories get full and lives may end."""
+    print(told(storm(program, SEED + 2)), flush=True)
+
+
 def all_but_one_are_silent(program):
     """Silent clients hold their own workers alone: with one worker left, a hundred clients are served one behind the other."""
     splits, served, others_gone = [], 100, threading.Event()
@@ -254,7 +318,7 @@ def told(figures):
     return "clients: " + ", ".join(f"{name} {it}" for name, it in figures.items())
 
 
-CASES = [all_but_one_are_silent, among_all_kinds]
+CASES = [all_but_one_are_silent, among_all_kinds, under_small_limits, under_short_lives]
 
 
 def run(program):
