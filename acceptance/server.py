@@ -61,9 +61,18 @@ def started(program, workers, sessions, *words):
 @contextlib.contextmanager
 def serving(program, totals, workers, sessions, *words):
     """A server's port. Once the clients have ended, the server must end by itself, with these totals."""
-    server, port = started(program, workers, sessions, *words)
-    try:
+    with serving_any(program, workers, sessions, *words) as (port, found):
         yield port
+        found += totals
+
+
+@contextlib.contextmanager
+def serving_any(program, workers, sessions, *words):
+    """The same of a server whose totals aren't known yet: its port, and a list that must have them once the clients have ended."""
+    server, port = started(program, workers, sessions, *words)
+    totals = []
+    try:
+        yield port, totals
         wrote, complained = server.communicate(timeout=SECONDS)
         expect("standard error", "", complained)
         expect("totals", "accepted {} inserted {} deleted {} held {}\n".format(*totals), wrote)
@@ -176,10 +185,10 @@ def one_pipelines(program):
         expect("replies", "".join(f"row 0.{number}\n" for number in range(PIPELINED)) + "bye\n", got)
 
 
-def batch(program, workers, text, limit=None):
+def batch(program, workers, text, *words, limit=None):
     """The status of a batch, and what it writes, also to standard error."""
     ran = subprocess.run(
-        [program, "batch", "--workers", str(workers)],
+        [program, "batch", "--workers", str(workers), *words],
         input=text,
         capture_output=True,
         text=True,
@@ -215,9 +224,9 @@ def a_thread_that_cannot_be_started(program):
     def few_bytes():
         resource.setrlimit(resource.RLIMIT_AS, (FEW_BYTES, FEW_BYTES))
 
-    expect("batch", (1, "", "crackd: refused 8\n"), batch(program, MOST_WORKERS, "0 count 0 1\n", few_bytes))
+    expect("batch", (1, "", "crackd: refused 8\n"), batch(program, MOST_WORKERS, "0 count 0 1\n", limit=few_bytes))
     alone = "worker 0\ncount 0\naccepted 1 inserted 0 deleted 0 held 0\n"
-    expect("a batch of one worker", (0, alone, ""), batch(program, 1, "0 count 0 1\n", few_bytes))
+    expect("a batch of one worker", (0, alone, ""), batch(program, 1, "0 count 0 1\n", limit=few_bytes))
     port = free_port()
     ran = subprocess.run(
         [program, "serve", "--port", str(port), "--workers", str(MOST_WORKERS), "--sessions", "1"],
@@ -260,18 +269,18 @@ CASES = [
 ]
 
 
-def run(program):
+def run(program, cases=None, name="server"):
     """Runs all cases. How many passed, and how many failed."""
-    program = str(pathlib.Path(program).resolve())
+    program, cases = str(pathlib.Path(program).resolve()), cases or CASES
     failed = 0
-    for case in CASES:
+    for case in cases:
         try:
             case(program)
-        except (Wrong, OSError, subprocess.TimeoutExpired) as error:
+        except (Wrong, OSError, ValueError, subprocess.TimeoutExpired) as error:
             failed += 1
-            print(f"server: {case.__name__} FAILED\n    {error}")
-    print(f"server: {len(CASES) - failed} passed, {failed} failed", flush=True)
-    return len(CASES) - failed, failed
+            print(f"{name}: {case.__name__} FAILED\n    {error}")
+    print(f"{name}: {len(cases) - failed} passed, {failed} failed", flush=True)
+    return len(cases) - failed, failed
 
 
 if __name__ == "__main__":

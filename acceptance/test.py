@@ -35,6 +35,7 @@ import random_script
 import rooms
 import run
 import server
+import server_limits
 
 PROGRAM = TOP / "crates" / "crackd" / "out" / "crackd"
 HISTORIES = TOP / "crates" / "crack_histories" / "out" / "crack_histories"
@@ -131,7 +132,7 @@ def test_all():
     passed, failed, times = gate()
     if PROGRAM.exists():
         more = [check_tools.run_all(), check_hostile.run_all(), check_clients.run_all(), run.run_all(PROGRAM), random_script.run(PROGRAM)]
-        more += [server.run(PROGRAM), clients.run(PROGRAM), hostile.run(PROGRAM), examples.run(PROGRAM)]
+        more += [server.run(PROGRAM), server_limits.run(PROGRAM), clients.run(PROGRAM), hostile.run(PROGRAM), examples.run(PROGRAM)]
         more_passed, more_failed = (sum(it) for it in zip(*more))
     else:
         print("acceptance: the gate left no program, so no case was run")
