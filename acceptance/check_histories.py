@@ -125,16 +125,108 @@ accepted 4 inserted 4 deleted 0 held 4
 """
 
 
-def is_right(text, statements=STATEMENTS):
+# a partition that is full after three entries, is folded, and has two more when its life is over; its last cell is taken then
+FOLDED = """\
+worker 0
+0 insert 5 50
+row 0.0
+0 update 0.0 8 80
+changed
+0 delete 0.0
+refused 6 3
+0 checkpoint 0
+folded 3
+0 count 0 10
+count 2
+0 insert 9 90
+refused 10
+3 checkpoint 3
+refused 5
+receipts 0
+0 0 0 insert 5 50
+row 0.0
+0 2 0 update 0.0 8 80
+changed
+0 4 0 count 0 10
+count 2
+worker 1
+0 insert 6 60
+row 0.1
+0 insert 7 70
+refused 9
+1 checkpoint 1
+folded 0
+0 delete 0.7
+none
+0 checkpoint 0
+folded 0
+0 sum 0 10
+refused 10
+1 insert 1500 7
+row 1.0
+receipts 1
+0 1 1 insert 6 60
+row 0.1
+0 3 1 delete 0.7
+none
+1 0 1 insert 1500 7
+row 1.0
+partition 0 folded 3 inserted 2 deleted 0 rows 2
+0.0 8 80
+0.1 6 60
+1 delete 0.7
+none
+0 count 0 10
+count 2
+partition 1
+1 insert 1500 7
+row 1.0
+partition 2
+accepted 6 inserted 3 deleted 0 held 3
+"""
+FOLDED_STATEMENTS, FOLDED_LIMITS = 7, histories.Limits(3, 2, 5)
+WRONG_FOLDS = {
+    "a base that lacks a row": [("rows 2\n0.0 8 80\n", "rows 1\n")],
+    "a base with a row as it was": [("0.0 8 80\n0.1", "0.0 5 50\n0.1")],
+    "a base that renumbers": [("0.1 6 60\n1 delete", "0.2 6 60\n1 delete")],
+    "a base with another number of insertions": [("folded 3 inserted 2", "folded 3 inserted 3")],
+    "a base with another number of deletions": [("inserted 2 deleted 0 rows", "inserted 2 deleted 1 rows")],
+    "more entries folded than were told": [("0 checkpoint 0\nfolded 3", "0 checkpoint 0\nfolded 2")],
+    "entries folded twice": [("0 checkpoint 0\nfolded 0", "0 checkpoint 0\nfolded 3")],
+    "more entries told than a history has": [("folded 3\n0 count", "folded 4\n0 count")],
+    "a folded place without a receipt": [("0 1 1 insert 6 60\nrow 0.1\n", ""), ("1\n0 insert 6 60\nrow 0.1", "1\n0 insert 6 60\nrefused 7")],
+    "a folded place with two receipts": [("0 1 1 insert", "0 0 1 insert")],
+    "a folded receipt of the tail's place": [("0 3 1 delete", "0 0 1 delete")],
+    "folded receipts of one worker that fall": [("0 0 0 insert", "0 9 0 insert"), ("0 2 0 update", "0 0 0 update"), ("0 9 0 insert", "0 2 0 insert")],
+    "a folded reply that no list gives": [("0 0 0 insert 5 50\nrow 0.0", "0 0 0 insert 5 50\nrow 0.3"), ("50\nrow 0.0\n0 up", "50\nrow 0.3\n0 up")],
+    "an entry that was folded and kept": [("0.1 6 60\n1 delete", "0.1 6 60\n1 insert 6 60\nrow 0.1\n1 delete")],
+    "a receipt of a checkpoint": [("0 4 0 count 0 10\ncount 2\n", "0 4 0 count 0 10\ncount 2\n0 5 0 checkpoint 0\nfolded 0\n")],
+    "another length of a full history": [("refused 6 3", "refused 6 2")],
+    "a partition that isn't there": [("3 checkpoint 3\nrefused 5", "3 checkpoint 3\nfolded 0")],
+    "a checkpoint without memory": [("1 checkpoint 1\nfolded 0", "1 checkpoint 1\nrefused 8")],
+    "a count that needs a cell": [("0 sum 0 10\nrefused 10", "0 sum 0 10\nrefused 9")],
+    "a full history behind a life that is over": [("0 insert 9 90\nrefused 10\n3 checkpoint 3\nrefused 5", "0 insert 9 90\nrefused 10\n0 count 0 1\nrefused 6 3")],
+    "totals of the tails": [("accepted 6", "accepted 3")],
+    "insertions of the tails": [("inserted 3 deleted 0 held", "inserted 1 deleted 0 held")],
+}
+# limits that what was accepted doesn't agree with
+WRONG_LIMITS = {
+    "a cell that was free": histories.Limits(3, 6, 5),
+    "more rows than cells": histories.Limits(3, 1, 5),
+    "a life that wasn't over": histories.Limits(3, 2, 6),
+    "a life that was passed": histories.Limits(3, 2, 4),
+}
+
+
+def is_right(text, statements=STATEMENTS, limits=histories.Limits(LIMIT)):
     try:
-        histories.check(histories.Printed(text), WORKERS, statements, LIMIT)
+        histories.check(histories.Printed(text), WORKERS, statements, limits)
     except histories.Wrong:
         return False
     return True
 
 
-def altered(pairs):
-    text = RIGHT
+def altered(pairs, text=RIGHT):
     for old, new in pairs:
         assert old in text, old
         text = text.replace(old, new)
@@ -146,9 +238,12 @@ def run_all():
     failed = [] if is_right(RIGHT) else ["the right text"]
     failed += [what for what, pairs in WRONG.items() if is_right(altered(pairs))]
     failed += ["no order of all"] if is_right(NO_ORDER, 2) else []
+    failed += [] if is_right(FOLDED, FOLDED_STATEMENTS, FOLDED_LIMITS) else ["the right text with checkpoints"]
+    failed += [what for what, pairs in WRONG_FOLDS.items() if is_right(altered(pairs, FOLDED), FOLDED_STATEMENTS, FOLDED_LIMITS)]
+    failed += [what for what, limits in WRONG_LIMITS.items() if is_right(FOLDED, FOLDED_STATEMENTS, limits)]
     for it in failed:
         print(f"check histories: {it} FAILED")
-    tried = len(WRONG) + 2
+    tried = len(WRONG) + len(WRONG_FOLDS) + len(WRONG_LIMITS) + 3
     print(f"check histories: {tried - len(failed)} passed, {len(failed)} failed", flush=True)
     return tried - len(failed), len(failed)
 

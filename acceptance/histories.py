@@ -7,6 +7,10 @@ and each worker keeps; in that order a list of rows gives each reply; each worke
 for their causes; and the totals are those of the histories. So whatever the schedule was, one thread could have answered the same. Each seed is
 tried under each policy; under one of three the histories get full. A run's line tells how often an entry follows one of another worker: that is up
 to the schedule, and nothing is claimed of it.
+
+A partition that was folded is printed with its base, `partition P folded N inserted I deleted D rows R` and R lines `P.S K V`, and then with what it kept
+since. The entries that went are those of the receipts at the places before: each has exactly one, they are answered and ordered as all others, they come to
+the base's rows and counts, and they are as many as all checkpoints of the partition told.
 """
 
 import bisect
@@ -14,6 +18,7 @@ import collections
 import pathlib
 import subprocess
 import sys
+import typing
 
 MOST = 4294967296
 SPLITS = [1000, 2000]
@@ -24,7 +29,7 @@ WORKERS = 4
 STATEMENTS, STATEMENTS_OF_A_SOAK = 1000, 10000
 SEEDS = range(1, 11)
 SECONDS = 60
-MOST_ENTRIES = 1000000
+MOST_ENTRIES, MOST_CELLS, MOST_LIFE = 1000000, 1048576, 1099511627776
 # the program's gate refuses one of so many commands of a partition
 REFUSED_BY_THE_GATE = 50
 
@@ -33,7 +38,10 @@ class Wrong(Exception):
     """What is wrong with what a run printed."""
 
 
+Limits = collections.namedtuple("Limits", "history cells life", defaults=[MOST_CELLS, MOST_LIFE])
 Receipt = collections.namedtuple("Receipt", "part position worker asked")
+# what a checkpoint left: how many entries went, how many of them inserted and deleted a row, and the lines of the rows
+Base = collections.namedtuple("Base", "folded inserted deleted rows", defaults=[0, 0, 0, []])
 # what was asked, as a statement, and the lines of the answer
 Asked = collections.namedtuple("Asked", "statement lines")
 
@@ -42,7 +50,7 @@ class Printed:
     """What a run printed: answers and receipts of each worker, a history for each partition, and the totals."""
 
     def __init__(self, text):
-        self.answers, self.receipts, self.histories, self.totals = {}, {}, {}, None
+        self.answers, self.receipts, self.histories, self.bases, self.totals = {}, {}, {}, {}, None
         self.lines = text.splitlines()
         at, section = 0, None
         while at < len(self.lines):
@@ -50,7 +58,7 @@ class Printed:
             name = line.split(" ")[0]
             if name in ("worker", "receipts", "partition"):
                 section = self.begun(name, int(line.split(" ")[1]))
-                at += 1
+                at += 1 + (self.based(line, at + 1) if name == "partition" else 0)
             elif name == "accepted":
                 self.totals, at = line, at + 1
             else:
@@ -63,6 +71,15 @@ class Printed:
             raise Wrong(f"{name} {number} comes twice")
         sections[number] = []
         return sections[number], numbers
+
+    def based(self, line, at):
+        """Reads the base of a partition, whose rows begin at a line. How many there are."""
+        _, part, *words = line.split(" ")
+        if words[::2] not in ([], ["folded", "inserted", "deleted", "rows"]):
+            raise Wrong(f"no base: {line!r}")
+        *counts, rows = [int(it) for it in words[1::2]] or [0, 0, 0, 0]
+        self.bases[int(part)] = Base(*counts, self.lines[at : at + rows])
+        return rows
 
     def asked(self, section, at):
         """Reads what was asked, and answered, into a section. Where the next line stands."""
@@ -131,12 +148,16 @@ def key_of(statement):
     return int(words[-2]) if kind in ("insert", "update") else None
 
 
+def is_checkpoint(asked):
+    return asked.statement.startswith("checkpoint ")
+
+
 def check_receipts(printed, statements):
     """A worker has a receipt for each reply that it was given, in their order, and for nothing else."""
     for worker, answers in printed.answers.items():
         if len(answers) != statements:
             raise Wrong(f"worker {worker} asked {len(answers)} times")
-        replies = [(part, asked) for part, asked in answers if not asked.lines[0].startswith("refused")]
+        replies = [(part, asked) for part, asked in answers if not (asked.lines[0].startswith("refused") or is_checkpoint(asked))]
         receipts = [(it.part, it.asked) for it in printed.receipts[worker]]
         for number, (reply, receipt) in enumerate(zip(replies, receipts)):
             if reply != receipt:
@@ -147,10 +168,48 @@ def check_receipts(printed, statements):
             raise Wrong(f"worker {worker} has a receipt of another")
 
 
-def in_one_order(printed):
+def whole_history(printed, part):
+    """All that a partition answered: the entries that went, as receipts have them, and those that it kept."""
+    went = {}
+    for it in (it for receipts in printed.receipts.values() for it in receipts):
+        if it.part == part and it.position < printed.bases[part].folded:
+            if it.position in went:
+                raise Wrong(f"partition {part}: two receipts of the place {it.position}, which was folded")
+            went[it.position] = it.worker, it.asked
+    if len(went) != printed.bases[part].folded:
+        raise Wrong(f"partition {part}: {printed.bases[part].folded} entries were folded, and {len(went)} have receipts")
+    return [went[position] for position in sorted(went)] + printed.histories[part]
+
+
+def check_base(part, base, history, rows):
+    """The base of a partition is what the entries that went come to: these rows, and so many of each kind."""
+    kinds = collections.Counter(asked.lines[0].split(" ")[0] for _, asked in history[: base.folded])
+    if (kinds["row"], kinds["gone"]) != (base.inserted, base.deleted):
+        raise Wrong(f"partition {part}: {kinds['row']} rows came and {kinds['gone']} went, and the base has {base.inserted} and {base.deleted}")
+    wanted = [f"{part}.{serial} {key} {payload}" for serial, (key, payload) in sorted(rows.rows.items())]
+    if wanted != base.rows or rows.next != base.inserted:
+        raise Wrong(f"partition {part}: the base wants {wanted[:5]!r}, {len(wanted)} rows, and has {base.rows[:5]!r}, {len(base.rows)} rows")
+
+
+def check_bases(printed, histories):
+    """Each base is right, and checkpoints told of as many entries as went."""
+    told = collections.Counter()
+    for part, asked in (it for answers in printed.answers.values() for it in answers):
+        if is_checkpoint(asked) and not asked.lines[0].startswith("refused"):
+            told[part] += int(asked.lines[0].removeprefix("folded "))
+    for part, base in printed.bases.items():
+        rows = Rows(part)
+        for _, asked in histories[part][: base.folded]:
+            rows.answer(asked.statement)
+        check_base(part, base, histories[part], rows)
+        if told[part] != base.folded:
+            raise Wrong(f"partition {part}: checkpoints told of {told[part]} entries, and {base.folded} were folded")
+
+
+def in_one_order(printed, histories):
     """The receipts in an order that each worker's receipts and each history keep, where each receipt is of its entry."""
     ahead = {worker: collections.deque(receipts) for worker, receipts in printed.receipts.items()}
-    entries = {part: collections.deque(enumerate(history)) for part, history in printed.histories.items()}
+    entries = {part: collections.deque(enumerate(history)) for part, history in histories.items()}
     order, went_on = [], True
     while went_on:
         went_on = False
@@ -184,55 +243,84 @@ def check_replies(order):
     return parts
 
 
-def check_refusal(part, asked, history, limit, is_full):
-    """A refusal comes for its cause. Whether the history is full from then on."""
-    said, key = asked.lines[0], key_of(asked.statement)
+class Lived(typing.NamedTuple):
+    """What a partition came to: its limits, how many commands it accepted, how many entries it kept, and whether it was folded."""
+
+    limits: Limits
+    accepted: int = 0
+    kept: int = 0
+    was_folded: bool = False
+
+
+def check_refusal(part, asked, lived, was_full, was_over):
+    """A refusal comes for its cause. Whether the history is full from then on, as it is where nobody folds it, and whether the life is over."""
+    said, key, limits = asked.lines[0], key_of(asked.statement), lived.limits
     is_outside = part in PARTS and key is not None and not ENDS[part] <= key < ENDS[part + 1]
+    is_full = lived.kept == limits.history or (lived.was_folded and lived.accepted >= limits.history)
     right = {
         "refused 4": is_outside,
         "refused 5": part not in PARTS,
-        f"refused 6 {limit}": not is_outside and len(history) == limit,
+        f"refused 6 {limits.history}": not is_outside and is_full and not was_over,
         "refused 7": part in PARTS,
+        "refused 9": key is not None and not is_outside and lived.accepted >= limits.cells and not was_over,
+        "refused 10": part in PARTS and not is_outside and lived.accepted == limits.life,
     }
     if said.startswith("refused") and not right.get(said, False):
-        raise Wrong(f"partition {part}: {asked.statement!r} was {said!r}, with {len(history)} entries of {limit}")
-    if not said.startswith("refused") and (part not in PARTS or is_outside or is_full):
-        raise Wrong(f"partition {part}: {asked.statement!r} was answered {said!r}, {'behind a full history' if is_full else 'outside'}")
-    return is_full or said.startswith("refused 6")
+        raise Wrong(f"partition {part}: {asked.statement!r} was {said!r}, with {lived}")
+    if not said.startswith("refused") and (part not in PARTS or is_outside or was_over or (was_full and not lived.was_folded)):
+        raise Wrong(f"partition {part}: {asked.statement!r} was answered {said!r}, {'behind a full history or life' if was_full or was_over else 'outside'}")
+    return was_full or said.startswith("refused 6"), was_over or said == "refused 10"
 
 
-def check_refusals(printed, limit):
-    """Refusals come for their causes: once a worker was told that a history is full it stays so; and the gate was asked once for each command."""
+def check_checkpoint(part, asked, limits):
+    """A checkpoint tells of no more entries than a history may have, or there is no such partition."""
+    told = asked.lines[0].removeprefix("folded ")
+    is_right = told.isdecimal() and int(told) <= limits.history if part in PARTS else asked.lines == ["refused 5"]
+    if not is_right or asked.statement != f"checkpoint {part}":
+        raise Wrong(f"partition {part}: {asked.statement!r} was answered {asked.lines!r}")
+
+
+def check_refusals(printed, histories, limits):
+    """Refusals come for their causes: once a worker was told that a history is full it stays so where none folds it, and a life that is over stays over;
+    and the gate was asked once for each command."""
     asked_of, gave_up = collections.Counter(), collections.Counter()
+    lived = {part: Lived(limits, len(histories[part]), len(printed.histories[part]), printed.bases[part].folded > 0) for part in PARTS}
     for answers in printed.answers.values():
-        full = collections.Counter()
+        full, over = collections.Counter(), collections.Counter()
         for part, asked in answers:
-            full[part] = check_refusal(part, asked, printed.histories.get(part, []), limit, full[part])
+            if is_checkpoint(asked):
+                check_checkpoint(part, asked, limits)
+                continue
+            full[part], over[part] = check_refusal(part, asked, lived.get(part, Lived(limits)), full[part], over[part])
             asked_of[part] += part in PARTS
             gave_up[part] += asked.lines[0] == "refused 7"
     for part in PARTS:
-        if len(printed.histories[part]) > limit:
-            raise Wrong(f"partition {part} has {len(printed.histories[part])} entries of {limit}")
+        if lived[part].kept > limits.history or lived[part].accepted > limits.life:
+            raise Wrong(f"partition {part} has passed a limit: {lived[part]}")
         if gave_up[part] != asked_of[part] // REFUSED_BY_THE_GATE:
             raise Wrong(f"partition {part}: the gate refused {gave_up[part]} of {asked_of[part]} commands, and not one of {REFUSED_BY_THE_GATE}")
 
 
-def check(printed, workers, statements, limit):
+def check(printed, workers, statements, limits):
     """Whether all of it is right. How many entries there are, and how many of them follow one of another worker."""
     if printed.totals is None or set(printed.histories) != set(PARTS):
         raise Wrong(f"no histories: {printed.lines[-1:]}")
     if list(printed.answers) != list(range(workers)) or list(printed.receipts) != list(range(workers)):
         raise Wrong(f"the workers are {list(printed.answers)}, those with receipts {list(printed.receipts)}")
     check_receipts(printed, statements)
-    order = in_one_order(printed)
+    whole = {part: whole_history(printed, part) for part in PARTS}
+    order = in_one_order(printed, whole)
     parts = check_replies(order)
-    check_refusals(printed, limit)
+    check_bases(printed, whole)
+    check_refusals(printed, whole, limits)
     kinds = collections.Counter(it.asked.lines[0].split(" ")[0] for it in order)
     held = sum(len(it.rows) for it in parts)
+    if any(len(it.rows) > limits.cells for it in parts):
+        raise Wrong(f"partitions have {[len(it.rows) for it in parts]} rows, in at most {limits.cells} cells")
     totals = f"accepted {len(order)} inserted {kinds['row']} deleted {kinds['gone']} held {held}"
     if printed.totals != totals:
         raise Wrong(f"wanted {totals!r}, got {printed.totals!r}")
-    follows = sum(one[0] != two[0] for history in printed.histories.values() for one, two in zip(history, history[1:]))
+    follows = sum(one[0] != two[0] for history in whole.values() for one, two in zip(history, history[1:]))
     return len(order), follows
 
 
@@ -247,7 +335,7 @@ def tried(program, words):
     ran = subprocess.run([str(program), *words], capture_output=True, text=True, timeout=SECONDS, check=False)
     if ran.returncode or ran.stderr:
         raise Wrong(f"status {ran.returncode}, {ran.stderr!r}")
-    return check(Printed(ran.stdout), int(words[1]), int(words[2]), int(words[4]))
+    return check(Printed(ran.stdout), int(words[1]), int(words[2]), Limits(int(words[4])))
 
 
 def fault(program, seed, statements=STATEMENTS, counted=None):
