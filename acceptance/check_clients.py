@@ -9,7 +9,8 @@ import tempfile
 import unittest
 
 import soak
-from client_rows import Account, Own, check_totals, come_to, most_bytes
+from client_rows import Account, Own, check_folded, check_totals, come_to, most_bytes
+from random_script import Limits
 from server import Wrong
 
 SPLITS = [150]
@@ -98,6 +99,115 @@ class Replies(unittest.TestCase):
         one.take("policy ripple", ["policy ripple"])
         self.assertEqual(one.accepted, 7)
         self.refused("update 0.1 120 9", "refused 4")
+
+
+def told_under(limits):
+    """A client with the keys from 100 to 199 under limits, and two rows in the first partition."""
+    one = Own(SPLITS, 100, 200, limits)
+    one.take("insert 110 5", ["row 0.0"])
+    one.take("insert 120 7", ["row 0.1"])
+    return one
+
+
+class SmallLimits(unittest.TestCase):
+    """Refusals that come by what others did."""
+
+    def refused(self, one, statement, *lines):
+        with self.assertRaises(Wrong):
+            one.take(statement, list(lines))
+
+    def test_a_history_that_is_full(self):
+        one = told_under(Limits(7))
+        for statement in ["insert 130 1", "count 100 150", "delete 0.0", "update 0.0 111 6", "update 0.9 111 6", "select 100 200"]:
+            one.take(statement, ["refused 6 7"])
+            self.refused(told_under(Limits(7)), statement, "refused 6 8")
+            self.refused(told_under(Limits()), statement, "refused 6 1000000")
+            self.refused(told_under(Limits(cells=2)), statement, "refused 6 2")
+        self.assertEqual((one.accepted, len(one.rows), one.untold), (2, 2, {0: 1}))
+        # (these are refused for other causes, or ask nothing that is kept)
+        for statement in ["update 0.0 160 6", "count 5 1", "insert 1", "layout 0", "checkpoint 0", "policy ripple", "quit"]:
+            self.refused(told_under(Limits(7)), statement, "refused 6 7")
+        one.take("count 100 200", ["count 2"])
+
+    def test_cells_that_ran_out(self):
+        one = told_under(Limits(cells=2))
+        one.take("insert 130 1", ["refused 9"])
+        one.take("update 0.0 111 6", ["refused 9"])
+        for statement in ["update 0.9 111 6", "update 0.0 160 6", "delete 0.0", "count 100 150", "checkpoint 0"]:
+            self.refused(told_under(Limits(cells=2)), statement, "refused 9")
+        self.refused(told_under(Limits(2)), "insert 130 1", "refused 9")
+        self.assertEqual((one.accepted, one.rows[0, 0]), (2, (110, 5)))
+
+    def test_a_life_that_is_over_stays_over(self):
+        one = told_under(Limits(3, life=3))
+        one.take("count 100 150", ["refused 10"])
+        one.take("checkpoint 0", ["folded 3"])
+        self.refused(one, "count 100 150", "count 2")
+        self.refused(one, "count 100 150", "refused 6 3")
+        self.refused(one, "insert 130 1", "row 0.2")
+        one.take("insert 130 1", ["refused 10"])
+        one.take("insert 180 1", ["row 1.0"])
+        self.refused(told_under(Limits(3)), "count 100 150", "refused 10")
+
+    def test_what_a_checkpoint_tells(self):
+        one = told_under(Limits(7))
+        one.take("checkpoint 0", ["folded 7"])
+        one.take("checkpoint 1", ["folded 0"])
+        one.take("checkpoint 2", ["refused 5"])
+        self.assertEqual((one.folded, one.accepted), ({0: 7, 1: 0}, 2))
+        for lines in [["folded 8"], ["folded"], ["folded -1"], ["folded 1", "folded 1"], ["refused 5"], ["refused 8"], ["refused 10"], ["count 1"]]:
+            self.refused(one, "checkpoint 0", *lines)
+        self.refused(one, "checkpoint 2", "folded 0")
+        with self.assertRaises(Wrong):
+            check_folded(9, 8)
+        check_folded(9, 9)
+
+    def come_to(self, limits, refusal="", unread=(), more=()):
+        """What a client with two rows comes to, which was refused so, and whose last inserts weren't read."""
+        one = told_under(limits)
+        if refusal:
+            one.take("insert 130 1", [refusal])
+        one.unread = list(unread)
+        account = Account(SPLITS)
+        account.read_rows([f"rows {2 + len(more)}", "0.0 110 5", "0.1 120 7", *more])
+        account.given = [2 + len(more), 0]
+        return come_to(account, [one])
+
+    def test_refusals_have_causes(self):
+        for limits, refusal in [(Limits(2), "refused 6 2"), (Limits(cells=2), "refused 9"), (Limits(life=2), "refused 10")]:
+            self.assertEqual(self.come_to(limits, refusal)["inserted"], 2)
+        wrong = [(Limits(3), "refused 6 3"), (Limits(cells=3), "refused 9"), (Limits(life=3), "refused 10"), (Limits(life=1), ""), (Limits(cells=1), "")]
+        for limits, refusal in wrong:
+            with self.assertRaises(Wrong):
+                self.come_to(limits, refusal)
+
+    def test_statements_that_were_not_read_may_have_been_refused(self):
+        sent = ["insert 131 9", "count 100 150", "insert 132 10"]
+        some = self.come_to(Limits(3), "", sent, ["0.2 132 10"])
+        self.assertEqual((some["least"], some["most"], some["inserted"]), (3, 4, 3))
+        for limits, more in [(Limits(), "0.2 132 10"), (Limits(3), "0.2 132 11"), (Limits(3), "0.2 133 10")]:
+            with self.assertRaises(Wrong):
+                self.come_to(limits, "", sent, [more])
+
+    def closed(self, rows, sent=(), gone=0, told=2):
+        """The same where the life of the first partition is over, and its layout tells so many rows."""
+        one = told_under(Limits(life=told + gone))
+        for serial in range(gone):
+            one.take(f"delete 0.{serial}", [["gone 110 5"], ["gone 120 7"]][serial])
+        one.unread = list(sent)
+        account = Account(SPLITS)
+        account.closed, account.given = {0: rows}, [rows + gone, 0]
+        return come_to(account, [one])
+
+    def test_a_partition_whose_rows_nobody_reads(self):
+        self.assertEqual(self.closed(2)["inserted"], 2)
+        self.assertEqual(self.closed(1, gone=1)["deleted"], 1)
+        self.assertEqual(self.closed(3, ["insert 130 1", "insert 131 1"], told=3)["inserted"], 3)
+        for given in [(1,), (3,), (3, ["count 100 110"]), (4, ["insert 130 1"]), (2, [], 1), (0, [], 1)]:
+            with self.assertRaises(Wrong):
+                self.closed(*given)
+        with self.assertRaises(Wrong):
+            self.closed(2, told=3)
 
 
 class Rows(unittest.TestCase):

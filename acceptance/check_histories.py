@@ -205,7 +205,7 @@ WRONG_FOLDS = {
     "a partition that isn't there": [("3 checkpoint 3\nrefused 5", "3 checkpoint 3\nfolded 0")],
     "a checkpoint without memory": [("1 checkpoint 1\nfolded 0", "1 checkpoint 1\nrefused 8")],
     "a count that needs a cell": [("0 sum 0 10\nrefused 10", "0 sum 0 10\nrefused 9")],
-    "a full history behind a life that is over": [("0 insert 9 90\nrefused 10\n3 checkpoint 3\nrefused 5", "0 insert 9 90\nrefused 10\n0 count 0 1\nrefused 6 3")],
+    "a full history behind a life that is over": [("3 checkpoint 3\nrefused 5", "0 count 0 1\nrefused 6 3")],
     "totals of the tails": [("accepted 6", "accepted 3")],
     "insertions of the tails": [("inserted 3 deleted 0 held", "inserted 1 deleted 0 held")],
 }

@@ -263,7 +263,7 @@ class Account:
         return parted
 
 
-def check_numbers(account, clients, unread):
+def check_numbers(account, clients):
     """Each number of a row was given once. In a closed partition some may be those of inserts whose replies weren't read."""
     given = sorted(number for client in clients for number in client.given)
     if not account.closed:
@@ -271,6 +271,8 @@ def check_numbers(account, clients, unread):
         return
     if len(set(given)) != len(given) or any(number >= account.given[part] for part, number in given):
         raise Wrong(f"numbers of rows, of {account.given} that were given: one came twice, or is none of these")
+    sent = (INSERT.fullmatch(statement) for client in clients for statement in client.unread)
+    unread = collections.Counter(part_of(account.splits, int(inserted[1])) for inserted in sent if inserted)
     for part, count in enumerate(account.given):
         missing = count - sum(number[0] == part for number in given)
         if missing > (unread[part] if part in account.closed else 0):
@@ -295,14 +297,13 @@ def come_to(account, clients):
     """Holds the clients' rows against all that stands: the counts that the totals have to agree with. Wrong where a row is lost, changed or nobody's, or a
     number was given twice, or a limit was passed, or told before it was reached."""
     clients = sorted(clients, key=lambda it: it.low)
-    least, most, unread, listed = collections.Counter(), collections.Counter(), collections.Counter(), 0
+    least, most, listed = collections.Counter(), collections.Counter(), 0
     for client, standing in zip(clients, account.of_owners(clients)):
         of_unread = client.front(standing, account.closed)
         least += client.kept + of_unread[0]
         most += client.kept + client.untold + of_unread[1]
-        unread += of_unread[1]
         listed += client.listed + of_unread[2]
-    check_numbers(account, clients, unread)
+    check_numbers(account, clients)
     check_causes(account, clients, least, most)
     inserted = sum(account.given) if account.closed else sum(client.inserted for client in clients)
     deleted = sum(client.deleted for client in clients)

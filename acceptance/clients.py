@@ -4,9 +4,9 @@
 Some connect and close, reset the connection, send half a line, one byte a second, random bytes, 64 MB without a line feed or 200,000 statements at once, say
 nothing, or have large lists written to them and read none. In between are honest ones. Each has keys of its own: every reply that is read is held against a
 list of the client's own rows, and when all have gone the rows that stand, the totals and the memory that the server took are held against what all of them
-were answered (client_rows.py). Honest ones ask for checkpoints amid their work, and where a history is full; of three seeds two have small limits. The server has
-to end by itself once its sessions are served. A seed gives the same clients again; in which order a server comes to them it doesn't say. Without options it
-runs the cases of `make test`, and prints 'clients: N passed, M failed' at its end.
+were answered (client_rows.py). Honest ones ask for checkpoints amid their work, and where a history is full; of three seeds two have small limits. The
+server has to end by itself once its sessions are served. A seed gives the same clients again; in which order a server comes to them it doesn't say. Without
+options it runs the cases of `make test`, and prints 'clients: N passed, M failed' at its end.
 """
 
 import argparse

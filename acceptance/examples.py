@@ -84,7 +84,7 @@ def for_ever(program):
 
 
 # each with the program that it needs
-CASES = [(first, sys.executable), (for_ever, sys.executable), (client, sys.executable), (session, "nc"), (csv, "sqlite3"), *((it, sys.executable) for it in shell_cases.CASES)]
+CASES = [*((it, sys.executable) for it in [first, for_ever, client]), (session, "nc"), (csv, "sqlite3"), *((it, sys.executable) for it in shell_cases.CASES)]
 
 
 def run(program):

@@ -7,6 +7,7 @@ line for each case that fails, and last 'server limits: N passed, M failed'.
 """
 
 import re
+import subprocess
 import sys
 import threading
 
@@ -234,6 +235,16 @@ CASES = [
     a_batch_that_folds,
     a_batch_that_one_worker_folds,
 ]
+
+
+def fault(program, seed):
+    """What is wrong with the case that a seed names, or None. Which client comes first is another matter in each run."""
+    case = CASES[seed % len(CASES)]
+    try:
+        case(program)
+    except (Wrong, OSError, ValueError, subprocess.TimeoutExpired) as error:
+        return f"{case.__name__}: {error}"
+    return None
 
 
 def run(program):

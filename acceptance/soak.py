@@ -2,9 +2,9 @@
 """Runs cases of hostile use with new seeds, side by side, until the time is over: soak.py SECONDS [--top FOLDER] [--seed N] [--only KIND ..]
 [--failures FOLDER]; or one case again: soak.py --again KIND SEED
 
-The kinds are histories of threads, clients of a server, lines, CSV, devices, memory that is refused, and random scripts. Each has its shares of the time,
-histories the most, and there are as many cases at once as there are processors; one run of clients is that of 3,000 sessions and 64 workers. Each case has
-a seed of its own; a soak's first one is drawn anew, and printed. A case that fails is written to FOLDER, soak-failures/ where none is given: what is wrong,
+The kinds are histories of threads, clients of a server, small limits that clients share, lines, CSV, devices, memory that is refused, and random scripts, most
+with checkpoints amid their work. Each has its shares of the time, histories the most, and there are as many cases at once as there are processors; one run
+of clients is that of 3,000 sessions and 64 workers. Each case has a seed of its own; a soak's first one is drawn anew, and printed. A case that fails is written to FOLDER, soak-failures/ where none is given: what is wrong,
 and the command that repeats it, as far as the schedule of threads allows. --top names another checkout whose programs are tried. Cases that were begun are
 ended once the time is over. Prints counts by kind, and last 'N passed, M failed'.
 """
@@ -25,6 +25,7 @@ import lines
 import memory
 import memory_workers
 import random_script
+import server_limits
 
 TOP = pathlib.Path(__file__).resolve().parent.parent
 FAILURES = TOP / "soak-failures"
@@ -60,6 +61,7 @@ def kinds():
     all_kinds = [
         Kind("clients-whole", clients.whole_fault, alone=True),
         Kind("clients", clients.fault, alone=True),
+        Kind("limits", server_limits.fault, alone=True),
         Kind("threads", histories.soak_fault, "crack_histories", shares=4),
         Kind("lines", lines.fault),
         Kind("csv", csv_input.fault),
