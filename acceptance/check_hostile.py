@@ -178,8 +178,13 @@ class Folds(unittest.TestCase):
         merged = b"layout 0 rows 1 column 1 out 0 in 0 cells 1 free 0 pieces 1\npiece 0 4294967296 1\n"
         whole = seen_of(given, b"row 0.0\n" + pending + b"folded 1\n" + pending)
         self.assertIsNone(whole.wrong)
-        self.assertIsNone(memory.other_layout(seen_of(given, b"row 0.0\n" + pending + b"refused 8\n" + pending, 1), whole))
-        self.assertEqual(memory.other_layout(seen_of(given, b"row 0.0\n" + pending + b"refused 8\n" + merged, 1), whole), 3)
+        for checkpoint, layout, found in [(b"refused 8\n", pending, None), (b"refused 8\n", merged, 4), (b"folded 1\n", merged, 4)]:
+            seen = seen_of(given, b"row 0.0\n" + pending + checkpoint + layout, 1)
+            self.assertEqual((seen.wrong, memory.other_layout(plain_session.statements(given), seen, whole)), (None, found))
+        # (a row that was refused isn't there)
+        none = b"layout 0 rows 0 column 0 out 0 in 0 cells 0 free 0 pieces 1\npiece 0 4294967296 0\n"
+        seen = seen_of(given, b"refused 8\n" + none + b"folded 0\n" + none, 1)
+        self.assertEqual((seen.wrong, memory.other_layout(plain_session.statements(given), seen, whole)), (None, None))
 
 
 class RandomScripts(unittest.TestCase):
@@ -294,7 +299,7 @@ class StandIns(unittest.TestCase):
         ways = {**memory.WAYS, "alone": lambda _: {"from": memory.FOR_EVER, "to": memory.FOR_EVER}}
         with unittest.mock.patch.object(memory, "WAYS", ways):
             found = memory.sweep_folds(self.program("none"), ["script", *limits.words()], given, "alone", limits)
-        self.assertEqual(found[0], "no checkpoint was refused")
+        self.assertEqual(found[0], "statement 9: this checkpoint was never refused")
 
 
 def run_all():

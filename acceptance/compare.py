@@ -16,8 +16,8 @@ class Seen:
 
     def __init__(self):
         self.wrong, self.short = None, 0
-        # which statements these were, by their numbers from 0, and the lines of each layout
-        self.shorts, self.layouts = [], {}
+        # the lines that each statement was answered
+        self.answers = []
         self.inserted = self.deleted = 0
         # the fewest and the most commands that histories keep: a range that was refused may have been answered in part
         self.accepted = self.accepted_most = 0
@@ -102,19 +102,15 @@ def compare(said, wrote, session=None, short=0, may_be_first=False):
     if lines is None:
         seen.wrong = f"no lines of text: {wrote[-80:]!r}"
         return seen
-    for number, one in enumerate(said):
-        shorts = seen.short
+    for number, one in enumerate(said, 1):
         try:
             wrong, taken = held(session, one, lines, at, seen, may_be_first)
         except ValueError as error:
             wrong, taken = f"no number: {error}", 1
         if wrong:
-            seen.wrong = f"statement {number + 1}, {one!r}: {wrong}"
+            seen.wrong = f"statement {number}, {one!r}: {wrong}"
             return seen
-        if seen.short > shorts:
-            seen.shorts.append(number)
-        elif one[0] == "layout":
-            seen.layouts[number] = lines[at : at + taken]
+        seen.answers.append(lines[at : at + taken])
         at += taken
     if at < len(lines):
         seen.wrong = f"{len(lines) - at} lines too many, {lines[at]!r} first"

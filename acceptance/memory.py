@@ -174,14 +174,20 @@ def sweep_script(program, words, given, way, splits=(), limits=random_script.Lim
     return fault_of_sweep(program, words, given, check, way)
 
 
-def other_layout(seen, whole):
-    """The number of the first layout that isn't as it is where no memory is refused; None where there is none."""
-    return next((number for number, lines in seen.layouts.items() if lines != whole.layouts[number]), None)
+def other_layout(said, seen, whole):
+    """Which statement is the first layout that isn't as it is where no memory is refused, up to the first other statement that is answered otherwise; None
+    where there is none. A checkpoint changes no layout, whether it is answered or refused."""
+    for number, (one, got, right) in enumerate(zip(said, seen.answers, whole.answers), 1):
+        if one[0] not in ("checkpoint", "layout") and got != right:
+            return None
+        if one[0] == "layout" and got not in (right, [compare.SHORT]):
+            return number
+    return None
 
 
 def sweep_folds(program, words, given, way, limits):
-    """Sweeps one way over a session over one partition. Where checkpoints and layouts alone are refused, all layouts are as without: a checkpoint changes
-    none, whether it is answered or refused. Where calls are refused one by one, a checkpoint must have been refused in some run."""
+    """Sweeps one way over a session over one partition. Layouts must be those of a run without a refusal, as far as all but checkpoints is answered alike.
+    Where calls are refused one by one, each checkpoint that folds something must have been refused in some run."""
     said, refused_once = plain_session.statements(given), set()
     ran = subprocess.run([program, *words], input=given, capture_output=True, timeout=SECONDS, check=True)
     whole = compare.compare(said, ran.stdout, plain_session.Session((), limits))
@@ -190,14 +196,15 @@ def sweep_folds(program, words, given, way, limits):
 
     def check(wrote, refused):
         seen = compare.compare(said, wrote, plain_session.Session((), limits), refused)
-        kinds = {said[number][0] for number in seen.shorts}
-        refused_once.update(kinds)
-        other = None if seen.wrong or kinds - {"checkpoint", "layout"} else other_layout(seen, whole)
-        return seen.wrong if other is None else f"statement {other + 1}: another layout than without {said[seen.shorts[0]]} refused"
+        refused_once.update(number for number, lines in enumerate(seen.answers, 1) if lines == [compare.SHORT])
+        other = other_layout(said, seen, whole)
+        return seen.wrong or (other and f"statement {other}: another layout than where no memory is refused")
 
     wrong, runs = fault_of_sweep(program, words, given, check, way)
-    if wrong is None and way == "alone" and "checkpoint" not in refused_once:
-        wrong = "no checkpoint was refused"
+    folds = [number for number, one in enumerate(said, 1) if one[0] == "checkpoint" and whole.answers[number - 1] != ["folded 0"]]
+    never = [number for number in folds if number not in refused_once]
+    if wrong is None and way == "alone" and never:
+        wrong = f"statement {never[0]}: this checkpoint was never refused"
     return wrong, runs
 
 
