@@ -8,6 +8,7 @@ import sys
 import tempfile
 import unittest
 
+import server_limits
 import soak
 from client_rows import Account, Own, check_folded, check_totals, come_to, most_bytes
 from random_script import Limits
@@ -271,6 +272,35 @@ class Fronts(unittest.TestCase):
     def test_half_a_line_at_the_end(self):
         self.assertEqual(self.came_to(told_two("insert 31 9", "insert 32 1"), "0.3 31 9", "0.4 32 1")["inserted"], 6)
         self.assertEqual(self.came_to(told_two("insert 31 9", "inser"), "0.3 31 9")["inserted"], 5)
+
+
+class Folds(unittest.TestCase):
+    """What the worker of a batch was answered that folds the partitions of all."""
+
+    def lines(self, *of_others):
+        """The right lines, where so many entries of each other partition go at once at the first checkpoints."""
+        folds = iter([*of_others, *[0] * 1000])
+        found = []
+        for number in range(server_limits.OWN_LINES):
+            found.append(f"row 0.{number}")
+            if number % 50 == 49:
+                found += ["folded 50", *(f"folded {next(folds)}" for _ in range(server_limits.WORKERS - 1))]
+        return [*found, "count 2500"]
+
+    def test_the_right_lines_pass(self):
+        server_limits.check_folds(self.lines())
+        server_limits.check_folds(self.lines(1001, 1, 1001))
+
+    def test_each_that_is_dropped_doubled_or_changed_is_found(self):
+        right = self.lines(7, 8, 9)
+        for at in [0, 49, 50, 54, 55, 103, len(right) - 1]:
+            for put in [[], [right[at]] * 2, ["row 0.7"], ["folded 49"], ["refused 8"], ["count 99"], ["count 4001"]]:
+                with self.assertRaises((Wrong, ValueError)):
+                    server_limits.check_folds([*right[:at], *put, *right[at + 1 :]])
+
+    def test_entries_that_went_twice(self):
+        with self.assertRaises(Wrong):
+            server_limits.check_folds(self.lines(1000, 0, 0, 2))
 
 
 class Totals(unittest.TestCase):
