@@ -154,36 +154,52 @@ class Folds(unittest.TestCase):
         self.assert_wrong(two + b"update 0.0 3 3\n", rows + b"refused 9\n", limits)
         self.assert_wrong(two + b"count 0 9\nupdate 0.7 3 3\n", rows + b"count 2\nrefused 9\n", limits)
         self.assert_wrong(two + b"count 0 9\ndelete 0.0\n", rows + b"count 2\nrefused 9\n", limits)
+        # (one whose key was in that range stands there)
         self.assert_right(two + b"count 0 9\nupdate 0.0 3 3\n", rows + b"count 2\nrefused 9\n", limits)
+        self.assert_wrong(two + b"count 0 9\nupdate 0.0 3 3\n", rows + b"count 2\nchanged\n", limits)
+        self.assert_wrong(two + b"count 0 9\nupdate 0.0 3 3\n", rows + b"count 2\nrefused 8\n", limits, 1)
+        for wrote in [b"refused 9\n", b"changed\n"]:
+            self.assert_right(two + b"count 0 9\ncount 7 9\nupdate 0.0 3 3\n", rows + b"count 2\ncount 0\n" + wrote, limits)
         # (a row that went is buried by a range that has its key, and not before)
         gone = two + b"count 0 9\ndelete 0.0\n"
         self.assert_right(gone + b"insert 3 3\n", rows + b"count 2\ngone 1 1\nrefused 9\n", limits)
+        self.assert_wrong(gone + b"insert 3 3\n", rows + b"count 2\ngone 1 1\nrow 0.2\n", limits)
         self.assert_right(gone + b"count 5 9\ninsert 3 3\n", rows + b"count 2\ngone 1 1\ncount 0\nrefused 9\n", limits)
         self.assert_wrong(gone + b"count 0 2\ninsert 3 3\n", rows + b"count 2\ngone 1 1\ncount 0\nrefused 9\n", limits)
 
     def test_a_layout_tells_whether_there_is_a_cell(self):
-        given, limits = b"insert 1 1\ninsert 2 2\ncount 0 9\ndelete 0.0\nlayout 0\ninsert 3 3\n", random_script.Limits(cells=2)
-        replies = b"row 0.0\nrow 0.1\ncount 2\ngone 1 1\n"
-        waits = b"layout 0 rows 1 column 2 out 1 in 0 cells 2 free 0 pieces 2\npiece 0 9 2\npiece 9 4294967296 0\n"
-        buried = b"layout 0 rows 1 column 1 out 0 in 0 cells 2 free 1 pieces 2\npiece 0 9 1\npiece 9 4294967296 0\n"
+        given, limits = b"insert 1 1\ninsert 2 2\ncount 0 9\ndelete 0.0\ncount 5 9\nlayout 0\ninsert 3 3\n", random_script.Limits(cells=2)
+        replies, ends = b"row 0.0\nrow 0.1\ncount 2\ngone 1 1\ncount 0\n", b"piece 5 9 0\npiece 9 4294967296 0\n"
+        waits = b"layout 0 rows 1 column 2 out 1 in 0 cells 2 free 0 pieces 3\npiece 0 5 2\n" + ends
+        buried = b"layout 0 rows 1 column 1 out 0 in 0 cells 2 free 1 pieces 3\npiece 0 5 1\n" + ends
         self.assert_right(given, replies + waits + b"refused 9\n", limits)
         self.assert_right(given, replies + buried + b"row 0.2\n", limits)
         self.assert_wrong(given, replies + waits + b"row 0.2\n", limits)
         self.assert_wrong(given, replies + buried + b"refused 9\n", limits)
         self.assert_wrong(given, replies + buried.replace(b"cells 2 free 1", b"cells 3 free 2") + b"row 0.2\n", limits)
 
+    def test_a_layout_tells_what_is_known_of_cells(self):
+        given = b"insert 1 1\ninsert 2 2\ncount 0 9\ndelete 0.0\ninsert 3 3\nlayout 0\n"
+        replies, end = b"row 0.0\nrow 0.1\ncount 2\ngone 1 1\nrow 0.2\n", b"piece 9 4294967296 0\n"
+        self.assert_right(given, replies + b"layout 0 rows 2 column 2 out 1 in 1 cells 3 free 0 pieces 2\npiece 0 9 2\n" + end)
+        # (a row that went is buried without a range, one that came is merged, one that stands in the column has left it, and too many went)
+        self.assert_wrong(given, replies + b"layout 0 rows 2 column 1 out 0 in 1 cells 3 free 1 pieces 2\npiece 0 9 1\n" + end)
+        self.assert_wrong(given, replies + b"layout 0 rows 2 column 3 out 1 in 0 cells 3 free 0 pieces 2\npiece 0 9 3\n" + end)
+        self.assert_wrong(given, replies + b"layout 0 rows 2 column 1 out 1 in 2 cells 3 free 0 pieces 2\npiece 0 9 1\n" + end)
+        self.assert_wrong(given, replies + b"layout 0 rows 2 column 3 out 2 in 1 cells 4 free 0 pieces 2\npiece 0 9 3\n" + end)
+
     def test_a_layout_that_a_refused_checkpoint_changed_is_found(self):
-        given = b"insert 1 1\nlayout 0\ncheckpoint 0\nlayout 0\n"
-        pending = b"layout 0 rows 1 column 0 out 0 in 1 cells 1 free 0 pieces 1\npiece 0 4294967296 0\n"
-        merged = b"layout 0 rows 1 column 1 out 0 in 0 cells 1 free 0 pieces 1\npiece 0 4294967296 1\n"
-        whole = seen_of(given, b"row 0.0\n" + pending + b"folded 1\n" + pending)
+        given, ends = b"insert 1 1\ncount 5 9\nlayout 0\ncheckpoint 0\nlayout 0\n", b"piece 5 9 0\npiece 9 4294967296 0\n"
+        pending = b"layout 0 rows 1 column 0 out 0 in 1 cells 1 free 0 pieces 3\npiece 0 5 0\n" + ends
+        merged = b"layout 0 rows 1 column 1 out 0 in 0 cells 1 free 0 pieces 3\npiece 0 5 1\n" + ends
+        whole = seen_of(given, b"row 0.0\ncount 0\n" + pending + b"folded 2\n" + pending)
         self.assertIsNone(whole.wrong)
-        for checkpoint, layout, found in [(b"refused 8\n", pending, None), (b"refused 8\n", merged, 4), (b"folded 1\n", merged, 4)]:
-            seen = seen_of(given, b"row 0.0\n" + pending + checkpoint + layout, 1)
+        for checkpoint, layout, found in [(b"refused 8\n", pending, None), (b"refused 8\n", merged, 5), (b"folded 2\n", merged, 5)]:
+            seen = seen_of(given, b"row 0.0\ncount 0\n" + pending + checkpoint + layout, 1)
             self.assertEqual((seen.wrong, memory.other_layout(plain_session.statements(given), seen, whole)), (None, found))
         # (a row that was refused isn't there)
-        none = b"layout 0 rows 0 column 0 out 0 in 0 cells 0 free 0 pieces 1\npiece 0 4294967296 0\n"
-        seen = seen_of(given, b"refused 8\n" + none + b"folded 0\n" + none, 1)
+        none = b"layout 0 rows 0 column 0 out 0 in 0 cells 0 free 0 pieces 3\npiece 0 5 0\n" + ends
+        seen = seen_of(given, b"refused 8\ncount 0\n" + none + b"folded 1\n" + none, 1)
         self.assertEqual((seen.wrong, memory.other_layout(plain_session.statements(given), seen, whole)), (None, None))
 
 

@@ -155,15 +155,15 @@ class Session:
         (kind, told), (part,) = said, self.parts_of(said)
         is_outside = kind == "update" and not part.low <= told[2] < part.high
         is_over = part.kept == part.limits.history or part.folded + part.kept == part.limits.life
-        return is_outside or is_over or (kind == "insert" and part.has_no_cell())
+        needs_cell = kind == "insert" or (kind == "update" and told[1] in part.settled)
+        return is_outside or is_over or (needs_cell and part.has_no_cell())
 
     def leave_without_memory(self, said):
         """What was said is refused for want of memory. Partitions of a range may have merged their rows, and those before the last one have kept it."""
         if said[0] in ("count", "sum", "select"):
             parts = self.parts_of(said)
             for part in parts:
-                part.fresh.clear()
-                part.has_cell = None
+                part.forget()
             for part in parts[:-1]:
                 part.untold += 1
 

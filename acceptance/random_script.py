@@ -8,9 +8,10 @@ the other statements. A layout is compared by its equations, since no rule fixes
 the column; column, pending insertions and free cells make up the cells; the rows are the column less the pending deletions and the pending
 insertions, and as many as the list has; the pieces join from one end of the partition's keys to the other.
 Cells are what the list's rows take, one each, and rows that went or were changed where they stood in a column, until a range that has their key buries
-them. A row that came or was changed since the last range stands in no column. So an insert is refused with 9 where the rows alone are as many as there may be
-cells; it isn't where these and all that may wait for their burial are fewer; behind a layout of its partition it is so exactly where that told as many
-cells as there may be, and none free. An update that is refused with 9 is of a row that may stand in the column.
+them. A row that came or was changed since the last range waits beside the column; one whose key was in that range stands there. So an insert is refused with
+9 where rows, and those that went from the column since the last range, are as many as there may be cells; it isn't where rows and all that may wait for their
+burial are fewer; behind a layout of its partition it is so exactly where that told as many cells as there may be, and none free. An update is refused so
+where an insert is, if its row stands in the column, and isn't if that waits beside it. A layout tells as many of each as are known, at least.
 """
 
 import pathlib
@@ -62,8 +63,9 @@ class Part:
         self.untold = 0
         # whether there is a cell for one row more, as a layout told; None where none told it since the last command
         self.has_cell = None
-        # the serials of rows that stand in no column, and the keys of those that may stand there and wait for their burial
-        self.fresh, self.doomed = set(), []
+        # the serials of rows that stand in no column, and of those that stand there; how many went from there since the last range; and the keys of all that
+        # may wait for their burial
+        self.fresh, self.settled, self.waiting, self.doomed = set(), set(), 0, []
 
     def test(self):
         """Refuses a command where no more is accepted."""
@@ -96,7 +98,7 @@ class Part:
 
     def has_no_cell(self):
         """Whether it is known that there is no cell for one row more."""
-        return self.has_cell is False or len(self.rows) == self.limits.cells
+        return self.has_cell is False or len(self.rows) + self.waiting >= self.limits.cells
 
     def insert(self, key, payload):
         self.test()
@@ -112,8 +114,16 @@ class Part:
         """A row leaves its cell. Where it may stand in the column, the cell may wait for its burial."""
         if serial not in self.fresh:
             self.doomed.append(self.rows[serial][0])
+        self.waiting += serial in self.settled
         self.fresh.discard(serial)
+        self.settled.discard(serial)
         return self.rows.pop(serial)
+
+    def forget(self):
+        """A range may move rows to the column and out of it, and bury those that went."""
+        self.fresh.clear()
+        self.settled.clear()
+        self.waiting, self.has_cell = 0, None
 
     def delete(self, serial):
         self.keep()
@@ -122,6 +132,9 @@ class Part:
     def update(self, serial, key, payload):
         if not self.low <= key < self.high:
             raise Refused("refused 4")
+        self.test()
+        if serial in self.settled and self.has_no_cell():
+            raise Refused(NO_CELL)
         self.keep()
         if serial not in self.rows:
             return ["none"]
@@ -134,8 +147,9 @@ class Part:
         """The rows of a range, each with its number."""
         self.keep()
         if low < high:
-            self.fresh.clear()
+            self.forget()
             self.doomed = [key for key in self.doomed if not low <= key < high]
+            self.settled.update(serial for serial, row in self.rows.items() if low <= row[0] < high)
         return [(f"{self.number}.{serial}", *row) for serial, row in sorted(self.rows.items()) if low <= row[0] < high]
 
 
@@ -308,12 +322,14 @@ def misfit_of_command(table, statement, lines):
 
 
 def misfit_of_look(part, lines):
-    """The same of a layout, which tells whether there is a cell for one row more."""
+    """The same of a layout, beside what is known of the partition's cells. It tells whether there is one for one row more."""
     misfit, taken = misfit_of_layout(lines, part, len(part.rows))
     if misfit is None:
-        cells, free = (int(lines[0].split(" ")[place]) for place in (11, 13))
+        column, out, pending, cells, free = (int(lines[0].split(" ")[place]) for place in range(5, 15, 2))
+        is_right = part.waiting <= out <= len(part.doomed) and pending >= len(part.fresh) and column - out >= len(part.settled)
+        known = f"out {part.waiting} to {len(part.doomed)}, in {len(part.fresh)} or more, column without out {len(part.settled)} or more"
+        misfit = None if is_right and cells <= part.limits.cells else f"{lines[0]!r}, where cells are {part.limits.cells} at most, {known}"
         part.has_cell = cells < part.limits.cells or free > 0
-        misfit = f"{cells} cells of at most {part.limits.cells}" if cells > part.limits.cells else None
     return misfit, taken
 
 

@@ -37,9 +37,10 @@ def doctored(text, fault):
 def text_of(answer):
     """The text of an answer; a layout is of one piece."""
     if isinstance(answer, plain_session.Layout):
-        part, rows = answer.part, answer.rows
-        head = f"layout {part.number} rows {rows} column {rows} out 0 in 0 cells {rows} free 0 pieces 1"
-        answer = [head, f"piece {part.low} {part.high} {rows}"]
+        part, out, pending = answer.part, answer.part.waiting, len(answer.part.fresh)
+        column, cells = answer.rows - pending + out, answer.rows + out
+        head = f"layout {part.number} rows {answer.rows} column {column} out {out} in {pending} cells {cells} free 0 pieces 1"
+        answer = [head, f"piece {part.low} {part.high} {column}"]
     return "".join(f"{line}\n" for line in answer).encode("ascii")
 
 
