@@ -8,6 +8,6 @@ returns g c = record {
   small = search rules;
   there = search rules;
   err = search rules;
-  causes = search rules;
+  causes = ?;
   nowhere = search rules;
 }
