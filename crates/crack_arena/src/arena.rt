@@ -278,7 +278,7 @@ impl<T> Arena<T> {
     fn reads(&self, slot: usize, generation: u64) -> bool
         ensures { result ≡ is_some (read self.now.cells (record { slot = slot; generation = generation })) }
     {
-        match self.cells.get(slot as usize) {
+        match self.cells.get(slot) {
             Some(
                 Cell {
                     generation: now,

@@ -30,7 +30,7 @@ cases_takes s (Some (Rewrite serial key payload)) = by_pending (pending_by s ser
     by_pending (Some true) = inr (λ is. cc is)
     by_pending (Some false) = inl refl
 
-cases_lack : (most : ℕ) (s : State) (change : Option Change) → LacksCell most s change ⊎ (LacksCell most s change → ⊥)
+pub cases_lack : (most : ℕ) (s : State) (change : Option Change) → LacksCell most s change ⊎ (LacksCell most s change → ⊥)
 cases_lack most s change = elim (cases_takes s change) [
   | inr not ↦ inr (λ lacks. not lacks.takes)
   | inl takes ↦ elim (cases_eq (length s.free) 0) [
@@ -43,7 +43,7 @@ cases_lack most s change = elim (cases_takes s change) [
 ]
 
 -- a command that takes a cell brings a key
-brings-key : (s : State) (command : Command) → TakesCell s (change_of command) → is_some (key_of command) ≡ true
+pub brings-key : (s : State) (command : Command) → TakesCell s (change_of command) → is_some (key_of command) ≡ true
 brings-key s (Insert key payload) takes = refl
 brings-key s (Delete serial) takes = absurd takes
 brings-key s (Update serial key payload) takes = refl

@@ -29,13 +29,13 @@ use Rattle.crack_core.specs.Steps.{is_key_in, Bounds, bounds_of, reply_unless, M
 use Rattle.crack_core.specs.Cores.{Makes, MakesAll}
 
 -- whether a command brings a key of others, by the test
-within-true : (keys : Range) (key : Option Key) → is_key_in keys key ≡ true → IfSome key (λ (k : Key). IsIn keys k.0)
+pub within-true : (keys : Range) (key : Option Key) → is_key_in keys key ≡ true → IfSome key (λ (k : Key). IsIn keys k.0)
 within-true keys None is = tt
 within-true keys (Some key) is =
     let parts = and_parts (nat_le keys.low key.0) (nat_lt key.0 keys.high) is in
     (leb-true keys.low key.0 parts.0, ltb-true key.0 keys.high parts.1)
 
-within-false : (keys : Range) (key : Option Key) → is_key_in keys key ≡ false → IfSome key (λ (k : Key). IsIn keys k.0) → ⊥
+pub within-false : (keys : Range) (key : Option Key) → is_key_in keys key ≡ false → IfSome key (λ (k : Key). IsIn keys k.0) → ⊥
 within-false keys None is within = true≢false is
 within-false keys (Some key) is within =
     both_ways (is_in keys key.0) is (and_from (nat_le keys.low key.0) (nat_lt key.0 keys.high) (le-leb keys.low key.0 within.0) (lt-ltb key.0 keys.high within.1))

@@ -165,8 +165,8 @@ impl Core {
 
     /// Folds the history of one partition into its base, and tells how many entries went: the partition's rows are kept as they are now, its
     /// commands no more, and its history begins anew. It cracks and merges nothing, and no later reply depends on it. Refused with 5 where
-    /// there is no such partition, and with 8 where no memory is found; nothing has changed then. O(rows), where their cells are in the
-    /// order of their serials, else O(rows log rows).
+    /// there is no such partition, and with 8 where no memory is found; nothing has changed then. Its costs are those of
+    /// `Partition::checkpoint`.
     pub fn checkpoint(&mut self, part: u32) -> Result<u64, Refusal>
         ensures outcome { IsFoldOutcome (slice_get (tables_of self.old.parts) part) result }
         ensures after { tables_of self.new.parts ≡ tables_folded (tables_of self.old.parts) part result }

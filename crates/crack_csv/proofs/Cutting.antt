@@ -173,7 +173,7 @@ no_rest xs done [] split all = refl
 no_rest xs done (x ∷ rest) split all = absurd (let l = length-append done (x ∷ rest) in let n = ap length split in omega (arith, l, n, all))
 
 -- what is written can't be handed on
-pub Exporting-kept : {splits : List Bound} {tables : List PlainView} {part count : ℕ} {left : Option (List PlainView)} {out out' : Option (List ℕ)} (bounds receipts receipts' : ℕ) (failed failed' : Bool) (out'' : Option (List ℕ)) → Exporting splits tables part count left out out' → receipts' ≡ receipts + part → part ≡ length tables → failed' ≡ true
+pub Exporting-kept : {splits : List Bound} {tables : List PlainView} {part count : ℕ} {left : Option (List PlainView)} {out out' : Option (List ℕ)} (bounds : Bounds) (receipts receipts' : ℕ) (failed failed' : Bool) (out'' : Option (List ℕ)) → Exporting splits tables part count left out out' → receipts' ≡ receipts + part → part ≡ length tables → failed' ≡ true
     → Keeps out' out'' → IsExportCut bounds splits tables WriteFault receipts receipts' failed failed' left out out''
 Exporting-kept {splits} {tables} {out = out} {out' = out'} bounds receipts receipts' failed failed' out'' was so_far all is kept = record {
   done = was.done;

@@ -15,7 +15,7 @@ use std::io::Read;
 /// A load that was cut short. The rows that it inserted stay.
 #[derive(Clone, Copy, PartialEq, Eq, Debug)]
 pub struct LoadFault {
-    /// 6, 7, 8, 17 or 19.
+    /// 6, 7, 8, 9, 10, 17 or 19.
     pub refusal: Refusal,
     /// How many rows were inserted.
     pub loaded: u64,

@@ -167,8 +167,8 @@ impl Partition {
     }
 
     /// Makes its rows the base, and empties its history: how many entries went. It cracks and merges nothing, and changes no reply to
-    /// come. Refused with 8 where it finds no memory; all is then as it was. O(cells), and O(n log n) for n rows where later ones were put
-    /// into freed cells; what the history took is given back, but for the room of `KEPT_ENTRIES` entries.
+    /// come. Refused with 8 where it finds no memory; all is then as it was. As `Store::live_rows` it is O(cells), and O(n log n) for n rows
+    /// where serials don't rise with the cells; what the history took is given back, but for the room of `KEPT_ENTRIES` entries.
     pub fn checkpoint(&mut self) -> Result<u64, Refusal>
         ensures ok { IfOk result (λ count. count ≡ length self.old.past.tail) }
         ensures folded { OnOk result (self.new ≡ folded_part self.old) }

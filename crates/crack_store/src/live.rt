@@ -10,8 +10,9 @@ use crate::Store;
 use crack_row::{Refusal, Row};
 
 impl Store {
-    /// The rows that commands see, in rising serial. It cracks and merges nothing. O(cells), and O(n log n) for n rows where later ones
-    /// were put into freed cells: else serials rise with the cells' numbers, in which they are read. Refused with 8 where it finds no memory.
+    /// The rows that commands see, in rising serial. It cracks and merges nothing. O(cells) where serials rise with the numbers of the cells,
+    /// in whose order they are read; else O(n log n) for n rows: behind an insert into a freed cell, or an update of a row of the column,
+    /// which takes another cell. Refused with 8 where it finds no memory.
     pub fn live_rows(&self) -> Result<Vec<Row>, Refusal>
         ensures rows { IfOk result (λ rows. IsPermutation (live_rows self.now) rows.items) }
         ensures rising { IfOk result (λ rows. IsNonDecreasingBy serial_of rows.items) }

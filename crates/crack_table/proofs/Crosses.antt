@@ -24,11 +24,11 @@ reply-send = search (sendable, crosses) depth 30
 entry-send : IsSend Entry.the_field.row
 entry-send = struct_send (shape Entry.the_type) (search sendable depth 30, (command-send, (reply-send, tt)))
 
--- alloc, keys, limits, next, store, history
+-- alloc, keys, limits, next, store, base, history
 part-send : IsSend part.the_field.row
 part-send =
     let e = entry-send in
-    struct_send (shape part.the_type) (search (sendable, crosses) depth 30, (search (sendable, crosses) depth 30, (search (sendable, crosses) depth 30, (search (sendable, crosses) depth 30, (store-send, (search (sendable, crosses) depth 30, tt))))))
+    struct_send (shape part.the_type) (search (sendable, crosses) depth 30, (search (sendable, crosses) depth 30, (search (sendable, crosses) depth 30, (search (sendable, crosses) depth 30, (store-send, (search (sendable, crosses) depth 30, (search (sendable, crosses) depth 30, tt)))))))
 
 partition-send : IsSend Partition.the_row
 partition-send = let p = part-send in search (sendable, crosses) depth 30

@@ -1,6 +1,7 @@
 mod Places
 mod Marking
 mod Tallies
+mod Causes
 mod Opens
 mod Lates
 mod Conclusions

@@ -40,7 +40,7 @@ MayRefuse table may_refuse part command NoSuchPartition = length table.splits < 
 MayRefuse table may_refuse part command (HistoryFull entries) = entries ≡ table.limits.history
 MayRefuse table may_refuse part command GateGaveUp = (turn : ℕ) → turn < GATE_TURNS → may_refuse turn
 MayRefuse table may_refuse part command OutOfMemory = Unit {0}
-MayRefuse table may_refuse part command NoCell = Unit {0}
+MayRefuse table may_refuse part command NoCell = IsSome (key_of command)
 MayRefuse table may_refuse part command LifeOver = Unit {0}
 MayRefuse table may_refuse part command _ = ⊥
 

@@ -1,12 +1,7 @@
 use Rattle.std.proofs.Common.{rules}
 use Rattle.std.proofs.lemmas.List.Sorted.{IsNonDecreasingBy-from_sort, answers_always}
 use Rattle.crack_state.specs.Stretch.{serial_of}
-use Rattle.crack_store.proofs.LiveLemmas.{live_rows-listed}
 use Rattle.crack_store.proofs.store.Store.live_rows.Goals as goal
-
-pub returns-clause-rows : goal.returns-clause-rows
-returns-clause-rows c =
-    live_rows-listed c.args.self.now _ _ c.facts.ensures c.in_ok-rows.ensures.rows c.sort_unstable_by_key.ensures.permutation
 
 pub returns-clause-rising : goal.returns-clause-rising
 returns-clause-rising c = IsNonDecreasingBy-from_sort serial_of _ (c.sort_unstable_by_key.ensures.sorted serial_of (answers_always _ _ _ (λ f a r g h. search rules)))
