@@ -335,7 +335,7 @@ def tried(program, words):
     ran = subprocess.run([str(program), *words], capture_output=True, text=True, timeout=SECONDS, check=False)
     if ran.returncode or ran.stderr:
         raise Wrong(f"status {ran.returncode}, {ran.stderr!r}")
-    return check(Printed(ran.stdout), int(words[1]), int(words[2]), Limits(int(words[4])))
+    return check(Printed(ran.stdout), int(words[1]), int(words[2]), Limits(*map(int, words[4:])))
 
 
 def fault(program, seed, statements=STATEMENTS, counted=None):
