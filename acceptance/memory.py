@@ -189,10 +189,10 @@ def sweep_folds(program, words, given, way, limits):
     """Sweeps one way over a session over one partition. Layouts must be those of a run without a refusal, as far as all but checkpoints is answered alike.
     Where calls are refused one by one, each checkpoint that folds something must have been refused in some run."""
     said, refused_once = plain_session.statements(given), set()
-    ran = subprocess.run([program, *words], input=given, capture_output=True, timeout=SECONDS, check=True)
+    ran = subprocess.run([program, *words], input=given, capture_output=True, timeout=SECONDS, check=False)
     whole = compare.compare(said, ran.stdout, plain_session.Session((), limits))
-    if whole.wrong:
-        return whole.wrong, 1
+    if whole.wrong or ran.returncode:
+        return f"where no memory is refused: status {ran.returncode}, {whole.wrong}", 1
 
     def check(wrote, refused):
         seen = compare.compare(said, wrote, plain_session.Session((), limits), refused)
