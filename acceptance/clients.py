@@ -30,6 +30,9 @@ WIDTH, SPLITS, WAITING = 1_000_000, 7, 32
 BACKLOG = 16
 # what bounds a partition, by the seed: histories that get full, and lives that may end; nothing that is reached; histories, and cells that may run out
 LIMITS = [Limits(2000, life=20_000), Limits(), Limits(500, 30_000)]
+# from this size on a block of memory is mapped by itself; else the C library raises that size to that of the greatest block that was given back, as the one of
+# a folded history is, and what grows in smaller blocks leaves holes, which aren't what the server asks for
+MAPPED_FROM = {"MALLOC_MMAP_THRESHOLD_": "131072"}
 # what a wrong reply or a lost connection comes to
 FAULTS = (Wrong, OSError, ValueError, IndexError, subprocess.TimeoutExpired)
 
@@ -183,7 +186,7 @@ class Storm:
         """Runs it. What it came to, as numbers by their names."""
         before = time.monotonic()
         words = ["--policy", self.policy, *self.limits.words(), *map(str, self.splits)]
-        server, port = started(self.program, self.workers, self.sessions, *words)
+        server, port = started(self.program, self.workers, self.sessions, *words, environment=MAPPED_FROM)
         try:
             peak = Peak(server.pid)
             peak.start()

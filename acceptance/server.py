@@ -6,6 +6,7 @@ itself, with its totals, once its sessions are served. Prints a line for each ca
 """
 
 import contextlib
+import os
 import pathlib
 import resource
 import socket
@@ -38,8 +39,8 @@ def free_port():
         return it.getsockname()[1]
 
 
-def started(program, workers, sessions, *words):
-    """A server that listens, and its port. Where another program took the port in the meantime, it is tried again."""
+def started(program, workers, sessions, *words, environment=None):
+    """A server that listens, and its port; more of its environment may be given. Where another program took the port in the meantime, it is tried again."""
     for _ in range(TRIES):
         port = free_port()
         server = subprocess.Popen(
@@ -48,6 +49,7 @@ def started(program, workers, sessions, *words):
             stdout=subprocess.PIPE,
             stderr=subprocess.PIPE,
             text=True,
+            env={**os.environ, **(environment or {})},
         )
         line = server.stdout.readline()
         if line == f"listening {port}\n":

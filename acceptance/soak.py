@@ -4,9 +4,9 @@
 
 The kinds are histories of threads, clients of a server, small limits that clients share, lines, CSV, devices, memory that is refused, and random scripts, most
 with checkpoints amid their work. Each has its shares of the time, histories the most, and there are as many cases at once as there are processors; one run
-of clients is that of 3,000 sessions and 64 workers. Each case has a seed of its own; a soak's first one is drawn anew, and printed. A case that fails is written to FOLDER, soak-failures/ where none is given: what is wrong,
-and the command that repeats it, as far as the schedule of threads allows. --top names another checkout whose programs are tried. Cases that were begun are
-ended once the time is over. Prints counts by kind, and last 'N passed, M failed'.
+of clients is that of 3,000 sessions and 64 workers. Each case has a seed of its own; a soak's first one is drawn anew, and printed. A case that fails is
+written to FOLDER, soak-failures/ where none is given: what is wrong, and the command that repeats it, as far as the schedule of threads allows. --top names
+another checkout whose programs are tried. Cases that were begun are ended once the time is over. Prints counts by kind, and last 'N passed, M failed'.
 """
 
 import argparse
