@@ -28,8 +28,8 @@ MOST_SESSIONS, MOST_SECONDS = 3000, 40
 # how many keys each client has, how many splits there are, and how many connections may wait for a worker
 WIDTH, SPLITS, WAITING = 1_000_000, 7, 32
 BACKLOG = 16
-# what bounds a partition, by the seed: histories that get full, and lives that may end; nothing that is reached; histories, and cells that may run out
-LIMITS = [Limits(2000, life=20_000), Limits(), Limits(500, 30_000)]
+# what bounds a partition, by the seed: histories that get full, and lives that end; nothing that is reached; histories, and cells that run out
+LIMITS = [Limits(500, life=4000), Limits(), Limits(500, 1500)]
 # from this size on a block of memory is mapped by itself; else the C library raises that size to that of the greatest block that was given back, as the one of
 # a folded history is, and what grows in smaller blocks leaves holes, which aren't what the server asks for
 MAPPED_FROM = {"MALLOC_MMAP_THRESHOLD_": "131072"}
