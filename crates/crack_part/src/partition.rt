@@ -22,8 +22,8 @@ ghost use Rattle.crack_part.specs.Inside.{IsCommon, AreCommon, MayPerform};
 use crack_merge::{merge_complete, merge_gradual};
 use crack_ripple::merge_ripple;
 use crack_row::{
-    Change, Command, Entry, GREATEST_LIMIT, Key, KeyRange, Layout, Limits, Payload, Policy, Refusal, Reply,
-    Row, RowList, Serial,
+    Change, Command, Entry, GREATEST_LIMIT, Key, KeyRange, Layout, Limits, Payload, Policy,
+    Refusal, Reply, Row, RowList, Serial,
 };
 use crack_store::{MergeReport, Store};
 use std::alloc::Global;
