@@ -1,6 +1,3 @@
-use Rattle.std.proofs.Common.{rules}
-use Rattle.crack_core.specs.Cores.{Makes}
-use Rattle.crack_core.specs.Jobs.{Folds}
 use Rattle.crack_core.proofs.cores.do_job.Goals as goal
 
 pub returns-in-Perform-clause-does : goal.returns-in-Perform-clause-does
