@@ -152,10 +152,12 @@ def measure_folds(table, runs):
     words = [str(rows), str(changes)]
     ours, sorts = compare([[BENCH, "fold", "gradual", *words], [PEERS, "fold", *words]], runs)
     for what, name, bound in (
-        (f"a checkpoint of {rows} inserts, beside a sort of its rows in random order", "fold", 0.5),
-        (f"the same behind {changes} deletes and inserts that mixed them", "mixed_fold", 2.0),
+        (f"a checkpoint of {rows} inserts", "fold", 0.5),
+        (f"a checkpoint behind {changes} deletes and inserts that mixed these", "mixed_fold", 2.0),
     ):
-        table.line(what, middle_of(ours, name), middle_of(sorts, name), bound)
+        fold, copy, sort = middle_of(ours, name), f"{name}_copy", f"{name}_sort"
+        table.line(f"{what}, beside a sort", fold, middle_of(sorts, sort), bound)
+        table.line("the same, beside a copy that is then sorted", fold, middle_of(sorts, copy, sort))
     for what in ("inserts", "counts"):
         after, before = (middle_of(ours, f"{what}_{when}") for when in ("after", "before"))
         table.line(f"{sizes.NEXT} {what} behind a checkpoint, beside as many before it", after, before)

@@ -54,13 +54,19 @@ impl Rows {
         (0..counts).fold(0, |sum, _| mixed(sum, count as u64))
     }
 
-    /// The commands that are measured before a checkpoint, and behind it.
-    fn ask_next(&mut self) {
-        self.load_half(NEXT);
-        println!("next {}", self.upper_counts(NEXT));
+    fn count_all(&mut self) -> usize {
+        self.accepted += 1;
+        self.rows.len()
     }
 
-    /// As many deletes of random rows of the first so many, a count of everything, and as many inserts.
+    /// The commands that are measured before a checkpoint, and behind it.
+    fn ask_next(&mut self) {
+        let sum = self.upper_counts(NEXT);
+        self.load_half(NEXT);
+        println!("next {sum} rows {}", self.count_all());
+    }
+
+    /// As many deletes of random rows of the first so many, a count of everything, as many inserts, and two counts.
     fn mix(&mut self, rows: u64, changes: u64) {
         let mut serials: Vec<u64> = (0..rows).collect();
         let mut is_gone = vec![false; rows as usize];
@@ -69,11 +75,14 @@ impl Rows {
             is_gone[serials.swap_remove(at) as usize] = true;
         }
         self.rows.retain(|row| !is_gone.get(row.serial as usize).is_some_and(|it| *it));
-        self.accepted += changes + 1;
+        self.accepted += changes;
+        self.count_all();
         self.load(changes);
+        self.count_all();
+        self.upper_counts(1);
     }
 
-    /// A copy of the rows in random order.
+    /// The rows in random order.
     fn shuffled(&self) -> Vec<Row> {
         let (mut rows, mut numbers) = (self.rows.clone(), Numbers(13));
         for i in 1..rows.len() {
@@ -82,12 +91,15 @@ impl Rows {
         rows
     }
 
-    /// Sorts the copy, and tells what a checkpoint keeps, which folds all entries.
+    /// Copies the rows from random order and sorts the copy, and tells what a checkpoint keeps, which folds all entries.
     fn sort(&mut self, name: &str) {
-        let mut rows = self.shuffled();
+        let shuffled = self.shuffled();
+        let start = Instant::now();
+        let mut rows = shuffled.clone();
+        report(&format!("{name}_copy"), start);
         let start = Instant::now();
         rows.sort_unstable_by_key(|row| row.serial);
-        report(name, start);
+        report(&format!("{name}_sort"), start);
         let sum = rows.iter().fold(0, |sum, row| {
             let content = u64::from(row.key) << 32 | u64::from(row.payload);
             mixed(mixed(sum, row.serial), content)
@@ -106,12 +118,11 @@ pub fn run(rows: u64, changes: u64) {
         numbers: Numbers(11),
     };
     table.load(rows / 2);
+    table.count_all();
     table.load(rows - rows / 2);
-    // (a count of everything between them, and one of the range behind them)
-    table.accepted += 2;
-    table.ask_next();
     table.sort("fold");
-    table.ask_next();
     table.mix(rows, changes);
+    table.ask_next();
     table.sort("mixed_fold");
+    table.ask_next();
 }

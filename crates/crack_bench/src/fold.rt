@@ -9,7 +9,7 @@ use std::time::Instant;
 /// How many commands of one kind are measured before a checkpoint, and behind it.
 const NEXT: u32 = 1000;
 
-/// A checkpoint of inserts, and one where as many deletes and inserts put rows into freed cells.
+/// A checkpoint of inserts, of which some are pending, and one where as many deletes and inserts put rows into freed cells, with nothing pending.
 pub fn measure(
     rt: &HostRuntime,
     table: &mut Measured,
@@ -18,29 +18,30 @@ pub fn measure(
     numbers: &mut Numbers,
 ) -> anyhow::Result<()> {
     table.load_partly(rows, numbers)?;
-    measure_next(rt, table, "inserts_before", "counts_before", numbers)?;
     measure_checkpoint(rt, table, "fold")?;
-    measure_next(rt, table, "inserts_after", "counts_after", numbers)?;
     let mut serials = serials(rt.alloc(), rows)?;
     table.mix(changes, &mut serials, numbers)?;
-    measure_checkpoint(rt, table, "mixed_fold")
+    measure_next(rt, table, "counts_before", "inserts_before", numbers)?;
+    measure_checkpoint(rt, table, "mixed_fold")?;
+    measure_next(rt, table, "counts_after", "inserts_after", numbers)
 }
 
-/// As many inserts, and as many counts of one range, in which they put nothing.
+/// As many counts of one range, and as many inserts, which a count of everything then merges.
 fn measure_next(
     rt: &HostRuntime,
     table: &mut Measured,
-    inserts: &str,
     counts: &str,
+    inserts: &str,
     numbers: &mut Numbers,
 ) -> anyhow::Result<()> {
     let start = Instant::now(rt)?;
-    table.load_half(NEXT, numbers)?;
-    report(rt, inserts, start)?;
-    let start = Instant::now(rt)?;
     let sum = table.upper_counts(NEXT)?;
     report(rt, counts, start)?;
-    println!(rt; "next {sum}")?;
+    let start = Instant::now(rt)?;
+    table.load_half(NEXT, numbers)?;
+    report(rt, inserts, start)?;
+    let everything = table.count_all()?;
+    println!(rt; "next {sum} rows {everything}")?;
     Ok(())
 }
 

@@ -56,9 +56,7 @@ impl Measured {
         let first = rows / 2;
         self.load(first, numbers)?;
         self.count_all()?;
-        self.load(rows - first, numbers)?;
-        self.upper_counts(1)?;
-        Ok(())
+        self.load(rows - first, numbers)
     }
 
     /// Counts every row.
@@ -124,7 +122,8 @@ impl Measured {
         Ok(())
     }
 
-    /// As many deletes of random rows, a count of everything, which frees their cells, and as many inserts, which take these.
+    /// As many deletes of random rows, a count of everything, which frees their cells, as many inserts, which take these, and counts that
+    /// leave nothing pending and the column cracked.
     pub fn mix(
         &mut self,
         changes: u32,
@@ -140,7 +139,10 @@ impl Measured {
             self.ask(Command::Delete { serial })?;
         }
         self.count_all()?;
-        self.load(changes, numbers)
+        self.load(changes, numbers)?;
+        self.count_all()?;
+        self.upper_counts(1)?;
+        Ok(())
     }
 
     /// Batches of as many updates, each with the sum of a random range behind it. A checksum of these.
