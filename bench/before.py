@@ -11,7 +11,16 @@ import typing
 import sizes
 from inputs import Batch, inserts, random_inserts, records, split_files
 from of_bench import STEPS
-from of_crackd import DELETED, bytes_a_row, deletes_instructions, insert_instructions, one_by_one, pipelined, split_instructions
+from of_crackd import (
+    DELETED,
+    bytes_a_row,
+    deletes_instructions,
+    insert_instructions,
+    one_by_one,
+    pipelined,
+    read_instructions,
+    split_instructions,
+)
 from programs import OURS, Programs, answers, has_valgrind, processor_seconds, session_seconds, timed
 from table import WIDTH
 
@@ -91,6 +100,9 @@ def instructions():
     for lines in (sizes.LINES // 2, sizes.PART_ROWS):
         what = f"instructions of each of {lines} random inserts"
         yield of_function(what, "", lambda programs, lines=lines: insert_instructions(programs.crackd, lines), True)
+    for word in ("count", "sum"):
+        what = f"instructions of each of {sizes.LINES // 2} {word}s between bounds"
+        yield of_function(what, "", lambda programs, word=word: read_instructions(programs.crackd, word), True)
     for where, behind in DELETED.items():
         what = f"instructions of {sizes.DELETES} deletes of {where}"
         yield of_function(what, "M", lambda programs, behind=behind: deletes_instructions(programs.crackd, behind)[1], True)
@@ -106,7 +118,7 @@ def splits():
 def memory():
     names = ["pending", "in the column"]
     lines = [(f"bytes of each of {sizes.PART_ROWS} rows, {name}", [name]) for name in names]
-    yield Thing(lines, lambda programs: (None, bytes_a_row(programs.crackd)), "")
+    yield Thing(lines, lambda programs: (None, bytes_a_row(programs.crackd, names)), "")
 
 
 def arena():
@@ -147,13 +159,20 @@ def steps():
         yield of_bench(lines, word, "complete", sizes.PART_ROWS, sizes.STEP_PIECES, sizes.STEP_ROWS)
 
 
+def folds():
+    lines = [(f"a checkpoint of {sizes.PART_ROWS} inserts", ["fold"]), (f"the same behind {sizes.CHANGES} deletes and inserts", ["mixed_fold"])]
+    yield of_bench(lines, "fold", "gradual", sizes.PART_ROWS, sizes.CHANGES)
+
+
 def growth():
     rows = sizes.MOST_PART_ROWS
     lines = [(f"{rows} inserts in a partition", ["load"]), ("a first count of everything", ["everything"])]
     yield of_bench(lines, "counts", "gradual", rows, 1)
 
 
-THINGS = {it.__name__: it for it in (session, tcp, csv, batch, instructions, splits, memory, arena, column, partition, cold, updates, steps, growth)}
+OF_CRACKD = (session, tcp, csv, batch, instructions, splits, memory)
+OF_BENCH = (arena, column, partition, cold, updates, steps, folds, growth)
+THINGS = {it.__name__: it for it in (*OF_CRACKD, *OF_BENCH)}
 
 # what valgrind counts
 COUNTED = {"instructions", "splits"}

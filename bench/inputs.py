@@ -66,13 +66,18 @@ def part_counts(count):
     return cracks, [f"count {part + low * width} {part + high * width}" for part, low, high in ends]
 
 
+def reads(word):
+    """Counts or sums between bounds, by their word: a file of them with what comes before, and a file of that alone."""
+    cracks, counts = part_counts(sizes.LINES // 2)
+    before, lines = [*random_insert_lines(sizes.LINES // 2), *cracks], [line.replace("count", word) for line in counts]
+    return script(f"{word}s-between-bounds-whole", [*before, *lines]), script(f"{word}s-between-bounds-front", before)
+
+
 def split_files():
     """What is measured with many splits and with none: its name, a file of it with what comes before, and a file of that alone."""
-    rows = random_insert_lines(sizes.LINES // 2)
-    cracks, counts = part_counts(sizes.LINES // 2)
-    for what, before, lines in (("inserts", [], rows), ("counts between bounds", [*rows, *cracks], counts)):
-        name = what.replace(" ", "-")
-        yield f"{sizes.LINES // 2} {what}", script(f"{name}-whole", [*before, *lines]), script(f"{name}-front", before)
+    lines = sizes.LINES // 2
+    yield f"{lines} inserts", script("inserts-whole", random_insert_lines(lines)), script("inserts-front", [])
+    yield f"{lines} counts between bounds", *reads("count")
 
 
 def scattered(number):

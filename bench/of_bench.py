@@ -147,6 +147,22 @@ def measure_steps(table, runs):
         table.step(f"a step of {what} over {sizes.STEP_PIECES} pieces, beside {FAST}", each, fast, 1.3)
 
 
+def measure_folds(table, runs):
+    rows, changes = sizes.PART_ROWS, sizes.CHANGES
+    words = [str(rows), str(changes)]
+    ours, sorts = compare([[BENCH, "fold", "gradual", *words], [PEERS, "fold", *words]], runs)
+    for what, name, bound in (
+        (f"a checkpoint of {rows} inserts", "fold", 0.5),
+        (f"a checkpoint behind {changes} deletes and inserts that mixed these", "mixed_fold", 2.0),
+    ):
+        fold, copy, sort = middle_of(ours, name), f"{name}_copy", f"{name}_sort"
+        table.line(f"{what}, beside a sort", fold, middle_of(sorts, sort), bound)
+        table.line("the same, beside a copy that is then sorted", fold, middle_of(sorts, copy, sort))
+    for what in ("inserts", "counts"):
+        after, before = (middle_of(ours, f"{what}_{when}") for when in ("after", "before"))
+        table.line(f"{sizes.NEXT} {what} behind a checkpoint, beside as many before it", after, before)
+
+
 def measure_growth(table, runs):
     for rows in (sizes.PART_ROWS, sizes.MOST_PART_ROWS):
         programs = [[program, "counts", "gradual", str(size), "1"] for program in (BENCH, PEERS) for size in (rows // 2, rows)]
@@ -166,5 +182,6 @@ MEASURES = {
     "cold": [measure_cold],
     "updates": [measure_updates],
     "steps": [measure_steps],
+    "folds": [measure_folds],
     "growth": [measure_growth],
 }

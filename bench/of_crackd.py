@@ -6,7 +6,7 @@ import sys
 import time
 
 import sizes
-from inputs import Batch, deletes, inserts, inserts_and_counts, random_insert_lines, random_inserts, records, script, split_files
+from inputs import Batch, deletes, inserts, inserts_and_counts, random_insert_lines, random_inserts, reads, records, script, split_files
 from programs import (
     CRACKD,
     PEERS,
@@ -130,6 +130,11 @@ def measure_instructions(table, _runs):
         table.numbers(f"instructions of {sizes.DELETES} deletes of {what}, beside half", whole, half, 2.2)
 
 
+def read_instructions(crackd, word):
+    """How many instructions a count or a sum between bounds takes, by its word, from its line to its reply."""
+    return split_instructions(crackd, [], *reads(word)) / (sizes.LINES // 2)
+
+
 def split_instructions(crackd, splits, whole, front):
     """How many instructions a file's lines take behind those that come before."""
     words = [crackd, "script", *splits]
@@ -144,17 +149,27 @@ def measure_splits(table, _runs):
         table.numbers(f"{what}, {len(sizes.SPLITS)} splits beside none, instructions", many, none, 1.1)
 
 
-def bytes_a_row(crackd):
-    """The memory of each row, where all are pending and where all stand in the column."""
-    empty = resident(crackd, script("nothing", []))
-    rows = random_insert_lines(sizes.PART_ROWS)
-    behind = {"pending": [], "in the column": [f"count {sizes.EVERYTHING}"]}
-    return {what: (resident(crackd, script("rows", [*rows, *lines])) - empty) / sizes.PART_ROWS for what, lines in behind.items()}
+# the lines behind the inserts, by where the rows then are, what of the memory is read, and how many bytes a row may take
+HELD = {
+    "pending": ([], "VmHWM", 170),
+    "in the column": ([f"count {sizes.EVERYTHING}"], "VmHWM", 200),
+    "pending, after a checkpoint": (["checkpoint 0"], "VmRSS", 130),
+}
+
+
+def bytes_a_row(crackd, names=HELD):
+    """The memory of each row, by where all rows are."""
+    rows, told = random_insert_lines(sizes.PART_ROWS), {}
+    for what in names:
+        lines, read, _ = HELD[what]
+        empty = resident(crackd, script("nothing", []), read)
+        told[what] = (resident(crackd, script("rows", [*rows, *lines]), read) - empty) / sizes.PART_ROWS
+    return told
 
 
 def measure_memory(table, _runs):
-    for (what, each), bound in zip(bytes_a_row(CRACKD).items(), (170, 200)):
-        table.count(f"bytes of each of {sizes.PART_ROWS} rows, {what}", each, bound)
+    for what, each in bytes_a_row(CRACKD).items():
+        table.count(f"bytes of each of {sizes.PART_ROWS} rows, {what}", each, HELD[what][-1])
 
 
 MEASURES = {

@@ -135,19 +135,19 @@ def status_of(process, name):
     return int(re.search(rf"^{name}:\s+(\d+)", text, re.MULTILINE)[1])
 
 
-def resident(crackd, source):
-    """The greatest resident memory of the program over a file, in bytes: read while it waits for more, since what a child is charged with at its
-    end counts its parent's memory too."""
+def resident(crackd, source, name="VmHWM"):
+    """The greatest resident memory of the program over a file, in bytes, or, as VmRSS, what it has at the end: read while it waits for more, since
+    what a child is charged with at its end counts its parent's memory too."""
     started = subprocess.Popen([crackd, "script"], stdin=subprocess.PIPE, stdout=subprocess.DEVNULL)
     started.stdin.write(source.read_bytes())
     started.stdin.flush()
     switches = None
     while switches != (switches := status_of(started.pid, "voluntary_ctxt_switches")):
         time.sleep(0.5)
-    greatest = status_of(started.pid, "VmHWM") * 1024
+    memory = status_of(started.pid, name) * 1024
     started.stdin.close()
     started.wait()
-    return greatest
+    return memory
 
 
 def sent(word, source, port):

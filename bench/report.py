@@ -393,7 +393,7 @@ workers answer fewer statements in the same time: those who share a partition wa
 ## Memory a row
 
 A key and a payload are 8 bytes, and a sorted array of them needs no more. `crackd` also keeps the row's cell, its number, its place in the column
-or among the pending rows, and in the history the insert with its reply:
+or among the pending rows, and in the history the insert with its reply, in whose place a checkpoint keeps 16 bytes:
 
 ![bytes a row](memory.svg)
 """

@@ -2,7 +2,7 @@
 """Measures the proved programs beside others, and compares the ratios with their bounds:
 run.py [--once] [--small] [--report] [--before FOLDER] [WHAT ..]
 
-WHAT is session, tcp, csv, batch, instructions, splits, memory, arena, column, partition, cold, updates, steps, growth, workers, asking or
+WHAT is session, tcp, csv, batch, instructions, splits, memory, arena, column, partition, cold, updates, steps, folds, growth, workers, asking or
 gathering; all of them without a word. Wants a quiet machine, rustc, and the programs, which are built (and first proved, where they aren't) as
 `make run` does it. Each number is the median of five runs; with --once of one. The programs and their peers run in turn, so that all meet the same machine.
 Instructions are counted by valgrind where it is installed, and then once, since they are the same each time. Prints a table, and ends with status

@@ -10,6 +10,8 @@ REPEATS, SET_REPEATS = 100, 10
 POLICIES = ["complete", "gradual", "ripple"]
 # how many sums, and how many deletes and inserts before each
 BATCHES = [(1000, 10), (100, 1000)]
+# how many deletes and inserts there are between two checkpoints; and, as crack_bench counts them, commands of one kind before one and behind it
+CHANGES, NEXT = 100_000, 1000
 PIECES, PENDING = 1000, 1000
 # over how many pieces rows go step by step, and how many rows
 STEP_PIECES, STEP_ROWS = 2000, 1000
@@ -42,6 +44,7 @@ def shrink():
         "PART_ROWS": 4000,
         "RANGES": 100,
         "BATCHES": [(50, 10), (10, 100)],
+        "CHANGES": 800,
         "PIECES": 40,
         "PENDING": 100,
         "STEP_PIECES": 50,

@@ -1,7 +1,8 @@
 //! Measures the arena, the cracker column and a partition that merges by a policy: `crack_bench arena STEPS ROWS`, `crack_bench cells ROWS GETS`,
 //! `crack_bench column ROWS`, `crack_bench index BOUNDS`, `crack_bench counts POLICY ROWS RANGES`, `crack_bench sums POLICY ROWS RANGES`, `crack_bench each POLICY ROWS RANGES`,
 //! `crack_bench cold POLICY ROWS RANGES`, `crack_bench pass POLICY ROWS RANGES`, `crack_bench updates POLICY ROWS BATCHES SIZE`,
-//! `crack_bench merge POLICY ROWS PIECES PENDING`, `crack_bench pulls POLICY ROWS PIECES DELETES`, or `crack_bench all STEPS ROWS RANGES`.
+//! `crack_bench merge POLICY ROWS PIECES PENDING`, `crack_bench pulls POLICY ROWS PIECES DELETES`, `crack_bench fold POLICY ROWS CHANGES`, or
+//! `crack_bench all STEPS ROWS RANGES`.
 //!
 //! What a run computes goes to standard output: it depends on the words alone. Times go to standard error, in nanoseconds, a line
 //! `NAME NUMBER` each, and for `cold`, `updates`, `merge` and `pulls` what the merges did, likewise.
@@ -12,6 +13,7 @@ ghost use Rattle.crack_column.specs.Column.{Remembers};
 
 mod arena;
 mod column;
+mod fold;
 mod index;
 mod numbers;
 mod partition;
@@ -183,6 +185,8 @@ enum Work {
     Cold { ranges: u64 },
     /// With every row pending, and none in a range.
     Pass { ranges: u64 },
+    /// With some rows pending.
+    Fold { changes: u32 },
     Loaded(Loaded),
 }
 
@@ -225,6 +229,7 @@ fn measure_partition(
     match work {
         Work::Cold { ranges } => measure_cold(rt, table, rows, ranges, &mut numbers),
         Work::Pass { ranges } => measure_pass(rt, table, rows, ranges, &mut numbers),
+        Work::Fold { changes } => fold::measure(rt, table, rows, changes, &mut numbers),
         Work::Loaded(work) => {
             measure_load(rt, table, rows, &mut numbers)?;
             measure_loaded(rt, table, rows, work, &mut numbers)
@@ -414,7 +419,9 @@ fn run_all(rt: &HostRuntime, steps: u64, rows: u32, ranges: u64) -> anyhow::Resu
     let counts = Work::Loaded(Loaded::Counts { ranges });
     run_partition(rt, Policy::Complete, rows, counts)?;
     let sums = Work::Loaded(Loaded::Sums { ranges });
-    run_partition(rt, Policy::Gradual, rows, sums)
+    run_partition(rt, Policy::Gradual, rows, sums)?;
+    let fold = Work::Fold { changes: rows / 5 };
+    run_partition(rt, Policy::Gradual, rows, fold)
 }
 
 /// What the name of a partition's work and the numbers behind it ask for.
@@ -425,6 +432,9 @@ fn work_of(name: &str, numbers: &[&str]) -> anyhow::Result<Work> {
         }),
         ("pass", [ranges]) => Ok(Work::Pass {
             ranges: ranges.parse()?,
+        }),
+        ("fold", [changes]) => Ok(Work::Fold {
+            changes: changes.parse()?,
         }),
         _ => Ok(Work::Loaded(loaded_of(name, numbers)?)),
     }
@@ -454,7 +464,7 @@ fn loaded_of(name: &str, numbers: &[&str]) -> anyhow::Result<Loaded> {
             pieces: pieces.parse()?,
             deletes: deletes.parse()?,
         }),
-        _ => Err(anyhow::anyhow!("counts, sums, each, cold, pass, updates, merge or pulls")),
+        _ => Err(anyhow::anyhow!("counts, sums, each, cold, pass, updates, merge, pulls or fold")),
     }
 }
 
@@ -473,7 +483,7 @@ fn run(rt: &HostRuntime, words: &[&str]) -> anyhow::Result<()> {
             run_partition(rt, policy_of(policy)?, rows.parse()?, work)
         }
         _ => Err(anyhow::anyhow!(
-            "arena, cells, column, index or all, or counts, sums, each, cold, pass, updates, merge or pulls with a policy"
+            "arena, cells, column, index or all, or counts, sums, each, cold, pass, updates, merge, pulls or fold with a policy"
         )),
     }
 }

@@ -51,6 +51,14 @@ impl Measured {
         Ok(())
     }
 
+    /// Inserts as many rows of random keys, and counts everything when half of them are there: the others stay pending.
+    pub fn load_partly(&mut self, rows: u32, numbers: &mut Numbers) -> Result<(), Refusal> {
+        let first = rows / 2;
+        self.load(first, numbers)?;
+        self.count_all()?;
+        self.load(rows - first, numbers)
+    }
+
     /// Counts every row.
     pub fn count_all(&mut self) -> Result<u64, Refusal> {
         self.ask(Command::Count(KeyRange::all()))
@@ -61,6 +69,17 @@ impl Measured {
         let mut sum = 0;
         'ranges: for _ in 0..ranges {
             sum = mixed(sum, self.ask(Command::Count(random_range(numbers)?))?);
+        }
+        Ok(sum)
+    }
+
+    /// As many counts of one range in the upper half. A checksum of what they replied.
+    pub fn upper_counts(&mut self, counts: u32) -> Result<u64, Refusal> {
+        let low = (GREATEST_BOUND / 2) as u128;
+        let mut sum = 0;
+        'counts: for _ in 0..counts {
+            let range = KeyRange::new(low, low + WIDTH as u128)?;
+            sum = mixed(sum, self.ask(Command::Count(range))?);
         }
         Ok(sum)
     }
@@ -100,6 +119,29 @@ impl Measured {
             let key = numbers.word();
             rows[at] = self.insert(key, key)?;
         }
+        Ok(())
+    }
+
+    /// As many deletes of random rows, a count of everything, which frees their cells, as many inserts, which take these, and counts that
+    /// leave nothing pending and the column cracked.
+    pub fn mix(
+        &mut self,
+        changes: u32,
+        rows: &mut Vec<u64>,
+        numbers: &mut Numbers,
+    ) -> Result<(), Refusal> {
+        'deletes: for _ in 0..changes {
+            if rows.is_empty() {
+                return Ok(());
+            }
+            let at = numbers.below(rows.len() as u64) as usize;
+            let serial = Serial(rows.swap_remove(at));
+            self.ask(Command::Delete { serial })?;
+        }
+        self.count_all()?;
+        self.load(changes, numbers)?;
+        self.count_all()?;
+        self.upper_counts(1)?;
         Ok(())
     }
 

@@ -1,6 +1,6 @@
 //! Measures workers on threads, what a worker's asking costs besides its partition, and the gathering:
 //! `crack_bench_workers own|shared WORKERS ROWS STEPS`, `crack_bench_workers ask|bare ROWS STEPS`,
-//! `crack_bench_workers gathered|loaded WORKERS ROWS`, or `crack_bench_workers all WORKERS ROWS STEPS`.
+//! `crack_bench_workers gathered|folded|loaded WORKERS ROWS`, or `crack_bench_workers all WORKERS ROWS STEPS`.
 //! ROWS are those of each partition, of which there are two for each worker; a step has four statements.
 //!
 //! What a run computes goes to standard output: it depends on the words alone. Times go to standard error, in nanoseconds, a line
@@ -39,6 +39,8 @@ enum Work {
     Threads { steps: u32 },
     /// The same, one worker after the other.
     InTurn { steps: u32 },
+    /// A checkpoint of each partition.
+    Fold,
     Nothing,
 }
 
@@ -70,6 +72,7 @@ fn measure_pool<R: Host>(
     match work {
         Work::Threads { steps } => measure_threads(rt, pool, plan, steps),
         Work::InTurn { steps } => measure_in_turn(rt, pool, steps),
+        Work::Fold => Ok(pool.fold(rt)?),
         Work::Nothing => Ok(()),
     }
 }
@@ -145,6 +148,7 @@ fn run_all<R: Host>(rt: &R, workers: u32, rows: u32, steps: u32) -> anyhow::Resu
     run_pool(rt, own, rows, Work::Threads { steps }, End::Gather)?;
     run_pool(rt, shared, rows, Work::Threads { steps }, End::Gather)?;
     run_pool(rt, shared, rows, Work::Nothing, End::Gather)?;
+    run_pool(rt, shared, rows, Work::Fold, End::Gather)?;
     run_pool(rt, ALONE, rows, Work::InTurn { steps }, End::Leave)?;
     run_bare(rt, rows, steps)
 }
@@ -166,7 +170,7 @@ fn run<R: Host>(rt: &R, words: &[&str]) -> anyhow::Result<()> {
             run_workers(rt, name, workers.parse()?, rows.parse()?, rest)
         }
         _ => Err(anyhow::anyhow!(
-            "own, shared, ask, bare, gathered, loaded or all, with their numbers"
+            "own, shared, ask, bare, gathered, folded, loaded or all, with their numbers"
         )),
     }
 }
@@ -192,8 +196,9 @@ fn run_workers<R: Host>(
             run_pool(rt, plan, rows, work, End::Gather)
         }
         ("gathered", []) => run_pool(rt, plan, rows, Work::Nothing, End::Gather),
+        ("folded", []) => run_pool(rt, plan, rows, Work::Fold, End::Gather),
         ("loaded", []) => run_pool(rt, plan, rows, Work::Nothing, End::Leave),
-        _ => Err(anyhow::anyhow!("own or shared with steps, gathered or loaded")),
+        _ => Err(anyhow::anyhow!("own or shared with steps, gathered, folded or loaded")),
     }
 }
 

@@ -147,6 +147,17 @@ impl Pool {
         }
     }
 
+    /// Folds the history of each partition, by the first worker.
+    pub fn fold<R: Wait>(&self, rt: &R) -> Result<(), Refusal> {
+        let Some(hand) = self.hands.first() else {
+            return Ok(());
+        };
+        'parts: for part in 0..self.parts {
+            hand.worker.checkpoint(rt, &self.table, part)?;
+        }
+        Ok(())
+    }
+
     /// As many steps of each worker, on threads of their own. No worker is left where it finds no memory.
     pub fn work<R: Threads + Wait + Sync>(
         &mut self,

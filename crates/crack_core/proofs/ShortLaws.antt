@@ -1,5 +1,5 @@
 -- Where a partition may lack a cell, and what then comes of a command that it may keep.
-use Rattle.std.specs.Prelude.{◌≡◌, ◌≢◌, ℕ, ◌≤◌, ◌⊎◌, Bool, true, false, Option, None, Some, Result, Ok, Err, IfErr, is_some, length}
+use Rattle.std.specs.Prelude.{◌≡◌, ◌≢◌, ℕ, ◌⊎◌, Bool, true, false, Option, None, Some, Result, Ok, Err, IfErr, is_some, length}
 use Rattle.std.proofs.Common.{arith, refl, sym, subst, inl, inr}
 use Rattle.std.proofs.lemmas.Bool.{cases_eq, cases_lt}
 use Rattle.crack_row.specs.Commands.{change_of, key_of}
@@ -10,7 +10,6 @@ use Rattle.crack_row.specs.declared.command.Command.TheVariants.{Insert, Delete,
 use Rattle.crack_row.specs.declared.command.Reply.{Reply}
 use Rattle.crack_row.specs.declared.refusal.Refusal.{Refusal}
 use Rattle.crack_row.specs.declared.refusal.Refusal.TheVariants.{OutOfMemory, NoCell}
-use Rattle.crack_plain.specs.Past.{accepted_in}
 use Rattle.crack_plain.proofs.PastLaws.{changes-le-accepted}
 use Rattle.crack_state.specs.State.{State}
 use Rattle.crack_state.specs.Points.{pending_by}

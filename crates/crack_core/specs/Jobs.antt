@@ -1,5 +1,5 @@
 -- What steps and checkpoints, one after the other, are to be answered, and what they leave.
-use Rattle.std.specs.Prelude.{◌≡◌, ℕ, ◌==◌, List, [], ◌∷◌, length, take, Option, None, Some, Result, Ok, Err, OnOk, OnErr, slice_get, if◌then◌else◌}
+use Rattle.std.specs.Prelude.{◌≡◌, ℕ, ◌==◌, List, [], ◌∷◌, length, take, Option, Some, Result, Ok, Err, OnOk, OnErr, slice_get, if◌then◌else◌}
 use Rattle.std.specs.Option.{option_map}
 use Rattle.crack_row.specs.declared.Bound.{Bound}
 use Rattle.crack_row.specs.declared.limit.Limits.{Limits}
@@ -10,7 +10,7 @@ use Rattle.crack_plain.specs.Past.{Past, with_entry, folded}
 use Rattle.crack_part.specs.Parts.{Part, folded_part}
 use Rattle.crack_core.specs.Routes.{keys_of_part}
 use Rattle.crack_core.specs.Opening.{AreParts}
-use Rattle.crack_core.specs.Steps.{Bounds, IsOutcome, table_after, IsFoldOutcome, tables_of}
+use Rattle.crack_core.specs.Steps.{Bounds, IsOutcome, table_after, IsFoldOutcome}
 use Rattle.crack_core.specs.Cores.{Makes}
 use Rattle.crack_core.specs.declared.step.Job.{Job}
 use Rattle.crack_core.specs.declared.step.Job.TheVariants.{Perform, Fold}

@@ -1,15 +1,14 @@
 -- How many cells a partition's rows take: never more than their limit.
-use Rattle.std.proofs.Common.{◌≡◌, ℕ, ◌+◌, ◌<◌, ◌≤◌, Bool, true, false, List, [], ◌∷◌, length, Option, Some, None, arith, refl, sym, ap, ◌∙◌, inl, inr, length-set}
+use Rattle.std.proofs.Common.{◌≡◌, ℕ, ◌+◌, ◌<◌, ◌≤◌, Bool, true, false, List, [], ◌∷◌, length, Option, Some, None, arith, refl, ap, inl, inr, length-set}
 use Rattle.std.specs.List.{filter_map, cons_option, range_with_len}
 use Rattle.std.specs.List.Sorted.{IsPermutation}
 use Rattle.std.proofs.lemmas.Bool.{cases_lt}
 use Rattle.std.proofs.lemmas.List.{length_push}
 use Rattle.std.proofs.lemmas.List.FromFn.{length-range_with_len}
 use Rattle.std.proofs.lemmas.List.Sorted.{length_permutation}
-use Rattle.crack_row.specs.Commands.{change_of, range_of}
+use Rattle.crack_row.specs.Commands.{change_of}
 use Rattle.crack_row.specs.Ranges.{Range}
 use Rattle.crack_row.specs.declared.Row.{Row}
-use Rattle.crack_row.specs.declared.Serial.{Serial}
 use Rattle.crack_row.specs.Rows.{row_with}
 use Rattle.crack_row.specs.declared.command.Change.{Change}
 use Rattle.crack_row.specs.declared.command.Change.TheVariants.{Place, Remove, Rewrite}
@@ -19,8 +18,8 @@ use Rattle.crack_row.specs.declared.command.Policy.{Policy}
 use Rattle.crack_arena.specs.Arena.{Cell, cell_at, slots, cells_with}
 use Rattle.crack_state.specs.State.{State, live_at, live_rows}
 use Rattle.crack_state.specs.Steps.{SameButRoom, admitted}
-use Rattle.crack_state.specs.Points.{pending_by, handle_by, Cancels, Dooms, Renews, Rewrites, Removes}
-use Rattle.crack_part.specs.Parts.{TakesCell, LacksCell, Performs, Prepares, Replaces, Serves, placed}
+use Rattle.crack_state.specs.Points.{pending_by, handle_by, Removes}
+use Rattle.crack_part.specs.Parts.{TakesCell, LacksCell, Performs, Replaces, Serves, placed}
 use Rattle.crack_part.proofs.KeepLemmas.{Keeps-prepared}
 
 length-cons_option : (o : Option Row) (rows : List Row) → length (cons_option o rows) ≤ length rows + 1

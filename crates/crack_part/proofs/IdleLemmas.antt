@@ -5,7 +5,7 @@ use Rattle.crack_row.specs.Ranges.{Range}
 use Rattle.crack_row.specs.declared.command.Policy.{Policy}
 use Rattle.crack_row.specs.declared.command.Policy.TheVariants.{Complete, Gradual, Ripple}
 use Rattle.crack_state.specs.State.{State, IsIntact}
-use Rattle.crack_state.specs.Merge.{Refines, IsInner, IsCracked, IsSettled, Merges, Leaves, LeavesOutside, Evicts, is_touched}
+use Rattle.crack_state.specs.Merge.{Refines, IsInner, IsCracked, IsSettled, Leaves, LeavesOutside, Evicts, is_touched}
 use Rattle.crack_state.specs.Merge.SomeOf.{nothing}
 use Rattle.crack_state.proofs.CrackLaws.{keys-refined}
 use Rattle.crack_state.proofs.FollowLaws.{Follows-refl, Tallies-room}

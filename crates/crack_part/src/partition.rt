@@ -22,8 +22,8 @@ ghost use Rattle.crack_part.specs.Inside.{IsCommon, AreCommon, MayPerform};
 use crack_merge::{merge_complete, merge_gradual};
 use crack_ripple::merge_ripple;
 use crack_row::{
-    Change, Command, Entry, GREATEST_LIMIT, Key, KeyRange, Layout, Limits, Payload, Policy, Refusal, Reply,
-    Row, RowList, Serial,
+    Change, Command, Entry, GREATEST_LIMIT, Key, KeyRange, Layout, Limits, Payload, Policy,
+    Refusal, Reply, Row, RowList, Serial,
 };
 use crack_store::{MergeReport, Store};
 use std::alloc::Global;
@@ -318,7 +318,7 @@ impl Partition {
 fn lacks_cell(store: &Store, most: u64, command: &Command) -> bool
     ensures { IsTrue result ↔ LacksCell most store.now (change_of command.now) }
 {
-    store.free_cells() == 0 && store.cells() as u64 >= most && takes_cell(store, command)
+    store.cells() as u64 >= most && store.free_cells() == 0 && takes_cell(store, command)
 }
 
 /// Whether a command needs a cell more: an insert, or an update of a row of the column. O(1).

@@ -1,9 +1,9 @@
 -- An index may go to another thread, and threads may share one, by those of its nodes: a node has the law where what lies one level below has it.
 use denote.Model.{View}
-use denote.Model.Goals.{send, sync, has_of, part_has}
+use denote.Model.Goals.{send, has_of, part_has}
 use denote.Model.Local.{Parts, rows}
-use denote.Model.Marks.{tied_send, tied_sync}
-use denote.Param.Send.{IsSend, IsSync, sendable, view_send, view_sync}
+use denote.Model.Marks.{tied_send}
+use denote.Param.Send.{IsSend, sendable, view_send}
 use Rattle.std.proofs.Crossing.{crosses}
 use Rattle.crack_index.specs.contracts.index.CrackerIndex as CrackerIndex
 use Rattle.crack_index.specs.contracts.tree.Node as Node

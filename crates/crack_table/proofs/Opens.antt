@@ -1,5 +1,5 @@
 -- Blank marks, and the first gap.
-use Rattle.std.proofs.Common.{◌≡◌, ◌≢◌, ◌<◌, ◌≤◌, ℕ, List, [], ◌∷◌, ◌++◌, length, replicate, zero, suc, true, false, Option, Some, None, refl, arith, sym, get_or, inl, inr, ⊎_elim, ◌+◌, ◌-◌, ◌⊎◌, ◌∙◌, map, take, subst}
+use Rattle.std.proofs.Common.{◌≡◌, ◌≢◌, ◌<◌, ◌≤◌, ℕ, List, [], ◌∷◌, ◌++◌, length, replicate, zero, suc, true, false, Option, Some, None, refl, arith, sym, get_or, inl, inr, ⊎_elim, ◌+◌, ◌⊎◌, ◌∙◌, map, take, subst}
 use Rattle.std.specs.Prelude.{All, is_some, nat_lt, filter, MatchOption}
 use Rattle.std.specs.List.{slice_get}
 use Rattle.std.proofs.lemmas.Bool.Decides.{nat_tests}
@@ -12,7 +12,7 @@ use Rattle.crack_table.specs.declared.kinds.KindsLeft.{KindsLeft}
 use Rattle.crack_table.specs.declared.marks.Naming.{Naming}
 use Rattle.crack_table.specs.declared.marks.Naming.TheVariants.{Unnamed, Met, Failed}
 use Rattle.crack_table.specs.Cover.{KeptState, told, IsKept, Place, place_at, names, IsSole, IsMetBy, IsCounted, IsSettled, SettledBelow, AllSettled, IsLeastUnmet, IsGap}
-use Rattle.crack_table.specs.Marks.{at, MarkIs, MarkIsAt, Marked, IsOpenIn, is_below, RowNoted, AreNoted}
+use Rattle.crack_table.specs.Marks.{MarkIs, MarkIsAt, Marked, IsOpenIn, is_below, RowNoted, AreNoted}
 use Rattle.crack_table.proofs.Places.{places, read_told}
 use Rattle.crack_table.proofs.Tallies.{counted_now, counted_all, counted_unfolded}
 

@@ -1,25 +1,30 @@
-use Rattle.std.proofs.Common.{rules}
-use Rattle.crack_core.specs.Cores.{Makes}
-use Rattle.crack_core.specs.Jobs.{Folds}
 use Rattle.crack_core.proofs.cores.do_job.Goals as goal
 
 pub returns-in-Perform-clause-does : goal.returns-in-Perform-clause-does
 returns-in-Perform-clause-does c = λ splits limits are.
     let made = c.ask_at.ensures in
-    rw c.in-Perform.is (c.ask_at.result, c.performed.ensures, record {
-      parts = made.parts splits limits are;
-      kept = made.kept;
-      others = made.others;
-      store = made.store;
-      spared = made.spared;
-      same = made.same;
-    })
+    rw c.in-Perform.is (
+      c.ask_at.result,
+      c.performed.ensures,
+      record {
+        parts = made.parts splits limits are;
+        kept = made.kept;
+        others = made.others;
+        store = made.store;
+        spared = made.spared;
+        same = made.same;
+      },
+    )
 
 pub returns-in-Fold-clause-does : goal.returns-in-Fold-clause-does
 returns-in-Fold-clause-does c = λ splits limits are.
     let made = c.fold_at.ensures in
-    rw c.in-Fold.is (c.fold_at.result, c.folding.ensures, record {
-      parts = made.parts splits limits are;
-      folds = made.folds;
-      same = made.same;
-    })
+    rw c.in-Fold.is (
+      c.fold_at.result,
+      c.folding.ensures,
+      record {
+        parts = made.parts splits limits are;
+        folds = made.folds;
+        same = made.same;
+      },
+    )

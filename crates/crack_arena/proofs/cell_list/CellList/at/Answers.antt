@@ -1,4 +1,4 @@
-use Rattle.std.proofs.Common.{◌<◌, arith}
+use Rattle.std.proofs.Common.{arith}
 use Rattle.crack_arena.proofs.PageLemmas.{IsPaged-fits, length-joined, within_page, read_joined}
 use Rattle.crack_arena.proofs.cell_list.CellList.at.Goals as goal
 

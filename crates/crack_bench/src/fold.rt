@@ -1,0 +1,67 @@
+//! Checkpoints of a partition whose rows are partly pending, and commands before and behind one.
+
+use crate::numbers::{Numbers, mixed};
+use crate::partition::{Measured, serials};
+use crate::report;
+use crack_row::Row;
+use std::time::Instant;
+
+/// How many commands of one kind are measured before a checkpoint, and behind it.
+const NEXT: u32 = 1000;
+
+/// A checkpoint of inserts, of which some are pending, and one where as many deletes and inserts put rows into freed cells, with nothing pending.
+pub fn measure(
+    rt: &HostRuntime,
+    table: &mut Measured,
+    rows: u32,
+    changes: u32,
+    numbers: &mut Numbers,
+) -> anyhow::Result<()> {
+    table.load_partly(rows, numbers)?;
+    measure_checkpoint(rt, table, "fold")?;
+    let mut serials = serials(rt.alloc(), rows)?;
+    table.mix(changes, &mut serials, numbers)?;
+    measure_next(rt, table, "counts_before", "inserts_before", numbers)?;
+    measure_checkpoint(rt, table, "mixed_fold")?;
+    measure_next(rt, table, "counts_after", "inserts_after", numbers)
+}
+
+/// As many counts of one range, and as many inserts, which a count of everything then merges.
+fn measure_next(
+    rt: &HostRuntime,
+    table: &mut Measured,
+    counts: &str,
+    inserts: &str,
+    numbers: &mut Numbers,
+) -> anyhow::Result<()> {
+    let start = Instant::now(rt)?;
+    let sum = table.upper_counts(NEXT)?;
+    report(rt, counts, start)?;
+    let start = Instant::now(rt)?;
+    table.load_half(NEXT, numbers)?;
+    report(rt, inserts, start)?;
+    let everything = table.count_all()?;
+    println!(rt; "next {sum} rows {everything}")?;
+    Ok(())
+}
+
+fn measure_checkpoint(rt: &HostRuntime, table: &mut Measured, name: &str) -> anyhow::Result<()> {
+    let start = Instant::now(rt)?;
+    let entries = table.partition.checkpoint()?;
+    report(rt, name, start)?;
+    let rows = table.partition.base_rows();
+    let len = rows.len();
+    let sum = sum_of(rows);
+    println!(rt; "{name} {entries} rows {len} sum {sum}")?;
+    Ok(())
+}
+
+/// A checksum of rows, in their order.
+fn sum_of(rows: &[Row]) -> u64 {
+    let mut sum = 0;
+    'rows: for row in rows {
+        sum = mixed(sum, row.serial.0);
+        sum = mixed(sum, (row.key.0 as u64) << 32 | row.payload.0 as u64);
+    }
+    sum
+}
