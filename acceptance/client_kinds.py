@@ -133,10 +133,10 @@ def any_statement(guest):
             return f"update {part}.{serial} {guest.insert().removeprefix('insert ')}"
         case "count" | "sum" | "select":
             return f"{kind} {low} {high}"
-        case "layout":
-            return f"layout {part}"
-        case "checkpoint":
+        case "checkpoint" if own.folds:
             return f"checkpoint {part if numbers.random() < 0.9 else len(own.splits) + 1}"
+        case "layout" | "checkpoint":
+            return f"layout {part}"
         case "policy":
             return f"policy {numbers.choice(['complete', 'gradual', 'ripple'])}"
         case "no statement":

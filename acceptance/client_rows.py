@@ -51,10 +51,10 @@ def parts_asked(splits, statement):
 
 
 class Own:
-    """The rows of one client, by partition and serial: those whose keys are from `low` to below `high`."""
+    """The rows of one client, by partition and serial: those whose keys are from `low` to below `high`. `folds` says whether it asks for checkpoints."""
 
-    def __init__(self, splits, low, high, limits=Limits()):
-        self.splits, self.low, self.high, self.limits = splits, low, high, limits
+    def __init__(self, splits, low, high, limits=Limits(), folds=True):
+        self.splits, self.low, self.high, self.limits, self.folds = splits, low, high, limits, folds
         self.rows, self.newest, self.given = {}, {}, []
         # by partition: commands that were accepted, and those that may have been besides; rows that went; entries that checkpoints folded
         self.kept, self.untold, self.gone, self.folded = (collections.Counter() for _ in range(4))

@@ -4,9 +4,9 @@
 Some connect and close, reset the connection, send half a line, one byte a second, random bytes, 64 MB without a line feed or 200,000 statements at once, say
 nothing, or have large lists written to them and read none. In between are honest ones. Each has keys of its own: every reply that is read is held against a
 list of the client's own rows, and when all have gone the rows that stand, the totals and the memory that the server took are held against what all of them
-were answered (client_rows.py). Honest ones ask for checkpoints amid their work, and where a history is full; of three seeds two have small limits. The
-server has to end by itself once its sessions are served. A seed gives the same clients again; in which order a server comes to them it doesn't say. Without
-options it runs the cases of `make test`, and prints 'clients: N passed, M failed' at its end.
+were answered (client_rows.py). Honest ones ask for checkpoints amid their work, but in one case, and where a history is full; of three seeds two have small
+limits. The server has to end by itself once its sessions are served. A seed gives the same clients again; in which order a server comes to them it doesn't say.
+Without options it runs the cases of `make test`, and prints 'clients: N passed, M failed' at its end.
 """
 
 import argparse
@@ -31,7 +31,7 @@ BACKLOG = 16
 # what bounds a partition, by the seed: histories that get full, and lives that end; nothing that is reached; histories, and cells that run out
 LIMITS = [Limits(500, life=4000), Limits(), Limits(500, 1500)]
 # from this size on a block of memory is mapped by itself; else the C library raises that size to that of the greatest block that was given back, as the one of
-# a folded history is, and what grows in smaller blocks leaves holes, which aren't what the server asks for
+# a folded history is, and what grows in smaller blocks leaves holes, which aren't what the server asks for. Without checkpoints nothing is given back.
 MAPPED_FROM = {"MALLOC_MMAP_THRESHOLD_": "131072"}
 # what a wrong reply or a lost connection comes to
 FAULTS = (Wrong, OSError, ValueError, IndexError, subprocess.TimeoutExpired)
@@ -168,8 +168,8 @@ class Look:
 class Storm:
     """A server, and clients of all kinds that a seed gives."""
 
-    def __init__(self, program, seed, sessions, workers, seconds):
-        self.program, self.workers, self.sessions, self.seconds = program, workers, sessions, seconds
+    def __init__(self, program, seed, sessions, workers, seconds, folds):
+        self.program, self.workers, self.sessions, self.seconds, self.folds = program, workers, sessions, seconds, folds
         numbers = random.Random(seed)
         self.plan = planned(numbers, sessions - workers, workers)
         # where the keys of each client begin
@@ -186,7 +186,7 @@ class Storm:
         """Runs it. What it came to, as numbers by their names."""
         before = time.monotonic()
         words = ["--policy", self.policy, *self.limits.words(), *map(str, self.splits)]
-        server, port = started(self.program, self.workers, self.sessions, *words, environment=MAPPED_FROM)
+        server, port = started(self.program, self.workers, self.sessions, *words, environment=MAPPED_FROM if self.folds else {})
         try:
             peak = Peak(server.pid)
             peak.start()
@@ -208,7 +208,7 @@ class Storm:
         with concurrent.futures.ThreadPoolExecutor(self.workers + min(self.workers, BACKLOG)) as pool:
             visits = []
             for number, (kind, times) in enumerate(self.plan):
-                own = Own(self.splits, self.lows[number], self.lows[number] + WIDTH, self.limits)
+                own = Own(self.splits, self.lows[number], self.lows[number] + WIDTH, self.limits, self.folds)
                 guest = Guest(port, own, self.seed + number, times, self.seconds, others_gone)
                 self.clients.append(own)
                 visits.append((kind, pool.submit(visit, guest, kind)))
@@ -250,10 +250,10 @@ class Storm:
         return {"sessions": self.sessions, "accepted": accepted, "listed": counts["listed"], "bytes": took, "most": most}
 
 
-def storm(program, seed=SEED, sessions=SESSIONS, workers=MOST_WORKERS, seconds=SLOW_SECONDS):
+def storm(program, seed=SEED, sessions=SESSIONS, workers=MOST_WORKERS, seconds=SLOW_SECONDS, folds=True):
     """Runs a server among the clients of a seed: what they come to. Of the sessions one for each worker is kept for a last look; the slow clients send
-    `seconds` bytes, one a second."""
-    return Storm(program, seed, sessions, workers, seconds).run()
+    `seconds` bytes, one a second; `folds` says whether honest ones ask for checkpoints."""
+    return Storm(program, seed, sessions, workers, seconds, folds).run()
 
 
 def fault(program, seed):
@@ -278,7 +278,12 @@ def fault_of(program, *given):
 
 
 def among_all_kinds(program):
-    """A server among clients of all kinds."""
+    """A server among clients of all kinds, none of which asks for a checkpoint."""
+    print(told(storm(program, folds=False)), flush=True)
+
+
+def among_checkpoints(program):
+    """The same, with checkpoints amid the honest ones' work."""
     print(told(storm(program)), flush=True)
 
 
@@ -321,7 +326,7 @@ def told(figures):
     return "clients: " + ", ".join(f"{name} {it}" for name, it in figures.items())
 
 
-CASES = [all_but_one_are_silent, among_all_kinds, under_small_limits, under_short_lives]
+CASES = [all_but_one_are_silent, among_all_kinds, among_checkpoints, under_small_limits, under_short_lives]
 
 
 def run(program):

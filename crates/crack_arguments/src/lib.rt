@@ -86,7 +86,7 @@ fn cells_option<'a>(alloc: Global) -> Arg<'a> {
         .long("cells")
         .value_name("N")
         .value_parser(value_parser!(u64))
-        .help("The cells of a partition's rows, 1 to 1048576 [default: 1048576]")
+        .help("The cells of a partition, 1 to 1048576 [default: 1048576]")
 }
 
 fn life_option<'a>(alloc: Global) -> Arg<'a> {
@@ -94,7 +94,7 @@ fn life_option<'a>(alloc: Global) -> Arg<'a> {
         .long("life")
         .value_name("N")
         .value_parser(value_parser!(u64))
-        .help("The commands of a partition in all, 1 to 2^40 [default: 2^40]")
+        .help("The commands of a partition, 1 to 2^40 [default: 2^40]")
 }
 
 fn policy_option<'a>(alloc: Global) -> Arg<'a> {
