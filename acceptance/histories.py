@@ -5,8 +5,8 @@ PROGRAM is `crack_histories`, whose workers ask a table of three partitions, eac
 its receipts, and the histories. What must come is written here from docs/SPECIFICATION.md: there is one order of all entries that each history
 and each worker keeps; in that order a list of rows gives each reply; each worker's receipts are of the replies that it was given; refusals come
 for their causes; and the totals are those of the histories. So whatever the schedule was, one thread could have answered the same. Each seed is
-tried under each policy; under one of three the histories get full. A run's line tells how often an entry follows one of another worker: that is up
-to the schedule, and nothing is claimed of it.
+tried under each policy, with checkpoints amid the work; by the seed histories get full, cells run out, or lives end. A run's line tells how often an
+entry follows one of another worker: that is up to the schedule, and nothing is claimed of it.
 
 A partition that was folded is printed with its base, `partition P folded N inserted I deleted D rows R` and R lines `P.S K V`, and then with what it kept
 since. The entries that went are those of the receipts at the places before: each has exactly one, they are answered and ordered as all others, they come to
@@ -325,9 +325,10 @@ def check(printed, workers, statements, limits):
 
 
 def words_of(seed, statements, policy, workers=WORKERS):
-    """The words of a run. Where the seed is one of three, the histories get full when about half was asked."""
-    limit = max(1, statements * workers // (2 * len(PARTS))) if seed % 3 == 0 else MOST_ENTRIES
-    return [str(it) for it in (seed, workers, statements, policy, limit)]
+    """The words of a run. By the seed histories get full once half was asked since a checkpoint, or cells may run out, or lives end before all was asked."""
+    each = statements * workers // len(PARTS)
+    limits = [Limits(each // 2 + 1), Limits(MOST_ENTRIES, each // 16 + 1), Limits(each // 8 + 1, life=each * 3 // 4 + 1)][seed % 3]
+    return [str(it) for it in (seed, workers, statements, policy, *limits)]
 
 
 def tried(program, words):

@@ -38,11 +38,20 @@ impl Numbers {
     }
 }
 
-/// A command, and the partition that is asked.
+/// What a partition is asked.
+#[derive(Clone, Copy)]
+pub enum Asked {
+    /// To answer a command.
+    Command(Command),
+    /// To fold its history.
+    Checkpoint,
+}
+
+/// What is asked, and of which partition.
 #[derive(Clone, Copy)]
 pub struct Question {
     pub part: u32,
-    pub command: Command,
+    pub asked: Asked,
 }
 
 /// The questions of one worker: they depend on its seed, and on the serials that it was told.
@@ -73,7 +82,16 @@ impl Draws {
             0 => PARTS as u32,
             _ => self.numbers.below(PARTS as u32),
         };
-        let command = match self.numbers.below(100) {
+        let asked = match self.numbers.below(100) {
+            99 => Asked::Checkpoint,
+            number => Asked::Command(self.command(part, number)),
+        };
+        Question { part, asked }
+    }
+
+    /// A command of the kind that has this number of a hundred.
+    fn command(&mut self, part: u32, number: u32) -> Command {
+        match number {
             0..28 => self.insert(part),
             28..56 => Command::Delete {
                 serial: self.serial(part),
@@ -82,8 +100,7 @@ impl Draws {
             68..80 => Command::Count(self.range(part)),
             80..90 => Command::Sum(self.range(part)),
             _ => Command::Select(self.range(part)),
-        };
-        Question { part, command }
+        }
     }
 
     /// Remembers the serial of a row that was placed in a partition.

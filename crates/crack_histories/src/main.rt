@@ -1,8 +1,10 @@
 //! Workers on threads of their own ask a table of three partitions seeded random commands, and are gathered:
-//! `crack_histories SEED WORKERS STATEMENTS POLICY LIMIT`. STATEMENTS are those of each worker, LIMIT that of each history.
+//! `crack_histories SEED WORKERS STATEMENTS POLICY LIMIT CELLS LIFE`. STATEMENTS are those of each worker, LIMIT is that of each history, CELLS and LIFE are
+//! the other limits of each partition.
 //!
 //! It writes for each worker, behind `worker W`, what it asked and what it was answered, and behind `receipts W` its receipts; then for each
-//! partition, behind `partition P`, the entries of its history; and the totals. What is asked is written as a session's statement, with the
+//! partition, behind `partition P`, the entries of its history, where it was folded `partition P folded N inserted I deleted D rows R` and R lines
+//! `P.S K V` before them; and the totals. What is asked is written as a session's statement, with the
 //! partition's number before it, in a receipt the position and the worker besides, and in an entry the worker alone; the lines of the reply follow.
 //! A gathering that is refused ends the run with its refusal, in place of the histories.
 #![tactic(auto)]
@@ -12,7 +14,7 @@ mod gate;
 mod pool;
 mod texts;
 
-use crack_row::{Policy, Refusal, Watched};
+use crack_row::{Limits, Policy, Refusal, Watched};
 use pool::{Plan, Pool, write_closed};
 use std::alloc::Global;
 use std::io::{BufWriter, Write};
@@ -36,14 +38,18 @@ fn policy_of(name: &str) -> anyhow::Result<Policy> {
 
 fn plan_of(words: &[&str]) -> anyhow::Result<Plan> {
     match words {
-        [_, seed, workers, statements, policy, limit] => Ok(Plan {
+        [_, seed, workers, statements, policy, limit, cells, life] => Ok(Plan {
             seed: seed.parse()?,
             workers: workers.parse()?,
             statements: statements.parse()?,
             policy: policy_of(policy)?,
-            limit: limit.parse()?,
+            limits: Limits {
+                history: limit.parse()?,
+                cells: cells.parse()?,
+                life: life.parse()?,
+            },
         }),
-        _ => Err(anyhow::anyhow!("SEED WORKERS STATEMENTS POLICY LIMIT")),
+        _ => Err(anyhow::anyhow!("SEED WORKERS STATEMENTS POLICY LIMIT CELLS LIFE")),
     }
 }
 

@@ -1,11 +1,13 @@
 //! A table with its workers, each on a thread of its own.
 
-use crate::draws::{Draws, Question, SPLITS};
+use crate::draws::{Asked, Draws, Question, SPLITS};
 use crate::gate::Restless;
-use crate::texts::{write_answer, write_entry, write_receipt, written};
+use crate::texts::{
+    write_answer, write_base, write_checkpoint, write_entry, write_receipt, written,
+};
 use crack_commands::send;
 use crack_part::Partition;
-use crack_row::{Policy, Refusal, Watched};
+use crack_row::{Command, Limits, Policy, Refusal, Watched};
 use crack_table::{Closed, Table, Worker, gather};
 use std::alloc::{AllocError, Global};
 use std::io::Write;
@@ -18,11 +20,11 @@ use std::{mem, thread};
 pub struct Plan {
     pub seed: u64,
     pub workers: u32,
-    /// How many commands each worker asks.
+    /// How many commands and checkpoints each worker asks for.
     pub statements: u32,
     pub policy: Policy,
-    /// How many entries a history may have.
-    pub limit: u64,
+    /// What bounds each partition.
+    pub limits: Limits,
 }
 
 /// A worker, what it asks, and the text of what it asked and was answered.
@@ -47,11 +49,32 @@ impl Hand {
     }
 
     fn ask_once<R: Wait>(&mut self, rt: &R, table: &Table, gate: &Restless, policy: Policy) {
-        let Question { part, command } = self.draws.next();
+        let Question { part, asked } = self.draws.next();
+        match asked {
+            Asked::Command(command) => self.ask(rt, table, gate, part, command, policy),
+            Asked::Checkpoint => self.fold(rt, table, part),
+        }
+    }
+
+    fn ask<R: Wait>(
+        &mut self,
+        rt: &R,
+        table: &Table,
+        gate: &Restless,
+        part: u32,
+        command: Command,
+        policy: Policy,
+    ) {
         let answer = self.worker.ask(rt, table, gate, part, command, policy);
         self.draws.learn(part, &answer);
         let mut text = Watched::new(&mut self.told);
         self.cut = write_answer(part, &command, &answer, &mut text).is_err() || self.cut;
+    }
+
+    fn fold<R: Wait>(&mut self, rt: &R, table: &Table, part: u32) {
+        let told = self.worker.checkpoint(rt, table, part);
+        let mut text = Watched::new(&mut self.told);
+        self.cut = write_checkpoint(part, &told, &mut text).is_err() || self.cut;
     }
 
     /// The same worker behind its commands.
@@ -89,7 +112,12 @@ pub struct Pool {
 
 impl Pool {
     pub fn open(alloc: Global, plan: Plan) -> Result<Pool, Refusal> {
-        let (table, workers) = Table::open(alloc, &SPLITS, plan.limit, u64::from(plan.workers))?;
+        let (table, workers) = Table::open_with(
+            alloc,
+            &SPLITS,
+            plan.limits,
+            u64::from(plan.workers),
+        )?;
         let hands = hands_of(alloc, plan.seed, workers)?;
         Ok(Pool { table, hands })
     }
@@ -170,7 +198,7 @@ fn write_history<W: Write>(
     partition: &Partition,
     writer: &mut Watched<W>,
 ) -> Result<(), Refusal> {
-    written(writeln!(writer, "partition {part}"))?;
+    write_base(part, partition, writer)?;
     'entries: for entry in partition.history() {
         write_entry(part, entry, writer)?;
     }

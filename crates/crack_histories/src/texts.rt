@@ -1,7 +1,8 @@
 //! Questions and answers as lines: a statement, and behind it the lines of its reply. Refused with 18 where the writer fails.
 
-use crack_commands::{write_refusal, write_reply};
+use crack_commands::{write_folded, write_refusal, write_reply, write_row};
 use crack_core::Receipt;
+use crack_part::Partition;
 use crack_row::{Command, Entry, KeyRange, Refusal, Reply, Watched};
 use std::io;
 use std::io::Write;
@@ -74,6 +75,42 @@ pub fn write_answer<W: Write>(
         Ok(reply) => write_replied(part, command, reply, writer),
         Err(refusal) => write_refused(part, command, refusal, writer),
     }
+}
+
+/// Writes that a partition was asked for a checkpoint, and what it told.
+pub fn write_checkpoint<W: Write>(
+    part: u32,
+    told: &Result<u64, Refusal>,
+    writer: &mut Watched<W>,
+) -> Result<(), Refusal> {
+    written(writeln!(writer, "{part} checkpoint {part}"))?;
+    match told {
+        Ok(folded) => write_folded(*folded, writer),
+        Err(refusal) => write_refusal(refusal, writer),
+    }
+}
+
+/// Writes a partition's number, and its base where something was folded: how many entries went, how many of them placed a row and took one out, and the rows.
+pub fn write_base<W: Write>(
+    part: u32,
+    partition: &Partition,
+    writer: &mut Watched<W>,
+) -> Result<(), Refusal> {
+    let folded = partition.folded();
+    if folded == 0 {
+        return written(writeln!(writer, "partition {part}"));
+    }
+    let (inserted, deleted) = (partition.folded_insertions(), partition.folded_deletions());
+    let rows = partition.base_rows();
+    let count = rows.len();
+    written(writeln!(
+        writer,
+        "partition {part} folded {folded} inserted {inserted} deleted {deleted} rows {count}"
+    ))?;
+    'rows: for row in rows {
+        write_row(part, row, writer)?;
+    }
+    Ok(())
 }
 
 /// Writes a receipt: its partition, position and worker, and what was asked and replied.
