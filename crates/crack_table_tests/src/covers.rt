@@ -1,5 +1,6 @@
 //! Receipts beside what partitions keep.
 ghost use Rattle.std.specs.Prelude.{◌+◌, ◌≤◌};
+ghost use Rattle.crack_table.specs.Cover.{told, IsKept};
 
 use crack_core::Receipt;
 use crack_row::{Command, Entry, Key, KeyRange, Payload, Refusal, Reply, Serial};
@@ -27,7 +28,9 @@ fn receipt(part: u32, position: u64) -> Receipt {
 }
 
 /// What a partition keeps that has folded nothing.
-fn standing(tail: &[Entry]) -> Kept<'_> {
+fn standing(tail: &[Entry]) -> Kept<'_>
+    ensures { IsKept (told result) }
+{
     Kept {
         folded: 0,
         inserted: 0,
@@ -39,6 +42,7 @@ fn standing(tail: &[Entry]) -> Kept<'_> {
 /// What a partition keeps that has folded two commands, of which so many placed a row and took one out.
 fn two_folded(inserted: u64, deleted: u64, tail: &[Entry]) -> Kept<'_>
     requires { inserted + deleted ≤ 2 }
+    ensures { IsKept (told result) }
 {
     Kept {
         folded: 2,
@@ -46,6 +50,39 @@ fn two_folded(inserted: u64, deleted: u64, tail: &[Entry]) -> Kept<'_>
         deleted,
         tail,
     }
+}
+
+/// Whether receipts cover what one partition keeps.
+fn cover_one(alloc: Global, kept: Kept<'_>, receipts: &[&[Receipt]]) -> Result<(), Refusal>
+    requires { IsKept (told kept) }
+{
+    cover(alloc, &[kept], receipts)
+}
+
+/// Whether receipts cover what two partitions keep.
+fn cover_two(
+    alloc: Global,
+    first: Kept<'_>,
+    second: Kept<'_>,
+    receipts: &[&[Receipt]],
+) -> Result<(), Refusal>
+    requires first { IsKept (told first) }
+    requires second { IsKept (told second) }
+{
+    cover(alloc, &[first, second], receipts)
+}
+
+/// The same where a hundred partitions that keep nothing are before it.
+fn cover_behind_others(
+    alloc: Global,
+    last: Kept<'_>,
+    receipts: &[&[Receipt]],
+) -> Result<(), Refusal>
+    requires { IsKept (told last) }
+{
+    let mut kept = [standing(&[]); 101];
+    kept[100] = last;
+    cover(alloc, &kept, receipts)
 }
 
 /// Refusal 16 at this place.
@@ -56,9 +93,10 @@ fn strange(part: u32, position: u64) -> Result<(), Refusal> {
 #[test]
 fn receipts_of_all_entries_cover_them(rt: HostRuntime) {
     let history = [entry(), entry()];
-    let found = cover(
+    let found = cover_two(
         rt.alloc(),
-        &[standing(&history), standing(&[])],
+        standing(&history),
+        standing(&[]),
         &[&[receipt(0, 0)], &[receipt(0, 1)]],
     );
     assert_eq!(rt; found, Ok(()));
@@ -66,16 +104,16 @@ fn receipts_of_all_entries_cover_them(rt: HostRuntime) {
 
 #[test]
 fn a_receipt_without_entries_is_strange(rt: HostRuntime) {
-    let found = cover(rt.alloc(), &[standing(&[])], &[&[receipt(0, 0)]]);
+    let found = cover_one(rt.alloc(), standing(&[]), &[&[receipt(0, 0)]]);
     assert_eq!(rt; found, strange(0, 0));
 }
 
 #[test]
 fn a_receipt_given_twice_is_strange(rt: HostRuntime) {
     let history = [entry()];
-    let found = cover(
+    let found = cover_one(
         rt.alloc(),
-        &[standing(&history)],
+        standing(&history),
         &[&[receipt(0, 0), receipt(0, 0)]],
     );
     assert_eq!(rt; found, strange(0, 0));
@@ -84,9 +122,10 @@ fn a_receipt_given_twice_is_strange(rt: HostRuntime) {
 #[test]
 fn an_entry_without_receipt_goes_before_a_stranger(rt: HostRuntime) {
     let history = [entry()];
-    let found = cover(
+    let found = cover_two(
         rt.alloc(),
-        &[standing(&[]), standing(&history)],
+        standing(&[]),
+        standing(&history),
         &[&[receipt(5, 7)]],
     );
     assert_eq!(rt; found, strange(1, 0));
@@ -95,9 +134,9 @@ fn an_entry_without_receipt_goes_before_a_stranger(rt: HostRuntime) {
 #[test]
 fn a_receipt_of_another_place_is_a_stranger(rt: HostRuntime) {
     let history = [entry()];
-    let found = cover(
+    let found = cover_one(
         rt.alloc(),
-        &[standing(&history)],
+        standing(&history),
         &[&[receipt(0, 0), receipt(5, 7)]],
     );
     assert_eq!(rt; found, strange(5, 7));
@@ -106,9 +145,9 @@ fn a_receipt_of_another_place_is_a_stranger(rt: HostRuntime) {
 #[test]
 fn receipts_out_of_order_are_strange(rt: HostRuntime) {
     let history = [entry(), entry()];
-    let found = cover(
+    let found = cover_one(
         rt.alloc(),
-        &[standing(&history)],
+        standing(&history),
         &[&[receipt(0, 1), receipt(0, 0)]],
     );
     assert_eq!(rt; found, strange(0, 0));
@@ -118,9 +157,7 @@ fn receipts_out_of_order_are_strange(rt: HostRuntime) {
 #[test]
 fn more_than_a_table_has_are_covered(rt: HostRuntime) {
     let history = [entry()];
-    let mut kept = [standing(&[]); 101];
-    kept[100] = standing(&history);
-    let found = cover(rt.alloc(), &kept, &[&[receipt(100, 0)]]);
+    let found = cover_behind_others(rt.alloc(), standing(&history), &[&[receipt(100, 0)]]);
     assert_eq!(rt; found, Ok(()));
 }
 
@@ -146,7 +183,7 @@ fn an_altered_receipt_is_strange(rt: HostRuntime) {
         command: insert(2),
         reply: Reply::Placed(Serial(0)),
     }];
-    let found = cover(rt.alloc(), &[standing(&history)], &[&altered]);
+    let found = cover_one(rt.alloc(), standing(&history), &[&altered]);
     assert_eq!(rt; found, strange(0, 0));
 }
 
@@ -169,66 +206,66 @@ fn placed() -> Reply {
 #[test]
 fn folded_places_are_named_by_position_alone(rt: HostRuntime) {
     let history = [entry()];
-    let kept = [two_folded(0, 0, &history)];
+    let kept = two_folded(0, 0, &history);
     let receipts = [receipt(0, 1), receipt(0, 2)];
     let other = [changed(0, Reply::NoRow)];
-    let found = cover(rt.alloc(), &kept, &[&receipts, &other]);
+    let found = cover_one(rt.alloc(), kept, &[&receipts, &other]);
     assert_eq!(rt; found, Ok(()));
 }
 
 #[test]
 fn a_folded_place_named_by_two_workers_is_strange(rt: HostRuntime) {
-    let kept = [two_folded(0, 0, &[])];
+    let kept = two_folded(0, 0, &[]);
     let other = [changed(0, Reply::NoRow)];
-    let found = cover(rt.alloc(), &kept, &[&[receipt(0, 0)], &other]);
+    let found = cover_one(rt.alloc(), kept, &[&[receipt(0, 0)], &other]);
     assert_eq!(rt; found, strange(0, 0));
 }
 
 #[test]
 fn a_folded_place_without_receipt_is_strange(rt: HostRuntime) {
-    let kept = [two_folded(0, 0, &[])];
-    let found = cover(rt.alloc(), &kept, &[&[receipt(0, 0)]]);
+    let kept = two_folded(0, 0, &[]);
+    let found = cover_one(rt.alloc(), kept, &[&[receipt(0, 0)]]);
     assert_eq!(rt; found, strange(0, 1));
 }
 
 #[test]
 fn folded_totals_are_those_of_the_receipts(rt: HostRuntime) {
-    let kept = [two_folded(1, 0, &[])];
+    let kept = two_folded(1, 0, &[]);
     let receipts = [changed(0, Reply::NoRow), changed(1, placed())];
-    let found = cover(rt.alloc(), &kept, &[&receipts]);
+    let found = cover_one(rt.alloc(), kept, &[&receipts]);
     assert_eq!(rt; found, Ok(()));
 }
 
 #[test]
 fn other_folded_totals_are_strange_at_the_last_place(rt: HostRuntime) {
     let history = [entry()];
-    let kept = [two_folded(0, 1, &history)];
+    let kept = two_folded(0, 1, &history);
     let receipts = [changed(0, Reply::NoRow), changed(1, placed())];
-    let found = cover(rt.alloc(), &kept, &[&receipts]);
+    let found = cover_one(rt.alloc(), kept, &[&receipts]);
     assert_eq!(rt; found, strange(0, 1));
 }
 
 #[test]
 fn more_folded_rows_than_told_are_strange(rt: HostRuntime) {
-    let kept = [two_folded(1, 0, &[])];
+    let kept = two_folded(1, 0, &[]);
     let receipts = [changed(0, placed()), changed(1, placed())];
-    let found = cover(rt.alloc(), &kept, &[&receipts]);
+    let found = cover_one(rt.alloc(), kept, &[&receipts]);
     assert_eq!(rt; found, strange(0, 1));
 }
 
 #[test]
 fn an_entry_of_an_earlier_partition_goes_before_a_folded_place(rt: HostRuntime) {
     let history = [entry()];
-    let kept = [standing(&history), two_folded(0, 0, &[])];
-    let found = cover(rt.alloc(), &kept, &[&[receipt(1, 0)]]);
+    let (first, second) = (standing(&history), two_folded(0, 0, &[]));
+    let found = cover_two(rt.alloc(), first, second, &[&[receipt(1, 0)]]);
     assert_eq!(rt; found, strange(0, 0));
 }
 
 #[test]
 fn the_order_is_tested_over_folded_places_too(rt: HostRuntime) {
     let history = [entry()];
-    let kept = [two_folded(0, 0, &history)];
+    let kept = two_folded(0, 0, &history);
     let receipts = [receipt(0, 1), receipt(0, 2), receipt(0, 0)];
-    let found = cover(rt.alloc(), &kept, &[&receipts]);
+    let found = cover_one(rt.alloc(), kept, &[&receipts]);
     assert_eq!(rt; found, strange(0, 0));
 }
