@@ -2,6 +2,7 @@
 use Rattle.std.proofs.Common.{◌≡◌, ℕ, zero, suc, ◌+◌, ◌-◌, ◌*◌, ◌/◌, ◌%◌, ◌<◌, ◌≤◌, List, [], ◌∷◌, ◌++◌, length, get_or, set, take, drop, Bool, true, false, Result, Ok, Err, is_ok, refl, sym, ap, ◌∙◌, inl, inr, arith, length-set}
 use Rattle.std.specs.Prelude.{min, replicate, if◌then◌else◌, OnOk, OnErr}
 use Rattle.std.proofs.lemmas.List.{length-append, length-replicate, append_assoc, append-nil, get_or_append_left, get_or-append_right, set-append_left, set-append_right, nil_from_length, length_push, drop-append-le, take-append-le, replicate_more, same_from_push}
+use Rattle.std.proofs.Math.Seq.{take-append_seam, drop-append-add}
 use Rattle.std.proofs.lemmas.Bool.{cases_lt}
 use Rattle.crack_arena.specs.Pages.{joined, IsPaged}
 
@@ -191,3 +192,19 @@ module _ {C : Type 0} where
         spare = record { within = within; empty = both.0 };
         same = sym (take-append-le kept rest (page ∷ []) within) ∙ ap (take kept) (sym split);
       }
+
+  -- the cells from a number on begin with those of its page from its place on
+  pub drop_joined : (pages : List (List C)) (len n : ℕ) (page : List C) → IsPaged pages len → n < len → page ≡ get_or pages (n / 256) page → drop (n % 256) page ≡ take (length (drop (n % 256) page)) (drop n (joined pages))
+  drop_joined [] len n page paged within found = absurd (omega (arith, paged))
+  drop_joined (p ∷ ps) len n page paged within found = elim (cases_lt n 256) [
+    | inl near ↦
+        let at = first n near in
+        let here : page ≡ p = rw at.page at found in
+        rw (at.place, here, drop-append-le n p (joined ps) (omega (arith, paged.0, within, near))) (sym (take-append_seam (drop n p) (joined ps)))
+    | inr far ↦
+        let at = further n far in
+        let full : length p ≡ 256 = omega (arith, paged.0) in
+        let past : n ≡ length p + (n - 256) = omega (arith, full, far) in
+        let rest : drop n (p ++ joined ps) ≡ drop (n - 256) (joined ps) = ap (λ k. drop k (p ++ joined ps)) past ∙ drop-append-add p (joined ps) (n - 256) in
+        rw (rest, at.place) (drop_joined ps (len - 256) (n - 256) page paged.1 (omega (arith, within)) (rw at.page at found))
+  ]

@@ -1,11 +1,12 @@
 //! The arena: cells, and the links of the free ones.
-ghost use Rattle.std.specs.Prelude.{◌≡◌, ◌+◌, ◌<◌, ◌≤◌, List, [], length, option_copied, MatchOption, MatchResult, IfOk, IfErr, OnOk, OnErr, OnSome, is_some, None, Some};
+ghost use Rattle.std.specs.Prelude.{◌≡◌, ◌+◌, ◌<◌, ◌≤◌, List, [], length, take, drop, option_copied, MatchOption, MatchResult, IfOk, IfErr, OnOk, OnErr, OnSome, is_some, None, Some};
 ghost use Rattle.crack_row.specs.declared.refusal.Refusal.TheVariants.{OutOfMemory};
 ghost use Rattle.crack_arena.specs.Arena.{read, freed, CanPut, handle_for, put_in, set_at, freed_at, cell_at, IsWhole, IsSpent, KeepsSpent, Call, after_calls};
 
 use crate::cell_list::CellList;
 use crate::cells::{Cell, Content};
 use crate::handles::Handle;
+use crate::stretch::Stretch;
 use crack_row::Refusal;
 use std::alloc::Global;
 use std::marker::Model;
@@ -126,18 +127,12 @@ impl<T> Arena<T> {
         }
     }
 
-    /// The value of the cell of this number, if it has one: a free cell has none, and neither has a number from `cells()` on. O(1), takes
-    /// no memory.
-    pub fn value_in(&self, slot: u32) -> Option<&T>
-        ensures { option_copied result ≡ (cell_at self.now.cells slot).value }
+    /// The cells from this number on that stand side by side, up to 256 of them: those of a page. None from `cells()` on. O(1).
+    pub fn stretch_from(&self, slot: u32) -> Stretch<'_, T>
+        ensures cells { result ≡ take (length result) (drop slot self.now.cells) }
+        ensures some { slot < length self.now.cells → 0 < length result }
     {
-        match self.cells.get(slot as usize) {
-            Some(cell) => match &cell.content {
-                Content::Full(value) => Some(value),
-                Content::Free(_) => None,
-            },
-            None => None,
-        }
+        Stretch::of(self.cells.side_by_side(slot as usize))
     }
 
     /// Makes room, so that as many puts that follow take no memory.

@@ -63,6 +63,17 @@ impl<C> CellList<C> {
         }
     }
 
+    /// The cells from this number on that stand side by side: those of its page. None of them where there are none.
+    pub(crate) fn side_by_side(&self, number: usize) -> &[C]
+        ensures cells { result.now ≡ take (length result.now) (drop number self.now.items) }
+        ensures some { number < length self.now.items → 0 < length result.now }
+    {
+        if number >= self.len() {
+            return &[];
+        }
+        self.pages[number / CELLS].cells_from(number % CELLS)
+    }
+
     /// The cell of this number. O(1).
     #[inline(always)]
     pub(crate) fn at(&self, number: usize) -> &C

@@ -10,7 +10,9 @@ mod cells;
 mod handles;
 mod page;
 mod rows;
+mod stretch;
 
 pub use arena::{Arena, PutRefused};
 pub use handles::Handle;
 pub use rows::{key_of, payload_of};
+pub use stretch::Stretch;

@@ -1,5 +1,5 @@
 //! A page of cells.
-ghost use Rattle.std.specs.Prelude.{◌≡◌, ◌<◌, [], ◌∷◌, ◌++◌, length, slice_index_or, slice_set, IfOk};
+ghost use Rattle.std.specs.Prelude.{◌≡◌, ◌<◌, ◌≤◌, [], ◌∷◌, ◌++◌, length, slice_index_or, slice_set, drop, IfOk};
 
 use std::alloc::{AllocError, Global};
 use std::marker::Model;
@@ -42,6 +42,14 @@ impl<C> Page<C> {
         ensures { result.now ≡ slice_index_or self.now place result.now }
     {
         &self.cells[place]
+    }
+
+    /// The cells from this place on.
+    pub(crate) fn cells_from(&self, place: usize) -> &[C]
+        requires { place ≤ length self.now }
+        ensures { result.now ≡ drop place self.now }
+    {
+        &self.cells[place..]
     }
 
     /// Puts a cell in place of the one that stands at this place, which comes back. O(1).

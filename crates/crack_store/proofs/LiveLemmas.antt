@@ -1,9 +1,15 @@
 -- What cells have for commands to see, one after the other.
-use Rattle.std.proofs.Common.{◌≡◌, ℕ, ◌+◌, List, [], ◌∷◌, ◌++◌, Option, refl, ap, ◌∙◌, add-one, zero-add}
+use Rattle.std.proofs.Common.{◌≡◌, ℕ, ◌+◌, ◌<◌, ◌≤◌, List, [], ◌∷◌, ◌++◌, length, get_or, take, drop, Option, Some, None, Bool, true, refl, sym, ap, ◌∙◌, inl, inr, arith, add-one, zero-add}
 use Rattle.std.specs.List.{cons_option, filter_map, range_with_len}
+use Rattle.std.specs.List.Sorted.{IsNonDecreasingBy}
+use Rattle.std.proofs.lemmas.List.{get_or-take, get_or-drop, get_or_append_left, get_or_push, length_push}
 use Rattle.std.proofs.lemmas.List.Elements.{filter_map-append}
+use Rattle.std.proofs.lemmas.Bool.{cases_lt}
 use Rattle.crack_row.proofs.Lists.{range_with_len-more}
 use Rattle.crack_row.specs.declared.Row.{Row}
+use Rattle.crack_arena.specs.Arena.{Cell, cell_at, empty_cell}
+use Rattle.crack_state.specs.Stretch.{serial_of}
+use Rattle.crack_store.specs.Found.{AreRising}
 
 longer : (n : ℕ) → range_with_len 0 (n + 1) ≡ range_with_len 0 n ++ n ∷ []
 longer n = rw add-one (rw (zero-add n) at (range_with_len-more 0 n))
@@ -14,3 +20,32 @@ seen-next seen rows after slot o shown so_far added =
     let one : cons_option o [] ≡ filter_map seen (slot ∷ []) = rw shown refl in
     let more : filter_map seen (range_with_len 0 (slot + 1)) ≡ filter_map seen (range_with_len 0 slot) ++ filter_map seen (slot ∷ []) = ap (filter_map seen) (longer slot) ∙ filter_map-append seen (range_with_len 0 slot) (slot ∷ []) in
     rw (added, so_far, one, more) refl
+
+-- a place of a stretch that begins at a cell is a cell behind it
+pub cell_in-stretch : (cells part : List (Cell Row)) (slot place : ℕ) → part ≡ take (length part) (drop slot cells) → place < length part → cell_at part place ≡ cell_at cells (slot + place)
+cell_in-stretch cells part slot place is within =
+    ap (λ (xs : List (Cell Row)). cell_at xs place) is
+    ∙ get_or-take (length part) (drop slot cells) place empty_cell within
+    ∙ get_or-drop slot cells place empty_cell
+
+-- no rows rise
+pub rising-none : (last : ℕ) → AreRising [] last
+rising-none last = record { rise = λ i j d le within. absurd (omega (arith, within)); most = λ place row within. absurd (omega (arith, within)) }
+
+-- a row more, whose serial isn't below the last
+pub rising-next : (rows : List Row) (last : ℕ) (row : Row) → last ≤ serial_of row → AreRising rows last → AreRising (rows ++ row ∷ []) (serial_of row)
+rising-next rows last row above rising = record {
+  rise = λ i j d le within. elim (cases_lt j (length rows)) [
+    | inl near ↦ rw (get_or_append_left rows (row ∷ []) d i (omega (arith, le, near)), get_or_append_left rows (row ∷ []) d j near) (rising.rise i j d le near)
+    | inr far ↦
+        let end : j ≡ length rows = omega (arith, far, within, length_push rows row) in
+        rw (get_or_push rows row d j (sym end)) (most-of i d (omega (arith, le, end)))
+  ];
+  most = λ place d within. most-of place d (omega (arith, within, length_push rows row));
+}
+  where
+    most-of : (place : ℕ) (d : Row) → place ≤ length rows → serial_of (get_or (rows ++ row ∷ []) place d) ≤ serial_of row
+    most-of place d le = elim (cases_lt place (length rows)) [
+      | inl near ↦ rw (get_or_append_left rows (row ∷ []) d place near) (omega (arith, above, rising.most place d near))
+      | inr far ↦ rw (get_or_push rows row d place (omega (arith, far, le))) (omega arith)
+    ]

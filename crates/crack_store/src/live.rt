@@ -1,13 +1,44 @@
 //! All rows of a store that commands see.
-ghost use Rattle.std.specs.Prelude.{◌≡◌, ◌++◌, [], IfOk, IfErr, OnOk};
+ghost use Rattle.std.specs.Prelude.{◌≡◌, ◌+◌, ◌<◌, ◌≤◌, ◌++◌, [], length, take, drop, IfOk, IfErr, OnOk};
 ghost use Rattle.std.specs.List.{cons_option};
 ghost use Rattle.std.specs.List.Sorted.{IsPermutation, IsNonDecreasingBy};
-ghost use Rattle.crack_arena.specs.Arena.{slots};
-ghost use Rattle.crack_state.specs.State.{live_at, live_rows};
+ghost use Rattle.crack_state.specs.State.{live_rows};
 ghost use Rattle.crack_state.specs.Stretch.{serial_of};
+ghost use Rattle.crack_store.specs.Found.{KeepsOrder, live_below};
 
 use crate::Store;
+use crack_arena::Stretch;
 use crack_row::{Refusal, Row};
+
+/// The rows that a pass over the cells has found so far.
+#[derive(Drop)]
+pub(crate) struct Found {
+    rows: Vec<Row>,
+    /// Whether no serial is below the one before it.
+    is_rising: bool,
+    /// The last serial.
+    last: u64,
+}
+
+impl Found {
+    /// Adds a row, if there is one. O(1), amortised.
+    #[inline(always)]
+    fn add(&mut self, row: Option<Row>) -> Result<(), Refusal>
+        requires order { KeepsOrder self.old }
+        ensures rows { OnOk result (self.new.rows.items ≡ self.old.rows.items ++ cons_option row []) }
+        ensures order { OnOk result (KeepsOrder self.new) }
+        ensures err { IfErr result (λ e. e ≡ Refusal.OutOfMemory) }
+    {
+        let Some(row) = row else {
+            return Ok(());
+        };
+        self.rows.push(row)?;
+        let serial = row.serial.0;
+        self.is_rising &= self.last <= serial;
+        self.last = serial;
+        Ok(())
+    }
+}
 
 impl Store {
     /// The rows that commands see, in rising serial. It cracks and merges nothing. O(cells) where serials rise with the numbers of the cells,
@@ -18,43 +49,61 @@ impl Store {
         ensures rising { IfOk result (λ rows. IsNonDecreasingBy serial_of rows.items) }
         ensures err { IfErr result (λ e. e ≡ Refusal.OutOfMemory) }
     {
-        let mut rows = self.rows_by_cells()?;
-        rows.sort_unstable_by_key(|row| row.serial.0);
+        let Found {
+            mut rows,
+            is_rising,
+            ..
+        } = self.rows_by_cells()?;
+        if !is_rising {
+            rows.sort_unstable_by_key(|row| row.serial.0);
+        }
         Ok(rows)
     }
 
     /// The same rows, in the order of their cells' numbers. O(cells).
-    fn rows_by_cells(&self) -> Result<Vec<Row>, Refusal>
-        ensures rows { IfOk result (λ rows. rows.items ≡ live_rows self.now) }
+    fn rows_by_cells(&self) -> Result<Found, Refusal>
+        ensures rows { IfOk result (λ found. found.rows.items ≡ live_rows self.now) }
+        ensures order { IfOk result (λ found. KeepsOrder found) }
         ensures err { IfErr result (λ e. e ≡ Refusal.OutOfMemory) }
     {
         self.facts();
         let serials = &self.inside.serials;
-        let mut rows = Vec::with_capacity(*serials.allocator(), serials.len())?;
-        'cells: for slot in 0..self.inside.arena.cells() as u32 {
-            add(&mut rows, self.live_in(slot))?;
+        let mut found = Found {
+            rows: Vec::with_capacity(*serials.allocator(), serials.len())?,
+            is_rising: true,
+            last: 0,
+        };
+        let mut slot = 0;
+        'stretches: while slot < self.inside.arena.cells() {
+            let stretch = self.inside.arena.stretch_from(slot as u32);
+            self.add_live(&mut found, slot as u32, &stretch)?;
+            slot += stretch.len();
         }
-        Ok(rows)
+        Ok(found)
     }
 
-    /// What the cell of this number has for commands to see, if anything. O(1).
-    fn live_in(&self, slot: u32) -> Option<Row>
-        ensures { result ≡ live_at self.now.cells (slots self.now.pending_out) slot }
+    /// Adds the rows that commands see of cells that stand side by side, from the one of this number on, behind those of the cells before.
+    /// O(cells).
+    fn add_live(
+        &self,
+        found: &mut Found,
+        slot: u32,
+        cells: &Stretch<'_, Row>,
+    ) -> Result<(), Refusal>
+        requires cells { cells.now ≡ take (length cells.now) (drop slot self.now.cells) }
+        requires within { slot + length cells.now ≤ length self.now.cells }
+        requires few { length self.now.cells < 4294967296 }
+        requires rows { found.old.rows.items ≡ live_below slot self.now }
+        requires order { KeepsOrder found.old }
+        ensures rows { OnOk result (found.new.rows.items ≡ live_below (slot + length cells.now) self.now) }
+        ensures order { OnOk result (KeepsOrder found.new) }
+        ensures err { IfErr result (λ e. e ≡ Refusal.OutOfMemory) }
     {
-        if self.inside.pending_out.contains(slot) {
-            return None;
+        'cells: for place in 0..cells.len() {
+            if !self.inside.pending_out.contains(slot + place as u32) {
+                found.add(cells.value_at(place).copied())?;
+            }
         }
-        self.inside.arena.value_in(slot).copied()
-    }
-}
-
-/// Adds a row, if there is one. O(1), amortised.
-fn add(rows: &mut Vec<Row>, row: Option<Row>) -> Result<(), Refusal>
-    ensures ok { OnOk result (rows.new.items ≡ rows.old.items ++ cons_option row []) }
-    ensures err { IfErr result (λ e. e ≡ Refusal.OutOfMemory) }
-{
-    match row {
-        Some(row) => Ok(rows.push(row)?),
-        None => Ok(()),
+        Ok(())
     }
 }

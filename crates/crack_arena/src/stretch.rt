@@ -1,0 +1,56 @@
+//! Cells that stand side by side.
+ghost use Rattle.std.specs.Prelude.{◌≡◌, length, option_copied};
+ghost use Rattle.crack_arena.specs.Arena.{cell_at};
+ghost use Rattle.crack_arena.specs.Links.{cells_of};
+
+use crate::cells::{Cell, Content};
+use std::marker::Model;
+
+/// Cells of an arena that follow one another and stand side by side, to be read one after the other. Contracts see a list of cells.
+#[derive(Drop)]
+pub struct Stretch<'a, T> {
+    cells: &'a [Cell<T>],
+}
+
+impl<'a, T> Model for Stretch<'a, T> {
+    ghost use Rattle.std.specs.Prelude.{List};
+    ghost use Rattle.std.specs.Coded.{coded_list};
+    ghost use Rattle.crack_arena.specs.Arena.{Cell as Seen, cell_code};
+    ghost use Rattle.crack_arena.specs.Links.{cells_of};
+
+    ghost Value = { List (Seen T) };
+
+    ghost coded = { coded_list (cell_code T.code) };
+
+    ghost view = { λ s. cells_of s.cells.now };
+}
+
+impl<'a, T> Stretch<'a, T> {
+    /// The stretch of these cells.
+    pub(crate) fn of(cells: &'a [Cell<T>]) -> Stretch<'a, T>
+        ensures { result ≡ cells_of cells.now }
+    {
+        Stretch { cells }
+    }
+
+    /// How many cells there are.
+    pub fn len(&self) -> usize
+        ensures { result ≡ length self.now }
+    {
+        self.cells.len()
+    }
+
+    /// The value of the cell at this place of the stretch, from 0, if it has one: a free cell has none, and neither has a place from `len()`
+    /// on. O(1), takes no memory.
+    pub fn value_at(&self, place: usize) -> Option<&'a T>
+        ensures { option_copied result ≡ (cell_at self.now place).value }
+    {
+        match self.cells.get(place) {
+            Some(cell) => match &cell.content {
+                Content::Full(value) => Some(value),
+                Content::Free(_) => None,
+            },
+            None => None,
+        }
+    }
+}
