@@ -1,5 +1,6 @@
 pub mod Cracking
 pub mod Divisions
+mod HeldLaws
 mod Passes
 pub mod Remembering
 mod TicketLaws

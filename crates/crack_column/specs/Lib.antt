@@ -1,3 +1,4 @@
 pub mod Column
+pub mod Held
 pub mod Inside
 pub mod Tickets

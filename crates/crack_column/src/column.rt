@@ -22,12 +22,12 @@ use std::mem;
 #[derive(Drop)]
 pub struct CrackerColumn {
     /// By ticket.
-    generations: Vec<u64>,
+    pub(crate) generations: Vec<u64>,
     /// In cracked order; those behind `len` keep their tickets for later rows.
-    tags: Vec<Tag>,
-    len: usize,
+    pub(crate) tags: Vec<Tag>,
+    pub(crate) len: usize,
     /// How many tags don't know their rows.
-    unread: usize,
+    pub(crate) unread: usize,
 }
 
 impl Model for CrackerColumn {

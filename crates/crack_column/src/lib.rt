@@ -2,8 +2,10 @@
 #![tactic(auto)]
 
 pub mod column;
+pub mod held;
 pub mod remembered;
 mod tag;
 
 pub use column::CrackerColumn;
+pub use held::HeldColumn;
 pub use remembered::Remembered;

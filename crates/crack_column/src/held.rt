@@ -1,0 +1,119 @@
+//! A column with its row aside in hand.
+ghost use Rattle.std.specs.Prelude.{◌≡◌, ◌<◌, length};
+ghost use Rattle.crack_column.specs.Column.{first_aside, exchanged_aside};
+
+use crate::CrackerColumn;
+use crate::remembered::Remembered;
+use crate::tag::Tag;
+use std::marker::Model;
+
+/// A column whose row aside is in hand, for a way on which it takes place after place: an exchange reads and writes the place alone.
+/// Contracts see the column.
+#[derive(Drop)]
+pub struct HeldColumn {
+    generations: Vec<u64>,
+    tags: Vec<Tag>,
+    len: usize,
+    /// How many tags don't know their rows, the one in hand among them.
+    unread: usize,
+    /// The tag of the row in hand; the one behind the last place isn't read.
+    hand: Tag,
+}
+
+impl Model for HeldColumn {
+    ghost use Rattle.std.specs.Prelude.{length, vec_capacity};
+    ghost use Rattle.crack_column.specs.Column.{Column};
+    ghost use Rattle.crack_column.specs.Tickets.{handles_in, remembered_in, room_in, aside_in};
+    ghost use Rattle.crack_column.specs.Held.{tags_with, IsHeld};
+
+    ghost Value = { Column };
+
+    ghost view = { λ c. record {
+      handles = handles_in c.generations.items (tags_with c.tags.items c.len c.hand) c.len;
+      remembered = remembered_in (tags_with c.tags.items c.len c.hand) c.len;
+      room = room_in (length c.tags.items) (vec_capacity c.generations) (vec_capacity c.tags) c.len;
+      aside = aside_in c.generations.items (tags_with c.tags.items c.len c.hand) c.len;
+    } };
+
+    ghost invariant = { λ c. IsHeld c.generations.items c.tags.items c.len c.unread c.hand };
+}
+
+impl CrackerColumn {
+    /// Takes the column with its row aside in hand, and leaves one without handles in its place. O(1), and takes no memory.
+    pub fn hold(&mut self) -> HeldColumn
+        requires { 0 < length self.old.aside }
+        ensures { result ≡ self.old }
+    {
+        let CrackerColumn {
+            generations,
+            tags,
+            len,
+            unread,
+        } = self.take();
+        let hand = tags[len];
+        HeldColumn {
+            generations,
+            tags,
+            len,
+            unread: unread + hand.unread(),
+            hand,
+        }
+    }
+}
+
+impl HeldColumn {
+    /// The column, with the row in hand aside. O(1).
+    pub fn release(self) -> CrackerColumn
+        ensures { result ≡ self }
+    {
+        let HeldColumn {
+            generations,
+            mut tags,
+            len,
+            unread,
+            hand,
+        } = self;
+        tags[len] = hand;
+        CrackerColumn {
+            generations,
+            tags,
+            len,
+            unread: unread - hand.unread(),
+        }
+    }
+
+    /// The number of handles, without the one in hand. O(1).
+    #[inline(always)]
+    pub fn len(&self) -> usize
+        ensures { result ≡ length self.now.handles }
+    {
+        self.len
+    }
+
+    /// The slot of the handle in hand. O(1), and reads no generation.
+    #[inline(always)]
+    pub fn slot(&self) -> u32
+        ensures { result ≡ (first_aside self.now).handle.slot }
+    {
+        self.hand.slot
+    }
+
+    /// What is remembered of the row in hand. O(1).
+    #[inline(always)]
+    pub fn memory(&self) -> Remembered
+        ensures { result ≡ (first_aside self.now).memory }
+    {
+        self.hand.remembered()
+    }
+
+    /// Puts the handle in hand at the place, and takes the one that stood there into the hand, as `CrackerColumn::exchange` does. O(1).
+    #[inline(always)]
+    pub fn exchange(&mut self, place: usize)
+        requires { place < length self.old.handles }
+        ensures { self.new ≡ exchanged_aside place self.old }
+    {
+        let there = self.tags[place];
+        self.tags[place] = self.hand;
+        self.hand = there;
+    }
+}
