@@ -103,15 +103,6 @@ impl CrackerColumn {
         self.tags[place].slot
     }
 
-    /// What is remembered of the row of the handle at the place. O(1), and reads that place alone.
-    #[inline]
-    pub fn memory_at(&self, place: usize) -> Remembered
-        requires { place < length self.now.handles }
-        ensures { result ≡ slice_index_or self.now.remembered place nothing }
-    {
-        self.tags[place].remembered()
-    }
-
     /// The first place where the handle stands; none where it stands nowhere. O(n).
     pub fn place_of(&self, handle: Handle<Row>) -> Option<usize>
         ensures { MatchOption result (IsAbsent self.now.handles handle) (IsFirstAt self.now.handles handle) }

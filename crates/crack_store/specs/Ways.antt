@@ -3,7 +3,7 @@ use Rattle.std.specs.Prelude.{◌≡◌, ◌≢◌, ⊤, ◌<◌, ◌≤◌, ℕ
 use Rattle.crack_row.specs.declared.Bound.{Bound}
 use Rattle.crack_arena.specs.Arena.{times, slots}
 use Rattle.crack_arena.specs.Rows.{unknown}
-use Rattle.crack_column.specs.Column.{Column, Memory, first_aside, exchanged_aside}
+use Rattle.crack_column.specs.Column.{Memory, first_aside, exchanged_aside}
 use Rattle.crack_state.specs.Steps.{more}
 use Rattle.crack_store.specs.declared.ascent.Ascent.{Ascent}
 use Rattle.crack_store.specs.declared.ascent.Descent.{Descent}
@@ -12,12 +12,6 @@ use Rattle.crack_store.specs.declared.ascent.Descent.{Descent}
 abbrev pub IsKnownBelow : Option Bound → Memory → Type 0
 IsKnownBelow None m = ⊤
 IsKnownBelow (Some bound) m = (m.key ≢ unknown) × (m.key < bound.0)
-
--- the one aside of the column has this slot, and this is remembered of its row
-pub record IsAside (column : Column) (slot : ℕ) (memory : Memory) : Type 0 where
-  pub some : 0 < length column.aside
-  pub slot_is : slot ≡ (first_aside column).handle.slot
-  pub memory_is : memory ≡ (first_aside column).memory
 
 -- on its way up the hand, which isn't doomed and is known to be below the ceiling, takes a place of the column
 pub record TakesUp (v : Ascent) (place : ℕ) (w : Ascent) : Type 0 where
@@ -32,11 +26,6 @@ pub record TakesUp (v : Ascent) (place : ℕ) (w : Ascent) : Type 0 where
 abbrev pub Ascends : Ascent → ℕ → Bool → Ascent → Type 0
 Ascends v place true w = TakesUp v place w
 Ascends v place false w = w ≡ v
-
--- the one aside of the column has this slot
-pub record HasSlot (column : Column) (slot : ℕ) : Type 0 where
-  pub some : 0 < length column.aside
-  pub slot_is : slot ≡ (first_aside column).handle.slot
 
 -- on its way down the hand takes a place of the column that isn't before the one to which it goes
 pub record TakesDown (v : Descent) (place : ℕ) (w : Descent) : Type 0 where

@@ -1,5 +1,6 @@
-//! The hand on its way up and down, as what goes along on a walk over the bounds: it is in registers then, and the column beside it.
+//! The hand on its way up and down, as what goes along on a walk over the bounds, with the column beside it.
 ghost use Rattle.std.specs.Prelude.{◌≤◌, IsTrue};
+ghost use Rattle.crack_column.specs.Column.{first_aside};
 ghost use Rattle.crack_state.specs.Steps.{ceiling_of, hand_key, piece_start, PushesOn, PullsBack};
 ghost use Rattle.crack_store.specs.Inside.{lists_of};
 ghost use Rattle.crack_store.specs.Hand.{carried_of, HasHand, KeepsHand};
@@ -9,7 +10,7 @@ use crate::carrying::Near;
 use crate::inside::Inside;
 use crate::notes::Notes;
 use crate::search::note_if_doomed;
-use crack_column::{CrackerColumn, Remembered};
+use crack_column::HeldColumn;
 use crack_index::Visitor;
 use crack_pending::PendingOut;
 use crack_row::Bound;
@@ -17,12 +18,9 @@ use crack_row::Bound;
 /// The hand on its way up, under a ceiling or none.
 #[derive(Drop)]
 pub(crate) struct Ascent<'a> {
-    column: CrackerColumn,
+    column: HeldColumn,
     pending_out: &'a PendingOut,
     ceiling: Option<Bound>,
-    /// The hand's slot, and what is remembered of its row.
-    slot: u32,
-    memory: Remembered,
     /// How many rows were pushed on, as the store counts them.
     moved: u64,
 }
@@ -31,26 +29,27 @@ impl Ascent<'_> {
     /// Whether the row in hand is known to be below the ceiling. O(1), and asks no cell.
     #[inline(always)]
     fn is_below(&self) -> bool
-        ensures { IsTrue result → IsKnownBelow self.now.ceiling self.now.memory }
+        ensures { IsTrue result → IsKnownBelow self.now.ceiling (first_aside self.now.column).memory }
     {
         match self.ceiling {
-            Some(bound) => self.memory.is_known_below(bound),
+            Some(bound) => self.column.memory().is_known_below(bound),
             None => true,
         }
     }
 }
 
 impl Visitor for Ascent<'_> {
-    ghost use Rattle.crack_store.specs.Ways.{IsAside, Ascends};
+    ghost use Rattle.std.specs.Prelude.{⊤};
+    ghost use Rattle.crack_store.specs.Ways.{Ascends};
 
-    ghost is_ready = { λ v. IsAside v.column v.slot v.memory };
+    ghost is_ready = { λ _. ⊤ };
 
     ghost visits = { Ascends };
 
     /// Pushes the hand on, where it isn't doomed, is known to be below the ceiling, and the place is one of the column.
     #[inline(always)]
     fn visit(&mut self, place: usize) -> bool {
-        if self.pending_out.contains(self.slot) {
+        if self.pending_out.contains(self.column.slot()) {
             return false;
         }
         if place >= self.column.len() {
@@ -59,8 +58,6 @@ impl Visitor for Ascent<'_> {
         if !self.is_below() {
             return false;
         }
-        self.slot = self.column.slot_at(place);
-        self.memory = self.column.memory_at(place);
         self.column.exchange(place);
         self.moved = self.moved.saturating_add(1);
         true
@@ -77,16 +74,14 @@ pub(crate) fn ascend(inside: &mut Inside, ceiling: Option<Bound>) -> Near
 {
     let key = inside.column.aside_key(&inside.arena);
     let mut ascent = Ascent {
-        slot: inside.column.aside_slot(),
-        memory: inside.column.aside_memory(),
-        column: inside.column.take(),
+        column: inside.column.hold(),
         pending_out: &inside.pending_out,
         ceiling,
         moved: inside.tally.moved,
     };
     let above = inside.index.climb(key, &mut ascent);
     let Ascent { column, moved, .. } = ascent;
-    inside.column = column;
+    inside.column = column.release();
     inside.tally.moved = moved;
     Near::Above(above)
 }
@@ -94,20 +89,19 @@ pub(crate) fn ascend(inside: &mut Inside, ceiling: Option<Bound>) -> Near
 /// The hand on its way down to a place.
 #[derive(Drop)]
 pub(crate) struct Descent<'a> {
-    column: CrackerColumn,
+    column: HeldColumn,
     notes: Notes,
     pending_out: &'a PendingOut,
     place: usize,
-    /// The hand's slot.
-    slot: u32,
     /// How many rows were pulled, as the store counts them.
     pulled: u64,
 }
 
 impl Visitor for Descent<'_> {
-    ghost use Rattle.crack_store.specs.Ways.{HasSlot, Draws};
+    ghost use Rattle.std.specs.Prelude.{⊤};
+    ghost use Rattle.crack_store.specs.Ways.{Draws};
 
-    ghost is_ready = { λ v. HasSlot v.column v.slot };
+    ghost is_ready = { λ _. ⊤ };
 
     ghost visits = { Draws };
 
@@ -120,8 +114,12 @@ impl Visitor for Descent<'_> {
         if place >= self.column.len() {
             return false;
         }
-        note_if_doomed(&mut self.notes, self.pending_out, self.slot, place);
-        self.slot = self.column.slot_at(place);
+        note_if_doomed(
+            &mut self.notes,
+            self.pending_out,
+            self.column.slot(),
+            place,
+        );
         self.column.exchange(place);
         self.pulled = self.pulled.saturating_add(1);
         true
@@ -139,8 +137,7 @@ pub(crate) fn descend(inside: &mut Inside, place: usize) -> Near
 {
     let key = inside.column.aside_key(&inside.arena);
     let mut descent = Descent {
-        slot: inside.column.aside_slot(),
-        column: inside.column.take(),
+        column: inside.column.hold(),
         notes: inside.notes.take(),
         pending_out: &inside.pending_out,
         place,
@@ -153,7 +150,7 @@ pub(crate) fn descend(inside: &mut Inside, place: usize) -> Near
         pulled,
         ..
     } = descent;
-    inside.column = column;
+    inside.column = column.release();
     inside.notes = notes;
     inside.tally.pulled = pulled;
     Near::Below(below)

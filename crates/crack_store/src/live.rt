@@ -2,7 +2,8 @@
 ghost use Rattle.std.specs.Prelude.{◌≡◌, ◌+◌, ◌<◌, ◌≤◌, ◌++◌, [], length, take, drop, IfOk, IfErr, OnOk};
 ghost use Rattle.std.specs.List.{cons_option};
 ghost use Rattle.std.specs.List.Sorted.{IsPermutation, IsNonDecreasingBy};
-ghost use Rattle.crack_state.specs.State.{live_rows};
+ghost use Rattle.crack_arena.specs.Arena.{slots};
+ghost use Rattle.crack_state.specs.State.{live_at, live_rows};
 ghost use Rattle.crack_state.specs.Stretch.{serial_of};
 ghost use Rattle.crack_store.specs.Found.{KeepsOrder, live_below};
 
@@ -100,10 +101,22 @@ impl Store {
         ensures err { IfErr result (λ e. e ≡ Refusal.OutOfMemory) }
     {
         'cells: for place in 0..cells.len() {
-            if !self.inside.pending_out.contains(slot + place as u32) {
-                found.add(cells.value_at(place).copied())?;
-            }
+            found.add(self.live_at(slot, cells, place))?;
         }
         Ok(())
+    }
+
+    /// What the cell at this place of a stretch, which begins with the cell of this number, has for commands to see, if anything. O(1).
+    #[inline(always)]
+    fn live_at(&self, slot: u32, cells: &Stretch<'_, Row>, place: usize) -> Option<Row>
+        requires cells { cells.now ≡ take (length cells.now) (drop slot self.now.cells) }
+        requires there { place < length cells.now }
+        requires few { slot + place < 4294967296 }
+        ensures { result ≡ live_at self.now.cells (slots self.now.pending_out) (slot + place) }
+    {
+        if self.inside.pending_out.contains(slot + place as u32) {
+            return None;
+        }
+        cells.value_at(place).copied()
     }
 }

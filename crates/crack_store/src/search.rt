@@ -9,6 +9,9 @@ use crack_column::CrackerColumn;
 use crack_pending::PendingOut;
 use crack_row::Row;
 
+/// How many places of a piece are looked at together.
+const BLOCK: usize = 64;
+
 impl Carrying {
     /// The place of the column where a doomed row stands, as `place_of` tells it.
     /// O(1) where the row was noted, else O(its own piece + log bounds): the pass over its piece notes every doomed row there, and steps
@@ -58,7 +61,8 @@ impl Carrying {
     }
 }
 
-/// Notes each doomed row from the one place of the column up to the other. O(places).
+/// Notes each doomed row from the one place of the column up to the other. O(places): those of a block are looked at one by one only where
+/// one of them is doomed.
 fn note_doomed(
     column: &CrackerColumn,
     from: usize,
@@ -68,11 +72,39 @@ fn note_doomed(
 )
     requires { to ≤ length column.now.handles }
 {
-    'places: for place in from..to {
-        let slot = column.slot_at(place);
-        if pending_out.contains(slot) {
-            notes.put(slot, place);
+    let mut place = from;
+    'parts: while place < to {
+        let end = place + BLOCK.min(to - place);
+        if has_doomed(column, place, end, pending_out) {
+            note_each(column, place, end, pending_out, notes);
         }
+        place = end;
+    }
+}
+
+/// Whether one of the rows from the one place up to the other is doomed. No branch hangs on a row.
+fn has_doomed(column: &CrackerColumn, from: usize, to: usize, pending_out: &PendingOut) -> bool
+    requires { to ≤ length column.now.handles }
+{
+    let mut any = false;
+    'places: for place in from..to {
+        any |= pending_out.contains(column.slot_at(place));
+    }
+    any
+}
+
+/// Notes each doomed row from the one place up to the other, one by one.
+fn note_each(
+    column: &CrackerColumn,
+    from: usize,
+    to: usize,
+    pending_out: &PendingOut,
+    notes: &mut Notes,
+)
+    requires { to ≤ length column.now.handles }
+{
+    'places: for place in from..to {
+        note_if_doomed(notes, pending_out, column.slot_at(place), place);
     }
 }
 

@@ -1,8 +1,9 @@
-use Rattle.std.proofs.Common.{◌≡◌}
-use Rattle.std.specs.List.{filter_map, range_with_len}
-use Rattle.crack_arena.specs.Arena.{slots}
-use Rattle.crack_state.specs.State.{live_at}
+use Rattle.std.proofs.Common.{◌≡◌, ◌≤◌, ◌-◌, length}
+use Rattle.crack_store.specs.Found.{KeepsOrder, live_below}
 use Rattle.crack_store.proofs.store.Store.rows_by_cells.Given as goal
 
-abbrev pub invariant-cells : goal.invariant-cells
-invariant-cells l = l.rows.items ≡ filter_map (live_at l.self.cells (slots l.self.pending_out)) (range_with_len 0 l.slot)
+abbrev pub invariant-stretches : goal.invariant-stretches
+invariant-stretches l = (l.slot ≤ length l.self.cells) × (l.found.rows.items ≡ live_below l.slot l.self) × KeepsOrder l.found
+
+abbrev pub decreases-stretches : goal.decreases-stretches
+decreases-stretches l = length l.self.cells - l.slot

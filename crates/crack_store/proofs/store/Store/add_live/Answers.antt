@@ -1,0 +1,22 @@
+use Rattle.std.proofs.Common.{◌≡◌, ◌+◌, arith, sym, ap, ◌∙◌}
+use Rattle.crack_arena.specs.Arena.{slots}
+use Rattle.crack_state.specs.State.{live_at}
+use Rattle.crack_store.specs.Found.{live_below}
+use Rattle.crack_store.proofs.LiveLemmas.{seen-next}
+use Rattle.crack_store.proofs.store.Store.add_live.Goals as goal
+
+pub cells-init : goal.cells-init
+cells-init c =
+    let none : c.args.slot + 0 ≡ c.args.slot = omega arith in
+    (c.requires.rows ∙ ap (λ slot. live_below slot c.args.self.now) (sym none), c.requires.order)
+
+pub add-requires : goal.add-requires
+add-requires c = record { order = c.cells.invariant.1 }
+
+pub cells-preserved : goal.cells-preserved
+cells-preserved c =
+    let next : c.args.slot + c.cells.place + 1 ≡ c.args.slot + (c.cells.place + 1) = omega arith in
+    (
+      rw next at (seen-next (live_at c.args.self.now.cells (slots c.args.self.now.pending_out)) _ _ (c.args.slot + c.cells.place) c.live_at.result c.live_at.ensures c.cells.invariant.0 c.in_ok-add.ensures.rows),
+      c.in_ok-add.ensures.order,
+    )
