@@ -177,6 +177,31 @@ fn cells_of_a_second_page(rt: HostRuntime) {
     drop(arena);
 }
 
+/// The values of cells that stand side by side, from the one of this number on, up to this many cells.
+fn assert_stretch(rt: &impl Abort, arena: &Arena<char>, slot: u32, len: usize) {
+    let stretch = arena.stretch_from(slot);
+    assert_eq!(rt; stretch.len(), len);
+    assert_eq!(rt; stretch.value_at(len), None);
+    for place in 0..len {
+        let handle = Handle::new(slot.saturating_add(place as u32), 0);
+        assert_eq!(rt; stretch.value_at(place).copied(), arena.get(handle).copied());
+    }
+}
+
+#[test]
+fn a_stretch_ends_with_its_page(rt: HostRuntime) {
+    let mut arena = Arena::new(rt.alloc());
+    assert_stretch(&rt, &arena, 0, 0);
+    put_in_order(&rt, &mut arena, 300);
+    assert_frees(&rt, &mut arena, Handle::new(3, 0), Some('a'));
+    assert_stretch(&rt, &arena, 0, 256);
+    assert_stretch(&rt, &arena, 255, 1);
+    assert_stretch(&rt, &arena, 256, 44);
+    assert_stretch(&rt, &arena, 300, 0);
+    assert_stretch(&rt, &arena, 4294967295, 0);
+    drop(arena);
+}
+
 #[test]
 fn thousand_reserved_puts_succeed(rt: HostRuntime) {
     let mut arena = Arena::new(rt.alloc());

@@ -370,3 +370,40 @@ fn a_row_aside_changes_places(rt: HostRuntime) -> Result<(), Fail> {
     drop(arena);
     told
 }
+
+/// Takes a third row of three in hand, lets it change places with both others, and lets go of it.
+fn go_in_hand(rt: &impl Abort, arena: &mut Arena<Row>, column: &mut CrackerColumn) -> Result<(), Fail> {
+    let a = put(rt, arena, 0, 40, 1)?;
+    let b = put(rt, arena, 1, 10, 2)?;
+    let c = put(rt, arena, 2, 4294967295, 4)?;
+    let len = column.len();
+    assert!(rt; len == 0);
+    column.reserve(3)?;
+    column.append_remembered(a, memory(arena, a));
+    column.append_remembered(b, memory(arena, b));
+    column.set_aside(c, memory(arena, c));
+    let mut held = column.hold();
+    assert_eq!(rt; column.len(), 0);
+    assert_eq!(rt; held.len(), 2);
+    assert_eq!(rt; held.slot(), 2);
+    held.exchange(1);
+    assert_eq!(rt; held.slot(), 1);
+    assert!(rt; held.memory().is_known_below(Bound(11)));
+    held.exchange(0);
+    assert_eq!(rt; held.slot(), 0);
+    *column = held.release();
+    assert!(rt; column.aside() == a);
+    assert_eq!(rt; slot_at(rt, column, 0), 1);
+    assert_eq!(rt; slot_at(rt, column, 1), 2);
+    Ok(())
+}
+
+#[test]
+fn a_row_in_hand_changes_places(rt: HostRuntime) -> Result<(), Fail> {
+    let mut arena = Arena::new(rt.alloc());
+    let mut column = CrackerColumn::new(rt.alloc());
+    let told = go_in_hand(&rt, &mut arena, &mut column);
+    drop(column);
+    drop(arena);
+    told
+}
