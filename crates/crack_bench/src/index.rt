@@ -56,8 +56,8 @@ pub fn look_above(index: &CrackerIndex, keys: u32) -> u64 {
     let mut numbers = Numbers::new(SEED + 1);
     let mut sum = 0;
     'keys: for _ in 0..keys {
-        if let Some(near) = index.bound_above(Key(numbers.word())) {
-            sum = mixed(sum, near.position() as u64);
+        if let Some(mark) = index.bound_above(Key(numbers.word())) {
+            sum = mixed(sum, mark.position as u64);
         }
     }
     sum
@@ -91,7 +91,7 @@ pub fn walk_up(index: &mut CrackerIndex) -> u64
     let mut told = Told { sum: 0 };
     let end = index.climb(Key(0), &mut told);
     match end {
-        Some(near) => told.sum.wrapping_add(near.position() as u64),
+        Some(mark) => told.sum.wrapping_add(mark.position as u64),
         None => told.sum,
     }
 }
@@ -102,7 +102,7 @@ pub fn walk_down(index: &mut CrackerIndex) -> u64 {
     let mut told = Told { sum: 0 };
     let end = index.descend(Key(4294967295), &mut told);
     match end {
-        Some(near) => told.sum.wrapping_add(near.position() as u64),
+        Some(mark) => told.sum.wrapping_add(mark.position as u64),
         None => told.sum,
     }
 }

@@ -6,9 +6,8 @@ use Rattle.std.proofs.lemmas.Bool.{lt-leb, le-leb, eq-eqb, ne_eqb, and_right}
 use Rattle.std.proofs.lemmas.List.{ext_get_or, length-map, get_or-map}
 use Rattle.std.proofs.lemmas.List.Elements.{All-contains}
 use Rattle.crack_index.specs.declared.mark.Mark.{Mark}
-use Rattle.crack_index.specs.declared.near.NearBound.{NearBound}
 use Rattle.crack_index.proofs.MarkLaws.{no_mark, last_mark-is, last_mark-none, HasBound-mark, HasBound-contains, place_of-mark}
-use Rattle.crack_index.specs.Marks.{Rising, HasBound, position_of, raised, lowered, lowered_at, last_mark, near_mark}
+use Rattle.crack_index.specs.Marks.{Rising, HasBound, position_of, raised, lowered, lowered_at, last_mark}
 use Rattle.crack_index.specs.Steps.{one_up, one_down}
 
 pub map_same : (f : Mark → Mark) (xs : List Mark) → All (λ x. f x ≡ x) xs → map f xs ≡ xs
@@ -60,7 +59,7 @@ position-none b marks rising none there =
     let above = All-contains (λ n. b < n.bound.0) marks at.0 (last_mark-none b marks rising none) at.1 in
     omega (arith, above, at.2)
 
--- what holds of the mark that is looked for holds of the one that was found
-pub of_found : (P : Mark → Type 0) (found : Option NearBound) (o : Option Mark) → near_mark found ≡ o → ((m : Mark) → o ≡ Some m → P m) → IfSome found (λ n. P n.mark)
-of_found P None o e holds = tt
-of_found P (Some n) o e holds = holds n.mark (sym e)
+-- what holds of the mark that is found, if one is
+pub if_found : (P : Mark → Type 0) (found : Option Mark) → ((m : Mark) → found ≡ Some m → P m) → IfSome found P
+if_found P None holds = tt
+if_found P (Some m) holds = holds m refl

@@ -4,7 +4,6 @@ use Rattle.std.specs.Option.{option_map}
 use Rattle.crack_row.specs.declared.Bound.{Bound}
 use Rattle.crack_row.specs.declared.layout.PieceSize.{PieceSize}
 use Rattle.crack_index.specs.declared.mark.Mark.{Mark}
-use Rattle.crack_index.specs.declared.near.NearBound.{NearBound}
 use Rattle.crack_index.specs.declared.index.Piece.{Piece}
 
 -- what contracts see of an index: its marks in rising order, and for how many more it has room
@@ -48,10 +47,6 @@ next_mark number (m ∷ ms) = cond (nat_lt number m.bound.0) (Some m) (next_mark
 abbrev pub last_mark : ℕ → List Mark → Option Mark
 last_mark number [] = None
 last_mark number (m ∷ ms) = cond (nat_le m.bound.0 number) (Some (unwrap_or (last_mark number ms) m)) None
-
--- the mark that a search found, if any
-abbrev pub near_mark : Option NearBound → Option Mark
-near_mark found = option_map (λ (n : NearBound). n.mark) found
 
 -- the first mark that stands behind the place
 abbrev pub first_behind : ℕ → List Mark → Option Mark

@@ -4,10 +4,10 @@ ghost use Rattle.std.specs.Option.{option_map};
 ghost use Rattle.crack_row.specs.Layouts.{AreJoined};
 ghost use Rattle.crack_index.specs.Heights.{least, most};
 ghost use Rattle.crack_index.specs.Walks.{Climbs, Descends};
-ghost use Rattle.crack_index.specs.Marks.{Rising, Fits, HasBound, position_of, next_mark, last_mark, near_mark, first_behind, last_before, pair_of, added, raised, lowered, lowered_at, piece_at, pieces_from};
+ghost use Rattle.crack_index.specs.Marks.{Rising, Fits, HasBound, position_of, next_mark, last_mark, first_behind, last_before, pair_of, added, raised, lowered, lowered_at, piece_at, pieces_from};
 
 use crate::tree::{self, Link, Node};
-use crate::{Mark, NearBound, Visitor, walk};
+use crate::{Mark, Visitor, walk};
 use crack_row::{Bound, Key, KeyRange, PieceSize, Refusal};
 use std::alloc::Global;
 use std::marker::Model;
@@ -138,21 +138,21 @@ impl CrackerIndex {
     }
 
     /// The least bound above this key. O(log bounds).
-    pub fn bound_above(&self, key: Key) -> Option<NearBound>
-        ensures value { near_mark result ≡ next_mark key.0 self.now.marks }
-        ensures there { IfSome result (λ n. Contains self.now.marks n.mark) }
+    pub fn bound_above(&self, key: Key) -> Option<Mark>
+        ensures value { result ≡ next_mark key.0 self.now.marks }
+        ensures there { IfSome result (λ m. Contains self.now.marks m) }
         ensures rising { Rising self.now.marks }
     {
-        NearBound::of(tree::next_above(&self.root, u64::from(key.0)))
+        tree::next_above(&self.root, u64::from(key.0))
     }
 
     /// The greatest bound at or below this key. O(log bounds).
-    pub fn bound_below(&self, key: Key) -> Option<NearBound>
-        ensures value { near_mark result ≡ last_mark key.0 self.now.marks }
-        ensures there { IfSome result (λ n. Contains self.now.marks n.mark) }
+    pub fn bound_below(&self, key: Key) -> Option<Mark>
+        ensures value { result ≡ last_mark key.0 self.now.marks }
+        ensures there { IfSome result (λ m. Contains self.now.marks m) }
         ensures rising { Rising self.now.marks }
     {
-        NearBound::of(tree::last_at(&self.root, u64::from(key.0)))
+        tree::last_at(&self.root, u64::from(key.0))
     }
 
     /// The piece whose keys hold this key, in a column of `len` rows. O(log bounds).
@@ -225,52 +225,52 @@ impl CrackerIndex {
 
     /// Each bound at or above this one that stands where it stands moves up by one, and the answer is the first bound that
     /// stood behind that place. O(log bounds) and the bounds at that place.
-    pub fn raise_past(&mut self, near: NearBound) -> Option<NearBound>
-        requires there { Contains self.old.marks near.mark }
-        requires small { near.mark.position < usize.MAX }
-        ensures marks { self.new.marks ≡ map (raised near.mark.bound.0 near.mark.position) self.old.marks }
-        ensures next { near_mark result ≡ first_behind near.mark.position self.old.marks }
-        ensures there { IfSome result (λ n. Contains self.new.marks n.mark) }
+    pub fn raise_past(&mut self, mark: Mark) -> Option<Mark>
+        requires there { Contains self.old.marks mark }
+        requires small { mark.position < usize.MAX }
+        ensures marks { self.new.marks ≡ map (raised mark.bound.0 mark.position) self.old.marks }
+        ensures next { result ≡ first_behind mark.position self.old.marks }
+        ensures there { IfSome result (λ m. Contains self.new.marks m) }
         ensures room { self.new.room ≡ self.old.room }
         ensures rising { Rising self.new.marks }
     {
-        let Mark { bound, position } = near.mark;
+        let Mark { bound, position } = mark;
         let next = tree::first_behind(&self.root, position);
         tree::raise(&mut self.root, bound.0, position);
-        NearBound::of(next)
+        next
     }
 
     /// Each bound at or below this one that stands where it stands moves down by one, and the answer is the last bound that
     /// stood before that place. O(log bounds) and the bounds at that place.
-    pub fn lower_past(&mut self, near: NearBound) -> Option<NearBound>
-        requires there { Contains self.old.marks near.mark }
-        requires above_zero { 0 < near.mark.position }
-        ensures marks { self.new.marks ≡ map (lowered near.mark.bound.0 near.mark.position) self.old.marks }
-        ensures next { near_mark result ≡ last_before near.mark.position self.old.marks }
-        ensures there { IfSome result (λ n. Contains self.new.marks n.mark) }
+    pub fn lower_past(&mut self, mark: Mark) -> Option<Mark>
+        requires there { Contains self.old.marks mark }
+        requires above_zero { 0 < mark.position }
+        ensures marks { self.new.marks ≡ map (lowered mark.bound.0 mark.position) self.old.marks }
+        ensures next { result ≡ last_before mark.position self.old.marks }
+        ensures there { IfSome result (λ m. Contains self.new.marks m) }
         ensures room { self.new.room ≡ self.old.room }
         ensures rising { Rising self.new.marks }
     {
-        let Mark { bound, position } = near.mark;
+        let Mark { bound, position } = mark;
         let next = tree::last_before(&self.root, position);
         tree::lower(&mut self.root, bound.0, position);
-        NearBound::of(next)
+        next
     }
 
     /// Walks up from the least bound above the key: the visitor is told the place of the bound, and where it says so, that bound and those
     /// above it that stand there move up by one, and the walk goes on to the next place. The bound at which it ended, if one is left.
     /// O(log bounds) and the bounds at the places on its way. Takes no memory.
     #[inline(always)]
-    pub fn climb<V: Visitor>(&mut self, key: Key, visitor: &mut V) -> Option<NearBound>
+    pub fn climb<V: Visitor>(&mut self, key: Key, visitor: &mut V) -> Option<Mark>
         requires small { All (λ m. m.position < usize.MAX) self.old.marks }
         requires ready { V.is_ready visitor.old }
-        ensures climbs { Climbs V.visits (next_mark key.0 self.old.marks) self.old.marks visitor.old (near_mark result) self.new.marks visitor.new }
+        ensures climbs { Climbs V.visits (next_mark key.0 self.old.marks) self.old.marks visitor.old result self.new.marks visitor.new }
         ensures ready { V.is_ready visitor.new }
-        ensures there { IfSome result (λ n. Contains self.new.marks n.mark) }
+        ensures there { IfSome result (λ m. Contains self.new.marks m) }
         ensures room { self.new.room ≡ self.old.room }
         ensures rising { Rising self.new.marks }
     {
-        NearBound::of(walk::climb(&mut self.root, u64::from(key.0), visitor))
+        walk::climb(&mut self.root, u64::from(key.0), visitor)
     }
 
     /// Walks down from the greatest bound at or below the key: the visitor is told the last place before the bound, and where it says so,
@@ -278,14 +278,14 @@ impl CrackerIndex {
     /// which it ended, if one is left; a bound at the column's front has no place before it, and ends it.
     /// O(log bounds) and the bounds at the places on its way. Takes no memory.
     #[inline(always)]
-    pub fn descend<V: Visitor>(&mut self, key: Key, visitor: &mut V) -> Option<NearBound>
+    pub fn descend<V: Visitor>(&mut self, key: Key, visitor: &mut V) -> Option<Mark>
         requires ready { V.is_ready visitor.old }
-        ensures descends { Descends V.visits (last_mark key.0 self.old.marks) self.old.marks visitor.old (near_mark result) self.new.marks visitor.new }
+        ensures descends { Descends V.visits (last_mark key.0 self.old.marks) self.old.marks visitor.old result self.new.marks visitor.new }
         ensures ready { V.is_ready visitor.new }
-        ensures there { IfSome result (λ n. Contains self.new.marks n.mark) }
+        ensures there { IfSome result (λ m. Contains self.new.marks m) }
         ensures room { self.new.room ≡ self.old.room }
         ensures rising { Rising self.new.marks }
     {
-        NearBound::of(walk::descend(&mut self.root, u64::from(key.0), visitor))
+        walk::descend(&mut self.root, u64::from(key.0), visitor)
     }
 }

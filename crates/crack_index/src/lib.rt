@@ -4,12 +4,10 @@
 
 pub mod index;
 pub mod mark;
-pub mod near;
 mod tree;
 pub mod visitor;
 mod walk;
 
 pub use index::{CrackerIndex, Piece};
 pub use mark::Mark;
-pub use near::NearBound;
 pub use visitor::Visitor;

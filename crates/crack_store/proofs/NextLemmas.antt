@@ -1,10 +1,9 @@
 -- What a look-up of a bound next to a key tells.
-use Rattle.std.proofs.Common.{◌≡◌, ℕ, ◌<◌, ◌^◌, ◌-◌, ◌∷◌, [], List, map, length, Option, Some, None, refl, sym, ap, ◌∙◌, arith}
+use Rattle.std.proofs.Common.{◌≡◌, ℕ, ◌<◌, ◌^◌, ◌-◌, ◌∷◌, [], List, map, length, Option, Some, None, refl, sym, ◌∙◌, arith}
 use Rattle.std.specs.Prelude.{Contains, IfSome}
 use Rattle.std.proofs.lemmas.List.Elements.{All-contains}
 use Rattle.crack_index.specs.declared.mark.Mark.{Mark}
-use Rattle.crack_index.specs.declared.near.NearBound.{NearBound}
-use Rattle.crack_index.specs.Marks.{near_mark, next_mark, last_mark, first_behind, last_before, raised, lowered}
+use Rattle.crack_index.specs.Marks.{next_mark, last_mark, first_behind, last_before, raised, lowered}
 use Rattle.crack_index.proofs.MarkLaws.{next_mark-is, last_mark-is}
 use Rattle.crack_arena.specs.Arena.{Handle}
 use Rattle.crack_state.specs.State.{State, Carried, IsIntact}
@@ -18,10 +17,6 @@ use Rattle.crack_store.specs.declared.carrying.Near.TheVariants.{Unsought, Above
 use Rattle.crack_store.specs.Hand.{IsNear}
 use Rattle.crack_store.proofs.EdgeLemmas.{positions_small}
 
--- the mark that was found, if any was
-pub near_found : (found near : Option NearBound) (o : Option Mark) → near_mark found ≡ o → found ≡ near → o ≡ near_mark near
-near_found found near o value is = sym value ∙ ap near_mark is
-
 -- the bound where the own piece of the hand ends, before the column does, and what becomes of a hand that is put there
 pub record IsUp (c : Carried) (m : Mark) : Type 0 where
   pub listed : Contains c.store.marks m
@@ -32,19 +27,18 @@ pub record IsUp (c : Carried) (m : Mark) : Type 0 where
   pub next : next_mark (hand_key (pushed_on c)) (pushed_on c).store.marks ≡ first_behind m.position c.store.marks
   pub nearer : bounds_above (hand_key (pushed_on c)) (pushed_on c).store.marks < bounds_above (hand_key c) c.store.marks
 
-pub is_up : (c : Carried) (found : Option NearBound) (n : NearBound) → near_mark found ≡ next_mark (hand_key c) c.store.marks → found ≡ Some n → piece_end c.store (hand_key c) < length c.store.column → IsIntact c.store (c.hand ∷ []) → IsUp c n.mark
-is_up c found n value is room intact =
+pub is_up : (c : Carried) (m : Mark) → next_mark (hand_key c) c.store.marks ≡ Some m → piece_end c.store (hand_key c) < length c.store.column → IsIntact c.store (c.hand ∷ []) → IsUp c m
+is_up c m is room intact =
     let s = c.store in
-    let at = near_found found (Some n) (next_mark (hand_key c) s.marks) value is in
-    let next = next_mark-is (hand_key c) s.marks n.mark intact.rising at in
-    let within : n.mark.position < length s.column = rw at at room in
+    let next = next_mark-is (hand_key c) s.marks m intact.rising is in
+    let within : m.position < length s.column = rw is at room in
     record {
       listed = next.listed;
-      small = All-contains (λ (x : Mark). x.position < 2 ^ 64 - 1) s.marks n.mark (positions_small s (c.hand ∷ []) intact) next.listed;
+      small = All-contains (λ (x : Mark). x.position < 2 ^ 64 - 1) s.marks m (positions_small s (c.hand ∷ []) intact) next.listed;
       within = within;
-      after = rw at refl;
+      after = rw is refl;
       intact = IsIntact-pushed_on c room intact;
-      next = next-pushed_on c n.mark at within intact;
+      next = next-pushed_on c m is within intact;
       nearer = bounds_above-pushed_on c room intact;
     }
 
@@ -58,29 +52,28 @@ pub record IsDown (c : Carried) (m : Mark) : Type 0 where
   pub next : last_mark (hand_key (pulled_back c)) (pulled_back c).store.marks ≡ last_before m.position c.store.marks
   pub nearer : bounds_up_to (hand_key (pulled_back c)) (pulled_back c).store.marks < bounds_up_to (hand_key c) c.store.marks
 
-pub is_down : (c : Carried) (found : Option NearBound) (n : NearBound) → near_mark found ≡ last_mark (hand_key c) c.store.marks → found ≡ Some n → 0 < piece_start c.store (hand_key c) → IsIntact c.store (c.hand ∷ []) → IsDown c n.mark
-is_down c found n value is some intact =
+pub is_down : (c : Carried) (m : Mark) → last_mark (hand_key c) c.store.marks ≡ Some m → 0 < piece_start c.store (hand_key c) → IsIntact c.store (c.hand ∷ []) → IsDown c m
+is_down c m is some intact =
     let s = c.store in
-    let at = near_found found (Some n) (last_mark (hand_key c) s.marks) value is in
-    let last = last_mark-is (hand_key c) s.marks n.mark intact.rising at in
-    let above : 0 < n.mark.position = rw at at some in
-    let place : piece_start s (hand_key c) ≡ n.mark.position = rw at refl in
+    let last = last_mark-is (hand_key c) s.marks m intact.rising is in
+    let above : 0 < m.position = rw is at some in
+    let place : piece_start s (hand_key c) ≡ m.position = rw is refl in
     record {
       listed = last.listed;
       above = above;
       within = omega (arith, above, place, piece_start-le s (hand_key c) intact.rising intact.obeyed);
-      after = rw at refl;
+      after = rw is refl;
       intact = IsIntact-pulled_back c some intact;
-      next = last-pulled_back c n.mark at above intact;
+      next = last-pulled_back c m is above intact;
       nearer = bounds_up_to-pulled_back c some intact;
     }
 
-pub next_listed : (s : State) (hand : List Handle) (key : ℕ) (found : Option NearBound) → IsIntact s hand → near_mark found ≡ next_mark key s.marks → IfSome found (λ n. Contains s.marks n.mark)
+pub next_listed : (s : State) (hand : List Handle) (key : ℕ) (found : Option Mark) → IsIntact s hand → found ≡ next_mark key s.marks → IfSome found (λ m. Contains s.marks m)
 next_listed s hand key None intact value = tt
-next_listed s hand key (Some n) intact value = (next_mark-is key s.marks n.mark intact.rising (sym value)).listed
+next_listed s hand key (Some m) intact value = (next_mark-is key s.marks m intact.rising (sym value)).listed
 
 -- the bound that is kept stays the one next to a key that has the same neighbours
 pub IsNear-same : (marks : List Mark) (key other : ℕ) (near : Near) → next_mark other marks ≡ next_mark key marks → last_mark other marks ≡ last_mark key marks → IsNear marks key near → IsNear marks other near
 IsNear-same marks key other Unsought next last is = tt
-IsNear-same marks key other (Above bound) next last is = is ∙ sym next
-IsNear-same marks key other (Below bound) next last is = is ∙ sym last
+IsNear-same marks key other (Above mark) next last is = is ∙ sym next
+IsNear-same marks key other (Below mark) next last is = is ∙ sym last

@@ -4,8 +4,7 @@ use Rattle.std.proofs.lemmas.Bool.{cases_lt}
 use Rattle.crack_row.specs.declared.Bound.{Bound}
 use Rattle.crack_column.specs.Column.{Memory, Agrees, first_aside}
 use Rattle.crack_index.specs.declared.mark.Mark.{Mark}
-use Rattle.crack_index.specs.declared.near.NearBound.{NearBound}
-use Rattle.crack_index.specs.Marks.{Index, near_mark, next_mark, last_mark, first_behind, last_before, raised, lowered, start_of}
+use Rattle.crack_index.specs.Marks.{Index, next_mark, last_mark, first_behind, last_before, raised, lowered, start_of}
 use Rattle.crack_index.specs.Walks.{Climbs, Descends}
 use Rattle.crack_state.specs.State.{Carried, IsIntact}
 use Rattle.crack_state.specs.Steps.{hand_key, piece_start, piece_end, IsDoomed, pushed_on, pulled_back, bounds_above, ceiling_of, IsBelow, PushesOn, PullsBack}
@@ -20,15 +19,6 @@ use Rattle.crack_store.specs.Hand.{hand_of, carried_of, HasHand, KeepsHand}
 use Rattle.crack_store.specs.Ways.{IsKnownBelow, TakesUp, Ascends, TakesDown, Draws}
 use Rattle.crack_store.proofs.HandLemmas.{IsMade, exchanged_to}
 use Rattle.crack_store.proofs.NextLemmas.{is_up, is_down}
-
--- a mark as one that a search found
-abbrev found_of : Option Mark → Option NearBound
-found_of None = None
-found_of (Some m) = Some (record { mark = m })
-
-near_found_of : (o : Option Mark) → near_mark (found_of o) ≡ o
-near_found_of None = refl
-near_found_of (Some m) = refl
 
 -- a row that is known to be below the ceiling is below it
 below_ceiling : (ceiling : Option Bound) (p : Inside) → IsKnownBelow ceiling (first_aside p.column).memory → Agrees p.arena.cells (hand_of p) (first_aside p.column).memory → IsBelow (ceiling_of ceiling) (hand_key (carried_of p))
@@ -61,12 +51,11 @@ taken : (p : Inside) (m : Mark) (marks : List Mark) (v w : Ascent) → v.pending
 taken p m marks v w out has next takes =
     let q = climbing p v marks in
     let c : Carried = carried_of q in
-    let found = found_of (Some m) in
     let room : piece_end c.store (hand_key c) < length c.store.column = rw next takes.within in
-    let up = is_up c found (record { mark = m }) (near_found_of (Some m) ∙ sym next) refl room has.kept.intact in
+    let up = is_up c m next room has.kept.intact in
     let behind = first_behind m.position marks in
-    let near = Above (found_of behind) in
-    let made : IsMade (climbing p w (map (raised m.bound.0 m.position) marks)) near (pushed_on c) = exchanged_to q w.column (record p.index { marks = map (raised m.bound.0 m.position) marks }) p.notes (record p.tally { moved = w.moved }) m.position near (pushed_on c) has takes.column takes.within (rw takes.moved up.after) up.intact (near_found_of behind ∙ sym up.next) in
+    let near = Above behind in
+    let made : IsMade (climbing p w (map (raised m.bound.0 m.position) marks)) near (pushed_on c) = exchanged_to q w.column (record p.index { marks = map (raised m.bound.0 m.position) marks }) p.notes (record p.tally { moved = w.moved }) m.position near (pushed_on c) has takes.column takes.within (rw takes.moved up.after) up.intact (sym up.next) in
     record {
       is = made.is;
       has = made.keeps.has;
@@ -107,17 +96,17 @@ index_is i j e =
     ap built e
 
 -- what the whole walk up leaves
-pub record IsAscended (p : Inside) (ceiling : Option Bound) (q : Inside) (last : Option NearBound) : Type 0 where
+pub record IsAscended (p : Inside) (ceiling : Option Bound) (q : Inside) (last : Option Mark) : Type 0 where
   pub pushes : PushesOn (ceiling_of ceiling) (carried_of p) (carried_of q)
   pub kept : KeepsHand q (Above last)
 
-pub ascended : (p : Inside) (v w : Ascent) (index : Index) (last : Option NearBound) (key : ℕ) → HasHand p → v.column ≡ p.column → v.moved ≡ p.tally.moved → v.pending_out.now ≡ p.pending_out → key ≡ hand_key (carried_of p)
-    → Climbs Ascends (next_mark key p.index.marks) p.index.marks v (near_mark last) index.marks w → index.room ≡ p.index.room
+pub ascended : (p : Inside) (v w : Ascent) (index : Index) (last : Option Mark) (key : ℕ) → HasHand p → v.column ≡ p.column → v.moved ≡ p.tally.moved → v.pending_out.now ≡ p.pending_out → key ≡ hand_key (carried_of p)
+    → Climbs Ascends (next_mark key p.index.marks) p.index.marks v last index.marks w → index.room ≡ p.index.room
     → IsAscended p v.ceiling (record p { column = w.column; index = index; tally = record p.tally { moved = w.moved } }) last
 ascended p v w index last key has column moved out is_key climbs room =
     let start : climbing p v p.index.marks ≡ p = rw (column, moved) refl in
     let next : next_mark (hand_key (carried_of (climbing p v p.index.marks))) p.index.marks ≡ next_mark key p.index.marks = subst (λ (q : Inside). next_mark (hand_key (carried_of q)) p.index.marks ≡ next_mark key p.index.marks) (sym start) (rw is_key refl) in
-    let on = climbed p v.ceiling (next_mark key p.index.marks) (near_mark last) p.index.marks index.marks v w climbs out refl (subst (λ (q : Inside). HasHand q) (sym start) has) next in
+    let on = climbed p v.ceiling (next_mark key p.index.marks) last p.index.marks index.marks v w climbs out refl (subst (λ (q : Inside). HasHand q) (sym start) has) next in
     rw (index_is p.index index room) (record {
       pushes = subst (λ (q : Inside). PushesOn (ceiling_of v.ceiling) (carried_of q) (carried_of (climbing p w index.marks))) start on.pushes;
       kept = record { has = on.has; is_near = sym on.next };
@@ -146,10 +135,10 @@ drawn p m marks v w has next above takes =
     let q = descending p v marks in
     let c : Carried = carried_of q in
     let some : 0 < piece_start c.store (hand_key c) = rw next above in
-    let down = is_down c (found_of (Some m)) (record { mark = m }) (near_found_of (Some m) ∙ sym next) refl some has.kept.intact in
+    let down = is_down c m next some has.kept.intact in
     let before = last_before m.position marks in
-    let near = Below (found_of before) in
-    let made : IsMade (descending p w (map (lowered m.bound.0 m.position) marks)) near (pulled_back c) = exchanged_to q w.column (record p.index { marks = map (lowered m.bound.0 m.position) marks }) w.notes (record p.tally { pulled = w.pulled }) (m.position - 1) near (pulled_back c) has takes.column takes.within (rw takes.pulled down.after) down.intact (near_found_of before ∙ sym down.next) in
+    let near = Below before in
+    let made : IsMade (descending p w (map (lowered m.bound.0 m.position) marks)) near (pulled_back c) = exchanged_to q w.column (record p.index { marks = map (lowered m.bound.0 m.position) marks }) w.notes (record p.tally { pulled = w.pulled }) (m.position - 1) near (pulled_back c) has takes.column takes.within (rw takes.pulled down.after) down.intact (sym down.next) in
     record {
       is = made.is;
       has = made.keeps.has;
@@ -185,18 +174,18 @@ descended p place o last marks marks' v w (Descends.goes_on m l ms ms' x y z abo
     }
 
 -- what the whole walk down leaves
-pub record IsLowest (p : Inside) (place : ℕ) (q : Inside) (last : Option NearBound) : Type 0 where
+pub record IsLowest (p : Inside) (place : ℕ) (q : Inside) (last : Option Mark) : Type 0 where
   pub pulls : PullsBack place (carried_of p) (carried_of q)
   pub ends : piece_start (lists_of q) (hand_key (carried_of q)) ≤ place
   pub kept : KeepsHand q (Below last)
 
-pub lowest : (p : Inside) (v w : Descent) (index : Index) (last : Option NearBound) (key : ℕ) → HasHand p → v.column ≡ p.column → v.notes ≡ p.notes → v.pulled ≡ p.tally.pulled → key ≡ hand_key (carried_of p)
-    → Descends Draws (last_mark key p.index.marks) p.index.marks v (near_mark last) index.marks w → index.room ≡ p.index.room
+pub lowest : (p : Inside) (v w : Descent) (index : Index) (last : Option Mark) (key : ℕ) → HasHand p → v.column ≡ p.column → v.notes ≡ p.notes → v.pulled ≡ p.tally.pulled → key ≡ hand_key (carried_of p)
+    → Descends Draws (last_mark key p.index.marks) p.index.marks v last index.marks w → index.room ≡ p.index.room
     → IsLowest p v.place (record p { column = w.column; index = index; notes = w.notes; tally = record p.tally { pulled = w.pulled } }) last
 lowest p v w index last key has column notes pulled is_key descends room =
     let start : descending p v p.index.marks ≡ p = rw (column, notes, pulled) refl in
     let next : last_mark (hand_key (carried_of (descending p v p.index.marks))) p.index.marks ≡ last_mark key p.index.marks = subst (λ (q : Inside). last_mark (hand_key (carried_of q)) p.index.marks ≡ last_mark key p.index.marks) (sym start) (rw is_key refl) in
-    let on = descended p v.place (last_mark key p.index.marks) (near_mark last) p.index.marks index.marks v w descends refl (subst (λ (q : Inside). HasHand q) (sym start) has) next in
+    let on = descended p v.place (last_mark key p.index.marks) last p.index.marks index.marks v w descends refl (subst (λ (q : Inside). HasHand q) (sym start) has) next in
     rw (index_is p.index index room) (record {
       pulls = subst (λ (q : Inside). PullsBack v.place (carried_of q) (carried_of (descending p w index.marks))) start on.pulls;
       ends = rw on.next on.ends;

@@ -4,7 +4,7 @@ use Rattle.crack_arena.specs.Arena.{Handle}
 use Rattle.crack_arena.specs.Rows.{key_at}
 use Rattle.crack_column.specs.Column.{Agrees, first_aside}
 use Rattle.crack_index.specs.declared.mark.Mark.{Mark}
-use Rattle.crack_index.specs.Marks.{near_mark, next_mark, last_mark}
+use Rattle.crack_index.specs.Marks.{next_mark, last_mark}
 use Rattle.crack_state.specs.State.{Carried}
 use Rattle.crack_store.specs.declared.inside.Inside.{Inside}
 use Rattle.crack_store.specs.declared.carrying.Near.{Near}
@@ -22,8 +22,8 @@ carried_of p = record { store = lists_of p; hand = hand_of p }
 -- the bound that is kept, once it was looked up, is the one next to the key
 abbrev pub IsNear : List Mark → ℕ → Near → Type 0
 IsNear marks key Unsought = ⊤
-IsNear marks key (Above bound) = near_mark bound ≡ next_mark key marks
-IsNear marks key (Below bound) = near_mark bound ≡ last_mark key marks
+IsNear marks key (Above mark) = mark ≡ next_mark key marks
+IsNear marks key (Below mark) = mark ≡ last_mark key marks
 
 -- a cell is in hand, aside of the column: what is remembered of its row is right, and the column has room for it
 pub record HasHand (p : Inside) : Type 0 where

@@ -1,7 +1,7 @@
 //! A store with one cell in hand.
 ghost use Rattle.std.specs.Prelude.{◌≡◌, ◌-◌, ◌<◌, ◌≤◌, ◌∷◌, [], length, All, Some, IsTrue, IsFalse, IfSome, Contains, MatchOption};
 ghost use Rattle.crack_arena.specs.Arena.{read, times, slots, IsFirstAt, IsAbsent, same_handle};
-ghost use Rattle.crack_index.specs.Marks.{piece_at, next_mark, last_mark, near_mark};
+ghost use Rattle.crack_index.specs.Marks.{piece_at, next_mark, last_mark};
 ghost use Rattle.crack_state.specs.State.{IsIntact, live_rows};
 ghost use Rattle.crack_state.specs.Steps.{hand_key, piece_start, piece_end, IsDoomed, pushed_on, pulled_back, exchanged, appended, buried, bounds_above, bounds_up_to, returned};
 
@@ -10,7 +10,7 @@ use crate::inside::Inside;
 use crate::search::note_if_doomed;
 use crate::steps::{free_hand, give_back, put_last};
 use crack_arena::Handle;
-use crack_index::{NearBound, Piece};
+use crack_index::{Mark, Piece};
 use crack_row::{Key, Row};
 use crack_state::MergeReport;
 use std::marker::Model;
@@ -21,9 +21,9 @@ pub(crate) enum Near {
     /// Before the way begins.
     Unsought,
     /// On the way up: the least bound above the row's key.
-    Above(Option<NearBound>),
+    Above(Option<Mark>),
     /// On the way down: the greatest bound at or below the row's key.
-    Below(Option<NearBound>),
+    Below(Option<Mark>),
 }
 
 /// A store with one cell in hand, which stands in no list. It can't be let go: a step ends it and gives the store back.
@@ -123,22 +123,22 @@ impl Carrying {
 
     /// The least bound above the key in hand. O(1) on the way up, else O(log bounds).
     #[inline]
-    pub(crate) fn bound_above(&self) -> Option<NearBound>
-        ensures { near_mark result ≡ next_mark (hand_key self.now) self.now.store.marks }
+    pub(crate) fn bound_above(&self) -> Option<Mark>
+        ensures { result ≡ next_mark (hand_key self.now) self.now.store.marks }
     {
         match self.near {
-            Near::Above(bound) => bound,
+            Near::Above(mark) => mark,
             Near::Below(_) | Near::Unsought => self.inside.index.bound_above(self.hand_key()),
         }
     }
 
     /// The greatest bound at or below the key in hand. O(1) on the way down, else O(log bounds).
     #[inline]
-    fn bound_below(&self) -> Option<NearBound>
-        ensures { near_mark result ≡ last_mark (hand_key self.now) self.now.store.marks }
+    fn bound_below(&self) -> Option<Mark>
+        ensures { result ≡ last_mark (hand_key self.now) self.now.store.marks }
     {
         match self.near {
-            Near::Below(bound) => bound,
+            Near::Below(mark) => mark,
             Near::Above(_) | Near::Unsought => self.inside.index.bound_below(self.hand_key()),
         }
     }
@@ -150,7 +150,7 @@ impl Carrying {
     {
         let _ = &self.inside;
         match self.bound_above() {
-            Some(bound) => bound.position(),
+            Some(mark) => mark.position,
             None => self.inside.column.len(),
         }
     }
@@ -162,7 +162,7 @@ impl Carrying {
     {
         let _ = &self.inside;
         match self.bound_below() {
-            Some(bound) => bound.position(),
+            Some(mark) => mark.position,
             None => 0,
         }
     }
@@ -175,11 +175,11 @@ impl Carrying {
         ensures live { live_rows self.new.store ≡ live_rows self.old.store }
         ensures nearer { bounds_above (hand_key self.new) self.new.store.marks < bounds_above (hand_key self.old) self.old.store.marks }
     {
-        let Some(bound) = self.bound_above() else {
+        let Some(mark) = self.bound_above() else {
             unreachable!();
         };
-        let next = self.inside.index.raise_past(bound);
-        self.inside.column.exchange(bound.position());
+        let next = self.inside.index.raise_past(mark);
+        self.inside.column.exchange(mark.position);
         self.near = Near::Above(next);
         self.inside.tally.moved = self.inside.tally.moved.saturating_add(1);
     }
@@ -193,11 +193,11 @@ impl Carrying {
         ensures live { live_rows self.new.store ≡ live_rows self.old.store }
         ensures nearer { bounds_up_to (hand_key self.new) self.new.store.marks < bounds_up_to (hand_key self.old) self.old.store.marks }
     {
-        let Some(bound) = self.bound_below() else {
+        let Some(mark) = self.bound_below() else {
             unreachable!();
         };
-        let last = bound.position() - 1;
-        let next = self.inside.index.lower_past(bound);
+        let last = mark.position - 1;
+        let next = self.inside.index.lower_past(mark);
         note_if_doomed(
             &mut self.inside.notes,
             &self.inside.pending_out,

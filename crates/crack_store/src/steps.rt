@@ -1,7 +1,7 @@
 //! The steps between the lists and the hand, on the inside of a store: those by value and those by reference share them.
 ghost use Rattle.std.specs.Prelude.{◌≡◌, ◌<◌, [], length, All, IfSome, Contains};
 ghost use Rattle.crack_arena.specs.Arena.{times, slots};
-ghost use Rattle.crack_index.specs.Marks.{next_mark, near_mark};
+ghost use Rattle.crack_index.specs.Marks.{next_mark};
 ghost use Rattle.crack_state.specs.State.{live_rows};
 ghost use Rattle.crack_state.specs.Steps.{hand_key, piece_end, IsDoomed, lifted, lifted_last, appended, buried, raise_next as next_raised, returned};
 ghost use Rattle.crack_store.specs.Inside.{lists_of, KeepsIntact};
@@ -11,7 +11,7 @@ use crate::carrying::Near;
 use crate::inside::Inside;
 use crate::points::row_at;
 use crack_column::Remembered;
-use crack_index::{CrackerIndex, NearBound};
+use crack_index::{CrackerIndex, Mark};
 
 /// Takes the pending insertion at this place into the hand, with what is to be remembered of its row. No bound is looked up yet.
 /// O(1) at the first place or behind the one that was taken last; takes no memory.
@@ -59,9 +59,9 @@ pub(crate) fn free_hand(inside: &mut Inside)
 
 /// Puts the hand behind the column's last row; `above` is the bound above its key.
 /// O(1) and the bounds at that place; takes no memory.
-pub(crate) fn put_last(inside: &mut Inside, above: Option<NearBound>)
+pub(crate) fn put_last(inside: &mut Inside, above: Option<Mark>)
     requires hand { HasHand inside.old }
-    requires above { near_mark above ≡ next_mark (hand_key (carried_of inside.old)) inside.old.index.marks }
+    requires above { above ≡ next_mark (hand_key (carried_of inside.old)) inside.old.index.marks }
     requires ends { piece_end (lists_of inside.old) (hand_key (carried_of inside.old)) ≡ length inside.old.column.handles }
     ensures after { lists_of inside.new ≡ appended (carried_of inside.old) }
     ensures intact { KeepsIntact inside.new [] }
@@ -86,13 +86,13 @@ pub(crate) fn give_back(inside: &mut Inside)
 }
 
 /// Each bound above a key that stands where the key's piece ends moves up by one, from the least such bound on.
-fn raise_next(index: &mut CrackerIndex, above: Option<NearBound>)
-    requires there { IfSome above (λ n. Contains index.old.marks n.mark) }
+fn raise_next(index: &mut CrackerIndex, above: Option<Mark>)
+    requires there { IfSome above (λ m. Contains index.old.marks m) }
     requires small { All (λ m. m.position < usize.MAX) index.old.marks }
-    ensures marks { index.new.marks ≡ next_raised (near_mark above) index.old.marks }
+    ensures marks { index.new.marks ≡ next_raised above index.old.marks }
     ensures room { index.new.room ≡ index.old.room }
 {
-    if let Some(bound) = above {
-        let _ = index.raise_past(bound);
+    if let Some(mark) = above {
+        let _ = index.raise_past(mark);
     }
 }

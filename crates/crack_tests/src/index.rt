@@ -2,7 +2,7 @@
 
 ghost use Rattle.std.specs.Prelude.{◌<◌, All};
 
-use crack_index::{CrackerIndex, NearBound, Piece, Visitor};
+use crack_index::{CrackerIndex, Mark, Piece, Visitor};
 use crack_row::{Bound, GREATEST_BOUND, Key, KeyRange, PieceSize};
 use std::alloc::Global;
 use std::process::Abort;
@@ -122,27 +122,20 @@ fn bounds_at_one_place_move_together(rt: HostRuntime) {
     assert_eq!(rt; lowered_at_one(&rt, alloc), [Some(0), Some(0), Some(0)]);
 }
 
-/// The bound that a search or a step found, and where it stands.
-fn found(near: Option<NearBound>) -> Option<(Bound, usize)> {
-    match near {
-        Some(near) => Some((near.bound(), near.position())),
-        None => None,
+fn mark(bound: u64, position: usize) -> Mark {
+    Mark {
+        bound: Bound(bound),
+        position,
     }
 }
 
 #[test]
 fn bounds_next_to_a_key(rt: HostRuntime) {
     let index = tens(&rt, rt.alloc());
-    let above = [
-        found(index.bound_above(Key(10))),
-        found(index.bound_above(Key(30))),
-    ];
-    assert_eq!(rt; above, [Some((Bound(20), 1)), None]);
-    let below = [
-        found(index.bound_below(Key(29))),
-        found(index.bound_below(Key(9))),
-    ];
-    assert_eq!(rt; below, [Some((Bound(20), 1)), None]);
+    let above = [index.bound_above(Key(10)), index.bound_above(Key(30))];
+    assert_eq!(rt; above, [Some(mark(20, 1)), None]);
+    let below = [index.bound_below(Key(29)), index.bound_below(Key(9))];
+    assert_eq!(rt; below, [Some(mark(20, 1)), None]);
     drop(index);
 }
 
@@ -153,12 +146,12 @@ fn steps_up_go_from_place_to_place(rt: HostRuntime) {
     let Some(ten) = index.bound_above(Key(9)) else {
         panic!(rt; "no bound above 9")
     };
-    assert!(rt; ten.position() == 0);
+    assert!(rt; ten.position == 0);
     let Some(twenty) = index.raise_past(ten) else {
         panic!(rt; "no bound behind place 0")
     };
-    assert!(rt; twenty.position() == 1);
-    assert_eq!(rt; found(index.raise_past(twenty)), None);
+    assert!(rt; twenty.position == 1);
+    assert_eq!(rt; index.raise_past(twenty), None);
     assert_eq!(rt; places(&index), [Some(1), Some(2), Some(2)]);
     drop(index);
 }
@@ -170,8 +163,8 @@ fn a_step_down_goes_to_the_place_before(rt: HostRuntime) {
     let Some(thirty) = index.bound_below(Key(30)) else {
         panic!(rt; "no bound at or below 30")
     };
-    assert!(rt; thirty.position() == 1);
-    assert_eq!(rt; found(index.lower_past(thirty)), Some((Bound(10), 0)));
+    assert!(rt; thirty.position == 1);
+    assert_eq!(rt; index.lower_past(thirty), Some(mark(10, 0)));
     assert_eq!(rt; places(&index), [Some(0), Some(0), Some(0)]);
     drop(index);
 }
@@ -223,7 +216,7 @@ fn a_walk_down_ends_where_the_visitor_says(rt: HostRuntime) {
     let mut index = tens(&rt, rt.alloc());
     let mut visitor = ending_at(1);
     let end = index.descend(Key(30), &mut visitor);
-    assert_eq!(rt; end.map(|near| near.bound()), Some(Bound(30)));
+    assert_eq!(rt; end, Some(mark(30, 1)));
     assert_eq!(rt; [visitor.told as usize, visitor.sum], [1, 0]);
     assert_eq!(rt; places(&index), [Some(0), Some(1), Some(1)]);
     drop(index);

@@ -1,14 +1,13 @@
-use Rattle.std.proofs.Common.{◌≡◌, Some}
+use Rattle.std.proofs.Common.{◌≡◌, Some, sym, ◌∙◌}
 use Rattle.crack_index.specs.Marks.{next_mark}
 use Rattle.crack_state.specs.Steps.{hand_key}
 use Rattle.crack_state.proofs.PieceLaws.{piece_end-le}
 use Rattle.crack_store.proofs.HandLemmas.{intact_hand}
-use Rattle.crack_store.proofs.NextLemmas.{near_found}
 use Rattle.crack_store.proofs.carrying.Carrying.piece_ends_at.Goals as goal
 
 pub returns-in-Some-clause-within : goal.returns-in-Some-clause-within
 returns-in-Some-clause-within c =
     let now = c.args.self.now in
-    let found : next_mark (hand_key now) now.store.marks ≡ Some c.in-Some.bound.mark = near_found c.bound_above.result (Some c.in-Some.bound) (next_mark (hand_key now) now.store.marks) c.bound_above.ensures c.in-Some.is in
+    let found : next_mark (hand_key now) now.store.marks ≡ Some c.in-Some.mark = sym c.bound_above.ensures ∙ c.in-Some.is in
     let intact = intact_hand c.self.inside.inside c.self.inside.near now c.self.view_is c.self.invariant in
-    rw c.position.ensures (rw found at (piece_end-le now.store (hand_key now) intact.rising intact.obeyed))
+    rw found at (piece_end-le now.store (hand_key now) intact.rising intact.obeyed)
