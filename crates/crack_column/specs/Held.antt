@@ -1,4 +1,3 @@
--- What private clauses alone cite.
 -- How a column is kept whose row aside is in hand.
 use Rattle.std.specs.Prelude.{◌≡◌, ℕ, ◌+◌, ◌<◌, List, [], ◌∷◌, length, take, slice_set}
 use Rattle.crack_arena.specs.Arena.{times}

@@ -8,7 +8,7 @@ use Rattle.crack_row.specs.declared.command.Policy.{Policy}
 use Rattle.crack_row.specs.declared.command.Policy.TheVariants.{Complete, Gradual}
 use Rattle.crack_state.specs.State.{State, Carried, IsIntact}
 use Rattle.crack_state.specs.Steps.{lifted, pushed_on, SameButRoom}
-use Rattle.crack_state.specs.Merge.{Advances}
+use Rattle.crack_state.specs.Inside.{Advances}
 use Rattle.crack_state.proofs.AdvanceLaws.{Advances-room, Advances-trans, CarriedIn, CarriedIn-appended, CarriedIn-buried, keys_still}
 use Rattle.crack_state.proofs.BuryLaws.{IsIntact-buried}
 use Rattle.crack_state.proofs.FollowLaws.{Pushes, Pushes-refl, Pushes-pushed_on}

@@ -11,7 +11,7 @@ use Rattle.crack_pending.specs.Pending.{Finds}
 use Rattle.crack_pending.proofs.Searches.{StandsAt-get_or, keys_at-StandsAt}
 use Rattle.crack_state.specs.State.{State, Carried, IsIntact}
 use Rattle.crack_state.specs.Steps.{hand_key, lifted, lifted_last, pulled_back, exchanged, buried, piece_end}
-use Rattle.crack_state.specs.Merge.{Advances}
+use Rattle.crack_state.specs.Inside.{Advances}
 use Rattle.crack_state.proofs.AdvanceLaws.{Draws, Draws-refl, Draws-pulled_back, Drawn, Drawn-reached, Drawn-exchanged, TakenOut-buried, Advances-refl, Advances-trans, Advances-lifted, Advances-lifted_last, keys_still}
 use Rattle.crack_state.proofs.BuryLaws.{IsIntact-buried}
 use Rattle.crack_state.proofs.DrawLaws.{IsDoomed-listed, place_in-doomed, column_some, piece_end-lifted_last, piece_end-behind}

@@ -6,7 +6,7 @@ use Rattle.crack_state.specs.State.{State, Carried}
 use Rattle.crack_state.specs.Steps.{hand_key, piece_end, IsDoomed, appended, buried, returned, IsBelow}
 use Rattle.crack_store.specs.declared.ways.CarryEnd.{CarryEnd}
 use Rattle.crack_store.specs.declared.ways.CarryEnd.TheVariants.{Buries, Evicts, Appends}
-use Rattle.crack_state.specs.Merge.{Advances}
+use Rattle.crack_state.specs.Inside.{Advances}
 use Rattle.crack_merge.specs.Merges.{BuriesFew}
 
 -- where a carry ends by a rule

@@ -14,10 +14,10 @@ use Rattle.crack_row.specs.Ranges.{IsIn}
 use Rattle.crack_row.specs.declared.Row.{Row}
 use Rattle.crack_arena.specs.Arena.{Cell, Handle, times, read, cell_at, empty_cell, handle_for, cells_with, slots}
 use Rattle.crack_arena.proofs.Times.{times-nil, times-cons, times_one, times_head, times-append, times-map-append, times_map_at}
-use Rattle.crack_state.specs.State.{State, places, Reads, IsOwned, IsIntact, IsKeyed, IsLiveAt, AreEmpty, HaveKeysIn, handle_of, freed_of, live_at, live_rows}
+use Rattle.crack_state.specs.State.{State, Reads, IsOwned, IsIntact, IsKeyed, IsLiveAt, AreEmpty, HaveKeysIn, handle_of, freed_of, live_at, live_rows}
 use Rattle.crack_state.specs.Steps.{next_handle, admitted, IsAdmissible}
 use Rattle.crack_state.specs.Points.{Maps}
-use Rattle.crack_state.proofs.OwnedLaws.{times-places, once-most, once-within}
+use Rattle.crack_state.proofs.OwnedLaws.{places_of, times-places, once-most, once-within}
 use Rattle.crack_state.proofs.CellLaws.{AgreeOff, handle_same, read-off, Reads-off, keys-off, read-value}
 use Rattle.crack_state.proofs.LiveLaws.{filter_map-less, times-range}
 use Rattle.crack_state.proofs.KeyedLaws.{maps_other, maps_this}
@@ -58,7 +58,7 @@ filled s r (n ∷ ns) is owned =
 pub unused : (s : State) (free : List ℕ) → s.free ≡ free → IsOwned s.cells s.free s.column s.pending_in s.pending_out [] → IsUnused s (handle_for s.cells free).slot
 unused s [] is owned =
     let n = length s.cells in
-    let none : times n (places s []) ≡ 0 = owned.once n ∙ rw (le-ltb n n (omega arith)) refl in
+    let none : times n (places_of s []) ≡ 0 = owned.once n ∙ rw (le-ltb n n (omega arith)) refl in
     let all = times-places n s.column s.pending_in s.free [] in
     record { column = omega arith; pending = omega arith; doomed = omega (arith, owned.doomed_once n, times-append n (slots s.column) [], times-nil n) }
 unused s (n ∷ ns) is owned =

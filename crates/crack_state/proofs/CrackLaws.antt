@@ -20,10 +20,15 @@ use Rattle.crack_column.proofs.Divisions.{IsDividedAt-zero, IsDividedAt-end}
 use Rattle.crack_column.proofs.Cracking.{length-Cracks, Cracks-apart, Cracks-around, Cracks-whole, Cracks-divides, Cracks-keeps}
 use Rattle.crack_state.specs.State.{State, Reads, Divides, IsObeyed, HaveKeysIn, IsIntact, column_keys, live_rows}
 use Rattle.crack_state.specs.Steps.{piece_start, piece_end}
-use Rattle.crack_state.specs.Merge.{IsInner, AreEnds, IsCracked, cuts, RefinesBy, RefinesAt, Refines}
+use Rattle.crack_state.specs.Merge.{IsInner, IsCracked, cuts, RefinesBy, Refines}
+use Rattle.crack_state.specs.Inside.{RefinesAt}
 use Rattle.crack_state.proofs.StepLaws.{IsIntact-moved}
 use Rattle.crack_state.proofs.CellLaws.{row_read, read-value, cell_within}
 use Rattle.crack_state.proofs.PieceLaws.{cases_Option, Divides-listed, piece_end-le, piece_end-before, piece_start-behind}
+
+-- two bounds are the ends of the range, in one order or the other
+abbrev pub AreEnds : Range → ℕ → ℕ → Type 0
+AreEnds r first second = ((first ≡ r.low) × (second ≡ r.high)) ⊎ ((first ≡ r.high) × (second ≡ r.low))
 
 -- crack: a bound divides its own piece at a place; the column's handles stand in this order
 abbrev pub cracked_at : Bound → ℕ → List Handle → State → State

@@ -6,7 +6,8 @@ use Rattle.crack_row.specs.declared.Row.{Row}
 use Rattle.crack_row.specs.declared.command.Policy.TheVariants.{Gradual}
 use Rattle.crack_arena.specs.Arena.{Cell, Handle}
 use Rattle.crack_state.specs.State.{State, Reads, IsIntact}
-use Rattle.crack_state.specs.Merge.{ReadsOutside, IsCracked, LeavesOutside, Merges, SomeOf, StillReads, Advances, count_inside, outside_of}
+use Rattle.crack_state.specs.Merge.{ReadsOutside, IsCracked, LeavesOutside, Merges, SomeOf, StillReads, count_inside, outside_of}
+use Rattle.crack_state.specs.Inside.{Advances}
 use Rattle.crack_state.proofs.AdvanceLaws.{Advances-trans, outside_of-still}
 use Rattle.crack_state.proofs.MergeLaws.{IsCracked-follows}
 use Rattle.crack_state.proofs.OutsideLaws.{SomeOf-outside, length-SomeOf_outside, length-outside, All-outside}

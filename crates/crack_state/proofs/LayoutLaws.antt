@@ -12,10 +12,10 @@ use Rattle.crack_row.specs.declared.layout.PieceSize.{PieceSize}
 use Rattle.crack_row.specs.Layouts.{IsLayout, AreJoined}
 use Rattle.crack_arena.specs.Arena.{Handle, times, slots}
 use Rattle.crack_arena.proofs.Times.{times-nil, times-cons, times_one, times_other, times_head, times-append, times-map-append}
-use Rattle.crack_state.specs.State.{State, places, Reads, IsOwned, IsIntact, live_rows, live_read, live_among}
+use Rattle.crack_state.specs.State.{State, Reads, IsOwned, IsIntact, live_rows}
 use Rattle.crack_state.proofs.CellLaws.{row_read}
-use Rattle.crack_state.proofs.OwnedLaws.{times-places, once-most}
-use Rattle.crack_state.proofs.LiveLaws.{live_rows-among, times-range, IsPermutation-times}
+use Rattle.crack_state.proofs.OwnedLaws.{places_of, times-places, once-most}
+use Rattle.crack_state.proofs.LiveLaws.{live_read, live_among, live_rows-among, times-range, IsPermutation-times}
 
 -- lists in which each number stands equally often are equally long
 pub length-times : (xs ys : List ℕ) → ((n : ℕ) → times n xs ≡ times n ys) → length xs ≡ length ys
@@ -25,7 +25,7 @@ length-times xs ys same = sym (length_permutation xs ys (IsPermutation-times xs 
 pub cells-intact : (s : State) (hand : List Handle) → IsIntact s hand → length s.column + length s.pending_in + length s.free + length hand ≡ length s.cells
 cells-intact s hand intact =
     let slot : Handle → ℕ = λ h. h.slot in
-    let same = length-times (range_with_len 0 (length s.cells)) (places s hand) (λ n. times-range n (length s.cells) ∙ sym (intact.owned.once n)) in
+    let same = length-times (range_with_len 0 (length s.cells)) (places_of s hand) (λ n. times-range n (length s.cells) ∙ sym (intact.owned.once n)) in
     omega (arith, same, length-range_with_len 0 (length s.cells), length-append (slots s.column ++ slots s.pending_in ++ s.free) (slots hand), length-append (slots s.column ++ slots s.pending_in) s.free, length-append (slots s.column) (slots s.pending_in), length-map s.column slot, length-map s.pending_in slot, length-map hand slot)
 
 -- a number that is among the doomed

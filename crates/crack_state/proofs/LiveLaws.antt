@@ -1,6 +1,6 @@
 -- What commands see, as cells get and lose rows and rows are doomed; and that it is what column, pending insertions and hand hold.
 use Rattle.std.proofs.Common.{◌≡◌, ◌≢◌, ℕ, zero, suc, ◌<◌, Bool, true, false, ltb, List, [], ◌∷◌, ◌++◌, length, get_or, set, cond, Option, Some, None, refl, sym, ap, ◌∙◌, inl, inr, arith, zero-add}
-use Rattle.std.specs.Prelude.{◌==◌}
+use Rattle.std.specs.Prelude.{◌==◌, if◌then◌else◌}
 use Rattle.std.specs.List.{All, filter_map, range_with_len}
 use Rattle.std.specs.List.Sorted.{IsPermutation}
 use Rattle.std.specs.Option.{IfSome}
@@ -14,8 +14,17 @@ use Rattle.crack_row.specs.Ranges.{IsIn}
 use Rattle.crack_row.specs.declared.Row.{Row}
 use Rattle.crack_arena.specs.Arena.{Cell, Handle, times, read, cell_at, empty_cell, slots}
 use Rattle.crack_arena.proofs.Times.{times-nil, times-cons, times_one, times_other, times_head, times_apart, times-append}
-use Rattle.crack_state.specs.State.{State, places, Reads, IsOwned, IsIntact, AreEmpty, live_at, live_rows, live_read, live_among}
+use Rattle.crack_state.specs.State.{State, Reads, IsOwned, IsIntact, AreEmpty, live_at, live_rows}
+use Rattle.crack_state.proofs.OwnedLaws.{places_of}
 use Rattle.crack_state.proofs.CellLaws.{AgreeOff, AgreeOff-set, read_is_value, read-value, cell_within}
+
+-- what a handle has for commands to see: the row that it reads, unless that is doomed
+abbrev pub live_read : State → Handle → Option Row
+live_read s h = if times h.slot (slots s.pending_out) == 0 then read s.cells h else None
+
+-- the live rows among those of the handles, in their order
+abbrev pub live_among : State → List Handle → List Row
+live_among s hs = filter_map (live_read s) hs
 
 -- nothing, whatever the test says: what a cell without a value shows, doomed or not
 pub none_either : {X : Type 0} (b : Bool) → cond {A = Option X} b None None ≡ None
@@ -105,8 +114,8 @@ All-live_at P cells doomed numbers each = All-filter_map P (live_at cells doomed
         each h r (rw (eq-eqb h.generation h.generation refl) is) (eqb-true (times n doomed) 0 kept)
 
 -- what is given of the cells' numbers is, in some order, what is given of those in all places
-pub IsPermutation-places : {X : Type 0} (f : ℕ → Option X) (s : State) (hand : List Handle) → IsOwned s.cells s.free s.column s.pending_in s.pending_out hand → IsPermutation (filter_map f (range_with_len 0 (length s.cells))) (filter_map f (places s hand))
-IsPermutation-places f s hand owned = IsPermutation-filter_map f (range_with_len 0 (length s.cells)) (places s hand) (IsPermutation-times (range_with_len 0 (length s.cells)) (places s hand) (λ n. times-range n (length s.cells) ∙ sym (owned.once n)))
+pub IsPermutation-places : {X : Type 0} (f : ℕ → Option X) (s : State) (hand : List Handle) → IsOwned s.cells s.free s.column s.pending_in s.pending_out hand → IsPermutation (filter_map f (range_with_len 0 (length s.cells))) (filter_map f (places_of s hand))
+IsPermutation-places f s hand owned = IsPermutation-filter_map f (range_with_len 0 (length s.cells)) (places_of s hand) (IsPermutation-times (range_with_len 0 (length s.cells)) (places_of s hand) (λ n. times-range n (length s.cells) ∙ sym (owned.once n)))
 
 live_among-slots : (s : State) (hs : List Handle) → All (Reads s.cells) hs → filter_map (live_at s.cells (slots s.pending_out)) (slots hs) ≡ live_among s hs
 live_among-slots s hs reads =
@@ -120,7 +129,7 @@ pub live_rows-among : (s : State) (hand : List Handle) → IsIntact s hand → I
 live_rows-among s hand intact =
     let owned = intact.owned in
     let live = live_at s.cells (slots s.pending_out) in
-    let split : filter_map live (places s hand) ≡ live_among s s.column ++ live_among s s.pending_in ++ live_among s hand =
+    let split : filter_map live (places_of s hand) ≡ live_among s s.column ++ live_among s s.pending_in ++ live_among s hand =
     rw (filter_map-append live (slots s.column ++ slots s.pending_in ++ s.free) (slots hand), filter_map-append live (slots s.column ++ slots s.pending_in) s.free, filter_map-append live (slots s.column) (slots s.pending_in), live_among-slots s s.column owned.column_reads, live_among-slots s s.pending_in owned.pending_reads, live_among-slots s hand owned.hand_reads, live_at-free s.cells (slots s.pending_out) s.free intact.empty, append-nil) refl in
     rw split at (IsPermutation-places live s hand owned)
 

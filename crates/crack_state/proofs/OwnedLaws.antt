@@ -6,7 +6,11 @@ use Rattle.std.proofs.lemmas.Bool.{cases_lt, le-ltb}
 use Rattle.crack_row.specs.declared.Row.{Row}
 use Rattle.crack_arena.specs.Arena.{Cell, Handle, times, slots}
 use Rattle.crack_arena.proofs.Times.{times_head, times-append, times-set, times-map-remove, times_map_at}
-use Rattle.crack_state.specs.State.{places_in, IsOwned}
+use Rattle.crack_state.specs.State.{State, places, IsOwned}
+
+-- where the cells of a store stand
+abbrev pub places_of : State → List Handle → List ℕ
+places_of s hand = places s.column s.pending_in s.free hand
 
 -- a handle put at a place of a list, and the one that stood there
 pub times-exchange : (n : ℕ) (hs : List Handle) (place : ℕ) (hand met : Handle) → place < length hs → met ≡ get_or hs place met → times n (slots (set hs place hand)) + times n (slots (met ∷ [])) ≡ times n (slots hs) + times n (slots (hand ∷ []))
@@ -19,7 +23,7 @@ times-exchange n hs place hand met inside found =
 pub times-taken : (n : ℕ) (hs : List Handle) (i : ℕ) (hand : Handle) → i < length hs → hand ≡ get_or hs i hand → times n (slots (remove hs i)) + times n (slots (hand ∷ [])) ≡ times n (slots hs)
 times-taken n hs i hand inside found = rw (← found) at (times-map-remove n (λ (h : Handle). h.slot) hs i hand inside)
 
-pub times-places : (n : ℕ) (column pending_in : List Handle) (free : List ℕ) (hand : List Handle) → times n (places_in column pending_in free hand) ≡ times n (slots column) + times n (slots pending_in) + times n free + times n (slots hand)
+pub times-places : (n : ℕ) (column pending_in : List Handle) (free : List ℕ) (hand : List Handle) → times n (places column pending_in free hand) ≡ times n (slots column) + times n (slots pending_in) + times n free + times n (slots hand)
 times-places n column pending_in free hand =
     rw (times-append n (slots column ++ slots pending_in ++ free) (slots hand), times-append n (slots column ++ slots pending_in) free, times-append n (slots column) (slots pending_in)) refl
 
@@ -28,7 +32,7 @@ pub apart_from_times : (hs : List Handle) (slot : ℕ) → times slot (slots hs)
 apart_from_times hs slot none = λ k d within same. absurd (omega (arith, none, times_map_at slot (λ (h : Handle). h.slot) hs k d within same))
 
 -- a cell stands in one place at most
-pub once-most : (cells : List (Cell Row)) (free : List ℕ) (column pending_in pending_out hand : List Handle) (n : ℕ) → IsOwned cells free column pending_in pending_out hand → times n (places_in column pending_in free hand) ≤ 1
+pub once-most : (cells : List (Cell Row)) (free : List ℕ) (column pending_in pending_out hand : List Handle) (n : ℕ) → IsOwned cells free column pending_in pending_out hand → times n (places column pending_in free hand) ≤ 1
 once-most cells free column pending_in pending_out hand n owned = rw (owned.once n) (at_most (ltb n (length cells)))
   where
     at_most : (b : Bool) → cond {A = ℕ} b 1 0 ≤ 1
@@ -36,10 +40,10 @@ once-most cells free column pending_in pending_out hand n owned = rw (owned.once
     at_most false = omega arith
 
 -- a number that stands anywhere is a cell's
-pub once-within : (cells : List (Cell Row)) (free : List ℕ) (column pending_in pending_out hand : List Handle) (n : ℕ) → 0 < times n (places_in column pending_in free hand) → IsOwned cells free column pending_in pending_out hand → n < length cells
+pub once-within : (cells : List (Cell Row)) (free : List ℕ) (column pending_in pending_out hand : List Handle) (n : ℕ) → 0 < times n (places column pending_in free hand) → IsOwned cells free column pending_in pending_out hand → n < length cells
 once-within cells free column pending_in pending_out hand n listed owned = elim (cases_lt n (length cells)) [
   | inl l ↦ l
-  | inr l ↦ let none : times n (places_in column pending_in free hand) ≡ 0 = owned.once n ∙ rw (le-ltb n (length cells) l) refl in absurd (omega (arith, listed, none))
+  | inr l ↦ let none : times n (places column pending_in free hand) ≡ 0 = owned.once n ∙ rw (le-ltb n (length cells) l) refl in absurd (omega (arith, listed, none))
 ]
 
 -- where the cell in hand stands, and where not

@@ -15,11 +15,11 @@ use Rattle.crack_row.specs.Rows.{replaced}
 use Rattle.crack_row.specs.declared.Row.{Row}
 use Rattle.crack_arena.specs.Arena.{Cell, Handle, StandsAt, times, read, cell_at, empty_cell, slots, no_handle, place_in}
 use Rattle.crack_arena.proofs.Times.{times-nil, times_other, times_head, times-append, times-map-append}
-use Rattle.crack_state.specs.State.{State, places, Reads, IsIntact, IsKeyed, IsLiveAt, AreEmpty, handle_of, freed_of, live_at, live_rows}
+use Rattle.crack_state.specs.State.{State, Reads, IsIntact, IsKeyed, IsLiveAt, AreEmpty, handle_of, freed_of, live_at, live_rows}
 use Rattle.crack_state.specs.Steps.{next_handle}
 use Rattle.crack_state.specs.Points.{pending_by, handle_by, Maps, MayFree, struck, doomed_too, overwritten, renewed, Cancels, Dooms, Renews, Rewrites, IsRenewable, IsRewritable}
 use Rattle.crack_state.proofs.PieceLaws.{cases_Option}
-use Rattle.crack_state.proofs.OwnedLaws.{times-taken, times-places}
+use Rattle.crack_state.proofs.OwnedLaws.{places_of, times-taken, times-places}
 use Rattle.crack_state.proofs.CellLaws.{AgreeOff-set, read-off, keys-off, generation_of_read, reads_some, one_handle, stands_there, read-value, cell_within}
 use Rattle.crack_state.proofs.LiveLaws.{All-live_at, Hides, Hides-emptied, live_rows-less, split_at_member}
 use Rattle.crack_state.proofs.KeyedLaws.{maps_this, Maps-over, IsKeyed-lost, forgotten, Maps-forgotten}
@@ -65,7 +65,7 @@ stands1 s serial h found intact =
     let live : IsLiveAt s.cells (slots s.pending_out) serial h = intact.keyed.leads serial h found in
     let within = cell_within s.cells h live.row live.reads in
     let off = full-off_free s.cells h.slot live.row s.free (read-value s.cells h live.row live.reads) intact.empty in
-    let total : times h.slot (places s []) ≡ 1 = intact.owned.once h.slot ∙ rw (lt-ltb h.slot (length s.cells) within) refl in
+    let total : times h.slot (places_of s []) ≡ 1 = intact.owned.once h.slot ∙ rw (lt-ltb h.slot (length s.cells) within) refl in
     record { live = live; within = within; off_free = off; once = omega (arith, total, times-places h.slot s.column s.pending_in s.free [], times-nil h.slot, off) }
 
 -- the handle of a serial reads its row

@@ -18,7 +18,8 @@ use Rattle.crack_index.proofs.MarkLaws.{HasBound-contains, place_of-mark}
 use Rattle.crack_arena.specs.Rows.{key_at}
 use Rattle.crack_column.specs.Column.{IsDividedAt}
 use Rattle.crack_column.proofs.Divisions.{IsDividedAt-end, IsDividedAt-order}
-use Rattle.crack_state.specs.State.{State, places, Reads, IsOwned, IsIntact, column_keys, live_at, live_rows}
+use Rattle.crack_state.specs.State.{State, Reads, IsOwned, IsIntact, column_keys, live_at, live_rows}
+use Rattle.crack_state.proofs.OwnedLaws.{places_of}
 use Rattle.crack_state.specs.Merge.{IsOutside, ReadsOutside, Stands, IsCracked, edge, stretch, IsSettled}
 use Rattle.crack_state.proofs.CellLaws.{row_read, read-value, stands_there}
 use Rattle.crack_state.proofs.LiveLaws.{none_either, IsPermutation-places}
@@ -42,7 +43,7 @@ edge-divides s hand bound intact above below stands =
       | inr l ↦ rw (le-leb bound s.keys.low l) (record { within = omega arith; below = λ k h. absurd (omega arith); above = λ k h j. omega (arith, (all k 0 j).0) })
     ]
 
-filter-live_rows : (test : Row → Bool) (s : State) (hand : List Handle) → IsOwned s.cells s.free s.column s.pending_in s.pending_out hand → IsPermutation (filter test (live_rows s)) (filter_map (λ n. kept_by test (live_at s.cells (slots s.pending_out) n)) (places s hand))
+filter-live_rows : (test : Row → Bool) (s : State) (hand : List Handle) → IsOwned s.cells s.free s.column s.pending_in s.pending_out hand → IsPermutation (filter test (live_rows s)) (filter_map (λ n. kept_by test (live_at s.cells (slots s.pending_out) n)) (places_of s hand))
 filter-live_rows test s hand owned =
     let live = live_at s.cells (slots s.pending_out) in
     rw (filter-filter_map test live (range_with_len 0 (length s.cells))) (IsPermutation-places (λ n. kept_by test (live n)) s hand owned)
@@ -125,7 +126,7 @@ holds_between s r from to order low high pending doomed intact =
     let slot : Handle → ℕ = λ h. h.slot in
     let column : filter_map g (slots s.column) ≡ filter_map (read s.cells) mid =
     ap (λ hs. filter_map g (slots hs)) whole ∙ rw (map-append slot front (mid ++ back), map-append slot mid back, filter_map-append g (slots front) (slots mid ++ slots back), filter_map-append g (slots mid) (slots back), front_none, mid_all, back_none, append-nil) refl in
-    let all : filter_map g (places s []) ≡ filter_map (read s.cells) mid =
+    let all : filter_map g (places_of s []) ≡ filter_map (read s.cells) mid =
     rw (append-nil, filter_map-append g (slots s.column ++ slots s.pending_in) s.free, filter_map-append g (slots s.column) (slots s.pending_in), column, pending_none, free_none, append-nil (filter_map (read s.cells) mid ++ []), append-nil (filter_map (read s.cells) mid)) refl in
     rw all at (filter-live_rows (in_range r) s [] owned)
 

@@ -3,3 +3,4 @@ pub mod Steps
 pub mod Merge
 pub mod Points
 pub mod Stretch
+pub mod Inside

@@ -46,10 +46,6 @@ pub data SomeOf : List Handle → List Handle → Type 0 where
 abbrev pub IsInner : Range → Range → ℕ → Type 0
 IsInner keys r bound = ((bound ≡ r.low) ⊎ (bound ≡ r.high)) × (keys.low < bound) × (bound < keys.high)
 
--- two bounds are the ends of the range, in one order or the other
-abbrev pub AreEnds : Range → ℕ → ℕ → Type 0
-AreEnds r first second = ((first ≡ r.low) × (second ≡ r.high)) ⊎ ((first ≡ r.high) × (second ≡ r.low))
-
 -- the place at which the rows at or above a bound begin: the column's front or end for the partition's ends, else where the
 -- index has the bound
 abbrev pub edge : State → ℕ → ℕ
@@ -80,10 +76,6 @@ pub record RefinesBy (IsNew : ℕ → Type 0) (s u : State) : Type 0 where
   pub kept : (m : Mark) → Contains s.marks m → Contains u.marks m
   pub added : (bound : ℕ) → IsNew bound → HasBound u.marks bound
   pub only : (bound : ℕ) → HasBound u.marks bound → HasBound s.marks bound ⊎ IsNew bound
-
--- refined at one bound: it is added where it is missing, unless it is the partition's own end
-abbrev pub RefinesAt : State → State → ℕ → Type 0
-RefinesAt s u bound = RefinesBy (λ b. (b ≡ bound) × (s.keys.low < b) × (b < s.keys.high)) s u
 
 -- refined: what a range's crack does, which adds the inner ends of the range
 abbrev pub Refines : State → State → Range → Type 0
@@ -212,10 +204,3 @@ pub record Tallies (policy : Policy) (s t : State) : Type 0 where
   pub pulled_rises : s.tally.pulled ≤ t.tally.pulled
   pub counts : IsExact t.tally → Counts s t (length s.marks + 1)
   pub evicts : MayEvict policy s t
-
--- what every carry and every pull of a merge of this policy keeps, and so each list of them: pending deletions only go
-pub record Advances (policy : Policy) (s t : State) : Type 0 where
-  pub follows : Follows s t
-  pub tallies : Tallies policy s t
-  pub reads : StillReads s.cells t.cells
-  pub pending_out : SomeOf t.pending_out s.pending_out

@@ -32,11 +32,8 @@ pub record Carried : Type 0 where
   pub hand : Handle
 
 -- where the cells' numbers stand
-abbrev pub places_in : List Handle → List Handle → List ℕ → List Handle → List ℕ
-places_in column pending_in free hand = slots column ++ slots pending_in ++ free ++ slots hand
-
-abbrev pub places : State → List Handle → List ℕ
-places s hand = places_in s.column s.pending_in s.free hand
+abbrev pub places : List Handle → List Handle → List ℕ → List Handle → List ℕ
+places column pending_in free hand = slots column ++ slots pending_in ++ free ++ slots hand
 
 -- the handle reads a row
 abbrev pub Reads : List (Cell Row) → Handle → Type 0
@@ -45,7 +42,7 @@ Reads cells h = IsSome (read cells h)
 -- each cell stands in exactly one place; what stands in column, pending insertions or hand reads a row; the doomed are
 -- distinct, and each is in the column or is the hand
 pub record IsOwned (cells : List (Cell Row)) (free : List ℕ) (column pending_in pending_out hand : List Handle) : Type 0 where
-  pub once : (n : ℕ) → times n (places_in column pending_in free hand) ≡ (if nat_lt n (length cells) then 1 else 0)
+  pub once : (n : ℕ) → times n (places column pending_in free hand) ≡ (if nat_lt n (length cells) then 1 else 0)
   pub column_reads : All (Reads cells) column
   pub pending_reads : All (Reads cells) pending_in
   pub hand_reads : All (Reads cells) hand
@@ -75,14 +72,6 @@ live_at cells doomed n = if times n doomed == 0 then (cell_at cells n).value els
 -- the rows that commands see, in the order of their cells' numbers
 abbrev pub live_rows : State → List Row
 live_rows s = filter_map (live_at s.cells (slots s.pending_out)) (range_with_len 0 (length s.cells))
-
--- what a handle has for commands to see: the row that it reads, unless that is doomed
-abbrev pub live_read : State → Handle → Option Row
-live_read s h = if times h.slot (slots s.pending_out) == 0 then read s.cells h else None
-
--- the live rows among those of the handles, in their order
-abbrev pub live_among : State → List Handle → List Row
-live_among s hs = filter_map (live_read s) hs
 
 -- the handle that the map has for a serial
 abbrev pub handle_of : List (ℕ × Handle) → ℕ → Option Handle

@@ -7,9 +7,9 @@ use mir.Val.{bool_byte}
 use Rattle.crack_row.specs.declared.Row.{Row}
 use Rattle.crack_arena.specs.Arena.{Cell, Handle, times, cell_at, handle_for, cells_with}
 use Rattle.crack_arena.proofs.Times.{times_head}
-use Rattle.crack_state.specs.State.{State, places, IsIntact}
+use Rattle.crack_state.specs.State.{State, IsIntact}
 use Rattle.crack_state.specs.Steps.{next_handle}
-use Rattle.crack_state.proofs.OwnedLaws.{times-places}
+use Rattle.crack_state.proofs.OwnedLaws.{places_of, times-places}
 
 -- there is one cell more where none was free
 length_cells_with : (row : Row) (cells : List (Cell Row)) (free : List ℕ) → length cells + bool_byte (nat_eq (length free) 0) ≡ length (cells_with row cells free)
@@ -24,7 +24,7 @@ next_within row s (n ∷ ns) is intact = elim (cases_lt n (length s.cells)) [
   | inl l ↦ omega (arith, length-set s.cells n (record { generation = (cell_at s.cells n).generation; value = Some row }))
   | inr l ↦
       let listed : 0 < times n s.free = rw is (omega (arith, times_head n ns)) in
-      let none : times n (places s []) ≡ 0 = intact.owned.once n ∙ rw (le-ltb n (length s.cells) l) refl in
+      let none : times n (places_of s []) ≡ 0 = intact.owned.once n ∙ rw (le-ltb n (length s.cells) l) refl in
       absurd (omega (arith, times-places n s.column s.pending_in s.free []))
 ]
 

@@ -20,7 +20,8 @@ use Rattle.crack_column.specs.Column.{Memory, nothing, memory_at, Cracks}
 use Rattle.crack_column.proofs.Cracking.{Replaced, replaced, length-Cracks}
 use Rattle.crack_state.specs.State.{State, IsIntact}
 use Rattle.crack_state.specs.Steps.{piece_start, piece_end}
-use Rattle.crack_state.specs.Merge.{IsInner, RefinesAt, Refines, bound_or, bound_above}
+use Rattle.crack_state.specs.Merge.{IsInner, Refines, bound_or, bound_above}
+use Rattle.crack_state.specs.Inside.{RefinesAt}
 use Rattle.crack_state.proofs.CrackLaws.{keys-refined, CracksAt, cracked_at, IsIntact-cracked, RefinesAt-cracked, Refines-both}
 use Rattle.crack_store.specs.declared.cracking.Missing.TheVariants.{Together}
 use Rattle.crack_store.specs.Gaps.{MissesIn, Misses, IsMissing}

@@ -1,5 +1,5 @@
 -- How a carry ends.
-use Rattle.std.specs.Prelude.{◌≡◌, ◌<◌, ℕ, Option, length}
+use Rattle.std.specs.Prelude.{◌≡◌, ℕ, Option, length}
 use Rattle.crack_state.specs.State.{Carried}
 use Rattle.crack_state.specs.Steps.{hand_key, piece_end, IsDoomed, IsBelow}
 use Rattle.crack_store.specs.declared.ways.CarryEnd.{CarryEnd}
@@ -10,9 +10,3 @@ abbrev pub EndsBy : Option ℕ → CarryEnd → Carried → Type 0
 EndsBy ceiling Buries c = IsDoomed c
 EndsBy ceiling Evicts c = ¬ IsDoomed c × (¬ IsBelow ceiling (hand_key c))
 EndsBy ceiling Appends c = ¬ IsDoomed c × IsBelow ceiling (hand_key c) × (piece_end c.store (hand_key c) ≡ length c.store.column)
-
--- no rule ends it yet
-pub record GoesOn (ceiling : Option ℕ) (c : Carried) : Type 0 where
-  pub lasting : ¬ IsDoomed c
-  pub below : IsBelow ceiling (hand_key c)
-  pub room : piece_end c.store (hand_key c) < length c.store.column

@@ -1,7 +1,8 @@
 //! A crack by both ends of a range. One look-up of each end tells what is to be divided.
 ghost use Rattle.std.specs.Prelude.{◌≡◌, ◌+◌, ◌≤◌, [], length, IfSome, IfNone};
 ghost use Rattle.crack_index.specs.Marks.{added, piece_at};
-ghost use Rattle.crack_state.specs.Merge.{RefinesAt, Refines, Stands};
+ghost use Rattle.crack_state.specs.Merge.{Refines, Stands};
+ghost use Rattle.crack_state.specs.Inside.{RefinesAt};
 ghost use Rattle.crack_store.specs.Inside.{lists_of, KeepsIntact};
 ghost use Rattle.crack_store.specs.Gaps.{MissesIn, Misses, bounds_in};
 

@@ -1,7 +1,8 @@
 //! The way of a hand from place to place, as one walk over the bounds.
 ghost use Rattle.std.specs.Prelude.{◌≡◌, ◌≤◌, IsTrue, IsFalse, IfSome, MatchOption};
 ghost use Rattle.crack_state.specs.Steps.{hand_key, piece_start, ceiling_of, IsBelow, PushesOn, PullsBack};
-ghost use Rattle.crack_store.specs.Ends.{EndsBy, GoesOn};
+ghost use Rattle.crack_store.specs.Ends.{EndsBy};
+ghost use Rattle.crack_store.specs.Goings.{GoesOn};
 
 use crate::Carrying;
 use crate::ascent::{ascend, descend};

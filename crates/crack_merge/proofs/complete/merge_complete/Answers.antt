@@ -1,7 +1,7 @@
 use Rattle.std.proofs.Common.{sym, ◌∙◌, arith}
 use Rattle.std.proofs.lemmas.Bool.{true≢false}
 use Rattle.crack_row.specs.declared.command.Policy.TheVariants.{Complete}
-use Rattle.crack_state.specs.Merge.{Advances}
+use Rattle.crack_state.specs.Inside.{Advances}
 use Rattle.crack_state.proofs.AdvanceLaws.{Advances-trans}
 use Rattle.crack_state.proofs.MergeLaws.{IsCracked-follows, Merges-touched, Merges-untouched}
 use Rattle.crack_merge.proofs.complete.merge_complete.Goals as goal

@@ -1,0 +1,17 @@
+-- What private clauses alone cite.
+-- What a crack at one bound, and each carry and each pull of a merge, leave of a store.
+use Rattle.std.specs.Prelude.{◌≡◌, ℕ, ◌<◌}
+use Rattle.crack_row.specs.declared.command.Policy.{Policy}
+use Rattle.crack_state.specs.State.{State}
+use Rattle.crack_state.specs.Merge.{RefinesBy, Follows, Tallies, StillReads, SomeOf}
+
+-- refined at one bound: it is added where it is missing, unless it is the partition's own end
+abbrev pub RefinesAt : State → State → ℕ → Type 0
+RefinesAt s u bound = RefinesBy (λ b. (b ≡ bound) × (s.keys.low < b) × (b < s.keys.high)) s u
+
+-- what every carry and every pull of a merge of this policy keeps, and so each list of them: pending deletions only go
+pub record Advances (policy : Policy) (s t : State) : Type 0 where
+  pub follows : Follows s t
+  pub tallies : Tallies policy s t
+  pub reads : StillReads s.cells t.cells
+  pub pending_out : SomeOf t.pending_out s.pending_out
