@@ -3,6 +3,7 @@ use Rattle.std.proofs.Common.{◌≡◌, ◌⊎◌, ℕ, zero, suc, ◌-◌, ◌
 use Rattle.std.specs.Prelude.{Option, All, AllPairs, is_some}
 use Rattle.std.specs.declared.alloc.Global.{Global}
 use Rattle.std.proofs.Common.{Box}
+use Rattle.std.specs.Box.{with_value}
 use Rattle.std.proofs.lemmas.List.{reverse-append, reverse-reverse, length-reverse, get_or-reverse}
 use Rattle.std.proofs.lemmas.List.Elements.{All-nil, All-cons, All-head, All-tail}
 use Rattle.crack_index.specs.declared.mark.Mark.{Mark}
@@ -33,10 +34,6 @@ Goes-length step xs xs' a b u v (Goes.more m m' ms ms' d e f x y z first onward)
 pub Goes-node : {V : Type 0} (step : Mark → Way → V → Mark → Way → V → Type 0) (xs xs' : List Mark) (m m' : Mark) (ys ys' : List Mark) (a b c d : Way) (u v w x : V) → Goes step xs a u xs' b v → step m b v m' c w → Goes step ys c w ys' d x → Goes step (xs ++ m ∷ ys) a u (xs' ++ m' ∷ ys') d x
 Goes-node step xs xs' m m' ys ys' a b c d u v w x near at far =
     Goes-append step xs xs' (m ∷ ys) (m' ∷ ys') a b d u v x near (Goes.more m m' ys ys' b c d v w x at far)
-
--- on the farther side alone
-pub Goes-far : {V : Type 0} (step : Mark → Way → V → Mark → Way → V → Type 0) (xs : List Mark) (m : Mark) (ys ys' : List Mark) (a b : Way) (u v : V) → All (λ n. step n a u n a u) xs → step m a u m a u → Goes step ys a u ys' b v → Goes step (xs ++ m ∷ ys) a u (xs ++ m ∷ ys') b v
-Goes-far step xs m ys ys' a b u v near at far = Goes-node step xs xs m m ys ys' a a a b u u u v (Goes-stay step xs a u near) at far
 
 -- on the nearer side and no further
 pub Goes-near : {V : Type 0} (step : Mark → Way → V → Mark → Way → V → Type 0) (xs xs' : List Mark) (m : Mark) (ys : List Mark) (a b : Way) (u v : V) → Goes step xs a u xs' b v → ((n : Mark) → step n b v n b v) → Goes step (xs ++ m ∷ ys) a u (xs' ++ m ∷ ys) b v
@@ -226,44 +223,82 @@ pub none-is : (o : Option Mark) → is_some o ≡ false → o ≡ None
 none-is None is = refl
 none-is (Some e) is = absurd (cc)
 
-module _ {V : Type 0} (visits : V → ℕ → Bool → V → Type 0) (number : ℕ) (whole l : List Mark) (m : Mark) (r : List Mark) (is : l ++ m ∷ r ≡ whole) where
-  -- up: to the right of the node alone, to the left and no further, as far as the mark, and all the way
-  pub up-far : (r' : List Mark) (a b : Way) (u v : V) → Rising (l ++ m ∷ r) → m.bound.0 ≤ number → Goes (StepsUp visits number) r a u r' b v → Goes (StepsUp visits number) whole a u (l ++ m ∷ r') b v
-  up-far r' a b u v rising below goes =
-      rw (← is) (Goes-far (StepsUp visits number) l m r r' a b u v (λ k d h. StepsUp.apart (get_or l k d) a u (omega (arith, (Rising-before l m r rising k d h).bounds, below))) (StepsUp.apart m a u below) goes)
+-- what a walk has made of a side of a node: it went over the marks in its own order, and the side is as high as before
+pub record Walked {V : Type 0} (step : Mark → Way → V → Mark → Way → V → Type 0) (turn : List Mark → List Mark) (o o' : Option (Box Grown Global)) (a b : Way) (u v : V) : Type 0 where
+  pub goes : Goes step (turn (marks_of o)) a u (turn (marks_of o')) b v
+  pub height : height_of o' ≡ height_of o
 
-  pub up-near : (l' : List Mark) (a b : Way) (u v : V) → Goes (StepsUp visits number) l a u l' b v → is_some b.ended ≡ true → Goes (StepsUp visits number) whole a u (l' ++ m ∷ r) b v
-  up-near l' a b u v goes ended =
+-- of the side to which it came first, and of the mark behind that; it goes on
+pub record Neared {V : Type 0} (step : Mark → Way → V → Mark → Way → V → Type 0) (turn : List Mark → List Mark) (o o' : Option (Box Grown Global)) (m m' : Mark) (a b : Way) (u v : V) : Type 0 where
+  pub goes : Goes step (turn (marks_of o) ++ m ∷ []) a u (turn (marks_of o') ++ m' ∷ []) b v
+  pub height : height_of o' ≡ height_of o
+  pub going : b.ended ≡ None
+
+module _ {V : Type 0} (step : Mark → Way → V → Mark → Way → V → Type 0) (turn : List Mark → List Mark) where
+  pub Walked-some : (o : Option (Box Grown Global)) (box : Box Grown Global) (n n' : Grown) (a b : Way) (u v : V) → o ≡ Some box → n ≡ box.value → Goes step (turn n.marks) a u (turn n'.marks) b v → n'.height ≡ n.height → Walked step turn o (Some (with_value box n')) a b u v
+  Walked-some o box n n' a b u v is at goes height = record { goes = rw (is, ← at) goes; height = rw (is, ← at) height }
+
+  pub Walked-none : (o : Option (Box Grown Global)) (a : Way) (u : V) → o ≡ None → turn [] ≡ [] → Walked step turn o o a a u u
+  Walked-none o a u is empty = record { goes = rw (is, empty) (Goes.here a u); height = refl }
+
+  pub Neared-stepped : (o o' : Option (Box Grown Global)) (m m' : Mark) (a b c : Way) (u v w : V) → Walked step turn o o' a b u v → step m b v m' c w → is_some c.ended ≡ false → Neared step turn o o' m m' a c u w
+  Neared-stepped o o' m m' a b c u v w walked at going = record {
+    goes = Goes-append step (turn (marks_of o)) (turn (marks_of o')) (m ∷ []) (m' ∷ []) a b c u v w walked.goes (Goes.more m m' [] [] b c c v w w at (Goes.here c w));
+    height = walked.height;
+    going = none-is c.ended going;
+  }
+
+  Neared-apart : (o : Option (Box Grown Global)) (m : Mark) (a : Way) (u : V) → All (λ n. step n a u n a u) (turn (marks_of o)) → step m a u m a u → a.ended ≡ None → Neared step turn o o m m a a u u
+  Neared-apart o m a u all at going = record {
+    goes = Goes-append step (turn (marks_of o)) (turn (marks_of o)) (m ∷ []) (m ∷ []) a a a u u u (Goes-stay step (turn (marks_of o)) a u all) (Goes.more m m [] [] a a a u u u at (Goes.here a u));
+    height = refl;
+    going = going;
+  }
+
+-- the sides in the order of a walk up
+abbrev pub ahead : List Mark → List Mark
+ahead ms = ms
+
+-- a node on a walk up: the left side and no further, as far as the mark, the right side alone, and the whole of it
+module _ {V : Type 0} (visits : V → ℕ → Bool → V → Type 0) (number : ℕ) (l l' : Option (Box Grown Global)) (m m' : Mark) (r r' : Option (Box Grown Global)) where
+  pub up-near : (a b : Way) (u v : V) → Walked (StepsUp visits number) ahead l l' a b u v → is_some b.ended ≡ true → Goes (StepsUp visits number) (marks_of l ++ m ∷ marks_of r) a u (marks_of l' ++ m ∷ marks_of r) b v
+  up-near a b u v walked ended =
       let e = some-is b.ended ended in
-      rw (← is) (Goes-near (StepsUp visits number) l l' m r a b u v goes (λ n. StepsUp.over n e.0 b v e.1))
+      Goes-near (StepsUp visits number) (marks_of l) (marks_of l') m (marks_of r) a b u v walked.goes (λ n. StepsUp.over n e.0 b v e.1)
 
-  pub up-middle : (l' : List Mark) (m' : Mark) (a b c : Way) (u v w : V) → Goes (StepsUp visits number) l a u l' b v → StepsUp visits number m b v m' c w → is_some c.ended ≡ true → Goes (StepsUp visits number) whole a u (l' ++ m' ∷ r) c w
-  up-middle l' m' a b c u v w goes at ended =
+  pub up-middle : (a b c : Way) (u v w : V) → Walked (StepsUp visits number) ahead l l' a b u v → StepsUp visits number m b v m' c w → is_some c.ended ≡ true → Goes (StepsUp visits number) (marks_of l ++ m ∷ marks_of r) a u (marks_of l' ++ m' ∷ marks_of r) c w
+  up-middle a b c u v w walked at ended =
       let e = some-is c.ended ended in
-      rw (← is) (Goes-middle (StepsUp visits number) l l' m m' r a b c u v w goes at (λ n. StepsUp.over n e.0 c w e.1))
+      Goes-middle (StepsUp visits number) (marks_of l) (marks_of l') m m' (marks_of r) a b c u v w walked.goes at (λ n. StepsUp.over n e.0 c w e.1)
 
-  pub up-all : (l' : List Mark) (m' : Mark) (r' : List Mark) (a b c d : Way) (u v w x : V) → Goes (StepsUp visits number) l a u l' b v → StepsUp visits number m b v m' c w → Goes (StepsUp visits number) r c w r' d x → Goes (StepsUp visits number) whole a u (l' ++ m' ∷ r') d x
-  up-all l' m' r' a b c d u v w x near at far = rw (← is) (Goes-node (StepsUp visits number) l l' m m' r r' a b c d u v w x near at far)
+  pub up-apart : (a : Way) (u : V) → Rising (marks_of l ++ m ∷ marks_of r) → m.bound.0 ≤ number → a.ended ≡ None → Neared (StepsUp visits number) ahead l l m m a a u u
+  up-apart a u rising below going =
+      Neared-apart (StepsUp visits number) ahead l m a u (λ k d h. StepsUp.apart (get_or (marks_of l) k d) a u (omega (arith, (Rising-before (marks_of l) m (marks_of r) rising k d h).bounds, below))) (StepsUp.apart m a u below) going
 
-  -- down, likewise
-  pub down-far : (l' : List Mark) (a b : Way) (u v : V) → Rising (l ++ m ∷ r) → number < m.bound.0 → Goes (StepsDown visits number) (reverse l) a u (reverse l') b v → Goes (StepsDown visits number) (reverse whole) a u (reverse (l' ++ m ∷ r)) b v
-  down-far l' a b u v rising above goes =
-      rw (← is) (Goes-back (StepsDown visits number) l l' m m r r a b u v
-      (Goes-far (StepsDown visits number) (reverse r) m (reverse l) (reverse l') a b u v (All-reverse (λ n. StepsDown visits number n a u n a u) r (λ k d h. StepsDown.apart (get_or r k d) a u (omega (arith, (Rising-behind l m r rising k d h).bounds, above)))) (StepsDown.apart m a u above) goes))
+  pub up-whole : (a b c : Way) (u v w : V) → Neared (StepsUp visits number) ahead l l' m m' a b u v → Walked (StepsUp visits number) ahead r r' b c v w → Goes (StepsUp visits number) (marks_of l ++ m ∷ marks_of r) a u (marks_of l' ++ m' ∷ marks_of r') c w
+  up-whole a b c u v w near far =
+      rw (append_assoc (marks_of l) (m ∷ []) (marks_of r), append_assoc (marks_of l') (m' ∷ []) (marks_of r')) at (Goes-append (StepsUp visits number) (marks_of l ++ m ∷ []) (marks_of l' ++ m' ∷ []) (marks_of r) (marks_of r') a b c u v w near.goes far.goes)
 
-  pub down-near : (r' : List Mark) (a b : Way) (u v : V) → Goes (StepsDown visits number) (reverse r) a u (reverse r') b v → is_some b.ended ≡ true → Goes (StepsDown visits number) (reverse whole) a u (reverse (l ++ m ∷ r')) b v
-  down-near r' a b u v goes ended =
+-- a node on a walk down, likewise, from the right side
+module _ {V : Type 0} (visits : V → ℕ → Bool → V → Type 0) (number : ℕ) (l l' : Option (Box Grown Global)) (m m' : Mark) (r r' : Option (Box Grown Global)) where
+  pub down-near : (a b : Way) (u v : V) → Walked (StepsDown visits number) reverse r r' a b u v → is_some b.ended ≡ true → Goes (StepsDown visits number) (reverse (marks_of l ++ m ∷ marks_of r)) a u (reverse (marks_of l ++ m ∷ marks_of r')) b v
+  down-near a b u v walked ended =
       let e = some-is b.ended ended in
-      rw (← is) (Goes-back (StepsDown visits number) l l m m r r' a b u v (Goes-near (StepsDown visits number) (reverse r) (reverse r') m (reverse l) a b u v goes (λ n. StepsDown.over n e.0 b v e.1)))
+      Goes-back (StepsDown visits number) (marks_of l) (marks_of l) m m (marks_of r) (marks_of r') a b u v (Goes-near (StepsDown visits number) (reverse (marks_of r)) (reverse (marks_of r')) m (reverse (marks_of l)) a b u v walked.goes (λ n. StepsDown.over n e.0 b v e.1))
 
-  pub down-middle : (r' : List Mark) (m' : Mark) (a b c : Way) (u v w : V) → Goes (StepsDown visits number) (reverse r) a u (reverse r') b v → StepsDown visits number m b v m' c w → is_some c.ended ≡ true → Goes (StepsDown visits number) (reverse whole) a u (reverse (l ++ m' ∷ r')) c w
-  down-middle r' m' a b c u v w goes at ended =
+  pub down-middle : (a b c : Way) (u v w : V) → Walked (StepsDown visits number) reverse r r' a b u v → StepsDown visits number m b v m' c w → is_some c.ended ≡ true → Goes (StepsDown visits number) (reverse (marks_of l ++ m ∷ marks_of r)) a u (reverse (marks_of l ++ m' ∷ marks_of r')) c w
+  down-middle a b c u v w walked at ended =
       let e = some-is c.ended ended in
-      rw (← is) (Goes-back (StepsDown visits number) l l m m' r r' a c u w (Goes-middle (StepsDown visits number) (reverse r) (reverse r') m m' (reverse l) a b c u v w goes at (λ n. StepsDown.over n e.0 c w e.1)))
+      Goes-back (StepsDown visits number) (marks_of l) (marks_of l) m m' (marks_of r) (marks_of r') a c u w (Goes-middle (StepsDown visits number) (reverse (marks_of r)) (reverse (marks_of r')) m m' (reverse (marks_of l)) a b c u v w walked.goes at (λ n. StepsDown.over n e.0 c w e.1))
 
-  pub down-all : (l' : List Mark) (m' : Mark) (r' : List Mark) (a b c d : Way) (u v w x : V) → Goes (StepsDown visits number) (reverse r) a u (reverse r') b v → StepsDown visits number m b v m' c w → Goes (StepsDown visits number) (reverse l) c w (reverse l') d x → Goes (StepsDown visits number) (reverse whole) a u (reverse (l' ++ m' ∷ r')) d x
-  down-all l' m' r' a b c d u v w x near at far =
-      rw (← is) (Goes-back (StepsDown visits number) l l' m m' r r' a d u x (Goes-node (StepsDown visits number) (reverse r) (reverse r') m m' (reverse l) (reverse l') a b c d u v w x near at far))
+  pub down-apart : (a : Way) (u : V) → Rising (marks_of l ++ m ∷ marks_of r) → number < m.bound.0 → a.ended ≡ None → Neared (StepsDown visits number) reverse r r m m a a u u
+  down-apart a u rising above going =
+      Neared-apart (StepsDown visits number) reverse r m a u (All-reverse (λ n. StepsDown visits number n a u n a u) (marks_of r) (λ k d h. StepsDown.apart (get_or (marks_of r) k d) a u (omega (arith, (Rising-behind (marks_of l) m (marks_of r) rising k d h).bounds, above)))) (StepsDown.apart m a u above) going
+
+  pub down-whole : (a b c : Way) (u v w : V) → Neared (StepsDown visits number) reverse r r' m m' a b u v → Walked (StepsDown visits number) reverse l l' b c v w → Goes (StepsDown visits number) (reverse (marks_of l ++ m ∷ marks_of r)) a u (reverse (marks_of l' ++ m' ∷ marks_of r')) c w
+  down-whole a b c u v w near far =
+      Goes-back (StepsDown visits number) (marks_of l) (marks_of l') m m' (marks_of r) (marks_of r') a c u w
+      (rw (append_assoc (reverse (marks_of r)) (m ∷ []) (reverse (marks_of l)), append_assoc (reverse (marks_of r')) (m' ∷ []) (reverse (marks_of l'))) at (Goes-append (StepsDown visits number) (reverse (marks_of r) ++ m ∷ []) (reverse (marks_of r') ++ m' ∷ []) (reverse (marks_of l)) (reverse (marks_of l')) a b c u v w near.goes far.goes))
 
 -- the node is as balanced as before
 pub IsBalanced-walked : (l l2 : Option (Box Grown Global)) (m m2 : Mark) (r r2 : Option (Box Grown Global)) (h : ℕ) → Rising (marks_of l2 ++ m2 ∷ marks_of r2) → length (marks_of l2 ++ m2 ∷ marks_of r2) ≡ length (marks_of l ++ m ∷ marks_of r)
@@ -287,3 +322,10 @@ pub IsBalanced-down : {V : Type 0} (visits : V → ℕ → Bool → V → Type 0
     → height_of l2 ≡ height_of l → height_of r2 ≡ height_of r → IsBalanced l m r h → IsBalanced l2 m2 r2 h
 IsBalanced-down visits number l l2 m m2 r r2 h a b u v goes left right balanced =
     IsBalanced-walked l l2 m m2 r r2 h (Rising-down visits number (marks_of l ++ m ∷ marks_of r) (marks_of l2 ++ m2 ∷ marks_of r2) a b u v goes balanced.rising) (length-down visits number (marks_of l ++ m ∷ marks_of r) (marks_of l2 ++ m2 ∷ marks_of r2) a b u v goes) left right balanced
+
+module _ {V : Type 0} (visits : V → ℕ → Bool → V → Type 0) (number : ℕ) (l l' : Option (Box Grown Global)) (m m' : Mark) (r r' : Option (Box Grown Global)) (h : ℕ) (a b c : Way) (u v w : V) where
+  pub up-balanced : Neared (StepsUp visits number) ahead l l' m m' a b u v → Walked (StepsUp visits number) ahead r r' b c v w → IsBalanced l m r h → IsBalanced l' m' r' h
+  up-balanced near far = IsBalanced-up visits number l l' m m' r r' h a c u w (up-whole visits number l l' m m' r r' a b c u v w near far) near.height far.height
+
+  pub down-balanced : Neared (StepsDown visits number) reverse r r' m m' a b u v → Walked (StepsDown visits number) reverse l l' b c v w → IsBalanced l m r h → IsBalanced l' m' r' h
+  down-balanced near far = IsBalanced-down visits number l l' m m' r r' h a c u w (down-whole visits number l l' m m' r r' a b c u v w near far) far.height near.height

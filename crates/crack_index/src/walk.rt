@@ -1,9 +1,9 @@
 //! Walks over the marks of a tree in order, from place to place, each one recursion over the tree: a bound at the place that was just
 //! told moves along, and at a bound behind it the visitor is told the next place.
-ghost use Rattle.std.specs.Prelude.{◌≡◌, ◌<◌, ◌≤◌, reverse, length, All, Contains, IfSome, None};
+ghost use Rattle.std.specs.Prelude.{ℕ, ◌≡◌, ◌<◌, ◌≤◌, reverse, length, All, Contains, IfSome, None, is_some};
 ghost use Rattle.crack_index.specs.Marks.{Rising, next_mark, last_mark};
 ghost use Rattle.crack_index.specs.Steps.{Goes, StepsUp, StepsDown};
-ghost use Rattle.crack_index.specs.Trees.{marks_of, height_of};
+ghost use Rattle.crack_index.specs.Trees.{marks_of};
 ghost use Rattle.crack_index.specs.Walks.{Climbs, Descends};
 
 use crate::tree::{Link, Node};
@@ -34,7 +34,9 @@ pub(crate) fn climb<V: Visitor>(link: &mut Link, number: u64, visitor: &mut V) -
         last: usize::MAX,
         ended: None,
     };
-    raise_along(link, number, &mut way, visitor);
+    if let Some(node) = link {
+        raise_along(&mut **node, number, &mut way, visitor);
+    }
     way.ended
 }
 
@@ -53,112 +55,121 @@ pub(crate) fn descend<V: Visitor>(link: &mut Link, number: u64, visitor: &mut V)
         last: 0,
         ended: None,
     };
-    lower_along(link, number, &mut way, visitor);
+    if let Some(node) = link {
+        lower_along(&mut **node, number, &mut way, visitor);
+    }
     way.ended
 }
 
-/// The part of a walk up that is in this tree.
-fn raise_along<V: Visitor>(link: &mut Link, number: u64, way: &mut Way, visitor: &mut V)
+/// The part of a walk up that is in this tree. Whether the walk has ended.
+fn raise_along<V: Visitor>(node: &mut Node, number: u64, way: &mut Way, visitor: &mut V) -> bool
     requires going { way.old.ended ≡ None }
-    requires small { All (λ m. m.position < usize.MAX) (marks_of link.old) }
+    requires small { All (λ m. m.position < usize.MAX) node.old.marks }
     requires ready { V.is_ready visitor.old }
-    ensures goes { Goes (StepsUp V.visits number) (marks_of link.old) way.old visitor.old (marks_of link.new) way.new visitor.new }
-    ensures height { height_of link.new ≡ height_of link.old }
+    ensures goes { Goes (StepsUp V.visits number) node.old.marks way.old visitor.old node.new.marks way.new visitor.new }
+    ensures height { node.new.height ≡ node.old.height }
+    ensures ended { result ≡ is_some way.new.ended }
     ensures ready { V.is_ready visitor.new }
 {
-    let Some(node) = link else {
-        return;
-    };
     let Node {
         mark,
         left,
         right,
         ..
-    } = &mut **node;
-    if mark.bound.0 <= number {
-        raise_along(right, number, way, visitor);
-        return;
-    }
-    raise_along(left, number, way, visitor);
-    if way.ended.is_some() {
-        return;
-    }
-    step_up(mark, number, way, visitor);
-    if way.ended.is_some() {
-        return;
-    }
-    raise_along(right, number, way, visitor);
-}
-
-/// The part of a walk down that is in this tree.
-fn lower_along<V: Visitor>(link: &mut Link, number: u64, way: &mut Way, visitor: &mut V)
-    requires going { way.old.ended ≡ None }
-    requires ready { V.is_ready visitor.old }
-    ensures goes { Goes (StepsDown V.visits number) (reverse (marks_of link.old)) way.old visitor.old (reverse (marks_of link.new)) way.new visitor.new }
-    ensures height { height_of link.new ≡ height_of link.old }
-    ensures ready { V.is_ready visitor.new }
-{
-    let Some(node) = link else {
-        return;
-    };
-    let Node {
-        mark,
-        left,
-        right,
-        ..
-    } = &mut **node;
+    } = node;
     if mark.bound.0 > number {
-        lower_along(left, number, way, visitor);
-        return;
+        if let Some(left) = left {
+            if raise_along(&mut **left, number, way, visitor) {
+                return true;
+            }
+        }
+        if step_up(mark, way, visitor) {
+            return true;
+        }
     }
-    lower_along(right, number, way, visitor);
-    if way.ended.is_some() {
-        return;
+    match right {
+        Some(right) => raise_along(&mut **right, number, way, visitor),
+        None => false,
     }
-    step_down(mark, number, way, visitor);
-    if way.ended.is_some() {
-        return;
-    }
-    lower_along(left, number, way, visitor);
 }
 
-/// What a walk up does at a bound above the number where it began.
+/// The part of a walk down that is in this tree. Whether the walk has ended.
+fn lower_along<V: Visitor>(node: &mut Node, number: u64, way: &mut Way, visitor: &mut V) -> bool
+    requires going { way.old.ended ≡ None }
+    requires ready { V.is_ready visitor.old }
+    ensures goes { Goes (StepsDown V.visits number) (reverse node.old.marks) way.old visitor.old (reverse node.new.marks) way.new visitor.new }
+    ensures height { node.new.height ≡ node.old.height }
+    ensures ended { result ≡ is_some way.new.ended }
+    ensures ready { V.is_ready visitor.new }
+{
+    let Node {
+        mark,
+        left,
+        right,
+        ..
+    } = node;
+    if mark.bound.0 <= number {
+        if let Some(right) = right {
+            if lower_along(&mut **right, number, way, visitor) {
+                return true;
+            }
+        }
+        if step_down(mark, way, visitor) {
+            return true;
+        }
+    }
+    match left {
+        Some(left) => lower_along(&mut **left, number, way, visitor),
+        None => false,
+    }
+}
+
+/// What a walk up does at a bound above the number from which it began. Whether the walk has ended.
 #[inline(always)]
-fn step_up<V: Visitor>(mark: &mut Mark, number: u64, way: &mut Way, visitor: &mut V)
-    requires above { number < mark.old.bound.0 }
+fn step_up<V: Visitor>(mark: &mut Mark, way: &mut Way, visitor: &mut V) -> bool
     requires going { way.old.ended ≡ None }
     requires small { mark.old.position < usize.MAX }
     requires ready { V.is_ready visitor.old }
-    ensures steps { StepsUp V.visits number mark.old way.old visitor.old mark.new way.new visitor.new }
+    ensures steps { (number : ℕ) → number < mark.old.bound.0 → StepsUp V.visits number mark.old way.old visitor.old mark.new way.new visitor.new }
+    ensures ended { result ≡ is_some way.new.ended }
     ensures ready { V.is_ready visitor.new }
 {
-    if mark.position == way.last {
-        mark.position += 1;
-    } else if visitor.visit(mark.position) {
-        way.last = mark.position;
-        mark.position += 1;
+    let position = mark.position;
+    if position == way.last {
+        mark.position = position + 1;
+        false
+    } else if visitor.visit(position) {
+        way.last = position;
+        mark.position = position + 1;
+        false
     } else {
         way.ended = Some(*mark);
+        true
     }
 }
 
-/// What a walk down does at a bound at or below the number where it began.
+/// What a walk down does at a bound at or below the number where it began. Whether the walk has ended.
 #[inline(always)]
-fn step_down<V: Visitor>(mark: &mut Mark, number: u64, way: &mut Way, visitor: &mut V)
-    requires below { mark.old.bound.0 ≤ number }
+fn step_down<V: Visitor>(mark: &mut Mark, way: &mut Way, visitor: &mut V) -> bool
     requires going { way.old.ended ≡ None }
     requires ready { V.is_ready visitor.old }
-    ensures steps { StepsDown V.visits number mark.old way.old visitor.old mark.new way.new visitor.new }
+    ensures steps { (number : ℕ) → mark.old.bound.0 ≤ number → StepsDown V.visits number mark.old way.old visitor.old mark.new way.new visitor.new }
+    ensures ended { result ≡ is_some way.new.ended }
     ensures ready { V.is_ready visitor.new }
 {
-    if mark.position == 0 {
+    let position = mark.position;
+    if position == 0 {
         way.ended = Some(*mark);
-    } else if mark.position == way.last {
-        mark.position -= 1;
-    } else if visitor.visit(mark.position - 1) {
-        way.last = mark.position;
-        mark.position -= 1;
+        true
+    } else if position == way.last {
+        mark.position = position - 1;
+        false
+    } else if visitor.visit(position - 1) {
+        way.last = position;
+        mark.position = position - 1;
+        false
     } else {
         way.ended = Some(*mark);
+        true
     }
 }

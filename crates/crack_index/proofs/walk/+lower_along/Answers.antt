@@ -1,40 +1,68 @@
-use Rattle.std.proofs.Common.{◌≡◌, ◌∷◌, ◌++◌, refl, sym, ap, ◌∙◌}
-use Rattle.crack_index.specs.Trees.{Grown, marks_of}
-use Rattle.crack_index.specs.Steps.{Goes}
-use Rattle.crack_index.proofs.WalkLemmas.{down-far, down-near, down-middle, down-all, IsBalanced-down}
+use Rattle.std.proofs.Common.{reverse, refl, sym, ap, ◌∙◌}
+use Rattle.crack_index.specs.Trees.{Grown}
+use Rattle.crack_index.specs.Steps.{StepsDown}
+use Rattle.crack_index.proofs.WalkLemmas.{Walked, Walked-some, Walked-none, Neared, Neared-stepped, down-near, down-middle, down-apart, down-whole, IsBalanced-down, down-balanced}
 use Rattle.crack_index.proofs.walk.+lower_along.Goals as goal
+use Rattle.crack_index.proofs.walk.+lower_along.Goals.{then-mark-number+else-step_down, in-Some+else-lower_along, in_default, else-mark-number, in-Some-left, in-None, Then-lower_along, Joined-right, Joined-mark-number, Joined-left}
 
-pub returns-in_default-clause-goes : goal.returns-in_default-clause-goes
-returns-in_default-clause-goes g t c = rw c.in_default.is (Goes.here c.args.way.now c.args.visitor.now)
+-- what has become of the nearer side, once the walk came back from it
+nearer : (g : _) (t : _) (c : Joined-right g t) → Walked (StepsDown g.V.Visitor.visits c.args.number) reverse c.node.inside.right c.match-right.node-inside.1.1.1.1.0 c.args.way.now c.match-right.way' c.args.visitor.now c.match-right.visitor
+nearer g t c =
+    elim c.match-right.branch [
+      | in-Some+else-lower_along x ↦ rw (x.node-inside-is, x.way'-is, x.visitor-is) (Walked-some (StepsDown g.V.Visitor.visits c.args.number) reverse c.node.inside.right x.in-Some.right x.deref_mut.result.now x.lower_along.new.node c.args.way.now x.lower_along.new.way c.args.visitor.now x.lower_along.new.visitor x.in-Some.is x.deref_mut.ensures.value x.lower_along.ensures.goes x.lower_along.ensures.height)
+      | in_default x ↦ rw (x.node-inside-is, x.way'-is, x.visitor-is) (Walked-none (StepsDown g.V.Visitor.visits c.args.number) reverse c.node.inside.right c.args.way.now c.args.visitor.now x.in_default.is refl)
+    ]
 
-pub invariant_of-link : goal.invariant_of-link
-invariant_of-link g t c = IsBalanced-down g.V.Visitor.visits c.args.number c.right.inside.left c.lower_along.new.link c.right.inside.mark c.right.inside.mark c.right.inside.right c.right.inside.right c.right.inside.height c.args.way.now c.lower_along.new.way c.args.visitor.now c.lower_along.new.visitor (down-far g.V.Visitor.visits c.args.number (marks_of c.right.inside.left ++ c.right.inside.mark ∷ marks_of c.right.inside.right) (marks_of c.right.inside.left) c.right.inside.mark (marks_of c.right.inside.right) refl (marks_of c.lower_along.new.link) c.args.way.now c.lower_along.new.way c.args.visitor.now c.lower_along.new.visitor c.right.invariant.rising c.if-mark-number.true c.lower_along.ensures.goes) c.lower_along.ensures.height refl c.right.invariant
+-- of it and the mark, at a node whose farther side is next
+neared : (g : _) (t : _) (c : Joined-mark-number g t) → Neared (StepsDown g.V.Visitor.visits c.args.number) reverse c.node.inside.right c.if-mark-number.node-inside.1.1.1.1.0 c.node.inside.mark c.if-mark-number.node-inside.1.0 c.args.way.now c.if-mark-number.way' c.args.visitor.now c.if-mark-number.visitor
+neared g t c = elim c.if-mark-number.branch [
+  | then-mark-number+else-step_down w ↦
+      let near : Walked (StepsDown g.V.Visitor.visits c.args.number) reverse c.node.inside.right w.match-right.node-inside.1.1.1.1.0 c.args.way.now w.match-right.way' c.args.visitor.now w.match-right.visitor = elim w.match-right.branch [
+        | in-Some+else-lower_along x ↦ rw (x.node-inside-is, x.way'-is, x.visitor-is) (Walked-some (StepsDown g.V.Visitor.visits c.args.number) reverse c.node.inside.right x.in-Some.right x.deref_mut.result.now x.lower_along.new.node c.args.way.now x.lower_along.new.way c.args.visitor.now x.lower_along.new.visitor x.in-Some.is x.deref_mut.ensures.value x.lower_along.ensures.goes x.lower_along.ensures.height)
+        | in_default x ↦ rw (x.node-inside-is, x.way'-is, x.visitor-is) (Walked-none (StepsDown g.V.Visitor.visits c.args.number) reverse c.node.inside.right c.args.way.now c.args.visitor.now x.in_default.is refl)
+      ] in
+      rw (w.node-inside-is, w.way'-is, w.visitor-is) (Neared-stepped (StepsDown g.V.Visitor.visits c.args.number) reverse c.node.inside.right w.match-right.node-inside.1.1.1.1.0 c.node.inside.mark w.step_down.new.mark c.args.way.now w.match-right.way' w.step_down.new.way c.args.visitor.now w.match-right.visitor w.step_down.new.visitor near (w.step_down.ensures.steps c.args.number w.if-mark-number.true) (sym w.step_down.ensures.ended ∙ w.if-step_down.false))
+  | else-mark-number w ↦ rw (w.node-inside-is, w.way'-is, w.visitor-is) (down-apart g.V.Visitor.visits c.args.number c.node.inside.left c.node.inside.left c.node.inside.mark c.node.inside.mark c.node.inside.right c.node.inside.right c.args.way.now c.args.visitor.now c.node.invariant.rising w.if-mark-number.false c.requires.going)
+]
 
-pub returns-then-mark-number-clause-goes : goal.returns-then-mark-number-clause-goes
-returns-then-mark-number-clause-goes g t c =
-    let whole : marks_of c.right.inside.left ++ c.right.inside.mark ∷ marks_of c.right.inside.right ≡ marks_of c.args.link.now = ap (λ (g : Grown). g.marks) (c.right.view_is ∙ c.deref_mut.ensures.value) ∙ sym (ap marks_of c.in-Some.is) in
-    down-far g.V.Visitor.visits c.args.number (marks_of c.args.link.now) (marks_of c.right.inside.left) c.right.inside.mark (marks_of c.right.inside.right) whole (marks_of c.lower_along.new.link) c.args.way.now c.lower_along.new.way c.args.visitor.now c.lower_along.new.visitor c.right.invariant.rising c.if-mark-number.true c.lower_along.ensures.goes
+pub invariant_of-node : goal.invariant_of-node
+invariant_of-node g t c =
+    let near = (Walked-some (StepsDown g.V.Visitor.visits c.args.number) reverse c.node.inside.right c.in-Some.right c.deref_mut.result.now c.lower_along.new.node c.args.way.now c.lower_along.new.way c.args.visitor.now c.lower_along.new.visitor c.in-Some.is c.deref_mut.ensures.value c.lower_along.ensures.goes c.lower_along.ensures.height) in
+    IsBalanced-down g.V.Visitor.visits c.args.number c.node.inside.left c.node.inside.left c.node.inside.mark c.node.inside.mark c.node.inside.right _ c.node.inside.height c.args.way.now c.lower_along.new.way c.args.visitor.now c.lower_along.new.visitor
+    (down-near g.V.Visitor.visits c.args.number c.node.inside.left c.node.inside.left c.node.inside.mark c.node.inside.mark c.node.inside.right _ c.args.way.now c.lower_along.new.way c.args.visitor.now c.lower_along.new.visitor near (sym c.lower_along.ensures.ended ∙ c.if-lower_along.true)) refl near.height c.node.invariant
 
-pub invariant_of-link-then-is_some : goal.invariant_of-link-then-is_some
-invariant_of-link-then-is_some g t c = IsBalanced-down g.V.Visitor.visits c.args.number c.right.inside.left c.right.inside.left c.right.inside.mark c.right.inside.mark c.right.inside.right c.lower_along-2.new.link c.right.inside.height c.args.way.now c.lower_along-2.new.way c.args.visitor.now c.lower_along-2.new.visitor (down-near g.V.Visitor.visits c.args.number (marks_of c.right.inside.left ++ c.right.inside.mark ∷ marks_of c.right.inside.right) (marks_of c.right.inside.left) c.right.inside.mark (marks_of c.right.inside.right) refl (marks_of c.lower_along-2.new.link) c.args.way.now c.lower_along-2.new.way c.args.visitor.now c.lower_along-2.new.visitor c.lower_along-2.ensures.goes (sym c.is_some.ensures ∙ c.if-is_some.true)) refl c.lower_along-2.ensures.height c.right.invariant
+pub returns-then-lower_along-clause-goes : goal.returns-then-lower_along-clause-goes
+returns-then-lower_along-clause-goes g t c =
+    let near = (Walked-some (StepsDown g.V.Visitor.visits c.args.number) reverse c.node.inside.right c.in-Some.right c.deref_mut.result.now c.lower_along.new.node c.args.way.now c.lower_along.new.way c.args.visitor.now c.lower_along.new.visitor c.in-Some.is c.deref_mut.ensures.value c.lower_along.ensures.goes c.lower_along.ensures.height) in
+    rw (← ap (λ (n : Grown). n.marks) c.node.view_is) (down-near g.V.Visitor.visits c.args.number c.node.inside.left c.node.inside.left c.node.inside.mark c.node.inside.mark c.node.inside.right _ c.args.way.now c.lower_along.new.way c.args.visitor.now c.lower_along.new.visitor near (sym c.lower_along.ensures.ended ∙ c.if-lower_along.true))
 
-pub returns-then-is_some-clause-goes : goal.returns-then-is_some-clause-goes
-returns-then-is_some-clause-goes g t c =
-    let whole : marks_of c.right.inside.left ++ c.right.inside.mark ∷ marks_of c.right.inside.right ≡ marks_of c.args.link.now = ap (λ (g : Grown). g.marks) (c.right.view_is ∙ c.deref_mut.ensures.value) ∙ sym (ap marks_of c.in-Some.is) in
-    down-near g.V.Visitor.visits c.args.number (marks_of c.args.link.now) (marks_of c.right.inside.left) c.right.inside.mark (marks_of c.right.inside.right) whole (marks_of c.lower_along-2.new.link) c.args.way.now c.lower_along-2.new.way c.args.visitor.now c.lower_along-2.new.visitor c.lower_along-2.ensures.goes (sym c.is_some.ensures ∙ c.if-is_some.true)
+pub invariant_of-node-then-step_down : goal.invariant_of-node-then-step_down
+invariant_of-node-then-step_down g t c =
+    let near = nearer g t (goal.at.invariant_of-node-then-step_down g t c).Joined-right in
+    IsBalanced-down g.V.Visitor.visits c.args.number c.node.inside.left c.node.inside.left c.node.inside.mark c.step_down.new.mark c.node.inside.right c.match-right.node-inside.1.1.1.1.0 c.node.inside.height c.args.way.now c.step_down.new.way c.args.visitor.now c.step_down.new.visitor
+    (down-middle g.V.Visitor.visits c.args.number c.node.inside.left c.node.inside.left c.node.inside.mark c.step_down.new.mark c.node.inside.right c.match-right.node-inside.1.1.1.1.0 c.args.way.now c.match-right.way' c.step_down.new.way c.args.visitor.now c.match-right.visitor c.step_down.new.visitor near (c.step_down.ensures.steps c.args.number c.if-mark-number.true) (sym c.step_down.ensures.ended ∙ c.if-step_down.true)) refl near.height c.node.invariant
 
-pub invariant_of-link-then-is_some-2 : goal.invariant_of-link-then-is_some-2
-invariant_of-link-then-is_some-2 g t c = IsBalanced-down g.V.Visitor.visits c.args.number c.right.inside.left c.right.inside.left c.right.inside.mark c.step_down.new.mark c.right.inside.right c.lower_along-2.new.link c.right.inside.height c.args.way.now c.step_down.new.way c.args.visitor.now c.step_down.new.visitor (down-middle g.V.Visitor.visits c.args.number (marks_of c.right.inside.left ++ c.right.inside.mark ∷ marks_of c.right.inside.right) (marks_of c.right.inside.left) c.right.inside.mark (marks_of c.right.inside.right) refl (marks_of c.lower_along-2.new.link) c.step_down.new.mark c.args.way.now c.lower_along-2.new.way c.step_down.new.way c.args.visitor.now c.lower_along-2.new.visitor c.step_down.new.visitor c.lower_along-2.ensures.goes c.step_down.ensures.steps (sym c.is_some-2.ensures ∙ c.if-is_some-2.true)) refl c.lower_along-2.ensures.height c.right.invariant
+pub returns-then-step_down-clause-goes : goal.returns-then-step_down-clause-goes
+returns-then-step_down-clause-goes g t c =
+    let near = nearer g t (goal.at.returns-then-step_down-clause-goes g t c).Joined-right in
+    rw (← ap (λ (n : Grown). n.marks) c.node.view_is) (down-middle g.V.Visitor.visits c.args.number c.node.inside.left c.node.inside.left c.node.inside.mark c.step_down.new.mark c.node.inside.right c.match-right.node-inside.1.1.1.1.0 c.args.way.now c.match-right.way' c.step_down.new.way c.args.visitor.now c.match-right.visitor c.step_down.new.visitor near (c.step_down.ensures.steps c.args.number c.if-mark-number.true) (sym c.step_down.ensures.ended ∙ c.if-step_down.true))
 
-pub returns-then-is_some-2-clause-goes : goal.returns-then-is_some-2-clause-goes
-returns-then-is_some-2-clause-goes g t c =
-    let whole : marks_of c.right.inside.left ++ c.right.inside.mark ∷ marks_of c.right.inside.right ≡ marks_of c.args.link.now = ap (λ (g : Grown). g.marks) (c.right.view_is ∙ c.deref_mut.ensures.value) ∙ sym (ap marks_of c.in-Some.is) in
-    down-middle g.V.Visitor.visits c.args.number (marks_of c.args.link.now) (marks_of c.right.inside.left) c.right.inside.mark (marks_of c.right.inside.right) whole (marks_of c.lower_along-2.new.link) c.step_down.new.mark c.args.way.now c.lower_along-2.new.way c.step_down.new.way c.args.visitor.now c.lower_along-2.new.visitor c.step_down.new.visitor c.lower_along-2.ensures.goes c.step_down.ensures.steps (sym c.is_some-2.ensures ∙ c.if-is_some-2.true)
-
-pub invariant_of-t-9 : goal.invariant_of-t-9
-invariant_of-t-9 g t c = IsBalanced-down g.V.Visitor.visits c.args.number c.right.inside.left c.lower_along-3.new.link c.right.inside.mark c.step_down.new.mark c.right.inside.right c.lower_along-2.new.link c.right.inside.height c.args.way.now c.lower_along-3.new.way c.args.visitor.now c.lower_along-3.new.visitor (down-all g.V.Visitor.visits c.args.number (marks_of c.right.inside.left ++ c.right.inside.mark ∷ marks_of c.right.inside.right) (marks_of c.right.inside.left) c.right.inside.mark (marks_of c.right.inside.right) refl (marks_of c.lower_along-3.new.link) c.step_down.new.mark (marks_of c.lower_along-2.new.link) c.args.way.now c.lower_along-2.new.way c.step_down.new.way c.lower_along-3.new.way c.args.visitor.now c.lower_along-2.new.visitor c.step_down.new.visitor c.lower_along-3.new.visitor c.lower_along-2.ensures.goes c.step_down.ensures.steps c.lower_along-3.ensures.goes) c.lower_along-3.ensures.height c.lower_along-2.ensures.height c.right.invariant
+pub invariant_of-node-2 : goal.invariant_of-node-2
+invariant_of-node-2 g t c =
+    let near = neared g t (goal.at.invariant_of-node-2 g t c).Joined-mark-number in
+    elim c.match-left.branch [
+      | in-Some-left w ↦ rw w.node-inside-is (down-balanced g.V.Visitor.visits c.args.number c.node.inside.left _ c.node.inside.mark c.if-mark-number.node-inside.1.0 c.node.inside.right c.if-mark-number.node-inside.1.1.1.1.0 c.node.inside.height c.args.way.now c.if-mark-number.way' _ c.args.visitor.now c.if-mark-number.visitor _ near
+          (Walked-some (StepsDown g.V.Visitor.visits c.args.number) reverse c.node.inside.left w.in-Some-left.left w.deref_mut-in-Some-left.result.now w.lower_along-in-Some-left.new.node c.if-mark-number.way' w.lower_along-in-Some-left.new.way c.if-mark-number.visitor w.lower_along-in-Some-left.new.visitor w.in-Some-left.is w.deref_mut-in-Some-left.ensures.value w.lower_along-in-Some-left.ensures.goes w.lower_along-in-Some-left.ensures.height) c.node.invariant)
+      | in-None w ↦ rw w.node-inside-is (down-balanced g.V.Visitor.visits c.args.number c.node.inside.left c.node.inside.left c.node.inside.mark c.if-mark-number.node-inside.1.0 c.node.inside.right c.if-mark-number.node-inside.1.1.1.1.0 c.node.inside.height c.args.way.now c.if-mark-number.way' _ c.args.visitor.now c.if-mark-number.visitor _ near
+          (Walked-none (StepsDown g.V.Visitor.visits c.args.number) reverse c.node.inside.left c.if-mark-number.way' c.if-mark-number.visitor w.in-None.is refl) c.node.invariant)
+    ]
 
 pub returns-clause-goes : goal.returns-clause-goes
 returns-clause-goes g t c =
-    let whole : marks_of c.right.inside.left ++ c.right.inside.mark ∷ marks_of c.right.inside.right ≡ marks_of c.args.link.now = ap (λ (g : Grown). g.marks) (c.right.view_is ∙ c.deref_mut.ensures.value) ∙ sym (ap marks_of c.in-Some.is) in
-    down-all g.V.Visitor.visits c.args.number (marks_of c.args.link.now) (marks_of c.right.inside.left) c.right.inside.mark (marks_of c.right.inside.right) whole (marks_of c.lower_along-3.new.link) c.step_down.new.mark (marks_of c.lower_along-2.new.link) c.args.way.now c.lower_along-2.new.way c.step_down.new.way c.lower_along-3.new.way c.args.visitor.now c.lower_along-2.new.visitor c.step_down.new.visitor c.lower_along-3.new.visitor c.lower_along-2.ensures.goes c.step_down.ensures.steps c.lower_along-3.ensures.goes
+    let near = neared g t (goal.at.returns-clause-goes g t c).Joined-mark-number in
+    elim c.match-left.branch [
+      | in-Some-left w ↦ rw (w.node-inside-is, w.way'-is, w.visitor-is, ← ap (λ (n : Grown). n.marks) c.node.view_is) (down-whole g.V.Visitor.visits c.args.number c.node.inside.left _ c.node.inside.mark c.if-mark-number.node-inside.1.0 c.node.inside.right c.if-mark-number.node-inside.1.1.1.1.0 c.args.way.now c.if-mark-number.way' _ c.args.visitor.now c.if-mark-number.visitor _ near
+          (Walked-some (StepsDown g.V.Visitor.visits c.args.number) reverse c.node.inside.left w.in-Some-left.left w.deref_mut-in-Some-left.result.now w.lower_along-in-Some-left.new.node c.if-mark-number.way' w.lower_along-in-Some-left.new.way c.if-mark-number.visitor w.lower_along-in-Some-left.new.visitor w.in-Some-left.is w.deref_mut-in-Some-left.ensures.value w.lower_along-in-Some-left.ensures.goes w.lower_along-in-Some-left.ensures.height))
+      | in-None w ↦ rw (w.node-inside-is, w.way'-is, w.visitor-is, ← ap (λ (n : Grown). n.marks) c.node.view_is) (down-whole g.V.Visitor.visits c.args.number c.node.inside.left c.node.inside.left c.node.inside.mark c.if-mark-number.node-inside.1.0 c.node.inside.right c.if-mark-number.node-inside.1.1.1.1.0 c.args.way.now c.if-mark-number.way' c.if-mark-number.way' c.args.visitor.now c.if-mark-number.visitor c.if-mark-number.visitor near
+          (Walked-none (StepsDown g.V.Visitor.visits c.args.number) reverse c.node.inside.left c.if-mark-number.way' c.if-mark-number.visitor w.in-None.is refl))
+    ]

@@ -1,20 +1,29 @@
-use Rattle.std.proofs.Common.{refl}
+use Rattle.std.proofs.Common.{refl, None, Some, ◌-◌, ◌^◌}
 use Rattle.crack_index.specs.Trees.{marks_of}
 use Rattle.crack_index.specs.Steps.{StepsUp}
-use Rattle.crack_index.proofs.WalkLemmas.{Goes-length, Rising-up}
+use Rattle.crack_index.specs.Walks.{Climbs}
+use Rattle.crack_index.proofs.WalkLemmas.{Walked, Walked-some, Goes-length, Rising-up, ahead}
 use Rattle.crack_index.proofs.WholeWalks.{climbs, climbed_there}
+use Rattle.std.specs.Box.{with_value}
 use Rattle.crack_index.proofs.walk.climb.Goals as goal
+use Rattle.crack_index.proofs.walk.climb.Goals.{After-raise_along}
 
-pub returns-clause-climbs : goal.returns-clause-climbs
-returns-clause-climbs g c = climbs g.V.Visitor.visits c.args.number (marks_of c.args.link.now) (marks_of c.raise_along.new.link) _ c.raise_along.new.way c.args.visitor.now c.raise_along.new.visitor c.requires.rising refl c.requires.small c.raise_along.ensures.goes
+walked : (g : _) (c : After-raise_along g) → Walked (StepsUp g.V.Visitor.visits c.args.number) ahead c.args.link.now (Some (with_value c.in-Some.node c.raise_along.new.node)) (record { last = 2 ^ 64 - 1; ended = None }) c.raise_along.new.way c.args.visitor.now c.raise_along.new.visitor
+walked g c = Walked-some (StepsUp g.V.Visitor.visits c.args.number) ahead c.args.link.now c.in-Some.node c.deref_mut.result.now c.raise_along.new.node (record { last = 2 ^ 64 - 1; ended = None }) c.raise_along.new.way c.args.visitor.now c.raise_along.new.visitor c.in-Some.is c.deref_mut.ensures.value c.raise_along.ensures.goes c.raise_along.ensures.height
 
-pub returns-clause-there : goal.returns-clause-there
-returns-clause-there g c =
-    climbed_there g.V.Visitor.visits c.args.number (marks_of c.args.link.now) c.args.visitor.now c.raise_along.new.way.ended (marks_of c.raise_along.new.link) c.raise_along.new.visitor c.requires.rising
-    (climbs g.V.Visitor.visits c.args.number (marks_of c.args.link.now) (marks_of c.raise_along.new.link) _ c.raise_along.new.way c.args.visitor.now c.raise_along.new.visitor c.requires.rising refl c.requires.small c.raise_along.ensures.goes)
+pub returns-in-Some-clause-climbs : goal.returns-in-Some-clause-climbs
+returns-in-Some-clause-climbs g c = climbs g.V.Visitor.visits c.args.number (marks_of c.args.link.now) c.raise_along.new.node.marks _ c.raise_along.new.way c.args.visitor.now c.raise_along.new.visitor c.requires.rising refl c.requires.small (walked g (goal.at.returns-in-Some-clause-climbs g c).After-raise_along).goes
 
-pub returns-clause-rising : goal.returns-clause-rising
-returns-clause-rising g c = Rising-up g.V.Visitor.visits c.args.number (marks_of c.args.link.now) (marks_of c.raise_along.new.link) _ c.raise_along.new.way c.args.visitor.now c.raise_along.new.visitor c.raise_along.ensures.goes c.requires.rising
+pub returns-in-Some-clause-there : goal.returns-in-Some-clause-there
+returns-in-Some-clause-there g c =
+    climbed_there g.V.Visitor.visits c.args.number (marks_of c.args.link.now) c.args.visitor.now c.raise_along.new.way.ended c.raise_along.new.node.marks c.raise_along.new.visitor c.requires.rising
+    (climbs g.V.Visitor.visits c.args.number (marks_of c.args.link.now) c.raise_along.new.node.marks _ c.raise_along.new.way c.args.visitor.now c.raise_along.new.visitor c.requires.rising refl c.requires.small (walked g (goal.at.returns-in-Some-clause-there g c).After-raise_along).goes)
 
-pub returns-clause-long : goal.returns-clause-long
-returns-clause-long g c = Goes-length (StepsUp g.V.Visitor.visits c.args.number) (marks_of c.args.link.now) (marks_of c.raise_along.new.link) _ c.raise_along.new.way c.args.visitor.now c.raise_along.new.visitor c.raise_along.ensures.goes
+pub returns-in-Some-clause-rising : goal.returns-in-Some-clause-rising
+returns-in-Some-clause-rising g c = Rising-up g.V.Visitor.visits c.args.number (marks_of c.args.link.now) c.raise_along.new.node.marks _ c.raise_along.new.way c.args.visitor.now c.raise_along.new.visitor (walked g (goal.at.returns-in-Some-clause-rising g c).After-raise_along).goes c.requires.rising
+
+pub returns-in-Some-clause-long : goal.returns-in-Some-clause-long
+returns-in-Some-clause-long g c = Goes-length (StepsUp g.V.Visitor.visits c.args.number) (marks_of c.args.link.now) c.raise_along.new.node.marks _ c.raise_along.new.way c.args.visitor.now c.raise_along.new.visitor (walked g (goal.at.returns-in-Some-clause-long g c).After-raise_along).goes
+
+pub returns-in_default-clause-climbs : goal.returns-in_default-clause-climbs
+returns-in_default-clause-climbs g c = rw c.in_default.is (Climbs.ends (marks_of None) c.args.visitor.now)
