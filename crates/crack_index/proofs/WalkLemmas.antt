@@ -203,17 +203,38 @@ module _ {V : Type 0} (step : Mark → Way → V → Mark → Way → V → Type
 
 -- A walk over a node
 
-pub All-left : (P : Mark → Type 0) (l : List Mark) (m : Mark) (r : List Mark) → All P (l ++ m ∷ r) → All P l
-All-left P [] m r all = All-nil P
-All-left P (x ∷ l) m r all = All-cons P x l (All-head P x (l ++ m ∷ r) all) (All-left P l m r (All-tail P x (l ++ m ∷ r) all))
+left-of : (P : Mark → Type 0) (l : List Mark) (m : Mark) (r : List Mark) → All P (l ++ m ∷ r) → All P l
+left-of P [] m r all = All-nil P
+left-of P (x ∷ l) m r all = All-cons P x l (All-head P x (l ++ m ∷ r) all) (left-of P l m r (All-tail P x (l ++ m ∷ r) all))
 
-pub All-here : (P : Mark → Type 0) (l : List Mark) (m : Mark) (r : List Mark) → All P (l ++ m ∷ r) → P m
-All-here P [] m r all = All-head P m r all
-All-here P (x ∷ l) m r all = All-here P l m r (All-tail P x (l ++ m ∷ r) all)
+here-of : (P : Mark → Type 0) (l : List Mark) (m : Mark) (r : List Mark) → All P (l ++ m ∷ r) → P m
+here-of P [] m r all = All-head P m r all
+here-of P (x ∷ l) m r all = here-of P l m r (All-tail P x (l ++ m ∷ r) all)
 
-pub All-right : (P : Mark → Type 0) (l : List Mark) (m : Mark) (r : List Mark) → All P (l ++ m ∷ r) → All P r
-All-right P [] m r all = All-tail P m r all
-All-right P (x ∷ l) m r all = All-right P l m r (All-tail P x (l ++ m ∷ r) all)
+right-of : (P : Mark → Type 0) (l : List Mark) (m : Mark) (r : List Mark) → All P (l ++ m ∷ r) → All P r
+right-of P [] m r all = All-tail P m r all
+right-of P (x ∷ l) m r all = right-of P l m r (All-tail P x (l ++ m ∷ r) all)
+
+-- what all marks of a node are, those of its sides and its own are
+module _ (P : Mark → Type 0) (l : Option (Box Grown Global)) (m : Mark) (r : Option (Box Grown Global)) (whole : List Mark) (is : marks_of l ++ m ∷ marks_of r ≡ whole) (all : All P whole) where
+  pub All-left : All P (marks_of l)
+  All-left = left-of P (marks_of l) m (marks_of r) (rw (← is) at all)
+
+  pub All-here : P m
+  All-here = here-of P (marks_of l) m (marks_of r) (rw (← is) at all)
+
+  pub All-right : All P (marks_of r)
+  All-right = right-of P (marks_of l) m (marks_of r) (rw (← is) at all)
+
+pub All-some : (P : Mark → Type 0) (o : Option (Box Grown Global)) (box : Box Grown Global) (n : Grown) → o ≡ Some box → n ≡ box.value → All P (marks_of o) → All P n.marks
+All-some P o box n is at all = subst (λ (k : Grown). All P k.marks) (sym at) (subst (λ (p : Option (Box Grown Global)). All P (marks_of p)) is all)
+
+-- where the mark is above a number, so are those to the right of it, and where it is not, nor are those to the left
+pub above-right : (number : ℕ) (l : List Mark) (m : Mark) (r : List Mark) → Rising (l ++ m ∷ r) → number < m.bound.0 → All (λ n. number < n.bound.0) r
+above-right number l m r rising above = λ k d h. omega (arith, above, (Rising-behind l m r rising k d h).bounds)
+
+pub below-left : (number : ℕ) (l : List Mark) (m : Mark) (r : List Mark) → Rising (l ++ m ∷ r) → m.bound.0 ≤ number → All (λ n. n.bound.0 ≤ number) l
+below-left number l m r rising below = λ k d h. omega (arith, below, (Rising-before l m r rising k d h).bounds)
 
 some-is : (o : Option Mark) → is_some o ≡ true → (e : Mark) × (o ≡ Some e)
 some-is None is = absurd (cc)

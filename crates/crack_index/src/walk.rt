@@ -77,18 +77,55 @@ fn raise_along<V: Visitor>(node: &mut Node, number: u64, way: &mut Way, visitor:
         right,
         ..
     } = node;
-    if mark.bound.0 > number {
-        if let Some(left) = left {
-            if raise_along(&mut **left, number, way, visitor) {
-                return true;
-            }
-        }
-        if step_up(mark, way, visitor) {
+    if mark.bound.0 <= number {
+        return match right {
+            Some(right) => raise_along(&mut **right, number, way, visitor),
+            None => false,
+        };
+    }
+    if let Some(left) = left {
+        if raise_along(&mut **left, number, way, visitor) {
             return true;
         }
     }
+    if step_up(mark, way, visitor) {
+        return true;
+    }
     match right {
-        Some(right) => raise_along(&mut **right, number, way, visitor),
+        Some(right) => raise_all(&mut **right, way, visitor),
+        None => false,
+    }
+}
+
+/// The part of a walk up that is in this tree, where all bounds are above the number from which it began: so it compares none with it.
+/// Whether the walk has ended.
+fn raise_all<V: Visitor>(node: &mut Node, way: &mut Way, visitor: &mut V) -> bool
+    requires going { way.old.ended ≡ None }
+    requires above { (number : ℕ) × All (λ m. number < m.bound.0) node.old.marks }
+    requires small { All (λ m. m.position < usize.MAX) node.old.marks }
+    requires ready { V.is_ready visitor.old }
+    ensures goes { (number : ℕ) → All (λ m. number < m.bound.0) node.old.marks
+        → Goes (StepsUp V.visits number) node.old.marks way.old visitor.old node.new.marks way.new visitor.new }
+    ensures height { node.new.height ≡ node.old.height }
+    ensures ended { result ≡ is_some way.new.ended }
+    ensures ready { V.is_ready visitor.new }
+{
+    let Node {
+        mark,
+        left,
+        right,
+        ..
+    } = node;
+    if let Some(left) = left {
+        if raise_all(&mut **left, way, visitor) {
+            return true;
+        }
+    }
+    if step_up(mark, way, visitor) {
+        return true;
+    }
+    match right {
+        Some(right) => raise_all(&mut **right, way, visitor),
         None => false,
     }
 }
@@ -108,18 +145,54 @@ fn lower_along<V: Visitor>(node: &mut Node, number: u64, way: &mut Way, visitor:
         right,
         ..
     } = node;
-    if mark.bound.0 <= number {
-        if let Some(right) = right {
-            if lower_along(&mut **right, number, way, visitor) {
-                return true;
-            }
-        }
-        if step_down(mark, way, visitor) {
+    if mark.bound.0 > number {
+        return match left {
+            Some(left) => lower_along(&mut **left, number, way, visitor),
+            None => false,
+        };
+    }
+    if let Some(right) = right {
+        if lower_along(&mut **right, number, way, visitor) {
             return true;
         }
     }
+    if step_down(mark, way, visitor) {
+        return true;
+    }
     match left {
-        Some(left) => lower_along(&mut **left, number, way, visitor),
+        Some(left) => lower_all(&mut **left, way, visitor),
+        None => false,
+    }
+}
+
+/// The part of a walk down that is in this tree, where no bound is above the number from which it began: so it compares none with it.
+/// Whether the walk has ended.
+fn lower_all<V: Visitor>(node: &mut Node, way: &mut Way, visitor: &mut V) -> bool
+    requires going { way.old.ended ≡ None }
+    requires below { (number : ℕ) × All (λ m. m.bound.0 ≤ number) node.old.marks }
+    requires ready { V.is_ready visitor.old }
+    ensures goes { (number : ℕ) → All (λ m. m.bound.0 ≤ number) node.old.marks
+        → Goes (StepsDown V.visits number) (reverse node.old.marks) way.old visitor.old (reverse node.new.marks) way.new visitor.new }
+    ensures height { node.new.height ≡ node.old.height }
+    ensures ended { result ≡ is_some way.new.ended }
+    ensures ready { V.is_ready visitor.new }
+{
+    let Node {
+        mark,
+        left,
+        right,
+        ..
+    } = node;
+    if let Some(right) = right {
+        if lower_all(&mut **right, way, visitor) {
+            return true;
+        }
+    }
+    if step_down(mark, way, visitor) {
+        return true;
+    }
+    match left {
+        Some(left) => lower_all(&mut **left, way, visitor),
         None => false,
     }
 }
