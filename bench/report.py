@@ -240,9 +240,9 @@ def rival_text(measured):
 - **A crack in three.** Where both ends of a range are missing and fall into one piece, `crackd` and the column divide it by both in one pass. A step writes
   three tags, and one of a crack by one bound two; that spares the second pass, mostly over a quarter of the piece. Beside an earlier `crackd` that cracked
   by one end after the other, the first count over half a million rows took as long, over 10,000 rows 1.5 times, 1,000 counts 1.1 times as long.
-- **A step of a carry: {carry.ratio():.1f} times as long; of a pull: {pull.ratio():.1f} times.** Each step exchanges two tags and moves a bound. In the other column one
-  loop does all steps, with the row in hand in a register. In `crackd` a step is a call of its own, which leaves the store intact; the
-  row in hand stands behind the column's end, so each step writes it there, and the next one reads it.
+- **A step of a carry: {carry.ratio():.1f} times as long; of a pull: {pull.ratio():.1f} times.** Each step puts the row in hand at a place
+  and moves a bound. In the other column bounds stand side by side, and one loop does all steps. In `crackd` a bound is a node of a tree, so that many of them
+  can be added, and one recursion goes through the nodes in order, with the row in hand in memory beside the column.
 - **Sums that merge: {spread(merges)} times as long.** These are such steps, and what comes with each row besides: a delete looks the row's
   number up and takes it out of the map, its reply has the row, and the history keeps that; a row that is put in is read through its handle.
 - **A pass over pending keys that finds none: {passing.ratio():.1f} times as long.** Both look at 16 keys at a time; of a row of `crackd`'s the key may besides

@@ -114,12 +114,7 @@ impl Visitor for Descent<'_> {
         if place >= self.column.len() {
             return false;
         }
-        note_if_doomed(
-            &mut self.notes,
-            self.pending_out,
-            self.column.slot(),
-            place,
-        );
+        note_if_doomed(&mut self.notes, self.pending_out, self.column.slot(), place);
         self.column.exchange(place);
         self.pulled = self.pulled.saturating_add(1);
         true

@@ -184,7 +184,10 @@ fn assert_stretch(rt: &impl Abort, arena: &Arena<char>, slot: u32, len: usize) {
     assert_eq!(rt; stretch.value_at(len), None);
     for place in 0..len {
         let handle = Handle::new(slot.saturating_add(place as u32), 0);
-        assert_eq!(rt; stretch.value_at(place).copied(), arena.get(handle).copied());
+        assert_eq!(rt;
+            stretch.value_at(place).copied(),
+            arena.get(handle).copied()
+        );
     }
 }
 

@@ -372,7 +372,11 @@ fn a_row_aside_changes_places(rt: HostRuntime) -> Result<(), Fail> {
 }
 
 /// Takes a third row of three in hand, lets it change places with both others, and lets go of it.
-fn go_in_hand(rt: &impl Abort, arena: &mut Arena<Row>, column: &mut CrackerColumn) -> Result<(), Fail> {
+fn go_in_hand(
+    rt: &impl Abort,
+    arena: &mut Arena<Row>,
+    column: &mut CrackerColumn,
+) -> Result<(), Fail> {
     let a = put(rt, arena, 0, 40, 1)?;
     let b = put(rt, arena, 1, 10, 2)?;
     let c = put(rt, arena, 2, 4294967295, 4)?;

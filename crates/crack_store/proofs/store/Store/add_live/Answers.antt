@@ -15,8 +15,7 @@ add-requires c = record { order = c.cells.invariant.1 }
 
 pub cells-preserved : goal.cells-preserved
 cells-preserved c =
-    let next : c.args.slot + c.cells.place + 1 ≡ c.args.slot + (c.cells.place + 1) = omega arith in
-    (
+    let next : c.args.slot + c.cells.place + 1 ≡ c.args.slot + (c.cells.place + 1) = omega arith in (
       rw next at (seen-next (live_at c.args.self.now.cells (slots c.args.self.now.pending_out)) _ _ (c.args.slot + c.cells.place) c.live_at.result c.live_at.ensures c.cells.invariant.0 c.in_ok-add.ensures.rows),
       c.in_ok-add.ensures.order,
     )

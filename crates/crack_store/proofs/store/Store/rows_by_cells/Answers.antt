@@ -26,8 +26,7 @@ stretches-preserved c =
     let part = ap length c.stretch_from-stretch.ensures.cells in
     let whole = c.self.inside.inside.arena.cells in
     let long = length-take (length c.stretch_from-stretch.result) (drop c.stretches.slot whole) in
-    let behind = length-drop c.stretches.slot whole in
-    (
+    let behind = length-drop c.stretches.slot whole in (
       omega (arith, same, here, part, long, behind, c.len-in-stretches.ensures),
       rw c.len-in-stretches.ensures c.in_ok-add_live.ensures.rows,
       c.in_ok-add_live.ensures.order,
