@@ -177,15 +177,15 @@ fn cells_of_a_second_page(rt: HostRuntime) {
     drop(arena);
 }
 
-/// The values of cells that stand side by side, from the one of this number on, up to this many cells.
-fn assert_stretch(rt: &impl Abort, arena: &Arena<char>, slot: u32, len: usize) {
+/// The values of cells that stand side by side, from the one of this number on: this many cells.
+fn assert_stretch(rt: &impl Abort, arena: &Arena<char>, slot: u32, len: u32) {
     let stretch = arena.stretch_from(slot);
-    assert_eq!(rt; stretch.len(), len);
-    assert_eq!(rt; stretch.value_at(len), None);
+    assert_eq!(rt; stretch.len(), len as usize);
+    assert_eq!(rt; stretch.value_at(len as usize), None);
     for place in 0..len {
-        let handle = Handle::new(slot.saturating_add(place as u32), 0);
+        let handle = Handle::new(slot.saturating_add(place), 0);
         assert_eq!(rt;
-            stretch.value_at(place).copied(),
+            stretch.value_at(place as usize).copied(),
             arena.get(handle).copied()
         );
     }
