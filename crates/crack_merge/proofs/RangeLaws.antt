@@ -1,9 +1,9 @@
 -- What the searches of carries and pulls of a range find.
-use Rattle.std.proofs.Common.{◌≡◌, ℕ, ◌-◌, ◌<◌, ◌≤◌, List, ◌++◌, length, get_or, take, drop, Option, None, Some, refl, sym, ap, ◌∙◌, inl, inr, arith, length-append, Result, Ok, Err, IsOk, IfErr}
+use Rattle.std.proofs.Common.{◌≡◌, ℕ, ◌-◌, ◌<◌, ◌≤◌, List, [], ◌∷◌, true, ◌++◌, length, get_or, take, drop, Option, None, Some, refl, sym, ap, ◌∙◌, inl, inr, arith, length-append, Result, Ok, Err, IsOk, IfErr}
 use Rattle.std.specs.List.{All, remove}
 use Rattle.std.proofs.lemmas.Bool.{cases_lt}
 use Rattle.std.proofs.lemmas.List.{get_or-map, get_or-take, get_or_append_left, get_or-append_right, length-map, length-take-le, take_all, drop_all, append-nil, take-append-drop}
-use Rattle.crack_row.specs.Ranges.{Range, IsIn}
+use Rattle.crack_row.specs.Ranges.{Range, IsIn, is_in}
 use Rattle.crack_row.specs.declared.Row.{Row}
 use Rattle.crack_row.specs.declared.refusal.Refusal.{Refusal}
 use Rattle.crack_arena.specs.Arena.{Cell, Handle, no_handle}
@@ -12,7 +12,8 @@ use Rattle.crack_pending.specs.Pending.{Finds, NoneIn}
 use Rattle.crack_pending.proofs.Searches.{is_in-true, is_in-false, StandsAt-get_or, keys_at-StandsAt}
 use Rattle.crack_state.specs.Merge.{outside_of, ReadsOutside}
 use Rattle.crack_state.proofs.OutsideLaws.{LacksFirst, LacksFirst-next, LacksFirst-all, NoneInside, outside_of-all}
-use Rattle.crack_state.specs.State.{State}
+use Rattle.crack_state.specs.State.{State, Reads, HaveKeysIn}
+use Rattle.crack_state.proofs.CrackLaws.{key_within}
 use Rattle.crack_merge.specs.Merges.{CarriesIn, CarriesAll, CarriesSome, PullsOut, PullsAll, begins, carries, pulls}
 
 -- where rows of the range have gone before it
@@ -114,3 +115,10 @@ LacksFirst-empty cells r before left from empty lacks =
     let front : outside_of cells r (take lacks.passed before) ≡ take lacks.passed before = outside_of-all cells r (take lacks.passed before) (λ k d inside.
     is_in-false r (key_at cells (get_or (take lacks.passed before) k d)) (λ is. omega (arith, is.0, is.1, empty))) in
     lacks.left_are ∙ ap (λ hs. hs ++ drop lacks.passed before) front ∙ take-append-drop lacks.passed before
+
+-- where all keys of cells are in the range, no row that reads is outside it
+pub outside_of-keys : (r : Range) (cells : List (Cell Row)) (hs : List Handle) → HaveKeysIn r cells → All (Reads cells) hs → outside_of cells r hs ≡ []
+outside_of-keys r cells [] within reads = refl
+outside_of-keys r cells (h ∷ hs) within reads =
+    let is : is_in r (key_at cells h) ≡ true = is_in-true r (key_at cells h) (key_within r cells h within (All-head (Reads cells) h hs reads)) in
+    rw is (outside_of-keys r cells hs within (All-tail (Reads cells) h hs reads))

@@ -7,7 +7,7 @@ ghost use Rattle.crack_merge.specs.Merges.{BuriesFew, Stops};
 ghost use Rattle.crack_merge.specs.Loops.{PutsIn, TakesOut};
 
 use crate::carries::{carry, end, end_and_lift};
-use crate::pulls::pull;
+use crate::pulls::pull_range;
 use crate::report::counted_between;
 use crack_row::{KeyRange, Refusal};
 use crack_store::{MergeReport, Store};
@@ -90,16 +90,15 @@ fn put_in_all(mut store: Store) -> Result<Store, (Store, Refusal)>
     Ok(end(carrying, rule))
 }
 
-/// Takes out every pending deletion, in the order of arrival.
-fn take_out_all(mut store: Store) -> Store
+/// Takes out every pending deletion, in the order of arrival, each by the column's last row.
+fn take_out_all(store: Store) -> Store
     ensures takes { TakesOut Complete store result }
     ensures all { result.pending_out ≡ [] }
 {
-    'deletions: while store.pending_out() > 0 {
-        store.facts();
-        store.seek_out(0);
-        let doomed = store.doomed(0);
-        store = pull(store.lift_last(), doomed);
-    }
-    store
+    store.facts();
+    let keys = store.keys();
+    let seen = store.pending_in();
+    let emptied = pull_range(store, keys, KeyRange::default(), seen);
+    emptied.facts();
+    emptied
 }

@@ -10,5 +10,5 @@ mod report;
 pub use carries::carry_range;
 pub use complete::merge_complete;
 pub use gradual::merge_gradual;
-pub use pulls::{pull, pull_range};
+pub use pulls::pull_range;
 pub use report::counted_between;

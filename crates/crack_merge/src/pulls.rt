@@ -77,20 +77,10 @@ fn bury_and_begin(carrying: &mut Carrying, fillers: KeyRange, seen: usize) -> us
     }
 }
 
-/// Takes a doomed row out of the column, by the cell in hand, which goes down through the pieces to fill its place: the hand takes
-/// the last place before its own piece, and the row that stood there is in hand. Another doomed row that comes into hand is drawn
-/// on like any other. The cell in hand may come from anywhere behind the doomed row.
+/// Draws a doomed row into the hand: the cell in hand goes down through the pieces to fill its place, takes the last place before its own
+/// piece, and the row that stood there is in hand. Another doomed row that comes into hand is drawn on like any other. The cell in hand may
+/// come from anywhere behind the doomed row; where the pull ends, the doomed row is in hand, and is to be buried.
 /// O(log bounds) and O(1) for each piece, and the bounds at its place; one search for the doomed row's place. Takes no memory.
-pub fn pull(mut carrying: Carrying, doomed: Handle<Row>) -> Store
-    requires pending { Contains carrying.store.pending_out doomed }
-    requires ahead { (place : ℕ) → StandsAt carrying.store.column place doomed → place < piece_end carrying.store (hand_key carrying) }
-    ensures { Pulls doomed carrying result }
-{
-    draw(&mut carrying, doomed);
-    carrying.bury()
-}
-
-/// Draws a doomed row into the hand: all that `pull` does before it buries it. Takes no memory.
 fn draw(carrying: &mut Carrying, doomed: Handle<Row>)
     requires pending { Contains carrying.old.store.pending_out doomed }
     requires ahead { (place : ℕ) → StandsAt carrying.old.store.column place doomed → place < piece_end carrying.old.store (hand_key carrying.old) }

@@ -6,6 +6,13 @@ use crate::Store;
 use crack_row::KeyRange;
 
 impl Store {
+    /// The keys that its rows may have.
+    pub fn keys(&self) -> KeyRange
+        ensures { result ≡ self.now.keys }
+    {
+        self.inside.keys
+    }
+
     /// The keys from a range's end up to the next bound above it, or to the partition's high end. O(log bounds).
     pub fn keys_beyond(&self, range: KeyRange) -> KeyRange
         requires { range.high ≤ self.now.keys.high }

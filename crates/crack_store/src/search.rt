@@ -6,16 +6,25 @@ use crate::Carrying;
 use crate::notes::Notes;
 use crack_arena::{Handle, key_of};
 use crack_column::CrackerColumn;
+use crack_index::Piece;
 use crack_pending::PendingOut;
 use crack_row::Row;
 
 /// How many places of a piece are looked at together.
 const BLOCK: usize = 64;
 
+/// So few doomed rows are looked for one by one in a piece of any length.
+const FEW: usize = 16;
+
+/// In a piece of at most so many rows one row is looked for by itself where fewer rows are doomed than there are bounds, since it is likely
+/// to be the one doomed row there.
+const SHORT: usize = 4096;
+
 impl Carrying {
     /// The place of the column where a doomed row stands, as `place_of` tells it.
-    /// O(1) where the row was noted, else O(its own piece + log bounds): the pass over its piece notes every doomed row there, and steps
-    /// that move a doomed row note its new place. So a piece is passed over once for all its doomed rows, until a crack moves them.
+    /// O(1) where the row was noted, else O(its own piece + log bounds). Where the row is likely to be the one doomed row of its piece, it is
+    /// looked for by itself, at a fifth of the cost of a pass that notes every doomed row there; so a long piece is passed over once for all
+    /// its doomed rows, until a crack moves them. Steps that move a doomed row note its new place.
     pub fn find(&mut self, handle: Handle<Row>) -> Option<usize>
         ensures value { MatchOption result (IsAbsent self.old.store.column handle) (IsFirstAt self.old.store.column handle) }
         ensures same { self.new ≡ self.old }
@@ -27,7 +36,7 @@ impl Carrying {
         if let Some(place) = self.noted(handle) {
             return Some(place);
         }
-        self.note_piece(handle);
+        self.note(handle);
         match self.noted(handle) {
             Some(place) => Some(place),
             None => self.place_of(handle),
@@ -45,34 +54,46 @@ impl Carrying {
         None
     }
 
-    /// Notes the places of all doomed rows of the row's own piece. O(rows there + log bounds).
-    fn note_piece(&mut self, handle: Handle<Row>)
+    /// Notes the place of a doomed row, alone or with all others of its own piece. O(rows there + log bounds).
+    fn note(&mut self, handle: Handle<Row>)
         ensures { self.new ≡ self.old }
     {
         let key = key_of(&self.inside.arena, handle);
         let piece = self.inside.index.piece_of(key, self.inside.column.len());
-        note_doomed(
-            &self.inside.column,
-            piece.from,
-            piece.to,
-            &self.inside.pending_out,
-            &mut self.inside.notes,
-        );
+        if self.is_likely_alone(piece) {
+            note_row(&self.inside.column, piece, handle, &mut self.inside.notes);
+        } else {
+            note_doomed(
+                &self.inside.column,
+                piece,
+                &self.inside.pending_out,
+                &mut self.inside.notes,
+            );
+        }
+    }
+
+    /// Whether a doomed row of this piece is likely to be the only one there, or few are doomed at all. O(1).
+    fn is_likely_alone(&self, piece: Piece) -> bool {
+        let doomed = self.inside.pending_out.len();
+        let is_short = piece.to <= piece.from.saturating_add(SHORT);
+        doomed <= FEW || is_short && doomed <= self.inside.index.len()
     }
 }
 
-/// Notes each doomed row from the one place of the column up to the other. O(places): those of a block are looked at one by one only where
+/// Notes the place of a row, where it stands in this piece. O(rows there), and no look at other doomed rows.
+fn note_row(column: &CrackerColumn, piece: Piece, handle: Handle<Row>, notes: &mut Notes) {
+    let to = piece.to.min(column.len());
+    let from = piece.from.min(to);
+    if let Some(place) = column.place_between(from, to, handle) {
+        notes.put(handle.slot(), place);
+    }
+}
+
+/// Notes each doomed row of a piece of the column. O(places): those of a block are looked at one by one only where
 /// one of them is doomed.
-fn note_doomed(
-    column: &CrackerColumn,
-    from: usize,
-    to: usize,
-    pending_out: &PendingOut,
-    notes: &mut Notes,
-)
-    requires { to ≤ length column.now.handles }
-{
-    let mut place = from;
+fn note_doomed(column: &CrackerColumn, piece: Piece, pending_out: &PendingOut, notes: &mut Notes) {
+    let to = piece.to.min(column.len());
+    let mut place = piece.from;
     'parts: while place < to {
         let end = place + BLOCK.min(to - place);
         if has_doomed(column, place, end, pending_out) {

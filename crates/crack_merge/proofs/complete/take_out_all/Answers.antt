@@ -1,24 +1,27 @@
-use Rattle.std.proofs.Common.{arith}
+use Rattle.std.proofs.Common.{◌≡◌, [], ◌∙◌, arith}
 use Rattle.crack_row.specs.declared.command.Policy.TheVariants.{Complete}
-use Rattle.crack_state.proofs.DrawLaws.{column_some}
-use Rattle.crack_merge.proofs.PullLaws.{TakesOut-none, TakesOut-trans, ahead_of_last}
-use Rattle.crack_merge.proofs.PullLaws.{TakesAt, TakesAt-Pulls}
+use Rattle.crack_state.proofs.AdvanceLaws.{keys_still}
+use Rattle.crack_merge.specs.Loops.{TakesOut}
+use Rattle.crack_merge.proofs.RangeLaws.{LacksFirst-empty, LacksFirst-missed, outside_of-keys}
+use Rattle.crack_merge.proofs.PullLaws.{TakesInside-PullsOut}
 use Rattle.crack_merge.proofs.complete.take_out_all.Goals as goal
 
-pub deletions-init : goal.deletions-init
-deletions-init c = TakesOut-none Complete c.args.store
+-- no pending insertion was taken, since there are no fillers, and no pending deletion is left, since all have keys of the store
+taken : (c : goal.After-pull_range-emptied) → TakesOut Complete c.args.store c.pull_range-emptied.result × (c.pull_range-emptied.result.pending_out ≡ [])
+taken c =
+    let s = c.args.store in
+    let t = c.pull_range-emptied.result in
+    let pulled = c.pull_range-emptied.ensures in
+    let r = c.keys.result in
+    let now = TakesInside-PullsOut Complete r c.default.result s pulled.from pulled.seen t c.facts.ensures pulled.pulls in
+    let left = LacksFirst-missed s.cells r s.pending_out t.pending_out pulled.from now.lacks (rw (keys_still s.cells t.cells t.pending_out now.advances.reads now.intact.owned.doomed_reads) at pulled.none) in
+    let none = outside_of-keys r s.cells s.pending_out (rw c.keys.ensures c.facts.ensures.within) c.facts.ensures.owned.doomed_reads in (
+      record { advances = now.advances; pending_in = LacksFirst-empty s.cells c.default.result s.pending_in t.pending_in pulled.seen (omega arith) now.first.lacks },
+      left ∙ none,
+    )
 
-pub lift_last-requires : goal.lift_last-requires
-lift_last-requires c = rw c.seek_out.ensures (column_some c.deletions.store (omega (arith, (rw c.seek_out.ensures at c.doomed-doomed.ensures).within)) c.facts.ensures)
+pub returns-clause-takes : goal.returns-clause-takes
+returns-clause-takes c = (taken (goal.at.returns-clause-takes c).After-pull_range-emptied).0
 
-pub pull-store-requires-clause-ahead : goal.pull-store-requires-clause-ahead
-pull-store-requires-clause-ahead c = rw (c.lift_last.ensures.after, c.seek_out.ensures) (ahead_of_last c.deletions.store 0 c.doomed-doomed.result c.facts.ensures (rw c.seek_out.ensures at c.doomed-doomed.ensures))
-
-taken : (c : goal.After-pull-store) → TakesAt c.deletions.store c.pull-store.result
-taken c = TakesAt-Pulls c.deletions.store 0 c.doomed-doomed.result c.facts.ensures (rw c.seek_out.ensures at c.doomed-doomed.ensures) c.pull-store.result (rw (c.lift_last.ensures.after, c.seek_out.ensures) at c.pull-store.ensures)
-
-pub deletions-smaller : goal.deletions-smaller
-deletions-smaller c = (taken c).fewer
-
-pub deletions-preserved : goal.deletions-preserved
-deletions-preserved c = TakesOut-trans Complete c.args.store c.deletions.store c.pull-store.result c.deletions.invariant ((taken c).takes Complete)
+pub returns-clause-all : goal.returns-clause-all
+returns-clause-all c = (taken (goal.at.returns-clause-all c).After-pull_range-emptied).1
