@@ -1,6 +1,7 @@
 -- What the searches of carries and pulls of a range find.
 use Rattle.std.proofs.Common.{◌≡◌, ℕ, ◌-◌, ◌<◌, ◌≤◌, List, [], ◌∷◌, true, ◌++◌, length, get_or, take, drop, Option, None, Some, refl, sym, ap, ◌∙◌, inl, inr, arith, length-append, Result, Ok, Err, IsOk, IfErr}
 use Rattle.std.specs.List.{All, remove}
+use Rattle.std.proofs.lemmas.List.Elements.{All-head, All-tail}
 use Rattle.std.proofs.lemmas.Bool.{cases_lt}
 use Rattle.std.proofs.lemmas.List.{get_or-map, get_or-take, get_or_append_left, get_or-append_right, length-map, length-take-le, take_all, drop_all, append-nil, take-append-drop}
 use Rattle.crack_row.specs.Ranges.{Range, IsIn, is_in}
