@@ -16,7 +16,7 @@ from server import Wrong
 
 SPLITS = [150]
 TOTALS = "accepted 9 inserted 4 deleted 1 held 3\n"
-ALL_ROWS = ["rows 3", "0.1 120 7", "0.2 30 8", "1.0 180 6"]
+ALL_ROWS = ["rows 3", "0.1 120 -7", "0.2 30 8", "1.0 180 6"]
 
 
 def told_one():
@@ -24,10 +24,10 @@ def told_one():
     one = Own(SPLITS, 100, 200)
     one.take("insert 110 5", ["row 0.0"])
     one.take("insert 180 6", ["row 1.0"])
-    one.take("insert 120 7", ["row 0.1"])
+    one.take("insert 120 -7", ["row 0.1"])
     one.take("count 100 150", ["count 2"])
     one.take("delete 0.0", ["gone 110 5"])
-    one.take("select 100 200", ["rows 2", "0.1 120 7", "1.0 180 6"])
+    one.take("select 100 200", ["rows 2", "0.1 120 -7", "1.0 180 6"])
     return one
 
 
@@ -56,21 +56,27 @@ class Replies(unittest.TestCase):
             told_one().take(statement, list(lines))
 
     def test_a_row_of_another_client(self):
-        self.refused("select 100 200", "rows 3", "0.1 120 7", "0.2 130 8", "1.0 180 6")
+        self.refused("select 100 200", "rows 3", "0.1 120 -7", "0.2 130 8", "1.0 180 6")
         self.refused("count 100 200", "count 3")
         self.refused("sum 100 200", "sum 21")
 
     def test_a_row_that_is_lost(self):
-        self.refused("select 100 200", "rows 1", "0.1 120 7")
+        self.refused("select 100 200", "rows 1", "0.1 120 -7")
         self.refused("delete 1.0", "none")
 
     def test_a_row_that_is_changed(self):
         self.refused("select 100 200", "rows 2", "0.1 120 8", "1.0 180 6")
+        self.refused("select 100 200", "rows 2", "0.1 120 7", "1.0 180 6")
         self.refused("delete 1.0", "gone 180 7")
         self.refused("delete 0.0", "gone 110 5")
 
+    def test_a_sum_with_another_sign(self):
+        told_one().take("sum 100 200", ["sum -1"])
+        self.refused("sum 100 200", "sum 1")
+        self.refused("sum 100 150", "sum 7")
+
     def test_rows_in_another_order(self):
-        self.refused("select 100 200", "rows 2", "1.0 180 6", "0.1 120 7")
+        self.refused("select 100 200", "rows 2", "1.0 180 6", "0.1 120 -7")
 
     def test_a_reply_that_is_lost(self):
         # (the next one comes in its place)
@@ -106,7 +112,7 @@ def told_under(limits):
     """A client with the keys from 100 to 199 under limits, and two rows in the first partition."""
     one = Own(SPLITS, 100, 200, limits)
     one.take("insert 110 5", ["row 0.0"])
-    one.take("insert 120 7", ["row 0.1"])
+    one.take("insert 120 -7", ["row 0.1"])
     return one
 
 
@@ -170,7 +176,7 @@ class SmallLimits(unittest.TestCase):
             one.take("insert 130 1", [refusal])
         one.unread = list(unread)
         account = Account(SPLITS)
-        account.read_rows([f"rows {2 + len(more)}", "0.0 110 5", "0.1 120 7", *more])
+        account.read_rows([f"rows {2 + len(more)}", "0.0 110 5", "0.1 120 -7", *more])
         account.given = [2 + len(more), 0]
         return come_to(account, [one])
 
@@ -194,7 +200,7 @@ class SmallLimits(unittest.TestCase):
         """The same where the life of the first partition is over, and its layout tells so many rows."""
         one = told_under(Limits(life=told + gone))
         for serial in range(gone):
-            one.take(f"delete 0.{serial}", [["gone 110 5"], ["gone 120 7"]][serial])
+            one.take(f"delete 0.{serial}", [["gone 110 5"], ["gone 120 -7"]][serial])
         one.unread = list(sent)
         account = Account(SPLITS)
         account.closed, account.given = {0: rows}, [rows + gone, 0]
@@ -220,22 +226,27 @@ class Rows(unittest.TestCase):
         self.assertEqual(counts(), {"least": 8, "most": 9, "inserted": 4, "deleted": 1, "listed": 2})
 
     def test_a_row_that_is_lost(self):
-        self.refused(["rows 2", "0.1 120 7", "0.2 30 8"])
+        self.refused(["rows 2", "0.1 120 -7", "0.2 30 8"])
 
     def test_a_row_that_is_changed(self):
-        self.refused(["rows 3", "0.1 120 7", "0.2 30 9", "1.0 180 6"])
+        self.refused(["rows 3", "0.1 120 -7", "0.2 30 9", "1.0 180 6"])
+
+    def test_a_row_that_is_written_otherwise(self):
+        for line in ["0.1 120 -07", "0.1 120 7", "0.1 120 --7", "0.1 +120 -7", "0.01 120 -7", "0.1 1_20 -7", "0.1 120 -7 "]:
+            with self.assertRaises((Wrong, ValueError)):
+                counts(["rows 3", line, "0.2 30 8", "1.0 180 6"])
 
     def test_a_row_that_went_and_is_there(self):
-        self.refused(["rows 4", "0.0 110 5", "0.1 120 7", "0.2 30 8", "1.0 180 6"])
+        self.refused(["rows 4", "0.0 110 5", "0.1 120 -7", "0.2 30 8", "1.0 180 6"])
 
     def test_a_row_of_nobody(self):
-        self.refused(["rows 4", "0.1 120 7", "0.2 30 8", "1.0 180 6", "1.1 250 1"], (3, 2))
+        self.refused(["rows 4", "0.1 120 -7", "0.2 30 8", "1.0 180 6", "1.1 250 1"], (3, 2))
 
     def test_a_row_that_its_client_never_sent(self):
-        self.refused(["rows 4", "0.1 120 7", "0.2 30 8", "0.3 31 1", "1.0 180 6"], (4, 1))
+        self.refused(["rows 4", "0.1 120 -7", "0.2 30 8", "0.3 31 1", "1.0 180 6"], (4, 1))
 
     def test_a_row_in_another_partition_than_its_key(self):
-        self.refused(["rows 3", "0.1 120 7", "0.2 30 8", "0.3 180 6"])
+        self.refused(["rows 3", "0.1 120 -7", "0.2 30 8", "0.3 180 6"])
 
     def test_a_number_given_twice(self):
         two = Own(SPLITS, 0, 100)
@@ -253,7 +264,7 @@ class Fronts(unittest.TestCase):
     """Statements whose replies weren't read: a front of them was accepted."""
 
     def came_to(self, two, *more):
-        lines = [f"rows {3 + len(more)}", "0.1 120 7", "0.2 30 8", *more, "1.0 180 6"]
+        lines = [f"rows {3 + len(more)}", "0.1 120 -7", "0.2 30 8", *more, "1.0 180 6"]
         return counts(lines, (3 + len(more), 1), [told_one(), two])
 
     def test_all_none_and_some_of_them(self):
@@ -323,7 +334,7 @@ class Totals(unittest.TestCase):
             self.refused(line)
 
     def test_memory(self):
-        self.assertEqual(most_bytes(1000, 100, 3), 270 * 1000 + 40 * 100 + 3 * 100_000)
+        self.assertEqual(most_bytes(1000, 100, 3), 330 * 1000 + 60 * 100 + 3 * 100_000)
 
 
 def wrong_where_odd(_, seed):

@@ -9,31 +9,31 @@ RIGHT = """\
 worker 0
 0 insert 5 50
 row 0.0
-1 insert 1500 7
+1 insert 1500 -7
 row 1.0
 0 count 0 10
 count 2
 0 delete 0.1
 gone 6 60
-1 select 0 4294967296
+1 select 0 18446744073709551616
 rows 1
-1.0 1500 7
+1.0 1500 -7
 receipts 0
 0 0 0 insert 5 50
 row 0.0
-1 0 0 insert 1500 7
+1 0 0 insert 1500 -7
 row 1.0
 0 3 0 count 0 10
 count 2
 0 4 0 delete 0.1
 gone 6 60
-1 1 0 select 0 4294967296
+1 1 0 select 0 18446744073709551616
 rows 1
-1.0 1500 7
+1.0 1500 -7
 worker 1
 0 insert 6 60
 row 0.1
-0 update 0.0 8 80
+0 update 0.0 8 -80
 changed
 0 sum 0 10
 refused 6 5
@@ -44,33 +44,33 @@ refused 5
 receipts 1
 0 1 1 insert 6 60
 row 0.1
-0 2 1 update 0.0 8 80
+0 2 1 update 0.0 8 -80
 changed
 partition 0
 0 insert 5 50
 row 0.0
 1 insert 6 60
 row 0.1
-1 update 0.0 8 80
+1 update 0.0 8 -80
 changed
 0 count 0 10
 count 2
 0 delete 0.1
 gone 6 60
 partition 1
-0 insert 1500 7
+0 insert 1500 -7
 row 1.0
-0 select 0 4294967296
+0 select 0 18446744073709551616
 rows 1
-1.0 1500 7
+1.0 1500 -7
 partition 2
 accepted 7 inserted 3 deleted 1 held 2
 """
-UPDATED = "0 2 1 update 0.0 8 80\nchanged\n"
+UPDATED = "0 2 1 update 0.0 8 -80\nchanged\n"
 # what is wrong, and each text with what stands in its place
 WRONG = {
     "a reply that no list gives": [("count 2\n", "count 3\n")],
-    "a row that isn't there": [("1.0 1500 7\n", "1.0 1500 8\n")],
+    "a row that isn't there": [("1.0 1500 -7\n", "1.0 1500 7\n")],
     "an answer that is no receipt's": [("worker 0\n0 insert 5 50\nrow 0.0", "worker 0\n0 insert 5 50\nrow 0.1")],
     "a receipt that is lost": [(UPDATED, "")],
     "a receipt that comes twice": [(UPDATED, UPDATED * 2)],
@@ -78,7 +78,7 @@ WRONG = {
     "a receipt of another worker": [("0 2 1 update", "0 2 0 update")],
     "a receipt of another place": [("0 3 0 count", "0 5 0 count")],
     "two places exchanged": [("0 3 0 count", "0 9 0 count"), ("0 4 0 delete", "0 3 0 delete"), ("0 9 0 count", "0 4 0 count")],
-    "an entry of another worker": [("1 update 0.0 8 80\nchanged\n0 count", "0 update 0.0 8 80\nchanged\n0 count")],
+    "an entry of another worker": [("1 update 0.0 8 -80\nchanged\n0 count", "0 update 0.0 8 -80\nchanged\n0 count")],
     "an entry that no receipt has": [("partition 2\n", "partition 2\n0 count 0 1\ncount 0\n")],
     "a history that isn't full": [("refused 6 5", "refused 6 4")],
     "a key that is the partition's": [("0 insert 1500 1\n", "0 insert 150 1\n")],
@@ -130,7 +130,7 @@ FOLDED = """\
 worker 0
 0 insert 5 50
 row 0.0
-0 update 0.0 8 80
+0 update 0.0 8 -80
 changed
 0 delete 0.0
 refused 6 3
@@ -145,7 +145,7 @@ refused 5
 receipts 0
 0 0 0 insert 5 50
 row 0.0
-0 2 0 update 0.0 8 80
+0 2 0 update 0.0 8 -80
 changed
 0 4 0 count 0 10
 count 2
@@ -162,32 +162,32 @@ none
 folded 0
 0 sum 0 10
 refused 10
-1 insert 1500 7
+1 insert 1500 -7
 row 1.0
 receipts 1
 0 1 1 insert 6 60
 row 0.1
 0 3 1 delete 0.7
 none
-1 0 1 insert 1500 7
+1 0 1 insert 1500 -7
 row 1.0
 partition 0 folded 3 inserted 2 deleted 0 rows 2
-0.0 8 80
+0.0 8 -80
 0.1 6 60
 1 delete 0.7
 none
 0 count 0 10
 count 2
 partition 1
-1 insert 1500 7
+1 insert 1500 -7
 row 1.0
 partition 2
 accepted 6 inserted 3 deleted 0 held 3
 """
 FOLDED_STATEMENTS, FOLDED_LIMITS = 7, histories.Limits(3, 2, 5)
 WRONG_FOLDS = {
-    "a base that lacks a row": [("rows 2\n0.0 8 80\n", "rows 1\n")],
-    "a base with a row as it was": [("0.0 8 80\n0.1", "0.0 5 50\n0.1")],
+    "a base that lacks a row": [("rows 2\n0.0 8 -80\n", "rows 1\n")],
+    "a base with a row as it was": [("0.0 8 -80\n0.1", "0.0 5 50\n0.1")],
     "a base that renumbers": [("0.1 6 60\n1 delete", "0.2 6 60\n1 delete")],
     "a base with another number of insertions": [("folded 3 inserted 2", "folded 3 inserted 3")],
     "a base with another number of deletions": [("inserted 2 deleted 0 rows", "inserted 2 deleted 1 rows")],

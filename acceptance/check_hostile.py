@@ -29,18 +29,46 @@ def seen_of(given, wrote, short=0, limits=random_script.Limits(), splits=()):
 
 class Grammar(unittest.TestCase):
     def test_lines_are_read_as_the_rules_say(self):
-        refused = [b"insert 1", b"insert 1 2 3", b"INSERT 1 2", b"insert 1 -2", b"insert 1\t2", b"quit now", b"delete 0 .1", b"insert 1 1\r", b" " * 201]
-        refused += [b"delete 4294967296.0", b"delete 0.18446744073709551616", b"count 000000000000000000001 5", b"insert 4294967296 1", b"layout 4294967296"]
+        refused = [b"insert 1", b"insert 1 2 3", b"INSERT 1 2", b"insert 1 - 2", b"insert 1\t2", b"quit now", b"delete 0 .1", b"insert 1 1\r", b" " * 201]
+        refused += [b"delete 4294967296.0", b"delete 0.18446744073709551616", b"count 000000000000000000001 5", b"layout 4294967296"]
         refused += [b"checkpoint", b"checkpoint x", b"checkpoint 0 0", b"checkpoint 0.0", b"checkpoint 4294967296", b"CHECKPOINT 0", b"checkpoint0"]
+        refused += [b"insert 18446744073709551616 1", b"insert -1 1", b"insert -0 1", b"count -1 5", b"sum 0 -0", b"delete -0.0", b"delete 0.-0", b"layout -0"]
         for line in refused:
             self.assertEqual(plain_session.read_line(line), "refused 1", line)
-        for line in [b"count 18446744073709551616 0", b"count 0 99999999999999999999", b"sum 0 4294967297"]:
+        for line in [b"count 18446744073709551616 0", b"count 0 99999999999999999999", b"sum 0 18446744073709551617"]:
             self.assertEqual(plain_session.read_line(line), "refused 2", line)
         self.assertEqual(plain_session.read_line(b"  insert   007   08  "), ("insert", [7, 8]))
         self.assertEqual(plain_session.read_line(b"  checkpoint   00000000000000000007  "), ("checkpoint", [7]))
         self.assertEqual(plain_session.read_line(b"insert 1 1".ljust(200)), ("insert", [1, 1]))
         self.assertEqual(plain_session.read_line(b"delete 0.18446744073709551615"), ("delete", [0, 2**64 - 1]))
         self.assertEqual([plain_session.read_line(it) for it in [b"", b" " * 200]], [plain_session.BLANK] * 2)
+
+    def test_payloads_are_read_as_the_rules_say(self):
+        least, most = -(2**63), 2**63 - 1
+        right = {b"0": 0, b"-0": 0, b"-00": 0, b"-2": -2, b"-00000000000000000002": -2, b"%d" % least: least, b"-0%d" % -least: least, b"%d" % most: most}
+        for word, value in right.items():
+            self.assertEqual(plain_session.read_line(b"insert 7 " + word), ("insert", [7, value]), word)
+            self.assertEqual(plain_session.read_line(b"update 0.0 7 " + word), ("update", [0, 0, 7, value]), word)
+            self.assertEqual(csv_input.exported(b"7," + word), (0, b"key,payload\n7,%d\n" % value, b""))
+        wrong = [b"%d" % (least - 1), b"%d" % (most + 1), b"-" + b"0" * 21, b"-99999999999999999999", b"-", b"--2", b"+2", b"+0", b"-+2", b"2-", b"-2-"]
+        wrong += [b"-2.0", b"-1_0", b"-0x1", b"-\t2", b"-\xb2", b"-\xd9\xa2", b"\xe2\x88\x922", b"- 2", b"-2 3"]
+        for word in wrong:
+            self.assertEqual(plain_session.read_line(b"insert 7 " + word), "refused 1", word)
+            self.assertEqual(plain_session.read_line(b"update 0.0 7 " + word), "refused 1", word)
+            self.assertEqual(csv_input.exported(b"7," + word), (1, b"", b"crackd: refused 19 1\n"), word)
+
+    def test_keys_and_ranges_reach_as_far_as_the_rules_say(self):
+        self.assertEqual(plain_session.read_line(b"insert 18446744073709551615 1"), ("insert", [2**64 - 1, 1]))
+        self.assertEqual(plain_session.read_line(b"count 18446744073709551616 18446744073709551616"), ("count", [2**64, 2**64]))
+        given = b"insert 18446744073709551615 -9223372036854775808\ninsert 18446744073709551615 -1\nsum 18446744073709551615 18446744073709551616\n"
+        self.assertEqual(plain_session.replies(given), b"row 0.0\nrow 0.1\nsum -9223372036854775809\n")
+
+    def test_typed_payloads_are_those_that_are_drawn(self):
+        numbers = random.Random(1)
+        drawn = [random_script.random_payload(numbers) for _ in range(2000)]
+        for payload in drawn:
+            self.assertEqual(plain_session.payload(random_script.payload_text(numbers, payload).encode("ascii")), payload)
+        self.assertLessEqual({0, 1, -1, 2**32 - 1, -(2**32), 2**32, 2**63 - 1, -(2**63 - 1), -(2**63)}, set(drawn))
 
     def test_lines_end_as_the_rules_say(self):
         self.assertEqual(plain_session.lines(b"a\r\n\r\nb\r\r\nc\r"), [b"a", b"", b"b\r", b"c"])
@@ -49,7 +77,7 @@ class Grammar(unittest.TestCase):
 
 
 class Comparison(unittest.TestCase):
-    GIVEN = b"insert 1 10\ninsert 2 20\ndelete 0.7\nselect 0 5\nlayout 0\ncheckpoint 0\nnonsense\ndelete 0.0\nsum 0 5\nlayout 0\ncheckpoint 0\nquit\n"
+    GIVEN = b"insert 1 -10\ninsert 2 -20\ndelete 0.7\nselect 0 5\nlayout 0\ncheckpoint 0\nnonsense\ndelete 0.0\nsum 0 5\nlayout 0\ncheckpoint 0\nquit\n"
 
     def setUp(self):
         self.lines = stand_in.session_text(self.GIVEN, plain_session.Session(), [0, 0, 0]).splitlines(keepends=True)
@@ -64,7 +92,9 @@ class Comparison(unittest.TestCase):
 
     def test_each_line_that_is_dropped_doubled_or_changed_is_found(self):
         for at, line in enumerate(self.lines):
-            for put in [[], [line, line], [line[:-2] + b"x\n"], [line[:-1]], [b"refused 1\n", line], [b"\n", line], [b" " + line], [b"refused 8\n"]]:
+            signed = [line.replace(b"-", b""), line.replace(b"-", b"--"), line.replace(b" ", b" +"), line.replace(b" ", b" -")]
+            puts = [[], [line, line], [line[:-2] + b"x\n"], [line[:-1]], [b"refused 1\n", line], [b"\n", line], [b" " + line], [b"refused 8\n"]]
+            for put in [*puts, *([it] for it in signed)]:
                 if put != [line]:
                     self.assertIsNotNone(self.wrong([*self.lines[:at], *put, *self.lines[at + 1 :]]), (at, put))
 
@@ -169,7 +199,7 @@ class Folds(unittest.TestCase):
 
     def test_a_layout_tells_whether_there_is_a_cell(self):
         given, limits = b"insert 1 1\ninsert 2 2\ncount 0 9\ndelete 0.0\ncount 5 9\nlayout 0\ninsert 3 3\n", random_script.Limits(cells=2)
-        replies, ends = b"row 0.0\nrow 0.1\ncount 2\ngone 1 1\ncount 0\n", b"piece 5 9 0\npiece 9 4294967296 0\n"
+        replies, ends = b"row 0.0\nrow 0.1\ncount 2\ngone 1 1\ncount 0\n", b"piece 5 9 0\npiece 9 18446744073709551616 0\n"
         waits = b"layout 0 rows 1 column 2 out 1 in 0 cells 2 free 0 pieces 3\npiece 0 5 2\n" + ends
         buried = b"layout 0 rows 1 column 1 out 0 in 0 cells 2 free 1 pieces 3\npiece 0 5 1\n" + ends
         self.assert_right(given, replies + waits + b"refused 9\n", limits)
@@ -180,7 +210,7 @@ class Folds(unittest.TestCase):
 
     def test_a_layout_tells_what_is_known_of_cells(self):
         given = b"insert 1 1\ninsert 2 2\ncount 0 9\ndelete 0.0\ninsert 3 3\nlayout 0\n"
-        replies, end = b"row 0.0\nrow 0.1\ncount 2\ngone 1 1\nrow 0.2\n", b"piece 9 4294967296 0\n"
+        replies, end = b"row 0.0\nrow 0.1\ncount 2\ngone 1 1\nrow 0.2\n", b"piece 9 18446744073709551616 0\n"
         self.assert_right(given, replies + b"layout 0 rows 2 column 2 out 1 in 1 cells 3 free 0 pieces 2\npiece 0 9 2\n" + end)
         # (a row that went is buried without a range, one that came is merged, one that stands in the column has left it, and too many went)
         self.assert_wrong(given, replies + b"layout 0 rows 2 column 1 out 0 in 1 cells 3 free 1 pieces 2\npiece 0 9 1\n" + end)
@@ -189,7 +219,7 @@ class Folds(unittest.TestCase):
         self.assert_wrong(given, replies + b"layout 0 rows 2 column 3 out 2 in 1 cells 4 free 0 pieces 2\npiece 0 9 3\n" + end)
 
     def test_a_layout_that_a_refused_checkpoint_changed_is_found(self):
-        given, ends = b"insert 1 1\ncount 5 9\nlayout 0\ncheckpoint 0\nlayout 0\n", b"piece 5 9 0\npiece 9 4294967296 0\n"
+        given, ends = b"insert 1 1\ncount 5 9\nlayout 0\ncheckpoint 0\nlayout 0\n", b"piece 5 9 0\npiece 9 18446744073709551616 0\n"
         pending = b"layout 0 rows 1 column 0 out 0 in 1 cells 1 free 0 pieces 3\npiece 0 5 0\n" + ends
         merged = b"layout 0 rows 1 column 1 out 0 in 0 cells 1 free 0 pieces 3\npiece 0 5 1\n" + ends
         whole = seen_of(given, b"row 0.0\ncount 0\n" + pending + b"folded 2\n" + pending)
@@ -206,7 +236,7 @@ class Folds(unittest.TestCase):
 class RandomScripts(unittest.TestCase):
     """Statements over limits that are so small that all refusals come."""
 
-    SEED = 16
+    SEED = 17
 
     def setUp(self):
         self.words, pairs, _ = random_script.script(self.SEED)

@@ -11,6 +11,7 @@ import threading
 import time
 
 from client_rows import part_of, parts_asked
+from random_script import LEAST_PAYLOAD
 from server import SECONDS, Client, Wrong, expect
 
 # how long a client waits for a worker and its reply
@@ -23,7 +24,7 @@ LISTED, LISTINGS, FEW_BYTES, PATIENCE = 2000, 150, 4096, 1
 ROUNDS = 20
 # no line of random bytes may begin so, since it might be a statement
 WORDS = re.compile(rb" *(insert|delete|update|count|sum|select|layout|checkpoint|policy|quit)\b")
-FEW = b"cdeinorstu0123456789  \r\n\n\0\xff"
+FEW = b"cdeinorstu0123456789-  \r\n\n\0\xff"
 
 
 class Connection(Client):
@@ -72,9 +73,9 @@ class Guest:
         return Connection(self.port, room)
 
     def insert(self):
-        """An insert of an own key. No two have one payload, so that each row tells whose it is."""
+        """An insert of an own key. No two have one payload, so that each row tells whose it is; half of the clients' are below 0."""
         self.payload += 1
-        return f"insert {self.numbers.randrange(self.own.low, self.own.high)} {self.own.low + self.payload}"
+        return f"insert {self.numbers.randrange(self.own.low, self.own.high)} {LEAST_PAYLOAD + self.own.low + self.payload}"
 
     def inserts(self, most):
         return [self.insert() for _ in range(self.numbers.randrange(1, most + 1))]

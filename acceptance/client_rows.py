@@ -15,10 +15,10 @@ import random_script
 from random_script import MOST_CELLS, MOST_ENTRIES, MOST_LIFE, Limits
 from server import MOST, Wrong, expect
 
-BYTES_OF_A_COMMAND, BYTES_OF_A_LISTED_ROW, BYTES_OF_A_SESSION = 270, 40, 100_000
-INSERT = re.compile(r" *insert +(\d{1,20}) +(\d{1,20}) *")
+BYTES_OF_A_COMMAND, BYTES_OF_A_LISTED_ROW, BYTES_OF_A_SESSION = 330, 60, 100_000
+INSERT = re.compile(r" *insert +(\d{1,20}) +(-?\d{1,20}) *")
 RANGE = re.compile(r" *(count|sum|select) +(\d{1,20}) +(\d{1,20}) *")
-ROW = re.compile(r"(delete|update) (\d+)\.(\d+)( (\d+) \d+)?")
+ROW = re.compile(r"(delete|update) (\d+)\.(\d+)( (\d+) -?\d+)?")
 POLICY = re.compile(r" *policy +(complete|gradual|ripple) *")
 CHECKPOINT = re.compile(r"checkpoint (\d+)")
 FULL, NO_CELL, OVER = 6, 9, 10
@@ -244,11 +244,13 @@ class Account:
         expect("lines of all rows", f"rows {len(lines) - 1}", lines[0])
         before = max(self.rows, default=(0, -1))
         for line in lines[1:]:
-            number, key, payload = line.split(" ")
-            number = tuple(map(int, number.split(".")))
-            if number <= before or part_of(self.splits, int(key)) != number[0]:
+            number, *row = line.split(" ")
+            number, (key, payload) = tuple(map(int, number.split("."))), map(int, row)
+            # (Python reads more as a number than is ever written)
+            expect("how a row is written", f"{number[0]}.{number[1]} {key} {payload}", line)
+            if number <= before or part_of(self.splits, key) != number[0]:
                 raise Wrong(f"the row {line!r} stands behind the row {before}")
-            self.rows[number] = (int(key), int(payload))
+            self.rows[number] = (key, payload)
             before = number
 
     def of_owners(self, owners):

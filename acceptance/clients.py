@@ -25,8 +25,8 @@ from server import MOST, MOST_WORKERS, SECONDS, Wrong, expect, started
 
 SEED, SESSIONS, SLOW_SECONDS = 1, 400, 8
 MOST_SESSIONS, MOST_SECONDS = 3000, 40
-# how many keys each client has, how many splits there are, and how many connections may wait for a worker
-WIDTH, SPLITS, WAITING = 1_000_000, 7, 32
+# how many splits there are, and how many connections may wait for a worker
+SPLITS, WAITING = 7, 32
 BACKLOG = 16
 # what bounds a partition, by the seed: histories that get full, and lives that end; nothing that is reached; histories, and cells that run out
 LIMITS = [Limits(500, life=4000), Limits(), Limits(500, 1500)]
@@ -172,11 +172,12 @@ class Storm:
         self.program, self.workers, self.sessions, self.seconds, self.folds = program, workers, sessions, seconds, folds
         numbers = random.Random(seed)
         self.plan = planned(numbers, sessions - workers, workers)
-        # where the keys of each client begin
-        self.lows = [it * WIDTH for it in numbers.sample(range(len(self.plan)), len(self.plan))]
+        # how many keys each client has, and where they begin
+        self.width = MOST // len(self.plan)
+        self.lows = [it * self.width for it in numbers.sample(range(len(self.plan)), len(self.plan))]
         places = numbers.sample(range(1, len(self.plan)), min(SPLITS, len(self.plan) - 1))
         # (some clients have a split amid their keys)
-        self.splits = sorted(it * WIDTH + numbers.choice([0, WIDTH // 2]) for it in places)
+        self.splits = sorted(it * self.width + numbers.choice([0, self.width // 2]) for it in places)
         self.seed = numbers.randrange(MOST)
         self.policy = numbers.choice(["complete", "gradual", "ripple"])
         self.limits = LIMITS[seed % len(LIMITS)]
@@ -208,7 +209,7 @@ class Storm:
         with concurrent.futures.ThreadPoolExecutor(self.workers + min(self.workers, BACKLOG)) as pool:
             visits = []
             for number, (kind, times) in enumerate(self.plan):
-                own = Own(self.splits, self.lows[number], self.lows[number] + WIDTH, self.limits, self.folds)
+                own = Own(self.splits, self.lows[number], self.lows[number] + self.width, self.limits, self.folds)
                 guest = Guest(port, own, self.seed + number, times, self.seconds, others_gone)
                 self.clients.append(own)
                 visits.append((kind, pool.submit(visit, guest, kind)))
@@ -300,7 +301,8 @@ def under_short_lives(program):
 def all_but_one_are_silent(program):
     """Silent clients hold their own workers alone: with one worker left, a hundred clients are served one behind the other."""
     splits, served, others_gone = [], 100, threading.Event()
-    guests = [Own(splits, number * WIDTH, (number + 1) * WIDTH) for number in range(served + MOST_WORKERS - 1)]
+    width = MOST // (served + MOST_WORKERS - 1)
+    guests = [Own(splits, number * width, (number + 1) * width) for number in range(served + MOST_WORKERS - 1)]
     server, port = started(program, MOST_WORKERS, len(guests))
     quiet = [Connection(port) for _ in guests[served:]]
     try:

@@ -76,7 +76,7 @@ def loaded(given, splits, limits):
     for number, fields in enumerate(records(given), 1):
         if number == 1 and fields == [b"key", b"payload"]:
             continue
-        row = plain_session.numbers(fields, plain_session.GREATEST, plain_session.GREATEST)
+        row = plain_session.numbers(fields, plain_session.key, plain_session.payload)
         if row is None:
             raise random_script.Refused(f"refused 19 {number}")
         table.part_of(row[0]).insert(*row)
@@ -130,8 +130,10 @@ def quotes_and_ends_of_all_kinds(program):
         b"1,2\r3,4\r\r5,6", b"\r\n\n\r1,2\r\n\r\n", b"\n\n\n", b"key,payload\rkey,payload\r", b"key,payload\n\n1,2", b"payload,key\n", b"key\n",
         MARK + b"1,2\n", MARK + b"key,payload\n1,2\n", b"1,2\n" + MARK + b"3,4\n", MARK + MARK + b"1,2\n", MARK[:2] + b"1,2\n",
         b"1,2,3\n", b"1\n", b"1,2\n3\n", b",\n", b",,", b" 1,2\n", b"1, 2\n", b"1\t,2\n", b"1,2 \n", b"1;2\n", b"'1','2'\n",
-        b"4294967295,4294967295\n", b"4294967296,0\n", b"0,4294967296\n", b"00000000000000000001,1\n", b"000000000000000000001,1\n", b"-1,1\n", b"1,+1\n",
-        b"1,2\0\n", b"\0", b"\xff,\xfe\n", b"#1,2\n", b"1,2\n\x1a",
+        b"18446744073709551615,9223372036854775807\n", b"18446744073709551616,0\n", b"0,9223372036854775808\n", b"4294967296,4294967296\n",
+        b"0,-9223372036854775808\n", b"0,-9223372036854775809\n", b"00000000000000000001,1\n", b"000000000000000000001,1\n", b"-1,1\n", b"-0,1\n", b"1,+1\n",
+        b"1,-1\n2,-0\n", b"1,-00000000000000000001\n", b"1,-000000000000000000001\n", b"1,--1\n", b"1,- 1\n", b"1, -1\n", b"1,-\n", b"1,1-\n", b"1,-1.0\n",
+        b'1,"-1"\n', b'1,"-"1\n', b'1,-"1"\n', b"1,-1_0\n", b"1,\xe2\x88\x921\n", b"1,2\0\n", b"\0", b"\xff,\xfe\n", b"#1,2\n", b"1,2\n\x1a",
     ]  # fmt: skip
     return first_of(fault_of_input(program, it[:size]) for it in given for size in range(1, len(it) + 1))
 
@@ -169,12 +171,17 @@ def very_many_fields(program):
 CASES = [cut_anywhere, quotes_and_ends_of_all_kinds, a_byte_order_mark_in_pieces, records_of_64_megabytes, very_many_fields]
 
 
-def random_field(numbers):
-    """A number, seldom one past the limits or none at all, at times quoted."""
+def random_field(numbers, place):
+    """A key, or at another place than the first a payload, often at a limit; seldom one past the limits or none at all; at times quoted."""
     drawn = numbers.random()
-    text = b"%d" % numbers.randrange(300) if drawn < 0.9 else numbers.choice([b"4294967295", b"0" * 19 + b"7", b"4294967294"])
+    if place:
+        text = random_script.payload_text(numbers, random_script.random_payload(numbers)).encode("ascii")
+    else:
+        key = numbers.randrange(300) if drawn < 0.8 else numbers.choice(random_script.EDGES[:-1])
+        text = (b"%d" % key).rjust(numbers.choice([0, 0, 20]), b"0")
     if drawn > 0.995:
-        text = numbers.choice([b"4294967296", b"", b" 1", b"x", b"0" * 21, b'1"2', MARK + b"1"])
+        past = [b"9223372036854775808", b"-9223372036854775809"] if place else [b"18446744073709551616", b"-1"]
+        text = numbers.choice([*past, b"", b" 1", b"+1", b"- 1", b"-", b"x", b"0" * 21, b'1"2', MARK + b"1"])
     return b'"' + text + b'"' if numbers.random() < 0.2 else text
 
 
@@ -182,7 +189,7 @@ def random_input(numbers):
     """Random records, most of them right, with or without a header."""
     given = numbers.choice([b"", HEADER, MARK, MARK + HEADER, b'"key","payload"\r\n'])
     for _ in range(numbers.randrange(400)):
-        fields = [random_field(numbers) for _ in range(2 if numbers.random() < 0.998 else numbers.randrange(5))]
+        fields = [random_field(numbers, place) for place in range(2 if numbers.random() < 0.998 else numbers.randrange(5))]
         given += b",".join(fields) + numbers.choice([b"\n", b"\n", b"\r\n", b"\r", b"\n\n", b"\r\n\r"])
     return given
 
@@ -190,13 +197,13 @@ def random_input(numbers):
 def fault(program, seed):
     """What is wrong with what comes of the random records of a seed, whole, cut off, and with a byte that was changed; or None."""
     numbers = random.Random(seed)
-    splits = sorted(numbers.sample(range(1, 300), numbers.randrange(4)))
+    splits = sorted({numbers.choice([numbers.randrange(1, 300), numbers.choice(random_script.EDGES[2:-1])]) for _ in range(numbers.randrange(4))})
     small = [random_script.Limits(100), random_script.Limits(cells=100), random_script.Limits(life=100)]
     limits = numbers.choice([random_script.Limits()] * 5 + small)
     given = random_input(numbers)
     cuts = [given[: numbers.randrange(len(given) + 1)] for _ in range(10)]
     places = [numbers.randrange(len(given) + 1) for _ in range(10)]
-    changed = [given[:at] + bytes([numbers.choice(b'",\r\n 09\0') if numbers.random() < 0.7 else numbers.randrange(256)]) + given[at + 1 :] for at in places]
+    changed = [given[:at] + bytes([numbers.choice(b'",\r\n 09-+\0') if numbers.random() < 0.7 else numbers.randrange(256)]) + given[at + 1 :] for at in places]
     piece = numbers.choice([1, 3, 64, 4096, 65536])
     wrong = first_of(fault_of_input(program, it, splits, limits, piece) for it in [given, *cuts, *changed])
     return wrong and f"csv, seed {seed}, splits {splits}, {limits}: {wrong}"

@@ -26,9 +26,9 @@ import server
 
 SECONDS = 30
 READ_FAULT, WRITE_FAULT = b"crackd: refused 17\n", b"crackd: refused 18\n"
-GIVEN = b"insert 1 10\ninsert 2 20\nnonsense\nselect 0 5\nsum 0 5\n"
-WANTED = b"row 0.0\nrow 0.1\nrefused 1\nrows 2\n0.0 1 10\n0.1 2 20\nsum 30\n"
-RECORDS = b"key,payload\n1,10\n2,20\n"
+GIVEN = b"insert 1 10\ninsert 2 -20\nnonsense\nselect 0 5\nsum 0 5\n"
+WANTED = b"row 0.0\nrow 0.1\nrefused 1\nrows 2\n0.0 1 10\n0.1 2 -20\nsum -10\n"
+RECORDS = b"key,payload\n1,10\n2,-20\n"
 BATCH_WROTE = b"worker 0\nrow 0.0\naccepted 1 inserted 1 deleted 0 held 1\n"
 # what each subcommand that reads is given, and writes
 SUBCOMMANDS = [

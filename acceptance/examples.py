@@ -35,7 +35,7 @@ def printed(example, given, *interpreter, more=(), text=""):
 
 
 def first(program):
-    layout = "layout 0 rows 4 column 4 out 0 in 0 cells 4 free 0 pieces 3\npiece 0 15 1\npiece 15 35 2\npiece 35 4294967296 1\n"
+    layout = "layout 0 rows 4 column 4 out 0 in 0 cells 4 free 0 pieces 3\npiece 0 15 1\npiece 15 35 2\npiece 35 18446744073709551616 1\n"
     wanted = f"row 0.0\nrow 0.1\nrow 0.2\nrow 0.3\npolicy complete\ncount 4\npolicy ripple\nsum 5\n{layout}bye\n"
     with (EXAMPLES / "first.txt").open() as given:
         ran = subprocess.run([program, "script"], stdin=given, capture_output=True, text=True, timeout=server.SECONDS, check=False)
@@ -63,7 +63,7 @@ def statements_for_ever():
     for number in range(0, FOR_EVER * LIMIT, 5):
         part, key = number % 2, number % 2 * 100 + number % 97
         yield f"insert {key} {number}"
-        yield f"update {part}.{number // 20} {key} {number + 1}"
+        yield f"update {part}.{number // 20} {key} {-number - 1}"
         yield f"delete {part}.{number // 30}" if number % 3 else f"insert {key} 7"
         yield f"{['count', 'sum', 'select'][number % 3]} {number % 150} {number % 150 + 60}"
         yield "" if number % 7 else f"count 9 {number % 9}"

@@ -20,7 +20,7 @@ import subprocess
 import sys
 import typing
 
-MOST = 4294967296
+MOST = 2**64
 SPLITS = [1000, 2000]
 ENDS = [0, *SPLITS, MOST]
 PARTS = range(len(ENDS) - 1)

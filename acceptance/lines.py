@@ -18,15 +18,17 @@ import random_script
 SECONDS = 60
 SESSION_LINES = 5000
 LONG_LINE = 64 * 2**20
-NUMBERS = [0, 1, 2, 9, 10, 99, 100, 101, 2**32 - 2, 2**32 - 1, 2**32, 2**32 + 1, 2**64 - 1, 2**64, 10**19, 10**20 - 1, 10**20]
+NUMBERS = [0, 1, 2, 9, 10, 99, 100, 101, *random_script.EDGES, 2**64 + 1, 10**19, 10**20 - 1, 10**20]
 ODD_NUMBERS = [b"", b"-1", b"+1", b"1.0", b"0x1", b"1e3", b"1_0", b"\xb2", b"00000000000000000001", b"000000000000000000001", b"0" * 20, b"0" * 21]
+ODD_NUMBERS += [b"-", b"-0", b"--1", b"- 1", b"+-1", b"1-", b"-1.0", b"-1_0", b"-\xb2", b"\xe2\x88\x921", b"-" + b"0" * 20, b"-" + b"0" * 21]
 WORDS = [b"insert", b"delete", b"update", b"count", b"sum", b"select", b"layout", b"checkpoint", b"policy", b"quit", b"complete", b"gradual", b"ripple"]
 ODD_WORDS = [b"INSERT", b"inser", b"inserts", b"insert1", b"row", b"refused", b"bye", b"none", b"checkpoints", b"fold", b"\xc3\xa9", b"\0", b"#", b"--"]
 # how many bytes are written at a time
 PIECES = [1, 2, 3, 7, 199, 201, 4095, 4096, 4097, 65536]
 STATEMENTS = [
-    b"insert 7 70", b"  insert   007   08  ", b"delete 0.0", b"update 0.0 8 80", b"count 0 4294967296", b"sum 5 10", b"select 0 4294967296", b"layout 0",
-    b"checkpoint 0", b"policy gradual", b"quit", b"delete 4294967295.18446744073709551615", b"count 18446744073709551616 0",
+    b"insert 7 70", b"  insert   007   08  ", b"delete 0.0", b"update 0.0 8 80", b"count 0 18446744073709551616", b"sum 5 10", b"layout 0",
+    b"select 0 18446744073709551616", b"checkpoint 0", b"policy gradual", b"quit", b"delete 4294967295.18446744073709551615", b"count 18446744073709551616 0",
+    b"insert 18446744073709551615 -9223372036854775808", b"insert 8  -00000000000000000080", b"update 0.0 9 -0",
 ]  # fmt: skip
 
 
@@ -37,6 +39,11 @@ def random_number(numbers):
         return numbers.choice(ODD_NUMBERS)
     text = b"%d" % (numbers.choice(NUMBERS) if drawn < 0.4 else numbers.randrange(300))
     return text.rjust(numbers.randrange(1, 23), b"0") if drawn > 0.9 else text
+
+
+def random_payload(numbers):
+    """The same, often with a sign before it."""
+    return numbers.choice([b"", b"", b"-", b"-"]) + random_number(numbers)
 
 
 def random_row(numbers):
@@ -51,12 +58,14 @@ def random_words(numbers):
     """The words of a statement, or of what is nearly one."""
     kind = numbers.choice(WORDS) if numbers.random() < 0.95 else numbers.choice(ODD_WORDS)
     match kind:
-        case b"insert" | b"count" | b"sum" | b"select":
+        case b"insert":
+            words = [random_number(numbers), random_payload(numbers)]
+        case b"count" | b"sum" | b"select":
             words = [random_number(numbers), random_number(numbers)]
         case b"delete":
             words = [random_row(numbers)]
         case b"update":
-            words = [random_row(numbers), random_number(numbers), random_number(numbers)]
+            words = [random_row(numbers), random_number(numbers), random_payload(numbers)]
         case b"layout" | b"checkpoint":
             words = [b"%d" % numbers.randrange(5) if numbers.random() < 0.7 else random_number(numbers)]
         case b"policy":
@@ -82,7 +91,7 @@ def random_statement(numbers):
 def changed(numbers, line):
     """A line in which one byte was changed, put in or taken out."""
     at = numbers.randrange(len(line) + 1)
-    byte = bytes([numbers.randrange(256)]) if numbers.random() < 0.5 else numbers.choice([b" ", b"\r", b".", b"0", b"9", b"\0", b"\n", b"-"])
+    byte = bytes([numbers.randrange(256)]) if numbers.random() < 0.5 else numbers.choice([b" ", b"\r", b".", b"0", b"9", b"\0", b"\n", b"-", b"+"])
     return line[:at] + numbers.choice([byte, b""]) + line[at + numbers.randrange(2) :]
 
 
@@ -150,7 +159,7 @@ def fault_of_session(program, given, splits=(), limits=random_script.Limits(), p
 def fault(program, seed):
     """What is wrong with what the random lines of a seed are answered, or None."""
     numbers = random.Random(seed)
-    splits = sorted(numbers.sample([1, 10, 99, 100, 101, 2**32 - 2, 2**32 - 1], numbers.randrange(4)))
+    splits = sorted(numbers.sample([1, 10, 99, 100, 101, *random_script.EDGES[2:-1]], numbers.randrange(4)))
     limits = numbers.choice([random_script.Limits(), random_script.Limits(200), random_script.Limits(100, 50, 1000)])
     piece = PIECES[seed % len(PIECES)]
     wrong = fault_of_session(program, random_input(numbers, SESSION_LINES), splits, limits, piece)
@@ -158,15 +167,21 @@ def fault(program, seed):
 
 
 def each_line_on_a_fresh_table(program):
-    """Each of these lines, which are at the limits of the rules, is the whole input."""
+    """Each of these lines, which are at the limits of the rules, is the whole input, some with a question behind it."""
     given = [
-        b"insert 1\n", b"insert 1 2 3\n", b"INSERT 1 2\n", b"insert 1 -2\n", b"insert 1\t2\n", b"quit now\n", b"delete 0 .1\n", b"delete 4294967296.0\n",
+        b"insert 1\n", b"insert 1 2 3\n", b"INSERT 1 2\n", b"insert 1 - 2\n", b"insert 1\t2\n", b"quit now\n", b"delete 0 .1\n", b"delete 4294967296.0\n",
         b"delete 0.18446744073709551616\n", b"count 000000000000000000000 5\n", b"insert 1 1\r\r\n", b" " * 201 + b"\n", b"count 18446744073709551616 0\n",
         b"count 0 99999999999999999999\n", b"delete 1.0\n", b"layout 4294967295\n", b"delete 0.18446744073709551615\n", b"  insert   007   08  \n",
         b"insert 1 1".ljust(200) + b"\n", b"insert 1 1".ljust(200) + b"\r\n", b"\r\n", b"\r", b"checkpoint\n", b"checkpoint x\n", b"checkpoint 0 0\n",
         b"checkpoint 0.0\n", b"checkpoint -0\n", b"checkpoint\t0\n", b"checkpoint 0\r\r\n", b"Checkpoint 0\n", b"checkpoint0\n", b"check point 0\n",
         b"checkpoint 4294967296\n", b"checkpoint 000000000000000000000\n", b"checkpoint 0".ljust(201) + b"\n", b"checkpoint 1\n", b"checkpoint 4294967295\n",
         b"checkpoint 00000000000000000000\n", b"  checkpoint   0  \r\n", b"checkpoint 0".ljust(200) + b"\n", b"checkpoint 0",
+        b"insert 18446744073709551616 1\n", b"insert 1 9223372036854775808\n", b"insert 1 -9223372036854775809\n", b"insert 1 -18446744073709551616\n",
+        b"insert 1 -2\n", b"insert 1 -9223372036854775808\n", b"insert 1 -0\nselect 0 2\n", b"insert 1 -00000000000000000002\nselect 0 2\n",
+        b"insert 1 -000000000000000000002\n", b"insert 1 -\n", b"insert 1 --2\n", b"insert 1 +2\n", b"insert 1 2-\n", b"insert -1 1\n", b"insert -0 1\n",
+        b"insert 1 \xe2\x88\x922\n", b"insert 1 -\xb2\n", b"insert 1 -1_0\n", b"insert 1 -\t2\n", b"insert 1 -2\r\n", b"count -1 5\n", b"count 0 -5\n",
+        b"count -0 5\n", b"delete -0.0\n", b"delete 0.-0\n", b"layout -0\n", b"count 0 18446744073709551617\n", b"insert 1 -1".ljust(200) + b"\n",
+        b"count 18446744073709551616 18446744073709551616\n", b"insert 18446744073709551615 -1\nsum 18446744073709551615 18446744073709551616\n",
     ]  # fmt: skip
     found = ((it, fault_of_session(program, it)) for it in given)
     return next((f"{it!r}: {wrong}" for it, wrong in found if wrong), None)
@@ -186,8 +201,9 @@ def cut_anywhere(program):
 
 
 def each_byte_anywhere(program):
-    """Each of the 256 bytes is put before, in and behind a statement."""
-    given = [part + bytes([byte]) + rest for byte in range(256) for part, rest in [(b"", b"sum 0 5"), (b"sum 0", b"5"), (b"sum 0 ", b"5"), (b"sum 0 5", b"")]]
+    """Each of the 256 bytes is put before, in and behind a statement, and around a sign."""
+    places = [(b"", b"sum 0 5"), (b"sum 0", b"5"), (b"sum 0 ", b"5"), (b"sum 0 5", b""), (b"insert 1 ", b"5"), (b"insert 1 ", b"-5"), (b"insert 1 -", b"5")]
+    given = [part + bytes([byte]) + rest for byte in range(256) for part, rest in places]
     return fault_of_session(program, b"".join(it + b"\n" for it in given), piece=7)
 
 

@@ -38,7 +38,7 @@ SCRIPTS = {
     "a doomed row is in the way": [*THREE, "delete 0.2", "insert 17 0", "count 15 25", "insert 99 1"],
     "a pull goes through two bounds": [*THREE, "delete 0.0", "count 0 15"],
     "a pull carries a doomed row on": [*THREE, "delete 0.0", "delete 0.2", "count 0 15"],
-    "rows are updated": ["insert 5 50", "update 0.0 6 60", ALL, "update 0.0 8 80", f"select 0 {random_script.MOST}"],
+    "rows are updated": ["insert 5 50", "update 0.0 6 60", ALL, "update 0.0 8 -80", f"select 0 {random_script.MOST}"],
     "rows wait near the range and far off": [*FOUR, "insert 17 0", "insert 90 0", "count 15 25"],
 }
 # checkpoints amid merges; of a history that is full, again and again; of rows whose cells were freed and used again; of cells and a life that end; and of so
@@ -47,7 +47,7 @@ FOLDS = {
     "a checkpoint amid rows that come and go": (
         random_script.Limits(),
         [*FOUR, "insert 17 0", "count 15 25", "delete 0.0", "update 0.3 41 41", "checkpoint 0", "count 15 25", f"select 0 {random_script.MOST}",
-         "checkpoint 0", "update 0.4 18 8", "insert 50 5", "delete 0.5", "checkpoint 0", f"sum 0 {random_script.MOST}"],
+         "checkpoint 0", "update 0.4 18 -8", "insert 50 5", "delete 0.5", "checkpoint 0", f"sum 0 {random_script.MOST}"],
     ),
     "checkpoints of a full history": (
         random_script.Limits(3),
@@ -71,7 +71,7 @@ FOLDS = {
 }  # fmt: skip
 # runs that write one text: their words, and what they are given
 TEXTS = {
-    "csv": (["csv", "100", "200"], b"key,payload\n" + b"".join(b'%d,"%d"\n' % (key, key % 7) for key in range(0, 400, 9))),
+    "csv": (["csv", "100", "200"], b"key,payload\n" + b"".join(b'%d,"%d"\n' % (key, key % 7 - 3) for key in range(0, 400, 9))),
     "help": (["script", "--help"], b""),
 }
 
@@ -253,7 +253,7 @@ def random_session(seed):
     partition: of a range over several that is refused with 8 nobody is told which have kept their part."""
     numbers = random.Random(seed)
     most = numbers.choice(random_script.KEYS)
-    splits = sorted(numbers.sample(range(1, min(most, random_script.MOST - 2) + 1), numbers.choice([0, 1, 3, 8, 15])))
+    splits = random_script.random_splits(numbers, most, numbers.choice([0, 1, 3, 8, 15]))
     greatest, small = random_script.Limits(), [random_script.Limits(STATEMENTS // 2), random_script.Limits(STATEMENTS // 10, 20, STATEMENTS // 2)]
     limits = greatest if splits else numbers.choice([greatest, *small])
     words = ["script", "--policy", numbers.choice(random_script.POLICIES), *limits.words(), *map(str, splits)]

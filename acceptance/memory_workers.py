@@ -31,7 +31,7 @@ TOTALS = re.compile(r"accepted (\d+) inserted (\d+) deleted (\d+) held (\d+)")
 def own_statement(numbers, session, parts):
     """A random statement that asks nothing but these neighbouring partitions."""
     low, high = parts[0].low, parts[-1].high
-    part, key, payload = numbers.choice(parts), numbers.randrange(low, min(high, low + 300)), numbers.randrange(1000)
+    part, key, payload = numbers.choice(parts), numbers.randrange(low, min(high, low + 300)), random_script.random_payload(numbers)
     first, last = sorted(numbers.choice([low, key, parts[-1].low, high]) for _ in range(2))
     row = f"{part.number}.{numbers.randrange(part.next + 2)}"
     near = min(max(key, part.low), part.high - 1)

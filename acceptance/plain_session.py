@@ -5,11 +5,11 @@ random_script.py. Written from the rules alone, and slowly.
 import random_script
 
 LINE_BYTES = 200
-GREATEST = 2**32 - 1
+GREATEST_KEY = random_script.MOST - 1
+GREATEST_PART = 2**32 - 1
 GREATEST_SERIAL = 2**64 - 1
 DIGITS = b"0123456789"
 BLANK = "blank"
-COUNTS_OF_NUMBERS = {b"insert": 2, b"count": 2, b"sum": 2, b"select": 2, b"layout": 1, b"checkpoint": 1}
 
 
 def lines(given):
@@ -34,30 +34,49 @@ def row_number(word):
     halves = word.split(b".")
     if len(halves) != 2:
         return None
-    both = number(halves[0], GREATEST), number(halves[1], GREATEST_SERIAL)
+    both = number(halves[0], GREATEST_PART), number(halves[1], GREATEST_SERIAL)
     return None if None in both else both
 
 
-def numbers(words, *greatest):
-    """The numbers that words are, each of at most its greatest; None where one is none, or there are more or fewer words."""
-    if len(words) != len(greatest):
+def key(word):
+    """The key that a word is; None where it is none."""
+    return number(word, GREATEST_KEY)
+
+
+def payload(word):
+    """The payload that a word is, a number or one directly behind a `-`; None where it is none."""
+    size = number(word.removeprefix(b"-"))
+    if size is None:
         return None
-    found = [number(word, most) for word, most in zip(words, greatest)]
+    value = -size if word.startswith(b"-") else size
+    return value if random_script.LEAST_PAYLOAD <= value <= random_script.MOST_PAYLOAD else None
+
+
+def part_number(word):
+    """The number of a partition that a word is; None where it is none."""
+    return number(word, GREATEST_PART)
+
+
+def numbers(words, *kinds):
+    """The numbers that words are, each of its kind; None where one is none, or there are more or fewer words."""
+    if len(words) != len(kinds):
+        return None
+    found = [kind(word) for word, kind in zip(words, kinds)]
     return None if None in found else found
 
 
 def read_range(words):
     """The ends of a range, or what is refused."""
-    ends = numbers(words, None, None)
+    ends = numbers(words, number, number)
     if ends is None:
         return None
     return ends if ends[0] <= ends[1] <= random_script.MOST else "refused 2"
 
 
-def read_row(words, *greatest):
+def read_row(words, *kinds):
     """A row number and the numbers behind it; None where that isn't what the words are."""
     row = row_number(words[0]) if words else None
-    others = numbers(words[1:], *greatest)
+    others = numbers(words[1:], *kinds)
     return None if row is None or others is None else [*row, *others]
 
 
@@ -66,15 +85,15 @@ def read_words(words):
     kind, rest = words[0], words[1:]
     match kind:
         case b"insert":
-            found = numbers(rest, GREATEST, GREATEST)
+            found = numbers(rest, key, payload)
         case b"delete":
             found = read_row(rest)
         case b"update":
-            found = read_row(rest, GREATEST, GREATEST)
+            found = read_row(rest, key, payload)
         case b"count" | b"sum" | b"select":
             found = read_range(rest)
         case b"layout" | b"checkpoint":
-            found = numbers(rest, GREATEST)
+            found = numbers(rest, part_number)
         case b"policy":
             found = rest if len(rest) == 1 and rest[0].decode("latin-1") in random_script.POLICIES else None
         case b"quit":

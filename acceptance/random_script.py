@@ -3,9 +3,9 @@
 
 What a statement is answered is written here from docs/SPECIFICATION.md alone: a list of rows for each partition, changed and filtered, and no
 more; all three policies answer alike. A seed says how many splits there are, how far keys go, whether histories get full, and whether limits are
-so small that statements are often refused with 6, 9 and 10. Keys and ends of ranges are often splits, or beside one. Checkpoints stand amid
-the other statements. A layout is compared by its equations, since no rule fixes more of it: the pieces' sizes add up to
-the column; column, pending insertions and free cells make up the cells; the rows are the column less the pending deletions and the pending
+so small that statements are often refused with 6, 9 and 10. Keys and ends of ranges are often splits, or beside one, or at a limit, as payloads are, which
+have either sign. Checkpoints stand amid the other statements. A layout is compared by its equations, since no rule fixes more of it: the pieces' sizes add
+up to the column; column, pending insertions and free cells make up the cells; the rows are the column less the pending deletions and the pending
 insertions, and as many as the list has; the pieces join from one end of the partition's keys to the other.
 Cells are what the list's rows take, one each, and rows that went or were changed where they stood in a column, until a range that has their key buries
 them. A row that came or was changed since the last range waits beside the column; one whose key was in that range stands there. So an insert is refused with
@@ -21,7 +21,10 @@ import subprocess
 import sys
 import typing
 
-MOST = 4294967296
+# the end of all keys, and the ends of payloads
+MOST, LEAST_PAYLOAD, MOST_PAYLOAD = 2**64, -(2**63), 2**63 - 1
+# where numbers of 31, 32, 63 and 64 bits end: one that is held in too few bits, or with another sign, is another one there
+EDGES = [0, 1, 2**31 - 1, 2**31, 2**32 - 1, 2**32, 2**32 + 1, 2**63 - 1, 2**63, 2**63 + 1, 2**64 - 2, 2**64 - 1, 2**64]
 STATEMENTS = 1000
 SECONDS = 20
 POLICIES = ["complete", "gradual", "ripple"]
@@ -176,7 +179,7 @@ class Table:
 
     def between(self, low, high):
         """The rows of a range, partition by partition."""
-        if low > high:
+        if low > high or high > MOST:
             raise Refused("refused 2")
         return [row for part in self.parts_of(low, high) for row in part.between(low, high)]
 
@@ -215,18 +218,43 @@ def told(kind, rows):
 
 
 def random_bound(numbers, table, most):
-    """A number up to one above `most`, often a split or beside one."""
-    if table.splits and numbers.random() < 0.4:
+    """A number up to one above `most`, often a split or beside one, or at a limit."""
+    drawn = numbers.random()
+    if table.splits and drawn < 0.4:
         return numbers.choice(table.splits) + numbers.choice([-1, 0, 1])
+    if drawn < 0.5:
+        return min(numbers.choice(EDGES), most + 1)
     return numbers.randrange(most + 2)
+
+
+def random_splits(numbers, most, count):
+    """So many splits up to `most`, rising, some of them at limits."""
+    found = {it for it in numbers.sample(EDGES, min(count // 2, len(EDGES))) if 1 <= it <= most}
+    while len(found) < count:
+        found.add(numbers.randrange(1, most + 1))
+    return sorted(found)
+
+
+def random_payload(numbers):
+    """A payload of any length, often at a limit; half of them are below 0."""
+    drawn = numbers.choice(EDGES) if numbers.random() < 0.4 else numbers.getrandbits(numbers.randrange(1, 64))
+    return min(max(numbers.choice([-1, 1]) * drawn, LEAST_PAYLOAD), MOST_PAYLOAD)
+
+
+def payload_text(numbers, payload):
+    """How a payload may be typed: 0 with a sign, too, and any with zeros before its digits."""
+    sign = "-" if payload < 0 or payload == 0 and numbers.random() < 0.5 else ""
+    return sign + str(abs(payload)).rjust(numbers.choice([0, 0, 0, 20]), "0")
 
 
 def random_statement(numbers, table, most):
     """A statement, and the lines of its answer; for a layout the partition that it is of. Keys are at most `most`."""
-    key, payload = min(random_bound(numbers, table, most), most), numbers.randrange(MOST)
+    key, payload = min(random_bound(numbers, table, most), most), random_payload(numbers)
+    typed = payload_text(numbers, payload)
     part = numbers.choice(table.parts)
     serial = numbers.randrange(part.next + 2)
-    low, high = sorted((random_bound(numbers, table, most), numbers.choice([random_bound(numbers, table, most), MOST])))
+    ends = [random_bound(numbers, table, most), random_bound(numbers, table, most), MOST, MOST, numbers.choice(EDGES)]
+    low, high = sorted((random_bound(numbers, table, most), numbers.choice(ends)))
     kind = numbers.choices(
         ["insert", "delete", "update", "count", "sum", "select", "layout", "checkpoint", "policy", "other part", "bad range", "bad line"],
         [300, 120, 120, 120, 90, 60, 80, 30, 20, 10, 10, 10],
@@ -234,12 +262,12 @@ def random_statement(numbers, table, most):
     other = len(table.parts) + numbers.randrange(3)
     match kind:
         case "insert":
-            return f"insert {key} {payload}", table.answer(kind, [key, payload])
+            return f"insert {key} {typed}", table.answer(kind, [key, payload])
         case "delete":
             return f"delete {part.number}.{serial}", table.answer(kind, [part.number, serial])
         case "update":
             near = min(max(key, part.low), part.high - 1) if numbers.random() < 0.7 else key
-            return f"update {part.number}.{serial} {near} {payload}", table.answer(kind, [part.number, serial, near, payload])
+            return f"update {part.number}.{serial} {near} {typed}", table.answer(kind, [part.number, serial, near, payload])
         case "count" | "sum" | "select":
             return f"{kind} {low} {high}", table.answer(kind, [low, high])
         case "layout":
@@ -250,18 +278,31 @@ def random_statement(numbers, table, most):
             name = numbers.choice(POLICIES)
             return f"policy {name}", [f"policy {name}"]
         case "other part":
-            of_others = [f"delete {other}.{serial}", f"update {other}.{serial} {key} {payload}", f"layout {other}", f"checkpoint {other}"]
+            of_others = [f"delete {other}.{serial}", f"update {other}.{serial} {key} {typed}", f"layout {other}", f"checkpoint {other}"]
             return numbers.choice(of_others), ["refused 5"]
         case "bad range":
-            return f"{numbers.choice(['count', 'sum', 'select'])} {high + 1} {high}", ["refused 2"]
+            return f"{numbers.choice(['count', 'sum', 'select'])} {numbers.choice([f'{high + 1} {high}', f'{low} {MOST + 1}'])}", ["refused 2"]
         case _:
-            return numbers.choice([f"insert {key}", f"Delete 0.{serial}", f"delete {serial}", f"sum {low}", "rows", "checkpoint"]), ["refused 1"]
+            return numbers.choice(bad_lines(key, serial, low)), ["refused 1"]
+
+
+def bad_lines(key, serial, low):
+    """Lines that are no statements: words that are none, and numbers and signs past the limits."""
+    words = [f"insert {key}", f"Delete 0.{serial}", f"delete {serial}", f"sum {low}", "rows", "checkpoint"]
+    payloads = [str(MOST_PAYLOAD + 1), str(LEAST_PAYLOAD - 1), "+1", "- 1", "--1", "-", "-" + "0" * 21, "1-"]
+    rows = [f"insert {MOST} 1", "insert -1 1", "insert -0 1", f"update 0.{serial} {MOST} 1", f"update 0.{serial} {key} {LEAST_PAYLOAD - 1}"]
+    return [*words, *(f"insert {key} {it}" for it in payloads), *rows, f"count -1 {low}", f"sum {low} -0"]
+
+
+def is_number(word):
+    """Whether a word is a number as they are written: decimal digits, without zeros before them. (int() would take signs and more.)"""
+    return word.isascii() and word.isdecimal() and str(int(word)) == word
 
 
 def numbers_of(line, names):
     """The numbers of a line behind these names, each name before its number; None where the line has another form."""
     words = line.split(" ")
-    if len(words) != 2 * len(names) or words[::2] != names or not all(word.isdecimal() for word in words[1::2]):
+    if len(words) != 2 * len(names) or words[::2] != names or not all(map(is_number, words[1::2])):
         return None
     return [int(word) for word in words[1::2]]
 
@@ -276,7 +317,7 @@ def misfit_of_layout(lines, part, rows):
     low, sizes = part.low, 0
     for line in lines[1 : pieces + 1]:
         words = line.split(" ")
-        if len(words) != 4 or words[0] != "piece" or int(words[1]) != low or int(words[2]) < low:
+        if len(words) != 4 or words[0] != "piece" or not all(map(is_number, words[1:])) or int(words[1]) != low or int(words[2]) < low:
             return f"the pieces don't join at {line!r}", pieces + 1
         low, sizes = int(words[2]), sizes + int(words[3])
     if len(lines) <= pieces or low != part.high:
@@ -302,7 +343,7 @@ def script(seed):
     numbers, pairs = random.Random(seed), []
     most, (count, small, life) = KEYS[seed % 3], SPLITS[seed // 3 % 3]
     limit = small if most == KEYS[-1] else MOST_ENTRIES
-    splits = sorted(numbers.sample(range(1, min(most, MOST - 2) + 1), count))
+    splits = random_splits(numbers, most, count)
     is_tight = TIGHT[seed // 9 % 2]
     limits = limits_of(numbers, is_tight, limit, life)
     table, policy = Table(splits, limits), numbers.choice(POLICIES)
@@ -316,7 +357,7 @@ def script(seed):
 
 def misfit_of_command(table, statement, lines):
     """What is wrong with the answer to a command at the front of these lines, and how many lines it has."""
-    kind, numbers = statement.split(" ")[0], [int(it) for it in re.findall("[0-9]+", statement)]
+    kind, numbers = statement.split(" ")[0], [int(it) for it in re.findall("-?[0-9]+", statement)]
     answer = table.without_cell(kind, numbers) if lines[:1] == [NO_CELL] and kind in ("insert", "update") else table.answer(kind, numbers)
     return (None if lines[: len(answer)] == answer else f"wanted {answer!r}, got {lines[:len(answer)]!r}"), len(answer)
 

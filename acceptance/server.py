@@ -15,7 +15,7 @@ import sys
 import threading
 
 SECONDS = 60
-MOST = 4294967296
+MOST = 2**64
 PIPELINED = 200_000
 LISTED_ROWS, LISTINGS = 20_000, 10
 TRIES = 5
@@ -118,8 +118,8 @@ def two_at_once(program):
     """Two clients are served in turn, statement by statement, over one table."""
     with serving(program, (5, 2, 1, 1), 2, 2, "100") as port, Client(port) as one, Client(port) as two:
         one.ask("insert 50 5", "row 0.0")
-        two.ask("insert 150 6", "row 1.0")
-        one.ask("delete 1.0", "gone 150 6")
+        two.ask("insert 150 -6", "row 1.0")
+        one.ask("delete 1.0", "gone 150 -6")
         two.ask("count 0 100", "count 1")
         one.ask("select 0 99", "rows 1", "0.0 50 5")
         two.end()

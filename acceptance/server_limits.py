@@ -85,9 +85,9 @@ def a_checkpoint_of_one_is_for_all(program):
     """Behind a checkpoint of one client the other is answered again, over the same rows; each partition is folded for itself."""
     with serving(program, (8, 3, 1, 2), 2, 2, "--limit", "4", "100") as port, Client(port) as one, Client(port) as two:
         one.ask("insert 50 5", "row 0.0")
-        two.ask("insert 60 6", "row 0.1")
+        two.ask("insert 60 -6", "row 0.1")
         one.ask("count 0 100", "count 2")
-        two.ask("sum 0 100", "sum 11")
+        two.ask("sum 0 100", "sum -1")
         one.ask("count 0 100", "refused 6 4")
         two.ask("delete 0.0", "refused 6 4")
         one.ask("checkpoint 1", "folded 0")
@@ -99,7 +99,7 @@ def a_checkpoint_of_one_is_for_all(program):
         one.ask("checkpoint 0", "folded 0")
         one.ask("checkpoint 2", "refused 5")
         one.ask("checkpoint", "refused 1")
-        two.ask("select 0 100", "rows 1", "0.1 60 6")
+        two.ask("select 0 100", "rows 1", "0.1 60 -6")
         one.ask("insert 70 7", "row 0.2")
         one.end()
         two.end()
@@ -137,7 +137,7 @@ def a_life_ends_for_all(program):
         for _ in range(3):
             client.fold(0)
             expect("a life that is over", "refused 10", client.reply(f"insert {number} 1"))
-        client.ask("layout 1", "layout 1 rows 0 column 0 out 0 in 0 cells 0 free 0 pieces 1", "piece 10000 4294967296 0")
+        client.ask("layout 1", "layout 1 rows 0 column 0 out 0 in 0 cells 0 free 0 pieces 1", f"piece 10000 {server.MOST} 0")
 
     with serving(program, (LIFE, 0, 0, 0), CLIENTS, CLIENTS + 1, "--limit", str(LIMIT), "--life", str(LIFE), "10000") as port:
         check_folded(port, at_once(port, CLIENTS, work), 2, LIFE)

@@ -102,7 +102,7 @@ def checkpoints(program):
         ask(shell, "delete 0.0", "gone 1 10" + TIME)
         ask(shell, "checkpoint 0", "folded 2" + TIME)
         ask(shell, f"sum {EVERYTHING}", "refused 10: the partition's life is over.*" + TIME)
-        ask(shell, "layout 0", "layout 0 rows 1 column 2 out 1 in 0 cells 2 free 0 pieces 1\npiece 0 4294967296 2\n", TIME.strip())
+        ask(shell, "layout 0", "layout 0 rows 1 column 2 out 1 in 0 cells 2 free 0 pieces 1\npiece 0 18446744073709551616 2\n", TIME.strip())
         end(shell, (4, 2, 1, 1))
 
 
@@ -123,11 +123,11 @@ def control_c_at_the_prompt(program):
 
 def load(program):
     """A load tells how many rows came, merges them all, and leaves the policy as it was."""
-    files = {"rows.csv": 'key,payload\n150,6\n\n"50",5\n007,1\n'}
+    files = {"rows.csv": 'key,payload\n150,-6\n\n"50",5\n007,"-001"\n'}
     with talking("--program", program, "--policy", "gradual", "100", files=files) as (shell, _):
         ask(shell, ".load rows.csv", LOADED.format("3 rows"), "warm-up: count 3, all merged; policy gradual as before" + TIME)
         ask(shell, "layout 0", "layout 0 rows 2 column 2 out 0 in 0 cells 2 free 0 pieces 1\npiece 0 100 2\n", TIME.strip())
-        ask(shell, "select 0 200", "rows 3\n0.0 50 5\n0.1 7 1\n1.0 150 6\n", TIME.strip())
+        ask(shell, "select 0 200", "rows 3\n0.0 50 5\n0.1 7 -1\n1.0 150 -6\n", TIME.strip())
         # (gradual leaves what a query doesn't need)
         ask(shell, "insert 20 2", "row 0.2" + TIME)
         ask(shell, "insert 30 3", "row 0.3" + TIME)
@@ -138,14 +138,22 @@ def load(program):
 
 
 def load_of_a_bad_record(program):
-    """The first bad record is told by its number, a header counted, and the rows before it stay."""
-    files = {"bad.csv": "key,payload\n1,10\n2,20\n3,x\n4,40\n", "great.csv": "4294967296,1\n"}
+    """The first bad record is told by its number, a header counted, and the rows before it stay. Keys and payloads are taken up to their limits."""
+    files = {"bad.csv": "key,payload\n1,10\n2,-20\n3,x\n4,40\n", "great.csv": "18446744073709551616,1\n", "plus.csv": "1,-0\n2,+2\n"}
+    files |= {"low.csv": "1,-9223372036854775809\n", "most.csv": "18446744073709551615,-9223372036854775808\n0,9223372036854775807\n"}
     with talking("--program", program, files=files) as (shell, _):
-        bad = "shell: record 4: refused 19: a record isn't two numbers from 0 to 4294967295: '3,x'; 2 rows came before it, and stay\n"
+        limits = "a key from 0 to 18446744073709551615 and a payload from -9223372036854775808 to 9223372036854775807"
+        bad = f"shell: record 4: refused 19: a record isn't {limits}: '3,x'; 2 rows came before it, and stay\n"
         ask(shell, ".load bad.csv", PROGRESS + bad, "warm-up: count 2, all merged; policy ripple as before" + TIME)
-        ask(shell, ".load great.csv", "shell: record 1: refused 19: .*: '4294967296,1'; 0 rows came before it, and stay\n")
-        ask(shell, f"sum {EVERYTHING}", "sum 30" + TIME)
-        end(shell, (4, 2, 0, 2))
+        for name, text in [("great", "18446744073709551616,1"), ("low", "1,-9223372036854775809")]:
+            ask(shell, f".load {name}.csv", f"shell: record 1: refused 19: .*: '{text}'; 0 rows came before it, and stay\n")
+        ask(shell, f"sum {EVERYTHING}", "sum -10" + TIME)
+        plus = PROGRESS + r"shell: record 2: refused 19: .*: '2,\+2'; 1 row came before it, and stay\n"
+        ask(shell, ".load plus.csv", plus, "warm-up: count 3, .*" + TIME)
+        ask(shell, ".load most.csv", LOADED.format("2 rows"), "warm-up: count 5, .*" + TIME)
+        ask(shell, f"sum {EVERYTHING}", "sum -11" + TIME)
+        # (five inserts, three warm-ups and two sums)
+        end(shell, (10, 5, 0, 5))
 
 
 def load_into_a_full_history(program):
@@ -184,10 +192,10 @@ def control_c_in_a_load(program):
 def save(program):
     """Rows are saved partition by partition, and what selects the histories keep is told."""
     with talking("--program", program, "100") as (shell, folder):
-        ask(shell, "insert 150 6", "row 1.0" + TIME)
+        ask(shell, "insert 150 -6", "row 1.0" + TIME)
         ask(shell, "insert 50 5", "row 0.0" + TIME)
         ask(shell, ".save out.csv", r"saved 2 rows to out\.csv; the histories keep the 2 selects that listed them" + TIME)
-        server.expect("out.csv", "key,payload\n50,5\n150,6\n", (folder / "out.csv").read_text())
+        server.expect("out.csv", "key,payload\n50,5\n150,-6\n", (folder / "out.csv").read_text())
         ask(shell, ".save missing/out.csv", "shell: not saved: .*missing/out.csv.part: No such file or directory\n")
         end(shell, (4, 2, 0, 2))
 
@@ -196,7 +204,7 @@ def save_that_is_refused(program):
     """Where a select is refused, the file stays as it was."""
     with talking("--program", program, "--limit", "1", files={"out.csv": "as it was\n"}) as (shell, folder):
         ask(shell, "insert 1 2", "row 0.0" + TIME)
-        ask(shell, ".save out.csv", "shell: not saved: select 0 4294967296: refused 6 1: .*\n")
+        ask(shell, ".save out.csv", "shell: not saved: select 0 18446744073709551616: refused 6 1: .*\n")
         server.expect("files", ["out.csv"], [it.name for it in folder.iterdir()])
         server.expect("out.csv", "as it was\n", (folder / "out.csv").read_text())
         end(shell, (1, 1, 0, 1))
@@ -215,7 +223,8 @@ def layout(program):
         ask(shell, "delete 0.1", "gone 20 1" + TIME)
         pieces = [" +0 to 14 +1 #{40}\n", " +15 to 24 +1 #{40}\n", " +25 to 99 +1 #{40}\n"]
         waiting = [r" +pending insertions +1 \+{40}\n", GOING_AND_FREE.format("1 -{40}")]
-        other = ["partition 1: keys 100 to 4294967295, 0 rows; .*\n", " +100 to 4294967295 +0\n", " +pending insertions +0\n", GOING_AND_FREE.format("0")]
+        all_keys = "100 to 18446744073709551615"
+        other = [f"partition 1: keys {all_keys}, 0 rows; .*\n", f" +{all_keys} +0\n", " +pending insertions +0\n", GOING_AND_FREE.format("0")]
         ask(shell, ".layout", "partition 0: keys 0 to 99, 3 rows; .*\n", *pieces, *waiting, *other)
         ask(shell, ".layout 2", "shell: layout 2: refused 5: there is no such partition\n")
         end(shell, (6, 4, 1, 3))
@@ -316,7 +325,7 @@ def no_server(program):
         (["--program", "missing/crackd"], "shell: no server: missing/crackd: No such file or directory\n"),
         (["--program", "/dev/null"], "shell: no server: /dev/null: Permission denied\n"),
         (["--program", sys.executable], "shell: no server: .*\n"),
-        (["--program", program, "200", "100"], "shell: no server: refused 11: the splits don't rise, or one isn't 1 to 4294967295\n"),
+        (["--program", program, "200", "100"], "shell: no server: refused 11: the splits don't rise, or one isn't 1 to 18446744073709551615\n"),
         (["--program", program, "x"], "shell: no server: bad arguments\n"),
         (["--port", none], f"shell: no server on port {none}: Connection refused\n"),
     ]
@@ -341,9 +350,9 @@ def no_program(_):
 def as_a_filter(program):
     """Without a terminal there are replies alone."""
     text = "insert 7 70\n\ncount 10 5\n.load rows.csv\r\nselect 0 10\nlayout 0\nquit\ncount 0 1\n"
-    wanted = "row 0.0\nrefused 2\nloaded 2 rows\nrows 3\n0.0 7 70\n0.1 1 2\n0.2 3 4\n"
-    laid = "layout 0 rows 3 column 3 out 0 in 0 cells 3 free 0 pieces 2\npiece 0 10 3\npiece 10 4294967296 0\nbye\n"
-    server.expect("all", (0, wanted + laid, ""), filtered(program, text, files={"rows.csv": "1,2\n3,4"}))
+    wanted = "row 0.0\nrefused 2\nloaded 2 rows\nrows 3\n0.0 7 70\n0.1 1 -2\n0.2 3 4\n"
+    laid = "layout 0 rows 3 column 3 out 0 in 0 cells 3 free 0 pieces 2\npiece 0 10 3\npiece 10 18446744073709551616 0\nbye\n"
+    server.expect("all", (0, wanted + laid, ""), filtered(program, text, files={"rows.csv": "1,-2\n3,4"}))
     server.expect("no quit", (0, "count 0\n", ""), filtered(program, "count 0 1"))
     complaint = "shell: missing: No such file or directory\n"
     server.expect("a missing file", (1, "count 0\n", complaint), filtered(program, ".load missing\ncount 0 1\n"))

@@ -1,4 +1,4 @@
-"""The files that programs are given, always the same."""
+"""The files that programs are given, always the same. Their keys and payloads are below 2**32, as those of the peers are."""
 
 import random
 

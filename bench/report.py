@@ -15,13 +15,13 @@ except ImportError:
 OURS = "crackd's partition"
 FAST = "a cracker column for speed alone"
 
-# what the lists of that column have for a pending row: a tag, a key, and the row by its slot
-FAST_BYTES = 36
+# what the lists of that column have for a pending row: a slot, a float, and the row by its slot
+FAST_BYTES = 32
 
 # it takes half a minute a run
 UNINDEXED = "SQLite without an index"
 
-# how wide a random range is, as in the programs
+# how wide a random range is, and what random keys are below, as in the programs
 RANGE = 42949672
 KEYS = 2**32
 
@@ -233,20 +233,20 @@ def rival_text(measured):
   lives, and a map from these numbers to cells; the column has none of them. A pending row takes {measured.memory["pending"]:.0f} bytes of `crackd`'s memory, and
   {FAST_BYTES} of the column's lists. What is written for the first time is got from the system, page by page.
 - **A first count of everything: {everything.ratio():.1f} times as long.** Each row is read through its handle, whose generation says that the cell is still
-  its own; then a step of its own writes what the column needs of it, and its generation. The other column moves tags that stand
-  among its pending rows already.
-- **Counts and sums with nothing pending: {spread(queries)} times as long.** The loop of a crack and the pass over the rows of a range are the same. Besides,
+  its own; then a step of its own writes what the column needs of it, and its generation. The other column reads each row by its slot alone.
+- **Counts and sums with nothing pending: {spread(queries)} times as long.** Both crack by the same loop, which moves 24 bytes a row in `crackd`, and 20 in the
+  column. There a payload stands beside its key, and a sum reads 16 bytes a row; `crackd` has payloads side by side, and reads 8. Besides,
   each query is clipped to the partition's keys, and kept in the history with its reply.
 - **A crack in three.** Where both ends of a range are missing and fall into one piece, `crackd` and the column divide it by both in one pass. A step writes
-  three tags, and one of a crack by one bound two; that spares the second pass, mostly over a quarter of the piece. Beside an earlier `crackd` that cracked
+  three rows, and one of a crack by one bound two; that spares the second pass, mostly over a quarter of the piece. Beside an earlier `crackd` that cracked
   by one end after the other, the first count over half a million rows took as long, over 10,000 rows 1.5 times, 1,000 counts 1.1 times as long.
 - **A step of a carry: {carry.ratio():.1f} times as long; of a pull: {pull.ratio():.1f} times.** Each step puts the row in hand at a place
   and moves a bound. In the other column bounds stand side by side, and one loop does all steps. In `crackd` a bound is a node of a tree, so that many of them
   can be added, and one recursion goes through the nodes in order, with the row in hand in memory beside the column.
 - **Sums that merge: {spread(merges)} times as long.** These are such steps, and what comes with each row besides: a delete looks the row's
   number up and takes it out of the map, its reply has the row, and the history keeps that; a row that is put in is read through its handle.
-- **A pass over pending keys that finds none: {passing.ratio():.1f} times as long.** Both look at 16 keys at a time; of a row of `crackd`'s the key may besides
-  not be known yet.
+- **A pass over pending keys that finds none: {passing.ratio():.1f} times as long.** Both look at 16 rows at a time: `crackd` at keys, 8 bytes each, of which some
+  may not be known yet; the column at floats of 4 bytes, and at a key only where its float lies between those of the ends.
 - **A BTreeMap** has nothing to merge and nothing to crack: an insert or a delete walks down from its root. A sum goes from node to node,
   where a column's rows stand side by side."""
 
@@ -317,8 +317,8 @@ def page(series, measured):
     contests = [*query_contests(series), *measured.contests, *over_tcp]
     return f"""# Benchmarks
 
-Written by `python3 bench/run.py --report`: {measured.rows} rows of random keys, a count of everything, and then {measured.ranges} sums, each of a
-hundredth of the keys at a random place. Medians of {measured.runs} runs; all of them answer the same.
+Written by `python3 bench/run.py --report`: {measured.rows} rows of random keys below 2^32, a count of everything, and then {measured.ranges} sums, each of
+a hundredth of these keys at a random place. Medians of {measured.runs} runs; all of them answer the same.
 
 ## Where crackd is behind
 
@@ -340,7 +340,7 @@ Each line says how many times as fast `crackd` is.
 ## Beside what is fast in its own way
 
 The cracker column for speed alone is plain Rust that takes the same steps. It keeps no history, and a row is named by its slot, which a
-later row may get; pending rows stand in plain vectors, and whether a row is doomed is a bit beside the tags. The BTreeMap has payloads by key
+later row may get; pending rows stand in plain vectors, and whether a row is doomed is a bit beside the column. The BTreeMap has payloads by key
 and number, and sums ranges; no policy changes it. All get the same inserts, deletes and queries and answer the same, and `crackd` and the
 column put in, put back, move, pull and take out as many rows.
 
@@ -392,8 +392,8 @@ workers answer fewer statements in the same time: those who share a partition wa
 
 ## Memory a row
 
-A key and a payload are 8 bytes, and a sorted array of them needs no more. `crackd` also keeps the row's cell, its number, its place in the column
-or among the pending rows, and in the history the insert with its reply, in whose place a checkpoint keeps 16 bytes:
+A key and a payload are 16 bytes, and a sorted array of them needs no more. `crackd` also keeps the row's cell, its number, its place in the column
+or among the pending rows, and in the history the insert with its reply, in whose place a checkpoint keeps 24 bytes:
 
 ![bytes a row](memory.svg)
 """

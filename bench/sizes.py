@@ -15,7 +15,7 @@ CHANGES, NEXT = 100_000, 1000
 PIECES, PENDING = 1000, 1000
 # over how many pieces rows go step by step, and how many rows
 STEP_PIECES, STEP_ROWS = 2000, 1000
-# 63 splits of the keys into parts of one width, each with as many bounds in it, less one
+# 63 splits of the files' keys, which are below 2**32, into parts of one width, each with as many bounds in it, less one
 PART_WIDTH, PART_PIECES = 2**26, 8
 SPLITS = [str(part * PART_WIDTH) for part in range(1, 64)]
 # how many workers; and, as crack_bench_workers counts them, rows of each partition, and steps of four statements each
@@ -28,7 +28,7 @@ GATHER_WORKERS, GATHER_ROWS = 4, 125_000
 MOST_PART_ROWS = 998_000
 # statements that each wait for the reply to the last one, and counts of one key each
 TURNS, LOOKUPS = 20_000, 10_000
-EVERYTHING = f"0 {2**32}"
+EVERYTHING = f"0 {2**64}"
 # as crack_bench_workers has them: partitions of each worker, how far apart the numbers lie at which the workers begin, and how wide a sum's range is
 PARTS_EACH, APART, SUM_WIDTH = 2, 50_000_000, PART_WIDTH // 100
 

@@ -50,7 +50,7 @@ class Session:
         """Has all rows merged by one count of everything. Under ripple alone each count would put its rows into a column that was never filled, and put
         them back, again and again."""
         self.ask("policy complete")
-        self.count(0, 4294967296)
+        self.count(0, 2**64)
         self.ask("policy ripple")
 
     def count(self, low, high):

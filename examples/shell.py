@@ -330,7 +330,7 @@ def options_of(words):
     parser.add_argument("--cells", metavar="N", help="how many cells for rows a partition has, 1 to 1048576")
     parser.add_argument("--life", metavar="N", help="how many commands a partition answers in all, 1 to 1099511627776")
     parser.add_argument("--policy", metavar="NAME", choices=POLICIES, help="how rows that came or went are merged: complete, gradual or ripple")
-    parser.add_argument("splits", metavar="SPLIT", nargs="*", help="where the keys are parted, rising, each 1 to 4294967295")
+    parser.add_argument("splits", metavar="SPLIT", nargs="*", help="where the keys are parted, rising, each 1 to 18446744073709551615")
     options = parser.parse_args(words)
     if options.port is not None and not 1 <= options.port <= GREATEST_PORT:
         parser.error(f"a port is 1 to {GREATEST_PORT}")

@@ -5,7 +5,8 @@ import dataclasses
 from shell_texts import rows_text
 
 MOST_BARS = 20
-BAR_WIDTH = 40
+# how wide names are at the least, bars at the most, and a line whose name and bar are neither
+NAME_WIDTH, BAR_WIDTH, LINE_WIDTH = 24, 40, 80
 
 
 @dataclasses.dataclass
@@ -51,18 +52,17 @@ class Layout:
 
     def drawn(self):
         """The layout as lines: a bar for each piece of the column, and for what isn't merged yet."""
-        bars = self.bars()
-        most = max(self.coming, self.going, self.free, *(it.rows for it in bars))
+        bars = [(f"{it.low} to {it.high - 1}", it.rows, "#", f" in {it.joined} pieces" if it.joined > 1 else "") for it in self.bars()]
+        bars += [("pending insertions", self.coming, "+", ""), ("pending deletions", self.going, "-", ""), ("free cells", self.free, ".", "")]
+        most = max(count for _, count, _, _ in bars)
+        width = max(NAME_WIDTH, *(len(name) for name, _, _, _ in bars))
         low, high = self.ends
         yield f"partition {self.partition}: keys {low} to {high - 1}, {rows_text(self.rows)}; {self.column} in the column, its pieces:"
-        for it in bars:
-            yield bar(f"{it.low} to {it.high - 1}", it.rows, most, "#", f" in {it.joined} pieces" if it.joined > 1 else "")
-        yield bar("pending insertions", self.coming, most, "+")
-        yield bar("pending deletions", self.going, most, "-")
-        yield bar("free cells", self.free, most, ".")
+        for name, count, mark, also in bars:
+            yield bar(f"  {name:>{width}} {count:>9}{also} ", min(BAR_WIDTH, LINE_WIDTH - width - 13), count, most, mark)
 
 
-def bar(name, count, most, mark, also=""):
+def bar(text, width, count, most, mark):
     """A line with a bar as long as a count is beside the most that any line has; what isn't nothing has one mark at least."""
-    length = max(1, count * BAR_WIDTH // most) if count else 0
-    return f"  {name:>24} {count:>9}{also} {mark * length}".rstrip()
+    length = max(1, count * width // most) if count else 0
+    return f"{text}{mark * length}".rstrip()

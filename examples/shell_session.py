@@ -8,13 +8,14 @@ import re
 import time
 
 from shell_layout import Layout
-from shell_texts import EVERYTHING, GREATEST, Fault, Left, in_words, rows_text
+from shell_texts import EVERYTHING, GREATEST_KEY, GREATEST_PAYLOAD, LEAST_PAYLOAD, Fault, Left, in_words, rows_text
 
 POLICIES = ["complete", "gradual", "ripple"]
 POLICY_OF_A_SERVER = "ripple"
 HEADER = ["key", "payload"]
 MOST_DIGITS = 20
-NUMBER = re.compile(f"[0-9]{{1,{MOST_DIGITS}}}")
+KEY = re.compile(f"[0-9]{{1,{MOST_DIGITS}}}")
+PAYLOAD = re.compile(f"-?{KEY.pattern}")
 # the first lines of replies that have more, and how many more
 LISTED = re.compile("(?:rows|layout .* pieces) ([0-9]+)")
 # a load sends so many rows at once, and goes on while no more than these are unanswered
@@ -34,21 +35,34 @@ class Reply:
         return self.lines[0].startswith("refused")
 
 
-def is_number(text):
-    return NUMBER.fullmatch(text) is not None and int(text) <= GREATEST
+def is_key(text):
+    return KEY.fullmatch(text) is not None and int(text) <= GREATEST_KEY
+
+
+def is_payload(text):
+    return PAYLOAD.fullmatch(text) is not None and LEAST_PAYLOAD <= int(text) <= GREATEST_PAYLOAD
 
 
 def is_row(record):
     """Whether a record is a key and a payload."""
-    return len(record) == 2 and is_number(record[0]) and is_number(record[1])
+    return len(record) == 2 and is_key(record[0]) and is_payload(record[1])
+
+
+def are_digits(texts):
+    """Whether all texts are digits, and few enough."""
+    digits = "".join(texts)
+    return all(texts) and digits.isascii() and digits.isdigit() and max(map(len, texts)) <= MOST_DIGITS
 
 
 def are_rows(records):
     """Whether all records are rows, if there are any: the same as of each, in less time."""
-    fields = list(itertools.chain.from_iterable(records))
-    digits = "".join(fields)
-    are_pairs = set(map(len, records)) == {2} and all(fields)
-    return are_pairs and digits.isascii() and digits.isdigit() and max(map(len, fields)) <= MOST_DIGITS and max(map(int, fields)) <= GREATEST
+    if set(map(len, records)) != {2}:
+        return False
+    keys, payloads = zip(*records)
+    if not (are_digits(keys) and are_digits([it.removeprefix("-") for it in payloads])):
+        return False
+    values = [int(it) for it in payloads]
+    return max(map(int, keys)) <= GREATEST_KEY and LEAST_PAYLOAD <= min(values) and max(values) <= GREATEST_PAYLOAD
 
 
 class Records:

@@ -3,13 +3,14 @@
 import re
 import sys
 
-GREATEST = 4294967295
-EVERYTHING = f"0 {GREATEST + 1}"
+GREATEST_KEY = 18446744073709551615
+LEAST_PAYLOAD, GREATEST_PAYLOAD = -9223372036854775808, 9223372036854775807
+EVERYTHING = f"0 {GREATEST_KEY + 1}"
 REFUSED = re.compile("refused ([0-9]+)")
 
 MEANINGS = {
     "1": "this is no statement; .help tells which there are",
-    "2": "the low end of the range is above its high end, or that is above 4294967296",
+    "2": "the low end of the range is above its high end, or that is above 18446744073709551616",
     "4": "the key is of another partition, and a row never leaves its own",
     "5": "there is no such partition",
     "6": "the history is full: it has as many entries as the limit says; checkpoint P makes room in partition P, and its rows stay",
@@ -17,7 +18,7 @@ MEANINGS = {
     "8": "no memory was found; no row has changed",
     "9": "no cell is free for the row; a deleted or updated row may hold one until a query over its key",
     "10": "the partition's life is over: it has answered as many commands as it ever may",
-    "11": "the splits don't rise, or one isn't 1 to 4294967295",
+    "11": "the splits don't rise, or one isn't 1 to 18446744073709551615",
     "12": "there are more than 63 splits",
     "13": "the workers aren't 1 to 64",
     "14": "a limit is out of its range: histories 1 to 1000000, cells 1 to 1048576, lives 1 to 1099511627776",
@@ -25,20 +26,22 @@ MEANINGS = {
     "16": "receipts and histories don't agree",
     "17": "reading failed, or the port can't be listened on",
     "18": "writing failed",
-    "19": "a record isn't two numbers from 0 to 4294967295",
+    "19": "a record isn't a key from 0 to 18446744073709551615 and a payload from -9223372036854775808 to 9223372036854775807",
 }
 
 HELP = """\
 insert K V        a row of key K and payload V; the reply is its row number P.S
 delete P.S        that row goes
 update P.S K V    that row gets another key and payload
-count LO HI       how many rows have keys from LO up to and without HI; 0 4294967296 is everything
+count LO HI       how many rows have keys from LO up to and without HI; 0 18446744073709551616 is everything
 sum LO HI         the sum of their payloads
 select LO HI      these rows, a line P.S K V for each
 layout P          what stands where in partition P, as numbers
 checkpoint P      the history of partition P begins anew, and its rows stay; the reply is how many entries went
 policy NAME       how rows that came or went are merged: complete, gradual or ripple
 quit              ends the session
+
+Keys are whole numbers from 0 to 18446744073709551615, payloads from -9223372036854775808 to 9223372036854775807.
 
 .load FILE        inserts the rows of CSV, with or without the header key,payload, and merges them by one count
 .save FILE        writes all rows as CSV; the histories keep the selects that list them

@@ -8,8 +8,8 @@ use std::time::Instant;
 #[allow(dead_code)]
 pub struct Row {
     pub serial: u64,
-    pub key: u32,
-    pub payload: u32,
+    pub key: u64,
+    pub payload: i64,
 }
 
 #[derive(Clone, Copy)]
@@ -120,7 +120,7 @@ pub fn fill(rows: u64, numbers: &mut Numbers) -> (Arena<Row>, Vec<Handle>) {
     for serial in 0..rows {
         handles.push(arena.put(Row {
             serial,
-            key: numbers.below(1 << 31) as u32,
+            key: numbers.below(1 << 31),
             payload: 1,
         }));
     }

@@ -1,19 +1,18 @@
-//! A cracker column over an arena: generations of cells that no crack moves, and in cracked order places, each with what is remembered of its
-//! row, the number of its cell and the ticket of its generation.
+//! A cracker column over an arena: generations of cells that no crack moves, and in cracked order places, each with the key that is remembered of
+//! its row, the number of its cell and the ticket of its generation, and the payloads beside them, which a sum reads alone.
 
 use crate::arena::{Arena, Handle, Row, fill};
 use crate::numbers::{Numbers, mixed};
 use std::time::Instant;
 
 /// Stands for a key that isn't remembered.
-pub const UNKNOWN: u32 = u32::MAX;
+pub const UNKNOWN: u64 = u64::MAX;
 
-/// What a crack exchanges, 16 bytes.
+/// What a crack exchanges beside a payload, 16 bytes.
 #[derive(Clone, Copy)]
 pub struct Place {
-    key: u32,
+    key: u64,
     ticket: u32,
-    payload: u32,
     slot: u32,
 }
 
@@ -21,14 +20,15 @@ pub struct Place {
 #[derive(Clone, Copy)]
 pub struct Held {
     pub handle: Handle,
-    pub key: u32,
-    pub payload: u32,
+    pub key: u64,
+    pub payload: i64,
 }
 
 #[derive(Default)]
 pub struct Column {
     generations: Vec<u64>,
     places: Vec<Place>,
+    payloads: Vec<i64>,
     len: usize,
     unread: usize,
 }
@@ -42,6 +42,7 @@ impl Column {
         let more = additional.saturating_sub(self.places.len() - self.len);
         self.generations.reserve(more);
         self.places.reserve(more);
+        self.payloads.reserve(more);
     }
 
     pub fn slot_at(&self, place: usize) -> u32 {
@@ -53,12 +54,7 @@ impl Column {
     }
 
     fn held(&self, place: usize) -> Held {
-        let Place {
-            key,
-            ticket,
-            payload,
-            slot,
-        } = self.places[place];
+        let Place { key, ticket, slot } = self.places[place];
         let handle = Handle {
             slot,
             generation: self.generations[ticket as usize],
@@ -66,7 +62,7 @@ impl Column {
         Held {
             handle,
             key,
-            payload,
+            payload: self.payloads[place],
         }
     }
 
@@ -78,13 +74,19 @@ impl Column {
             self.places.push(Place {
                 key: UNKNOWN,
                 ticket,
-                payload: 0,
                 slot: 0,
             });
+            self.payloads.push(0);
         }
-        let here = &mut self.places[self.len];
+        self.keep(self.len, held);
+    }
+
+    /// Puts a row at the place, its generation under the ticket there.
+    fn keep(&mut self, place: usize, held: Held) {
+        let here = &mut self.places[place];
         self.generations[here.ticket as usize] = held.handle.generation;
-        (here.key, here.payload, here.slot) = (held.key, held.payload, held.handle.slot);
+        (here.key, here.slot) = (held.key, held.handle.slot);
+        self.payloads[place] = held.payload;
     }
 
     pub fn append_aside(&mut self) {
@@ -102,6 +104,7 @@ impl Column {
         let (aside, there) = (self.places[self.len], self.places[place]);
         self.places[place] = aside;
         self.places[self.len] = there;
+        self.payloads.swap(place, self.len);
         self.unread += (aside.key == UNKNOWN) as usize;
         self.unread -= (there.key == UNKNOWN) as usize;
     }
@@ -114,7 +117,7 @@ impl Column {
         self.places[self.len].slot
     }
 
-    pub fn aside_key(&self) -> u32 {
+    pub fn aside_key(&self) -> u64 {
         self.places[self.len].key
     }
 
@@ -123,55 +126,53 @@ impl Column {
         self.append_aside();
     }
 
-    /// Puts a row at the place, its generation under the ticket there, and takes the one that stood there out.
+    /// Puts a row at the place, and takes the one that stood there out.
     pub fn swap_in(&mut self, place: usize, held: Held) -> Held {
         let there = self.held(place);
-        let here = &mut self.places[place];
-        self.generations[here.ticket as usize] = held.handle.generation;
-        (here.key, here.payload, here.slot) = (held.key, held.payload, held.handle.slot);
+        self.keep(place, held);
         self.unread += (held.key == UNKNOWN) as usize;
         self.unread -= (there.key == UNKNOWN) as usize;
         there
     }
 
     pub fn crack_two(&mut self, from: usize, to: usize, bound: u64, arena: &Arena<Row>) -> usize {
-        let places = &mut self.places[from..to];
+        let (places, payloads) = (&mut self.places[from..to], &mut self.payloads[from..to]);
         if self.unread > 0 {
-            self.unread -= learn(places, &self.generations, arena);
+            self.unread -= learn(places, payloads, &self.generations, arena);
         }
-        from + divide(places, bound)
+        from + divide(places, payloads, bound)
     }
 
     pub fn crack_three(&mut self, from: usize, to: usize, low: u64, high: u64, arena: &Arena<Row>) -> (usize, usize) {
-        let places = &mut self.places[from..to];
+        let (places, payloads) = (&mut self.places[from..to], &mut self.payloads[from..to]);
         if self.unread > 0 {
-            self.unread -= learn(places, &self.generations, arena);
+            self.unread -= learn(places, payloads, &self.generations, arena);
         }
-        let (middle, upper) = divide_three(places, low, high);
+        let (middle, upper) = divide_three(places, payloads, low, high);
         (from + middle, from + upper)
     }
 
     /// The sum of the payloads from a place up to another; reads a cell for a row that isn't known alone.
-    pub fn sum_between(&self, from: usize, to: usize, arena: &Arena<Row>) -> u64 {
+    pub fn sum_between(&self, from: usize, to: usize, arena: &Arena<Row>) -> i128 {
         if self.unread == 0 {
-            return self.places[from..to].iter().map(|it| u64::from(it.payload)).sum();
+            return self.payloads[from..to].iter().map(|it| i128::from(*it)).sum();
         }
         let rows = (from..to).map(|place| arena.get(self.held(place).handle));
-        rows.map(|row| row.map_or(0, |it| u64::from(it.payload))).sum()
+        rows.map(|row| row.map_or(0, |it| i128::from(it.payload))).sum()
     }
 }
 
 /// Reads each row that isn't known. How many are known now.
-fn learn(places: &mut [Place], generations: &[u64], arena: &Arena<Row>) -> usize {
+fn learn(places: &mut [Place], payloads: &mut [i64], generations: &[u64], arena: &Arena<Row>) -> usize {
     let mut learned = 0;
-    for place in places {
+    for (place, payload) in places.iter_mut().zip(payloads) {
         if place.key == UNKNOWN {
             let handle = Handle {
                 slot: place.slot,
                 generation: generations[place.ticket as usize],
             };
             if let Some(row) = arena.get(handle) {
-                (place.key, place.payload) = (row.key, row.payload);
+                (place.key, *payload) = (row.key, row.payload);
             }
             learned += (place.key != UNKNOWN) as usize;
         }
@@ -181,55 +182,69 @@ fn learn(places: &mut [Place], generations: &[u64], arena: &Arena<Row>) -> usize
 
 /// Puts the keys below the bound first, and gives their number. The first place is held, and the gap that it leaves goes round, so that
 /// nothing is exchanged. The key is read first, and then the place.
-fn divide(places: &mut [Place], bound: u64) -> usize {
+fn divide(places: &mut [Place], payloads: &mut [i64], bound: u64) -> usize {
     let Some(last) = places.len().checked_sub(1) else {
         return 0;
     };
-    let first = places[0];
+    let (first, first_payload) = (places[0], payloads[0]);
     let mut low = 0;
     for gap in 0..last {
-        let below = u64::from(places[gap + 1].key) < bound;
-        let next = places[gap + 1];
-        places[gap] = places[low];
-        places[low] = next;
+        let below = places[gap + 1].key < bound;
+        let (next, payload) = (places[gap + 1], payloads[gap + 1]);
+        shift(places, payloads, gap, low, next, payload);
         low += below as usize;
     }
-    places[last] = places[low];
-    places[low] = first;
-    low + (u64::from(first.key) < bound) as usize
+    shift(places, payloads, last, low, first, first_payload);
+    low + (first.key < bound) as usize
+}
+
+/// Fills the gap from the place `low`, and puts this one there with its payload.
+#[inline(always)]
+fn shift(places: &mut [Place], payloads: &mut [i64], gap: usize, low: usize, next: Place, payload: i64) {
+    places[gap] = places[low];
+    places[low] = next;
+    payloads[gap] = payloads[low];
+    payloads[low] = payload;
 }
 
 /// Puts the keys below the low bound first, then those below the high one, and gives how many are below either. The gap goes round
 /// through both places between.
-fn divide_three(places: &mut [Place], low: u64, high: u64) -> (usize, usize) {
+fn divide_three(places: &mut [Place], payloads: &mut [i64], low: u64, high: u64) -> (usize, usize) {
     let Some(last) = places.len().checked_sub(1) else {
         return (0, 0);
     };
-    let first = places[0];
+    let (first, first_payload) = (places[0], payloads[0]);
     let (mut middle, mut upper) = (0, 0);
     for gap in 0..last {
-        let key = u64::from(places[gap + 1].key);
-        let next = places[gap + 1];
+        let key = places[gap + 1].key;
+        let (next, payload) = (places[gap + 1], payloads[gap + 1]);
         let place = if key < low { middle } else { upper };
-        places[gap] = places[upper];
-        places[upper] = places[place];
-        places[place] = next;
+        turn(places, payloads, gap, (upper, place), next, payload);
         middle += (key < low) as usize;
         upper += (key < high) as usize;
     }
-    let key = u64::from(first.key);
+    let key = first.key;
     let place = if key < low { middle } else { upper };
-    places[last] = places[upper];
-    places[upper] = places[place];
-    places[place] = first;
+    turn(places, payloads, last, (upper, place), first, first_payload);
     (middle + (key < low) as usize, upper + (key < high) as usize)
+}
+
+/// Fills the gap from the upper place, that one from the other, and puts this one there with its payload.
+#[inline(always)]
+fn turn(places: &mut [Place], payloads: &mut [i64], gap: usize, (upper, place): (usize, usize), next: Place, payload: i64) {
+    places[gap] = places[upper];
+    places[upper] = places[place];
+    places[place] = next;
+    payloads[gap] = payloads[upper];
+    payloads[upper] = payloads[place];
+    payloads[place] = payload;
 }
 
 /// A crack that remembers no key: each is read through the arena at each crack.
 fn divide_through(handles: &mut [Handle], bound: u64, arena: &Arena<Row>) -> usize {
     let mut low = 0;
     for i in 0..handles.len() {
-        let below = arena.get(handles[i]).map_or(0, |row| u64::from(row.key)) < bound;
+        let below = arena.get(handles[i]).map_or(0, |row| row.key) < bound;
         handles.swap(low, i);
         low += below as usize;
     }

@@ -2,12 +2,9 @@
 
 use crate::arena::Row;
 use crate::numbers::{Numbers, mixed};
+use crate::partition::{KEYS_END, WIDTH};
 use crate::report;
-use crate::store::GREATEST_BOUND;
 use std::time::Instant;
-
-/// How wide the range is that is counted.
-const WIDTH: u64 = 42949672;
 
 /// How many commands of one kind there are before a checkpoint, and behind it.
 const NEXT: u64 = 1000;
@@ -21,7 +18,7 @@ struct Rows {
 }
 
 impl Rows {
-    fn insert(&mut self, key: u32, payload: u32) {
+    fn insert(&mut self, key: u64, payload: i64) {
         self.rows.push(Row {
             serial: self.next,
             key,
@@ -33,23 +30,23 @@ impl Rows {
 
     fn load(&mut self, rows: u64) {
         for row in 0..rows {
-            let key = self.numbers.word();
-            self.insert(key, row as u32);
+            let key = u64::from(self.numbers.word());
+            self.insert(key, row as i64);
         }
     }
 
     fn load_half(&mut self, rows: u64) {
         for row in 0..rows {
-            let key = self.numbers.word() >> 1;
-            self.insert(key, row as u32);
+            let key = u64::from(self.numbers.word() >> 1);
+            self.insert(key, row as i64);
         }
     }
 
     /// A checksum of as many counts of one range in the upper half.
     fn upper_counts(&mut self, counts: u64) -> u64 {
-        let low = GREATEST_BOUND / 2;
+        let low = KEYS_END / 2;
         let range = low..low + WIDTH;
-        let count = self.rows.iter().filter(|row| range.contains(&u64::from(row.key))).count();
+        let count = self.rows.iter().filter(|row| range.contains(&u128::from(row.key))).count();
         self.accepted += counts;
         (0..counts).fold(0, |sum, _| mixed(sum, count as u64))
     }
@@ -101,7 +98,7 @@ impl Rows {
         rows.sort_unstable_by_key(|row| row.serial);
         report(&format!("{name}_sort"), start);
         let sum = rows.iter().fold(0, |sum, row| {
-            let content = u64::from(row.key) << 32 | u64::from(row.payload);
+            let content = row.key << 32 | u64::try_from(row.payload).unwrap_or(0);
             mixed(mixed(sum, row.serial), content)
         });
         println!("{name} {} rows {} sum {sum}", self.accepted, rows.len());

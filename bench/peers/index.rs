@@ -1,7 +1,5 @@
 //! The bounds that divide a cracked column, in rising order.
 
-use crate::store::GREATEST_BOUND;
-
 #[derive(Clone, Copy)]
 pub struct Mark {
     pub bound: u64,
@@ -33,9 +31,9 @@ impl Index {
         )
     }
 
-    /// The first bound above this key, or the end of the key space.
-    pub fn bound_above(&self, key: u64) -> u64 {
-        self.marks.get(self.up_to(key)).map_or(GREATEST_BOUND, |mark| mark.bound)
+    /// The first bound above this key.
+    pub fn bound_above(&self, key: u64) -> Option<u64> {
+        self.marks.get(self.up_to(key)).map(|mark| mark.bound)
     }
 
     pub fn add(&mut self, bound: u64, position: usize) {

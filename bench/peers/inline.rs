@@ -1,17 +1,17 @@
-//! A cracker column of inline keys, and nothing else: a crack exchanges 4 bytes a row, and there is no branch on a key.
+//! A cracker column of inline keys, and nothing else: a crack exchanges 8 bytes a row, and there is no branch on a key.
 
 /// Keys in one vector, and the bounds that divide it in rising order, each with its place.
 #[derive(Default)]
 pub struct Inline {
-    pub keys: Vec<u32>,
+    pub keys: Vec<u64>,
     bounds: Vec<u64>,
     places: Vec<usize>,
 }
 
 impl Inline {
     /// The place at which the keys at or above the bound begin; cracks there, unless it is known.
-    pub fn edge(&mut self, bound: u64) -> usize {
-        let Ok(pivot) = u32::try_from(bound) else {
+    pub fn edge(&mut self, bound: u128) -> usize {
+        let Ok(bound) = u64::try_from(bound) else {
             return self.keys.len();
         };
         let at = match self.bounds.binary_search(&bound) {
@@ -20,7 +20,7 @@ impl Inline {
         };
         let from = at.checked_sub(1).map_or(0, |below| self.places[below]);
         let to = self.places.get(at).copied().unwrap_or(self.keys.len());
-        let place = from + partition(&mut self.keys[from..to], pivot);
+        let place = from + partition(&mut self.keys[from..to], bound);
         self.bounds.insert(at, bound);
         self.places.insert(at, place);
         place
@@ -29,7 +29,7 @@ impl Inline {
 
 /// Puts the keys below the pivot first, and gives their number. The gap goes round, so that each key is written once
 /// ("branchless Lomuto partitioning" with a cyclic permutation, as in Rust's own sort).
-fn partition(keys: &mut [u32], pivot: u32) -> usize {
+fn partition(keys: &mut [u64], pivot: u64) -> usize {
     let Some(&first) = keys.first() else {
         return 0;
     };

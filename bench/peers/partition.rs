@@ -14,24 +14,30 @@ use crate::tree::Tree;
 use std::hint::black_box;
 use std::time::Instant;
 
-/// How wide a random range is: one in a hundred of the key space.
-const WIDTH: u64 = 42949672;
+/// Where the random keys end, which have 32 bits.
+pub const KEYS_END: u128 = 1 << 32;
+
+/// How wide a random range is: a hundredth of these keys.
+pub const WIDTH: u128 = 42949672;
 
 /// How many entries a history may have.
 pub const LIMIT: usize = 1_000_000;
 
 /// What takes rows, counts them and sums their payloads.
 trait Table {
-    /// Keeps a row. What it is named by.
-    fn insert(&mut self, key: u32, payload: u32) -> u64;
+    /// What a row is named by.
+    type Name: Copy;
 
-    fn count(&mut self, low: u64, high: u64) -> u64;
+    /// Keeps a row. Its name.
+    fn insert(&mut self, key: u64, payload: i64) -> Self::Name;
 
-    fn sum(&mut self, _low: u64, _high: u64) -> u64 {
+    fn count(&mut self, low: u128, high: u128) -> u64;
+
+    fn sum(&mut self, _low: u128, _high: u128) -> i128 {
         unimplemented!()
     }
 
-    fn delete(&mut self, _name: u64) {
+    fn delete(&mut self, _name: Self::Name) {
         unimplemented!()
     }
 
@@ -44,12 +50,12 @@ trait Table {
 #[derive(Clone, Copy)]
 #[allow(dead_code)]
 pub enum Command {
-    Insert { key: u32, payload: u32 },
+    Insert { key: u64, payload: i64 },
     Delete { serial: u64 },
-    Update { serial: u64, key: u32, payload: u32 },
-    Count { low: u64, high: u64 },
-    Sum { low: u64, high: u64 },
-    Select { low: u64, high: u64 },
+    Update { serial: u64, key: u64, payload: i64 },
+    Count { low: u128, high: u128 },
+    Sum { low: u128, high: u128 },
+    Select { low: u128, high: u128 },
 }
 
 #[derive(Clone)]
@@ -59,7 +65,7 @@ pub enum Reply {
     Gone(Row),
     NoRow,
     Counted(u64),
-    Summed(u128),
+    Summed(i128),
     Rows(Vec<Row>),
 }
 
@@ -127,32 +133,39 @@ impl Partition {
             }
             Command::Sum { low, high } => {
                 let (from, to) = self.store.settle(low, high, self.policy);
-                Reply::Summed(u128::from(self.store.sum_between(from, to)))
+                Reply::Summed(self.store.sum_between(from, to))
             }
             Command::Update { .. } | Command::Select { .. } => unimplemented!(),
         }
     }
 
-    fn ask(&mut self, command: Command) -> u64 {
-        match self.apply(0, command).expect("room in the history").0 {
-            Reply::Placed(number) | Reply::Counted(number) => number,
-            Reply::Summed(sum) => sum as u64,
-            _ => 0,
-        }
+    fn ask(&mut self, command: Command) -> Reply {
+        self.apply(0, command).expect("room in the history").0
     }
 }
 
 impl Table for Partition {
-    fn insert(&mut self, key: u32, payload: u32) -> u64 {
-        self.ask(Command::Insert { key, payload })
+    type Name = u64;
+
+    fn insert(&mut self, key: u64, payload: i64) -> u64 {
+        match self.ask(Command::Insert { key, payload }) {
+            Reply::Placed(serial) => serial,
+            _ => unreachable!(),
+        }
     }
 
-    fn count(&mut self, low: u64, high: u64) -> u64 {
-        self.ask(Command::Count { low, high })
+    fn count(&mut self, low: u128, high: u128) -> u64 {
+        match self.ask(Command::Count { low, high }) {
+            Reply::Counted(count) => count,
+            _ => unreachable!(),
+        }
     }
 
-    fn sum(&mut self, low: u64, high: u64) -> u64 {
-        self.ask(Command::Sum { low, high })
+    fn sum(&mut self, low: u128, high: u128) -> i128 {
+        match self.ask(Command::Sum { low, high }) {
+            Reply::Summed(sum) => sum,
+            _ => unreachable!(),
+        }
     }
 
     fn delete(&mut self, serial: u64) {
@@ -161,20 +174,22 @@ impl Table for Partition {
 }
 
 impl Table for Fast {
-    fn insert(&mut self, key: u32, payload: u32) -> u64 {
-        u64::from(Fast::insert(self, key, payload))
+    type Name = u32;
+
+    fn insert(&mut self, key: u64, payload: i64) -> u32 {
+        Fast::insert(self, key, payload)
     }
 
-    fn count(&mut self, low: u64, high: u64) -> u64 {
+    fn count(&mut self, low: u128, high: u128) -> u64 {
         Fast::count(self, low, high)
     }
 
-    fn sum(&mut self, low: u64, high: u64) -> u64 {
+    fn sum(&mut self, low: u128, high: u128) -> i128 {
         Fast::sum(self, low, high)
     }
 
-    fn delete(&mut self, name: u64) {
-        black_box(Fast::delete(self, name as u32));
+    fn delete(&mut self, slot: u32) {
+        black_box(Fast::delete(self, slot));
     }
 
     fn tally(&self) -> Option<Tally> {
@@ -183,54 +198,60 @@ impl Table for Fast {
 }
 
 impl Table for Inline {
-    fn insert(&mut self, key: u32, _payload: u32) -> u64 {
+    type Name = u64;
+
+    fn insert(&mut self, key: u64, _payload: i64) -> u64 {
         self.keys.push(key);
         self.keys.len() as u64 - 1
     }
 
-    fn count(&mut self, low: u64, high: u64) -> u64 {
+    fn count(&mut self, low: u128, high: u128) -> u64 {
         (self.edge(high) - self.edge(low)) as u64
     }
 }
 
 impl Table for Pairs {
-    fn insert(&mut self, key: u32, payload: u32) -> u64 {
+    type Name = u64;
+
+    fn insert(&mut self, key: u64, payload: i64) -> u64 {
         self.pairs.push((key, payload));
         self.pairs.len() as u64 - 1
     }
 
-    fn count(&mut self, low: u64, high: u64) -> u64 {
+    fn count(&mut self, low: u128, high: u128) -> u64 {
         (self.edge(high) - self.edge(low)) as u64
     }
 
-    fn sum(&mut self, low: u64, high: u64) -> u64 {
+    fn sum(&mut self, low: u128, high: u128) -> i128 {
         let (from, to) = (self.edge(low), self.edge(high));
-        self.pairs[from.min(to)..to].iter().map(|it| u64::from(it.1)).sum()
+        self.pairs[from.min(to)..to].iter().map(|it| i128::from(it.1)).sum()
     }
 }
 
-/// The upper half of a name is a key.
 impl Table for Tree {
-    fn insert(&mut self, key: u32, payload: u32) -> u64 {
-        let (key, number) = Tree::insert(self, key, payload);
-        u64::from(key) << 32 | u64::from(number)
+    type Name = (u64, u32);
+
+    fn insert(&mut self, key: u64, payload: i64) -> (u64, u32) {
+        Tree::insert(self, key, payload)
     }
 
-    fn count(&mut self, low: u64, high: u64) -> u64 {
+    fn count(&mut self, low: u128, high: u128) -> u64 {
         self.between(low, high).count() as u64
     }
 
-    fn sum(&mut self, low: u64, high: u64) -> u64 {
-        self.between(low, high).map(u64::from).sum()
+    fn sum(&mut self, low: u128, high: u128) -> i128 {
+        self.between(low, high).map(i128::from).sum()
     }
 
-    fn delete(&mut self, name: u64) {
-        black_box(Tree::delete(self, ((name >> 32) as u32, name as u32)));
+    fn delete(&mut self, name: (u64, u32)) {
+        black_box(Tree::delete(self, name));
     }
 }
 
 impl Table for Vec<Row> {
-    fn insert(&mut self, key: u32, payload: u32) -> u64 {
+    type Name = u64;
+
+    fn insert(&mut self, key: u64, payload: i64) -> u64 {
         let serial = self.len() as u64;
         self.push(Row {
             serial,
@@ -240,54 +261,62 @@ impl Table for Vec<Row> {
         serial
     }
 
-    fn count(&mut self, low: u64, high: u64) -> u64 {
-        let inside = |row: &&Row| low <= row.key as u64 && (row.key as u64) < high;
-        self.iter().filter(inside).count() as u64
+    fn count(&mut self, low: u128, high: u128) -> u64 {
+        self.iter().filter(inside(low, high)).count() as u64
     }
 
-    fn sum(&mut self, low: u64, high: u64) -> u64 {
-        let inside = |row: &&Row| low <= row.key as u64 && (row.key as u64) < high;
-        self.iter().filter(inside).map(|row| u64::from(row.payload)).sum()
+    fn sum(&mut self, low: u128, high: u128) -> i128 {
+        self.iter().filter(inside(low, high)).map(|row| i128::from(row.payload)).sum()
     }
 }
 
 impl Table for Through {
-    fn insert(&mut self, key: u32, payload: u32) -> u64 {
+    type Name = u64;
+
+    fn insert(&mut self, key: u64, payload: i64) -> u64 {
         self.push(key, payload)
     }
 
-    fn count(&mut self, low: u64, high: u64) -> u64 {
-        self.between(low, high).count() as u64
+    fn count(&mut self, low: u128, high: u128) -> u64 {
+        self.rows().filter(inside(low, high)).count() as u64
     }
 
-    fn sum(&mut self, low: u64, high: u64) -> u64 {
-        self.between(low, high).map(|row| u64::from(row.payload)).sum()
+    fn sum(&mut self, low: u128, high: u128) -> i128 {
+        self.rows().filter(inside(low, high)).map(|row| i128::from(row.payload)).sum()
     }
 }
 
 impl Table for Sorted {
-    fn insert(&mut self, key: u32, payload: u32) -> u64 {
+    type Name = u64;
+
+    fn insert(&mut self, key: u64, payload: i64) -> u64 {
         self.push(key, payload)
     }
 
-    fn count(&mut self, low: u64, high: u64) -> u64 {
+    fn count(&mut self, low: u128, high: u128) -> u64 {
         self.between(low, high).len() as u64
     }
 
-    fn sum(&mut self, low: u64, high: u64) -> u64 {
-        self.between(low, high).iter().map(|it| u64::from(it.1)).sum()
+    fn sum(&mut self, low: u128, high: u128) -> i128 {
+        self.between(low, high).iter().map(|it| i128::from(it.1)).sum()
     }
 }
 
+/// Whether a row's key is in a range that isn't empty.
+fn inside(low: u128, high: u128) -> impl Fn(&&Row) -> bool {
+    let (low, last) = (low as u64, (high - 1) as u64);
+    move |row| low <= row.key && row.key <= last
+}
+
 /// A range of that width at a random place: its low end.
-fn random_low(numbers: &mut Numbers) -> u64 {
-    u64::from(numbers.word()) % (GREATEST_BOUND - WIDTH)
+fn random_low(numbers: &mut Numbers) -> u128 {
+    u128::from(numbers.word()) % (KEYS_END - WIDTH)
 }
 
 /// As many inserts of random keys. Their names are handed on.
-fn fill(table: &mut impl Table, rows: u64, numbers: &mut Numbers, mut keep: impl FnMut(u64)) {
+fn fill<T: Table>(table: &mut T, rows: u64, numbers: &mut Numbers, mut keep: impl FnMut(T::Name)) {
     for row in 0..rows {
-        keep(table.insert(numbers.word(), row as u32));
+        keep(table.insert(u64::from(numbers.word()), row as i64));
     }
 }
 
@@ -295,12 +324,17 @@ fn fill(table: &mut impl Table, rows: u64, numbers: &mut Numbers, mut keep: impl
 fn random_sums(table: &mut impl Table, told: u64, ranges: u64, numbers: &mut Numbers) -> u64 {
     (0..ranges).fold(told, |sum, _| {
         let low = random_low(numbers);
-        mixed(sum, table.sum(low, low + WIDTH))
+        mixed(sum, number_of(table.sum(low, low + WIDTH)))
     })
 }
 
+/// A sum, if it is a number of 64 bits; else the greatest of them.
+fn number_of(sum: i128) -> u64 {
+    u64::try_from(sum).unwrap_or(u64::MAX)
+}
+
 /// As many inserts of random keys, and a count of everything. The names are handed on.
-fn load(table: &mut impl Table, rows: u64, numbers: &mut Numbers, keep: impl FnMut(u64)) {
+fn load<T: Table>(table: &mut T, rows: u64, numbers: &mut Numbers, keep: impl FnMut(T::Name)) {
     let start = Instant::now();
     fill(table, rows, numbers, keep);
     crate::report("load", start);
@@ -312,7 +346,7 @@ fn load(table: &mut impl Table, rows: u64, numbers: &mut Numbers, keep: impl FnM
 }
 
 /// The same, and the names of the rows.
-fn load_named(table: &mut impl Table, rows: u64, numbers: &mut Numbers) -> Vec<u64> {
+fn load_named<T: Table>(table: &mut T, rows: u64, numbers: &mut Numbers) -> Vec<T::Name> {
     let mut names = Vec::with_capacity(rows as usize);
     load(table, rows, numbers, |name| names.push(name));
     names
@@ -380,13 +414,13 @@ fn cold(mut table: impl Table, rows: u64, ranges: u64) {
 fn pass(mut table: impl Table, rows: u64, ranges: u64) {
     let mut numbers = Numbers(11);
     for row in 0..rows {
-        table.insert(numbers.word() >> 1, row as u32);
+        table.insert(u64::from(numbers.word() >> 1), row as i64);
     }
-    let half = GREATEST_BOUND / 2;
+    let half = KEYS_END / 2;
     let start = Instant::now();
     let told = (0..ranges).fold(0, |sum, _| {
         let low = half + random_low(&mut numbers) / 2;
-        mixed(sum, table.sum(low, low + WIDTH / 2))
+        mixed(sum, number_of(table.sum(low, low + WIDTH / 2)))
     });
     crate::report("pass", start);
     println!("pass {told}");
@@ -402,7 +436,7 @@ fn updates(mut table: impl Table, rows: u64, batches: u64, size: u64) {
             let at = numbers.below(names.len() as u64) as usize;
             table.delete(names[at]);
             let key = numbers.word();
-            names[at] = table.insert(key, key);
+            names[at] = table.insert(u64::from(key), i64::from(key));
         }
         random_sums(&mut table, sum, 1, &mut numbers)
     });
@@ -413,9 +447,9 @@ fn updates(mut table: impl Table, rows: u64, batches: u64, size: u64) {
 
 /// Counts that crack the column into as many pieces of one width.
 fn crack_evenly(table: &mut impl Table, pieces: u64) {
-    let width = GREATEST_BOUND / pieces.max(1);
+    let width = KEYS_END / u128::from(pieces.max(1));
     for piece in 1..pieces {
-        table.count(0, piece * width);
+        table.count(0, u128::from(piece) * width);
     }
 }
 

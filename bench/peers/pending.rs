@@ -10,7 +10,7 @@ const BLOCK: usize = 16;
 
 #[derive(Default)]
 pub struct Pending {
-    keys: Vec<u32>,
+    keys: Vec<u64>,
     handles: Vec<Handle>,
     spots: Vec<u32>,
     holes: usize,
@@ -32,7 +32,7 @@ impl Pending {
         }
     }
 
-    pub fn push(&mut self, handle: Handle, key: u32) {
+    pub fn push(&mut self, handle: Handle, key: u64) {
         self.spots[handle.slot as usize] = self.handles.len() as u32;
         self.handles.push(handle);
         self.keys.push(key);
@@ -48,7 +48,7 @@ impl Pending {
     }
 
     /// Takes the row of this spot; it leaves a hole.
-    pub fn take(&mut self, spot: usize) -> (Handle, u32) {
+    pub fn take(&mut self, spot: usize) -> (Handle, u64) {
         let handle = self.handles[spot];
         self.handles[spot].slot = HOLE;
         self.holes += 1;
@@ -83,12 +83,13 @@ impl Pending {
     }
 
     /// The first spot from this one on whose row has its key in the range.
-    pub fn next_in(&self, low: u64, high: u64, mut from: usize) -> Option<usize> {
+    pub fn next_in(&self, low: u128, high: u128, mut from: usize) -> Option<usize> {
         if high <= low {
             return None;
         }
-        let (low, last) = (low as u32, (high - 1) as u32);
-        let is_in = |key: u32| (low <= key) & (key <= last);
+        let (low, last) = (low as u64, (high - 1) as u64);
+        let width = last - low;
+        let is_in = |key: u64| key.wrapping_sub(low) <= width;
         let len = self.keys.len();
         while from + BLOCK <= len {
             let block = &self.keys[from..from + BLOCK];

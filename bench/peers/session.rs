@@ -1,7 +1,7 @@
 //! Inserts and counts from standard input to standard output, answered by a cracked partition.
 
 use crate::partition::{Command, LIMIT, Partition, Reply};
-use crate::store::Policy;
+use crate::store::{GREATEST_BOUND, Policy};
 use std::io::{self, BufWriter, Read, Write};
 
 fn number(word: &[u8]) -> Option<u128> {
@@ -14,12 +14,19 @@ fn number(word: &[u8]) -> Option<u128> {
     })
 }
 
+fn signed(word: &[u8]) -> Option<i128> {
+    match word.strip_prefix(b"-") {
+        Some(digits) => Some(-(number(digits)? as i128)),
+        None => Some(number(word)? as i128),
+    }
+}
+
 fn command(line: &[u8]) -> Option<Command> {
     let mut words = line.split(|byte| *byte == b' ').filter(|it| !it.is_empty());
     let (word, first, second) = (
         words.next()?,
         number(words.next()?)?,
-        number(words.next()?)?,
+        words.next()?,
     );
     if words.next().is_some() {
         return None;
@@ -27,12 +34,12 @@ fn command(line: &[u8]) -> Option<Command> {
     match word {
         b"insert" => Some(Command::Insert {
             key: first.try_into().ok()?,
-            payload: second.try_into().ok()?,
+            payload: signed(second)?.try_into().ok()?,
         }),
-        b"count" if first <= second && second <= 1 << 32 => Some(Command::Count {
-            low: first as u64,
-            high: second as u64,
-        }),
+        b"count" => {
+            let (low, high) = (first, number(second)?);
+            (low <= high && high <= GREATEST_BOUND).then_some(Command::Count { low, high })
+        }
         _ => None,
     }
 }

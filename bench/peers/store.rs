@@ -8,7 +8,7 @@ use crate::pending::Pending;
 use crate::serials::Serials;
 
 /// The high end of the key space.
-pub const GREATEST_BOUND: u64 = 1 << 32;
+pub const GREATEST_BOUND: u128 = 1 << 64;
 
 #[derive(Clone, Copy, PartialEq, Eq)]
 pub enum Policy {
@@ -59,7 +59,7 @@ impl Store {
         self.serials.insert(row.serial, handle);
     }
 
-    fn doom(&mut self, handle: Handle, key: u32) {
+    fn doom(&mut self, handle: Handle, key: u64) {
         self.pending_out.reserve(1);
         self.pending_out.cover(self.arena.cells());
         self.notes.resize(self.arena.cells(), 0);
@@ -81,7 +81,7 @@ impl Store {
     }
 
     /// Cracks the column at both ends of the range and merges what it needs. The places between which its rows stand.
-    pub fn settle(&mut self, low: u64, high: u64, policy: Policy) -> (usize, usize) {
+    pub fn settle(&mut self, low: u128, high: u128, policy: Policy) -> (usize, usize) {
         if high <= low {
             return (0, 0);
         }
@@ -97,33 +97,29 @@ impl Store {
         (self.edge(low), self.edge(high))
     }
 
-    pub fn sum_between(&self, from: usize, to: usize) -> u64 {
+    pub fn sum_between(&self, from: usize, to: usize) -> i128 {
         self.column.sum_between(from, to, &self.arena)
     }
 
-    /// The bound's own piece, by the mark behind it, unless the bound is there or is an end of the keys.
-    fn missing(&self, bound: u64) -> Option<usize> {
-        if bound == 0 || GREATEST_BOUND <= bound {
-            return None;
-        }
+    /// The bound with its own piece, by the mark behind it, unless the bound is there or is an end of the keys.
+    fn missing(&self, bound: u128) -> Option<(usize, u64)> {
+        let bound = inner(bound)?;
         let mark = self.index.up_to(bound);
-        (mark == 0 || self.index.marks[mark - 1].bound != bound).then_some(mark)
+        (mark == 0 || self.index.marks[mark - 1].bound != bound).then_some((mark, bound))
     }
 
     /// Cracks the column at both ends of the range, in three where both are missing and fall into one piece.
-    fn crack(&mut self, low: u64, high: u64) {
+    fn crack(&mut self, low: u128, high: u128) {
         match (self.missing(low), self.missing(high)) {
-            (Some(mark), Some(same)) if mark == same => {
+            (Some((mark, low)), Some((same, high))) if mark == same => {
                 let (from, to) = self.index.piece_of(low, self.column.len());
                 let (middle, upper) = self.column.crack_three(from, to, low, high, &self.arena);
                 self.index.add(low, middle);
                 self.index.add(high, upper);
             }
             (first, second) => {
-                for (mark, bound) in [(second, high), (first, low)] {
-                    if mark.is_some() {
-                        self.crack_in_two(bound);
-                    }
+                for (_, bound) in [second, first].into_iter().flatten() {
+                    self.crack_in_two(bound);
                 }
             }
         }
@@ -135,7 +131,7 @@ impl Store {
         self.index.add(bound, place);
     }
 
-    fn merge(&mut self, low: u64, high: u64, policy: Policy) {
+    fn merge(&mut self, low: u128, high: u128, policy: Policy) {
         let limit = if policy == Policy::Ripple { high } else { GREATEST_BOUND };
         let mut spot = 0;
         while let Some(found) = self.pending_in.next_in(low, high, spot) {
@@ -149,7 +145,7 @@ impl Store {
             spot = found + 1;
         }
         self.pending_in.close_up();
-        let beyond = self.index.bound_above(high);
+        let beyond = inner(high).and_then(|it| self.index.bound_above(it)).map_or(GREATEST_BOUND, u128::from);
         let mut fillers = (policy == Policy::Ripple).then_some(0);
         let mut spot = 0;
         while let Some(found) = self.pending_out.next_in(low, high, spot) {
@@ -182,10 +178,10 @@ impl Store {
 
     /// Puts the hand at the end of its piece, and the row that stood there on, until one is put at the column's end, is doomed, or has a key at or
     /// above the limit: that one is put back among the pending insertions.
-    fn carry(&mut self, hand: Handle, limit: u64) {
+    fn carry(&mut self, hand: Handle, limit: u128) {
         let held = self.held(hand);
         self.column.set_aside(held);
-        let mut mark = self.index.up_to(u64::from(held.key));
+        let mut mark = self.index.up_to(held.key);
         while mark < self.index.marks.len() {
             let place = self.index.marks[mark].position;
             mark = self.index.raise(mark);
@@ -196,7 +192,7 @@ impl Store {
             if self.pending_out.contains(self.column.aside_slot()) {
                 return self.bury(self.column.aside().handle);
             }
-            if limit <= u64::from(self.column.aside_key()) {
+            if limit <= u128::from(self.column.aside_key()) {
                 let out = self.column.aside();
                 return self.pending_in.push(out.handle, out.key);
             }
@@ -209,8 +205,8 @@ impl Store {
         loop {
             let held = self.held(hand);
             let len = self.column.len();
-            let (_, to) = self.index.piece_of(u64::from(held.key), len);
-            let mark = self.index.up_to(u64::from(held.key));
+            let (_, to) = self.index.piece_of(held.key, len);
+            let mark = self.index.up_to(held.key);
             if mark < self.index.marks.len() {
                 self.index.raise(mark);
             }
@@ -225,12 +221,12 @@ impl Store {
     }
 
     /// Where a doomed row stands: where it was noted, or else it is looked for in its piece, with each other doomed row there.
-    fn place_of(&mut self, slot: u32, key: u32) -> usize {
+    fn place_of(&mut self, slot: u32, key: u64) -> usize {
         let noted = self.notes[slot as usize] as usize;
         if noted < self.column.len() && self.column.slot_at(noted) == slot {
             return noted;
         }
-        let (from, to) = self.index.piece_of(u64::from(key), self.column.len());
+        let (from, to) = self.index.piece_of(key, self.column.len());
         for (place, other) in (from..to).zip(self.column.slots(from, to)) {
             if other == slot || self.pending_out.contains(other) {
                 self.notes[other as usize] = place as u32;
@@ -252,7 +248,7 @@ impl Store {
 
     /// Takes a doomed row out of the column: the hand goes down to its place, piece by piece.
     fn pull(&mut self, doomed: Handle, place: usize) {
-        let mut mark = self.index.up_to(u64::from(self.column.aside_key()));
+        let mut mark = self.index.up_to(self.column.aside_key());
         while self.column.aside_slot() != doomed.slot {
             let from = mark.checked_sub(1).map_or(0, |it| self.index.marks[it].position);
             let to = if from <= place { place } else { from - 1 };
@@ -268,13 +264,13 @@ impl Store {
     }
 
     /// The place at which the rows at or above the bound begin.
-    fn edge(&self, bound: u64) -> usize {
+    fn edge(&self, bound: u128) -> usize {
         if bound == 0 {
             return 0;
         }
-        if GREATEST_BOUND <= bound {
+        let Some(bound) = inner(bound) else {
             return self.column.len();
-        }
+        };
         self.index.position(bound).expect("a bound of a crack")
     }
 
@@ -282,4 +278,9 @@ impl Store {
     pub fn rows(&self) -> usize {
         self.column.len() - self.pending_out.len() + self.pending_in.len()
     }
+}
+
+/// The bound, if it stands between two keys.
+fn inner(bound: u128) -> Option<u64> {
+    u64::try_from(bound).ok().filter(|it| *it != 0)
 }

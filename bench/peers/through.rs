@@ -10,7 +10,7 @@ pub struct Through {
 
 impl Through {
     /// Keeps a row. Its number.
-    pub fn push(&mut self, key: u32, payload: u32) -> u64 {
+    pub fn push(&mut self, key: u64, payload: i64) -> u64 {
         let serial = self.handles.len() as u64;
         let handle = self.arena.put(Row {
             serial,
@@ -21,9 +21,7 @@ impl Through {
         serial
     }
 
-    /// The rows whose keys are in the range.
-    pub fn between(&self, low: u64, high: u64) -> impl Iterator<Item = &Row> {
-        let rows = self.handles.iter().filter_map(|it| self.arena.get(*it));
-        rows.filter(move |row| low <= u64::from(row.key) && u64::from(row.key) < high)
+    pub fn rows(&self) -> impl Iterator<Item = &Row> {
+        self.handles.iter().filter_map(|it| self.arena.get(*it))
     }
 }

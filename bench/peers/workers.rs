@@ -35,7 +35,7 @@ struct Worker {
     parts: (u32, u32),
     rows: Vec<(u32, u64)>,
     next: u32,
-    told: u128,
+    told: i128,
 }
 
 impl Worker {
@@ -50,7 +50,7 @@ impl Worker {
         }
     }
 
-    fn ask(&mut self, table: &Parts, part: u32, command: Command) -> u128 {
+    fn ask(&mut self, table: &Parts, part: u32, command: Command) -> i128 {
         self.receipts.reserve(1);
         let mut partition = table[(part - self.parts.0) as usize].lock().expect("no thread failed");
         let position = partition.history().len() as u64;
@@ -63,7 +63,7 @@ impl Worker {
             reply: kept,
         });
         match reply {
-            Reply::Placed(number) | Reply::Counted(number) => u128::from(number),
+            Reply::Placed(number) | Reply::Counted(number) => i128::from(number),
             Reply::Summed(sum) => sum,
             _ => 0,
         }
@@ -81,14 +81,18 @@ impl Worker {
     fn insert(&mut self, table: &Parts) -> (u32, u64) {
         let part = self.next_part();
         let key = part * PART_WIDTH + self.next() % PART_WIDTH;
-        let serial = self.ask(table, part, Command::Insert { key, payload: key });
+        let insert = Command::Insert {
+            key: u64::from(key),
+            payload: i64::from(key),
+        };
+        let serial = self.ask(table, part, insert);
         (part, serial as u64)
     }
 
-    fn sum(&mut self, table: &Parts) -> u128 {
+    fn sum(&mut self, table: &Parts) -> i128 {
         let part = self.next_part();
-        let low = u64::from(part * PART_WIDTH + self.next() % (PART_WIDTH - RANGE_WIDTH));
-        let high = low + u64::from(RANGE_WIDTH);
+        let low = u128::from(part * PART_WIDTH + self.next() % (PART_WIDTH - RANGE_WIDTH));
+        let high = low + u128::from(RANGE_WIDTH);
         self.ask(table, part, Command::Sum { low, high })
     }
 
@@ -99,7 +103,7 @@ impl Worker {
         }
     }
 
-    fn count_all(&mut self, table: &Parts) -> u128 {
+    fn count_all(&mut self, table: &Parts) -> i128 {
         let (low, high) = (0, GREATEST_BOUND);
         let parts = self.parts.0..self.parts.0 + self.parts.1;
         parts.map(|part| self.ask(table, part, Command::Count { low, high })).sum()
@@ -149,7 +153,7 @@ impl Pool {
     fn work(&mut self, steps: u32) {
         // (one worker counts a table)
         let counts = self.workers.iter_mut().zip(&self.tables).map(|(worker, table)| worker.count_all(table));
-        println!("rows {}", counts.sum::<u128>());
+        println!("rows {}", counts.sum::<i128>());
         let start = Instant::now();
         let workers = std::mem::take(&mut self.workers);
         self.workers = thread::scope(|scope| {
@@ -159,7 +163,7 @@ impl Pool {
         });
         crate::report("work", start);
         if !self.is_shared {
-            println!("sums {}", self.workers.iter().map(|it| it.told).sum::<u128>());
+            println!("sums {}", self.workers.iter().map(|it| it.told).sum::<i128>());
         }
     }
 

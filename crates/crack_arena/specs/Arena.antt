@@ -1,5 +1,6 @@
 -- What a contract sees of an arena and its handles.
-use Rattle.std.specs.Prelude.{◌≡◌, ℕ, ◌+◌, ◌-◌, ◌<◌, ◌≤◌, ◌^◌, ◌==◌, ◌&&◌, Bool, List, length, [], ◌∷◌, ◌++◌, Option, Some, None, is_some, is_none, slice_index_or, slice_set, map, refl, sum_by, count_by, cond, nat_lt, drop}
+use Rattle.crack_arena.specs.declared.TheConstants.{MOST_CELLS}
+use Rattle.std.specs.Prelude.{◌≡◌, ℕ, ◌+◌, ◌-◌, ◌<◌, ◌≤◌, ◌==◌, ◌&&◌, Bool, List, length, [], ◌∷◌, ◌++◌, Option, Some, None, is_some, is_none, slice_index_or, slice_set, map, refl, sum_by, count_by, cond, nat_lt, drop}
 use Rattle.std.specs.List.{position_or_len}
 use Rattle.std.specs.Coded.{Coded, code_by, coded×, coded_ℕ, coded_list, coded_option}
 
@@ -102,11 +103,11 @@ vacancy_at cells n = cond (nat_lt n (length cells)) (cond (is_none (cell_at cell
 pub record IsWhole {T : Type 0} (a : Arena T) : Type 0 where
   pub free_once : (n : ℕ) → times n a.free ≡ vacancy_at a.cells n
   pub free_counted : length a.free ≡ count_by (λ c. is_none c.value) a.cells
-  pub cells_bounded : length a.cells ≤ 4294967295
+  pub cells_bounded : length a.cells ≤ MOST_CELLS
 
 -- a put has a cell to use: a free one, or one more
 abbrev pub CanPut : {T : Type 0} → Arena T → Type 0
-CanPut a = length a.cells < 2 ^ 32 - 1 + length a.free
+CanPut a = length a.cells < MOST_CELLS + length a.free
 
 -- the handle that the next put gives
 abbrev pub handle_for : {T : Type 0} → List (Cell T) → List ℕ → Handle

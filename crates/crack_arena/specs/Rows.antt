@@ -1,5 +1,8 @@
 -- The keys and payloads of rows in cells.
-use Rattle.std.specs.Prelude.{◌≡◌, ℕ, ◌-◌, ◌<◌, ◌^◌, ◌⊎◌, List, length, map, Option, Some, None, slice_index, slice_index_or}
+use Rattle.std.specs.Prelude.{◌≡◌, ℕ, ℤ, pos, ◌<◌, ◌⊎◌, List, length, map, Option, Some, None, slice_index, slice_index_or}
+use Rattle.crack_row.specs.Rows.{amount}
+use Rattle.crack_row.specs.declared.TheConstants.{GREATEST_KEY}
+use Rattle.crack_row.specs.declared.Payload.{Payload}
 use Rattle.crack_row.specs.declared.Row.{Row}
 use Rattle.crack_arena.specs.Arena.{Cell, Handle, read}
 
@@ -12,14 +15,27 @@ key_of_row (Some r) = r.key.0
 abbrev pub key_at : List (Cell Row) → Handle → ℕ
 key_at cells h = key_of_row (read cells h)
 
+-- the payload 0
+abbrev pub no_payload : Payload
+no_payload = record { 0 = pos 0 }
+
 -- the payload of a row that was read; 0 where nothing was
-abbrev pub payload_of_row : Option Row → ℕ
-payload_of_row None = 0
-payload_of_row (Some r) = r.payload.0
+abbrev pub payload_of_row : Option Row → Payload
+payload_of_row None = no_payload
+payload_of_row (Some r) = r.payload
 
 -- the payload of the row that the handle reads
-abbrev pub payload_at : List (Cell Row) → Handle → ℕ
+abbrev pub payload_at : List (Cell Row) → Handle → Payload
 payload_at cells h = payload_of_row (read cells h)
+
+-- what a row that was read adds to a sum; nothing where none was
+abbrev pub amount_of_row : Option Row → ℤ
+amount_of_row None = pos 0
+amount_of_row (Some r) = amount r.payload
+
+-- what the row that the handle reads adds to a sum
+abbrev pub amount_at : List (Cell Row) → Handle → ℤ
+amount_at cells h = amount_of_row (read cells h)
 
 -- the keys of the rows that the handles read
 abbrev pub keys_at : List (Cell Row) → List Handle → List ℕ
@@ -27,7 +43,7 @@ keys_at cells handles = map (key_at cells) handles
 
 -- what stands beside a handle whose key isn't remembered; a row with the greatest key is never remembered
 abbrev pub unknown : ℕ
-unknown = 2 ^ 32 - 1
+unknown = GREATEST_KEY
 
 -- each key that is remembered beside a handle is that of its row
 pub record RemembersKeys (cells : List (Cell Row)) (handles : List Handle) (keys : List ℕ) : Type 0 where

@@ -25,7 +25,7 @@ impl<T: Drop> From<PutRefused<T>> for Refusal {
     }
 }
 
-/// Cells that keep values of one type, numbered from 0. There are at most 4294967295.
+/// Cells that keep values of one type, numbered from 0. There are at most `MOST_CELLS`.
 #[derive(Drop)]
 pub struct Arena<T> {
     cells: CellList<Cell<T>>,

@@ -1,4 +1,5 @@
 //! A list of cells in pages. A page is taken whole, and its cells never move: a growth takes more pages and room in the list of pages, and copies no cell.
+ghost use Rattle.crack_arena.specs.declared.TheConstants.{MOST_CELLS};
 ghost use Rattle.std.specs.Prelude.{◌≡◌, ◌+◌, ◌-◌, ◌*◌, ◌<◌, ◌≤◌, [], ◌∷◌, ◌++◌, length, is_ok, if◌then◌else◌, replicate, slice_index_or, slice_set, take, drop, vec_len, vec_capacity, OnOk, OnErr};
 ghost use Rattle.std.specs.Slice.{IsItemAt};
 
@@ -115,7 +116,7 @@ impl<C> CellList<C> {
     #[inline(always)]
     pub(crate) fn push_reserved(&mut self, cell: C)
         requires room { 0 < self.old.room }
-        requires few { length self.old.items < 4294967295 }
+        requires few { length self.old.items < MOST_CELLS }
         ensures items { self.new.items ≡ self.old.items ++ cell ∷ [] }
         ensures room { self.new.room + 1 ≡ self.old.room }
     {

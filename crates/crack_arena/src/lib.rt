@@ -14,5 +14,8 @@ mod stretch;
 
 pub use arena::{Arena, PutRefused};
 pub use handles::Handle;
-pub use rows::{key_of, payload_of};
+pub use rows::{amount_of, key_of, payload_of};
 pub use stretch::Stretch;
+
+/// The greatest number of cells of an arena.
+pub const MOST_CELLS: u64 = 4294967295;

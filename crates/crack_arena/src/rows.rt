@@ -1,6 +1,7 @@
 //! What is read of rows in an arena.
-ghost use Rattle.std.specs.Prelude.{◌≡◌};
-ghost use Rattle.crack_arena.specs.Rows.{key_at, payload_at};
+ghost use Rattle.std.specs.Prelude.{◌≡◌, pos, neg_ℤ, ◌≤ℤ◌};
+ghost use Rattle.crack_row.specs.Rows.{farthest_amount};
+ghost use Rattle.crack_arena.specs.Rows.{amount_at, key_at, payload_at};
 
 use crate::{Arena, Handle};
 use crack_row::{Key, Payload, Row};
@@ -11,16 +12,28 @@ pub fn key_of(arena: &Arena<Row>, handle: Handle<Row>) -> Key
 {
     match arena.get(handle) {
         Some(row) => row.key,
-        None => Key(0),
+        None => Key::from_number(0),
     }
 }
 
 /// The payload of the row that the handle reads, 0 where it reads none. O(1).
 pub fn payload_of(arena: &Arena<Row>, handle: Handle<Row>) -> Payload
-    ensures { result.0 ≡ payload_at arena.now.cells handle }
+    ensures { result ≡ payload_at arena.now.cells handle }
 {
     match arena.get(handle) {
         Some(row) => row.payload,
-        None => Payload(0),
+        None => Payload::from_number(0),
+    }
+}
+
+/// What the payload of the row that the handle reads adds to a sum, nothing where it reads none. O(1).
+pub fn amount_of(arena: &Arena<Row>, handle: Handle<Row>) -> i128
+    ensures value { result ≡ amount_at arena.now.cells handle }
+    ensures least { neg_ℤ (pos farthest_amount) ≤ℤ result }
+    ensures most { result ≤ℤ pos farthest_amount }
+{
+    match arena.get(handle) {
+        Some(row) => row.payload.amount(),
+        None => 0,
     }
 }

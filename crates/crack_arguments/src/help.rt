@@ -1,6 +1,16 @@
 //! What a help says behind the options: an example, the statements or the form of a record, and the refusals. No line has more than
 //! 80 columns.
 
+use crack_row::{GREATEST_KEY, GREATEST_PAYLOAD, LEAST_PAYLOAD};
+
+/// The texts of `csv` and of the splits say what the greatest key is.
+const _: () = prove!(GREATEST_KEY == 18446744073709551615);
+
+/// The text of `csv` says what the least payload and the greatest are.
+const _: () = prove!(
+    LEAST_PAYLOAD == -9223372036854775808 && GREATEST_PAYLOAD == 9223372036854775807
+);
+
 /// The refusals by their numbers, behind what a help says before them.
 macro_rules! with_refusals {
     ($($before:expr),+) => {
@@ -67,6 +77,7 @@ pub const OF_SERVE: &str = with_statements!(
 pub const OF_CSV: &str = with_refusals!(
     "Example:\n",
     "  printf 'key,payload\\n30,3\\n10,1\\n' | crackd csv\n\n",
-    "A record is a key and a payload, two numbers from 0 to 4294967295 with a comma\n",
-    "between; a first record `key,payload` is a header."
+    "A record is a key from 0 to 18446744073709551615, a comma, and a payload from\n",
+    "-9223372036854775808 to 9223372036854775807; a first record `key,payload` is a\n",
+    "header."
 );

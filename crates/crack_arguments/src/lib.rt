@@ -5,7 +5,7 @@ mod help;
 
 use clap::error::ErrorKind;
 use clap::{Arg, ArgAction, ArgMatches, Command, value_parser};
-use crack_row::{Bound, GREATEST_LIMIT, Limits, Policy, Refusal};
+use crack_row::{Bound, BoundNumber, GREATEST_LIMIT, Limits, Policy, Refusal};
 use std::alloc::{AllocError, Global};
 use thiserror::Error;
 
@@ -112,7 +112,7 @@ fn split_values<'a>(alloc: Global) -> Arg<'a> {
         .action(ArgAction::Append)
         .num_args(0..)
         .value_parser(value_parser!(u64))
-        .help("Where keys are parted: rising, 1 to 4294967295; 63 at most")
+        .help("Where keys are parted: rising, 1 to 2^64 - 1; 63 at most")
 }
 
 fn workers_option<'a>(alloc: Global) -> Arg<'a> {
@@ -226,7 +226,8 @@ fn splits_of(alloc: Global, matches: &ArgMatches<'_>) -> Result<Vec<Bound>, Argu
             let Ok(split) = split else {
                 return Err(ArgumentsError::Bad);
             };
-            if splits.push(Bound(split)).is_err() {
+            let split = Bound::from_number(BoundNumber::from(split));
+            if splits.push(split).is_err() {
                 return Err(ArgumentsError::Refused(Refusal::OutOfMemory));
             }
         }

@@ -3,7 +3,7 @@ ghost use Rattle.std.specs.Prelude.{◌<◌, ◌^◌, length, IfOk, IfSome};
 
 use crate::numbers::{Numbers, mixed};
 use crack_arena::{Arena, Handle};
-use crack_row::{Key, Payload, Refusal, Row, Serial};
+use crack_row::{Key, KeyNumber, Payload, Refusal, Row, Serial};
 use std::alloc::Global;
 
 /// An arena with rows, and handles that read them.
@@ -20,11 +20,11 @@ pub fn fill(alloc: Global, rows: u32, numbers: &mut Numbers) -> Result<Filled, R
     let mut handles = Vec::new(alloc);
     handles.reserve(rows as usize)?;
     for serial in 0..rows {
-        let key = numbers.below(1 << 31) as u32;
+        let key = numbers.below(1 << 31) as KeyNumber;
         let row = Row {
             serial: Serial(serial as u64),
-            key: Key(key),
-            payload: Payload(1),
+            key: Key::from_number(key),
+            payload: Payload::from_number(1),
         };
         put(&mut arena, &mut handles, row)?;
     }
@@ -64,8 +64,8 @@ fn step(filled: &mut Filled, number: u64, numbers: &mut Numbers) -> Result<Optio
     if which == 0 || len == 0 {
         let row = Row {
             serial: Serial(number),
-            key: Key(1),
-            payload: Payload(2),
+            key: Key::from_number(1),
+            payload: Payload::from_number(2),
         };
         put(&mut filled.arena, &mut filled.handles, row)?;
         return Ok(None);
@@ -97,8 +97,8 @@ pub fn put_row(arena: &mut Arena<Row>, serial: u32) -> Result<(), Refusal> {
     }
     arena.put(Row {
         serial: Serial(serial as u64),
-        key: Key(serial),
-        payload: Payload(1),
+        key: Key::from_number(KeyNumber::from(serial)),
+        payload: Payload::from_number(1),
     })?;
     Ok(())
 }

@@ -3,23 +3,21 @@ ghost use Rattle.std.specs.Prelude.{◌≡◌, length, IfOk};
 ghost use Rattle.crack_column.specs.Column.{Remembers};
 
 use crate::arena::Filled;
+use crate::index::bound_at;
 use crate::numbers::{Numbers, mixed};
 use crack_arena::{Arena, Handle};
-use crack_column::CrackerColumn;
-use crack_row::{Bound, Refusal, Row};
+use crack_column::{CrackerColumn, MOST_PLACES};
+use crack_row::{Refusal, Row};
 use std::alloc::Global;
 
-/// The bound of the first crack, which reads each key through the arena.
-pub const FIRST: Bound = Bound(1073741824);
+/// The number of the bound of the first crack, which reads each key through the arena.
+pub const FIRST: u32 = 1073741824;
 
 /// How many later cracks there are, over rows that are remembered.
-const LATER_CRACKS: u64 = 16;
-
-/// How many handles a column has at most.
-const MOST_HANDLES: usize = 4294967296;
+const LATER_CRACKS: u32 = 16;
 
 /// How far their bounds lie apart.
-const LATER_STEP: u64 = 134217728;
+const LATER_STEP: u32 = 134217728;
 
 /// Puts the handles into random order.
 pub fn shuffle(filled: &mut Filled, numbers: &mut Numbers) {
@@ -39,7 +37,7 @@ pub fn column_of(
     ensures { IfOk result (λ c. Remembers arena.now.cells c.handles c.remembered) }
 {
     let mut column = CrackerColumn::new(alloc);
-    let rows = handles.len().min(MOST_HANDLES);
+    let rows = handles.len().min(MOST_PLACES as usize);
     column.reserve(rows)?;
     'handles: for i in 0..rows {
         column.append(handles[i]);
@@ -47,13 +45,13 @@ pub fn column_of(
     Ok(column)
 }
 
-/// Cracks the whole column at the bound. The place between.
-pub fn crack(column: &mut CrackerColumn, bound: Bound, arena: &Arena<Row>) -> usize
+/// Cracks the whole column at the bound of this number. The place between.
+pub fn crack(column: &mut CrackerColumn, number: u32, arena: &Arena<Row>) -> usize
     requires { Remembers arena.now.cells column.old.handles column.old.remembered }
     ensures { Remembers arena.now.cells column.new.handles column.new.remembered }
 {
     let len = column.len();
-    column.crack_two(0, len, bound, arena)
+    column.crack_two(0, len, bound_at(number), arena)
 }
 
 /// Cracks the whole column at bounds that rise. A checksum of the places between.
@@ -62,7 +60,7 @@ pub fn crack_on(column: &mut CrackerColumn, arena: &Arena<Row>) -> u64
 {
     let mut sum = 0;
     'cracks: for i in 0..LATER_CRACKS {
-        let place = crack(column, Bound(i * LATER_STEP), arena);
+        let place = crack(column, i * LATER_STEP, arena);
         sum = mixed(sum, place as u64);
     }
     sum

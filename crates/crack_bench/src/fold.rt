@@ -61,7 +61,8 @@ fn sum_of(rows: &[Row]) -> u64 {
     let mut sum = 0;
     'rows: for row in rows {
         sum = mixed(sum, row.serial.0);
-        sum = mixed(sum, (row.key.0 as u64) << 32 | row.payload.0 as u64);
+        let payload = u64::try_from(row.payload.amount()).unwrap_or(0);
+        sum = mixed(sum, row.key.number() << 32 | payload);
     }
     sum
 }

@@ -3,23 +3,36 @@ ghost use Rattle.std.specs.Prelude.{◌<◌, All};
 
 use crate::numbers::{Numbers, mixed};
 use crack_index::{CrackerIndex, Visitor};
-use crack_row::{Bound, Key, Refusal};
+use crack_row::{GREATEST_KEY, InnerBound, Key, KeyNumber, Refusal};
 
 /// The numbers of an index's bounds begin here each time.
 pub const SEED: u64 = 11;
 
+/// The key of this number.
+fn key_at(number: u32) -> Key {
+    Key::from_number(KeyNumber::from(number))
+}
+
+/// The bound of this number; the least between two keys, where the number is 0.
+pub fn bound_at(number: u32) -> InnerBound {
+    match key_at(number).bound().inner() {
+        Some(bound) => bound,
+        None => InnerBound::least(),
+    }
+}
+
 /// Adds the bound at the place of its own number, where it isn't there.
-fn add(index: &mut CrackerIndex, key: u32) -> Result<(), Refusal>
+fn add(index: &mut CrackerIndex, number: u32) -> Result<(), Refusal>
     requires { All (λ m. m.position < usize.MAX) index.old.marks }
     ensures { All (λ m. m.position < usize.MAX) index.new.marks }
 {
     index.reserve(1)?;
-    let bound = Bound(u64::from(key));
+    let bound = bound_at(number);
     if index.position(bound).is_some() {
         return Ok(());
     }
-    let place = key as usize;
-    let piece = index.piece_of(Key(key), 4294967296);
+    let place = number as usize;
+    let piece = index.piece_of(bound.key(), 4294967296);
     if place < piece.from || piece.to < place {
         return Ok(());
     }
@@ -44,7 +57,7 @@ pub fn look_up(index: &CrackerIndex, bounds: u32) -> u64 {
     let mut numbers = Numbers::new(SEED);
     let mut sum = 0;
     'bounds: for _ in 0..bounds {
-        if let Some(place) = index.position(Bound(u64::from(numbers.word()))) {
+        if let Some(place) = index.position(bound_at(numbers.word())) {
             sum = mixed(sum, place as u64);
         }
     }
@@ -56,7 +69,7 @@ pub fn look_above(index: &CrackerIndex, keys: u32) -> u64 {
     let mut numbers = Numbers::new(SEED + 1);
     let mut sum = 0;
     'keys: for _ in 0..keys {
-        if let Some(mark) = index.bound_above(Key(numbers.word())) {
+        if let Some(mark) = index.bound_above(key_at(numbers.word())) {
             sum = mixed(sum, mark.position as u64);
         }
     }
@@ -89,7 +102,7 @@ pub fn walk_up(index: &mut CrackerIndex) -> u64
     requires { All (λ m. m.position < usize.MAX) index.old.marks }
 {
     let mut told = Told { sum: 0 };
-    let end = index.climb(Key(0), &mut told);
+    let end = index.climb(Key::from_number(0), &mut told);
     match end {
         Some(mark) => told.sum.wrapping_add(mark.position as u64),
         None => told.sum,
@@ -100,7 +113,7 @@ pub fn walk_up(index: &mut CrackerIndex) -> u64
 #[inline(never)]
 pub fn walk_down(index: &mut CrackerIndex) -> u64 {
     let mut told = Told { sum: 0 };
-    let end = index.descend(Key(4294967295), &mut told);
+    let end = index.descend(Key::from_number(GREATEST_KEY), &mut told);
     match end {
         Some(mark) => told.sum.wrapping_add(mark.position as u64),
         None => told.sum,

@@ -3,11 +3,17 @@ ghost use Rattle.std.specs.Prelude.{◌<◌};
 
 use crate::numbers::{Numbers, mixed};
 use crack_part::Partition;
-use crack_row::{Command, GREATEST_BOUND, Key, KeyRange, Payload, Policy, Refusal, Reply, Serial};
+use crack_row::{
+    Bound, BoundNumber, Command, Key, KeyNumber, KeyRange, Payload, PayloadNumber, Policy, Refusal,
+    Reply, Serial,
+};
 use std::alloc::{AllocError, Global};
 
-/// How wide a random range is: one in a hundred of the key space.
-const WIDTH: u64 = 42949672;
+/// Where the random keys end, which have 32 bits.
+const KEYS_END: BoundNumber = 4294967296;
+
+/// How wide a random range is: a hundredth of these keys.
+const WIDTH: BoundNumber = 42949672;
 
 /// A partition that merges by one policy.
 #[derive(Drop)]
@@ -30,8 +36,8 @@ impl Measured {
 
     fn insert(&mut self, key: u32, payload: u32) -> Result<u64, Refusal> {
         self.ask(Command::Insert {
-            key: Key(key),
-            payload: Payload(payload),
+            key: Key::from_number(KeyNumber::from(key)),
+            payload: Payload::from_number(PayloadNumber::from(payload)),
         })
     }
 
@@ -75,10 +81,9 @@ impl Measured {
 
     /// As many counts of one range in the upper half. A checksum of what they replied.
     pub fn upper_counts(&mut self, counts: u32) -> Result<u64, Refusal> {
-        let low = (GREATEST_BOUND / 2) as u128;
         let mut sum = 0;
         'counts: for _ in 0..counts {
-            let range = KeyRange::new(low, low + WIDTH as u128)?;
+            let range = range_from(KEYS_END / 2, WIDTH)?;
             sum = mixed(sum, self.ask(Command::Count(range))?);
         }
         Ok(sum)
@@ -161,12 +166,12 @@ impl Measured {
         Ok(sum)
     }
 
-    /// Cracks the column into as many pieces of one width.
+    /// Cracks the column into as many pieces, of one width but for the last.
     pub fn crack_evenly(&mut self, pieces: u32) -> Result<(), Refusal> {
-        let width = GREATEST_BOUND / pieces.max(1) as u64;
+        let width = KEYS_END / BoundNumber::from(pieces.max(1));
         'pieces: for piece in 1..pieces {
-            let high = width.saturating_mul(piece as u64);
-            self.ask(Command::Count(KeyRange::new(0, high as u128)?))?;
+            let high = width.saturating_mul(BoundNumber::from(piece));
+            self.ask(Command::Count(range_from(0, high)?))?;
         }
         Ok(())
     }
@@ -191,14 +196,20 @@ pub fn serials(alloc: Global, rows: u32) -> Result<Vec<u64>, AllocError> {
     (0..rows as u64).collect(alloc)
 }
 
+/// The range of this width that begins at the bound of this number.
+fn range_from(low: BoundNumber, width: BoundNumber) -> Result<KeyRange, Refusal> {
+    let high = low.saturating_add(width);
+    KeyRange::between(Bound::from_number(low), Bound::from_number(high))
+}
+
 /// A range of that width at a random place.
 fn random_range(numbers: &mut Numbers) -> Result<KeyRange, Refusal> {
-    let low = numbers.word() as u64 % (GREATEST_BOUND - WIDTH);
-    KeyRange::new(low as u128, (low + WIDTH) as u128)
+    let low = BoundNumber::from(numbers.word()) % (KEYS_END - WIDTH);
+    range_from(low, WIDTH)
 }
 
 /// A range of half that width at a random place in the upper half.
 fn upper_range(numbers: &mut Numbers) -> Result<KeyRange, Refusal> {
-    let low = GREATEST_BOUND / 2 + numbers.word() as u64 % (GREATEST_BOUND - WIDTH) / 2;
-    KeyRange::new(low as u128, (low + WIDTH / 2) as u128)
+    let low = KEYS_END / 2 + BoundNumber::from(numbers.word()) % (KEYS_END - WIDTH) / 2;
+    range_from(low, WIDTH / 2)
 }

@@ -1,6 +1,8 @@
 //! What each worker asks: half sums of a hundredth of a partition's keys, a quarter deletes, and a quarter inserts.
 
-use crack_row::{Command, Key, KeyRange, Payload, Refusal, Reply, Serial};
+use crack_row::{
+    BoundNumber, Command, Key, KeyNumber, KeyRange, Payload, PayloadNumber, Refusal, Reply, Serial,
+};
 use std::alloc::Global;
 
 /// How wide a partition's keys are.
@@ -63,8 +65,8 @@ impl Mix {
         let part = self.next_part();
         let key = lowest_key(part).wrapping_add(self.next() % PART_WIDTH);
         let insert = Command::Insert {
-            key: Key(key),
-            payload: Payload(key),
+            key: Key::from_number(KeyNumber::from(key)),
+            payload: Payload::from_number(PayloadNumber::from(key)),
         };
         let reply = asked.ask(part, insert)?;
         Ok(Placed {
@@ -77,7 +79,8 @@ impl Mix {
     fn sum<A: Asks>(&mut self, asked: &mut A) -> Result<u64, Refusal> {
         let part = self.next_part();
         let low = lowest_key(part).wrapping_add(self.next() % (PART_WIDTH - RANGE_WIDTH));
-        let range = KeyRange::new(low as u128, low as u128 + RANGE_WIDTH as u128)?;
+        let low = BoundNumber::from(low);
+        let range = KeyRange::new(low, low + BoundNumber::from(RANGE_WIDTH))?;
         let reply = asked.ask(part, Command::Sum(range))?;
         Ok(number_of(&reply))
     }

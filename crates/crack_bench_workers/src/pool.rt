@@ -2,7 +2,7 @@
 
 use crate::mix::{Asks, Mix, PART_WIDTH, Parts, count_all, lowest_key};
 use crack_part::Partition;
-use crack_row::{Bound, Command, GREATEST_LIMIT, KeyRange, Policy, Refusal, Reply};
+use crack_row::{Bound, BoundNumber, Command, GREATEST_LIMIT, KeyRange, Policy, Refusal, Reply};
 use crack_table::{OpenGate, Table, Worker, gather};
 use std::alloc::{AllocError, Global};
 use std::sync::Wait;
@@ -214,7 +214,7 @@ impl Pool {
 /// Where the partitions meet.
 fn splits(alloc: Global, parts: u32) -> Result<Vec<Bound>, AllocError> {
     (1..parts)
-        .map(|part| Bound(lowest_key(part) as u64))
+        .map(|part| Bound::from_number(BoundNumber::from(lowest_key(part))))
         .collect(alloc)
 }
 
@@ -248,8 +248,8 @@ impl Bare {
     pub fn open(alloc: Global) -> Result<Bare, Refusal> {
         let mut parts = Vec::new(alloc);
         'parts: for part in 0..PARTS_EACH {
-            let low = lowest_key(part) as u128;
-            let keys = KeyRange::new(low, low + PART_WIDTH as u128)?;
+            let low = BoundNumber::from(lowest_key(part));
+            let keys = KeyRange::new(low, low + BoundNumber::from(PART_WIDTH))?;
             parts.push(Partition::open(alloc, keys, GREATEST_LIMIT)?)?;
         }
         Ok(Bare { parts })

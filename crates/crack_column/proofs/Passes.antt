@@ -1,26 +1,22 @@
 -- How the tags of a stretch are read, divided and summed up, one after the other.
-use Rattle.std.proofs.Common.{◌≡◌, ◌≢◌, ℕ, suc, true, ◌+◌, ◌<◌, ◌≤◌, List, [], ◌∷◌, length, map, get_or, set, ◌⊎◌, refl, sym, ap, ◌∙◌, length-set, inl, inr, arith}
-use Rattle.std.specs.Prelude.{sum_by}
+use Rattle.std.proofs.Common.{ℤ, ◌≡◌, ◌≢◌, ℕ, Option, None, Some, true, ◌+◌, ◌<◌, ◌≤◌, List, [], ◌∷◌, length, map, get_or, set, ◌⊎◌, refl, sym, ap, ◌∙◌, length-set, inl, inr, arith}
 use Rattle.std.specs.List.{All}
 use Rattle.std.proofs.Math.Seq.{map-set_same}
-use Rattle.std.proofs.lemmas.List.Sums.{sum_by-cons}
 use Rattle.std.specs.List.Sorted.{IsPermutation}
 use Rattle.std.proofs.lemmas.List.Sorted.{IsPermutation-refl, IsPermutation-trans, IsPermutation-swap}
 use Rattle.std.proofs.lemmas.List.Edits.{swap_is}
-use Rattle.std.proofs.lemmas.List.{set-set, set_comm, map-set, get_or_default, length-map, get_or-map, get_or-set_same, get_or-set_other}
+use Rattle.std.proofs.lemmas.List.{set-get_or, set-set, set_comm, map-set, get_or_default, length-map, get_or-map, get_or-set_same, get_or-set_other}
 use Rattle.std.proofs.lemmas.Bool.{cases_eq, eq-eqb}
-use Rattle.crack_arena.specs.Arena.{Cell, Handle, same_handle, times}
+use Rattle.crack_arena.specs.Arena.{Cell, Handle, read, same_handle, times}
 use Rattle.crack_arena.proofs.Times.{times-set, times_head, times-nil, times_other, times_map_at}
 use Rattle.crack_row.specs.declared.Row.{Row}
 use Rattle.crack_column.specs.declared.tag.Tag.{Tag}
-use Rattle.crack_arena.specs.Rows.{payload_at, unknown}
+use Rattle.crack_row.specs.Rows.{amount, total_by}
+use Rattle.crack_row.proofs.Totals.{total_by-agree}
+use Rattle.crack_arena.specs.Rows.{payload_of_row, amount_of_row, amount_at, unknown}
 use Rattle.crack_column.specs.Column.{Memory, memory_at, IsDividedAt}
 use Rattle.crack_column.specs.Tickets.{remembered_key, tag_handle}
-use Rattle.crack_column.specs.Inside.{no_tag, forgotten, Knows, Read}
-
--- a tag comes in at the place, and the one that stood there fills the gap
-abbrev pub shifted : List Tag → ℕ → ℕ → Tag → List Tag
-shifted ts gap low t = set (set ts gap (get_or ts low no_tag)) low t
+use Rattle.crack_column.specs.Inside.{no_tag, forgotten, shifted, Knows, Read}
 
 -- the tags before the gap stand divided
 pub record IsSplit (bound : ℕ) (tags : List Tag) (low gap : ℕ) : Type 0 where
@@ -28,10 +24,24 @@ pub record IsSplit (bound : ℕ) (tags : List Tag) (low gap : ℕ) : Type 0 wher
   pub below : (k : ℕ) → k < low → (get_or tags k no_tag).key < bound
   pub above : (k : ℕ) → low ≤ k → k < gap → bound ≤ (get_or tags k no_tag).key
 
+pub IsSplit-start : (bound : ℕ) (ts : List Tag) → IsSplit bound ts 0 0
+IsSplit-start bound ts = record {
+  within = omega arith;
+  below = λ k l. absurd (omega arith);
+  above = λ k g l. absurd (omega arith);
+}
+
 -- the tags before the gap were divided, and the first one is to fill it
 pub record IsPartway (bound : ℕ) (tags tags' : List Tag) (first : Tag) (low gap : ℕ) : Type 0 where
   pub kept : IsPermutation tags (set tags' gap first)
   pub split : IsSplit bound tags' low gap
+
+-- before the first step
+pub IsPartway-start : (bound : ℕ) (ts : List Tag) (first : Tag) → get_or ts 0 no_tag ≡ first → IsPartway bound ts ts first 0 0
+IsPartway-start bound ts first is = record {
+  kept = rw (← is, set-get_or ts 0 no_tag) (IsPermutation-refl ts);
+  split = IsSplit-start bound ts;
+}
 
 -- on which side of the bound a tag is, and where the tags at or above it begin once it stands there
 abbrev pub Falls : ℕ → Tag → ℕ → ℕ → Type 0
@@ -78,15 +88,14 @@ shifted-permutes ts t low gap order inside =
     ]
 
 -- the tag behind the gap comes in, and the gap is where it stood
-pub IsPartway-step : (bound : ℕ) (ts ts1 : List Tag) (first : Tag) (low gap low2 : ℕ) → gap + 1 < length ts1 → Falls bound (get_or ts1 (gap + 1) no_tag) low low2 → IsPartway bound ts ts1 first low gap → IsPartway bound ts (shifted ts1 gap low (get_or ts1 (gap + 1) no_tag)) first low2 (gap + 1)
-IsPartway-step bound ts ts1 first low gap low2 inside falls so_far =
-    let next : Tag = get_or ts1 (gap + 1) no_tag in
+pub IsPartway-step : (bound : ℕ) (ts ts1 : List Tag) (first next : Tag) (low gap low2 : ℕ) → gap + 1 < length ts1 → get_or ts1 (gap + 1) no_tag ≡ next → Falls bound next low low2 → IsPartway bound ts ts1 first low gap → IsPartway bound ts (shifted ts1 gap low next) first low2 (gap + 1)
+IsPartway-step bound ts ts1 first next low gap low2 inside is falls so_far =
     let whole : List Tag = set ts1 gap first in
     let held : List Tag = set ts1 (gap + 1) first in
     let whole_long : length whole ≡ length ts1 = length-set ts1 gap first in
     let held_long : length held ≡ length ts1 = length-set ts1 (gap + 1) first in
     let order : low ≤ gap = so_far.split.within in
-    let behind : get_or whole (gap + 1) no_tag ≡ next = get_or-set_other ts1 gap (gap + 1) first no_tag (omega arith) in
+    let behind : get_or whole (gap + 1) no_tag ≡ next = get_or-set_other ts1 gap (gap + 1) first no_tag (omega arith) ∙ is in
     let front : get_or whole gap no_tag ≡ first = get_or-set_same ts1 gap first no_tag (omega arith) in
     let exchanged : set (set whole gap (get_or whole (gap + 1) no_tag)) (gap + 1) (get_or whole gap no_tag) ≡ set held gap next =
     rw (behind, front, set-set ts1 gap first next) (set_comm ts1 gap (gap + 1) next first (omega arith)) in
@@ -191,12 +200,17 @@ all_read cells gs ts none known = λ k d h. elim (known k d h) [
   | inr r ↦ r
 ]
 
--- what the tags bear sums up to what their rows do
-pub sum_all : (cells : List (Cell Row)) (gs : List ℕ) (ts : List Tag) → All (Read cells gs) ts → sum_by (λ (t : Tag). t.payload) ts ≡ sum_by (λ t. payload_at cells (tag_handle gs t)) ts
-sum_all cells gs [] all = refl
-sum_all cells gs (t ∷ ts) all =
-    let here : t.payload ≡ payload_at cells (tag_handle gs t) = ap (λ (m : Memory). m.payload) (all 0 t (omega arith)) in
-    omega (arith, here, sum_by-cons (λ (t : Tag). t.payload) t ts, sum_by-cons (λ t. payload_at cells (tag_handle gs t)) t ts, sum_all cells gs ts (λ k d l. all (suc k) d (omega arith)))
+-- what a tag bears adds to a sum
+abbrev pub amount_borne : Tag → ℤ
+amount_borne t = amount t.payload
+
+-- what the tags bear comes to what their rows do
+pub sum_all : (cells : List (Cell Row)) (gs : List ℕ) (ts : List Tag) → All (Read cells gs) ts → total_by amount_borne ts ≡ total_by (λ t. amount_at cells (tag_handle gs t)) ts
+sum_all cells gs ts all = total_by-agree amount_borne (λ t. amount_at cells (tag_handle gs t)) ts (λ k d l. borne (read cells (tag_handle gs (get_or ts k d))) (get_or ts k d) (ap (λ (m : Memory). m.payload) (all k d l)))
+  where
+    borne : (o : Option Row) (t : Tag) → t.payload ≡ payload_of_row o → amount_borne t ≡ amount_of_row o
+    borne None t is = rw is refl
+    borne (Some row) t is = rw is refl
 
 -- a handle is the same as itself
 pub same_handle-refl : (h : Handle) → same_handle h h ≡ true

@@ -1,22 +1,16 @@
 -- How the tags of a stretch are divided by two bounds in one pass.
-use Rattle.std.proofs.Common.{◌≡◌, ◌≢◌, ℕ, true, false, cond, ltb, ◌+◌, ◌<◌, ◌≤◌, List, length, map, get_or, set, ◌⊎◌, refl, sym, ap, ◌∙◌, length-set, inl, inr, arith}
+use Rattle.std.proofs.Common.{◌≡◌, ◌≢◌, ℕ, cond, ltb, ◌+◌, ◌<◌, ◌≤◌, List, length, map, get_or, set, ◌⊎◌, refl, sym, ◌∙◌, length-set, inl, inr, arith}
 use mir.Val.{bool_byte}
 use Rattle.std.specs.List.Sorted.{IsPermutation}
-use Rattle.std.proofs.lemmas.List.Sorted.{IsPermutation-refl, IsPermutation-trans, IsPermutation-swap}
+use Rattle.std.proofs.lemmas.List.Sorted.{IsPermutation-trans, IsPermutation-swap}
 use Rattle.std.proofs.lemmas.List.Edits.{swap_is}
 use Rattle.std.proofs.lemmas.List.{set-set, set_comm, length-map, get_or-map, get_or-set_same, get_or-set_other}
 use Rattle.std.proofs.lemmas.Bool.{cases_eq, cases_lt, lt-ltb, le-ltb}
 use Rattle.crack_column.specs.declared.tag.Tag.{Tag}
 use Rattle.crack_column.specs.Column.{IsDividedAt}
 use Rattle.crack_column.specs.Tickets.{remembered_key}
-use Rattle.crack_column.specs.Inside.{no_tag}
-use Rattle.crack_column.proofs.Passes.{shifted, shifted-permutes, IsSplit, Falls}
-
--- the tag at `upper` fills the gap, the one at `place` its place, and a tag comes in there
-abbrev pub turned : List Tag → ℕ → ℕ → ℕ → Tag → List Tag
-turned ts gap upper place t =
-    let filled = set ts gap (get_or ts upper no_tag) in
-    set (set filled upper (get_or filled place no_tag)) place t
+use Rattle.crack_column.specs.Inside.{no_tag, shifted, turned}
+use Rattle.crack_column.proofs.Passes.{shifted-permutes, IsSplit, IsSplit-start, IsPartway-start, Falls}
 
 -- what stands where after it
 record Turned (ts after : List Tag) (gap upper place : ℕ) (t : Tag) : Type 0 where
@@ -102,6 +96,15 @@ pub record IsThirdway (low high : ℕ) (tags tags' : List Tag) (first : Tag) (mi
   pub lower : IsSplit low tags' middle gap
   pub higher : IsSplit high tags' upper gap
 
+-- before the first step
+pub IsThirdway-start : (low high : ℕ) (ts : List Tag) (first : Tag) → get_or ts 0 no_tag ≡ first → IsThirdway low high ts ts first 0 0 0
+IsThirdway-start low high ts first is = record {
+  kept = (IsPartway-start low ts first is).kept;
+  order = omega arith;
+  lower = IsSplit-start low ts;
+  higher = IsSplit-start high ts;
+}
+
 -- where a tag belongs, and where the middle and the upper tags begin once it stands there
 pub record Belongs (low high : ℕ) (t : Tag) (middle upper place middle2 upper2 : ℕ) : Type 0 where
   pub which : ((t.key < low) × (place ≡ middle) × (middle2 ≡ middle + 1)) ⊎ ((low ≤ t.key) × (place ≡ upper) × (middle2 ≡ middle))
@@ -151,13 +154,12 @@ Divided-turned low high ts t middle upper gap place middle2 upper2 bounds inside
 ]
 
 -- the place lies before the gap
-Belongs-within : (low high : ℕ) (t : Tag) (middle upper place middle2 upper2 : ℕ) → middle ≤ upper → Belongs low high t middle upper place middle2 upper2 → place ≤ upper
+pub Belongs-within : (low high : ℕ) (t : Tag) (middle upper place middle2 upper2 : ℕ) → middle ≤ upper → Belongs low high t middle upper place middle2 upper2 → place ≤ upper
 Belongs-within low high t middle upper place middle2 upper2 order belongs = elim belongs.which [ inl l ↦ omega (arith, l.1) | inr g ↦ omega (arith, g.1) ]
 
 -- the tag behind the gap comes in, and the gap is where it stood
-pub IsThirdway-step : (low high : ℕ) (ts ts1 : List Tag) (first : Tag) (middle upper gap place middle2 upper2 : ℕ) → low ≤ high → gap + 1 < length ts1 → Belongs low high (get_or ts1 (gap + 1) no_tag) middle upper place middle2 upper2 → IsThirdway low high ts ts1 first middle upper gap → IsThirdway low high ts (turned ts1 gap upper place (get_or ts1 (gap + 1) no_tag)) first middle2 upper2 (gap + 1)
-IsThirdway-step low high ts ts1 first middle upper gap place middle2 upper2 bounds inside belongs so_far =
-    let next : Tag = get_or ts1 (gap + 1) no_tag in
+pub IsThirdway-step : (low high : ℕ) (ts ts1 : List Tag) (first next : Tag) (middle upper gap place middle2 upper2 : ℕ) → low ≤ high → gap + 1 < length ts1 → get_or ts1 (gap + 1) no_tag ≡ next → Belongs low high next middle upper place middle2 upper2 → IsThirdway low high ts ts1 first middle upper gap → IsThirdway low high ts (turned ts1 gap upper place next) first middle2 upper2 (gap + 1)
+IsThirdway-step low high ts ts1 first next middle upper gap place middle2 upper2 bounds inside is belongs so_far =
     let before : place ≤ upper = Belongs-within low high next middle upper place middle2 upper2 so_far.order belongs in
     let whole : List Tag = set ts1 gap first in
     let held : List Tag = set ts1 (gap + 1) first in
@@ -165,7 +167,7 @@ IsThirdway-step low high ts ts1 first middle upper gap place middle2 upper2 boun
     let whole_long : length whole ≡ length ts1 = length-set ts1 gap first in
     let held_long : length held ≡ length ts1 = length-set ts1 (gap + 1) first in
     let order : upper ≤ gap = so_far.higher.within in
-    let behind : get_or whole (gap + 1) no_tag ≡ next = get_or-set_other ts1 gap (gap + 1) first no_tag (omega arith) in
+    let behind : get_or whole (gap + 1) no_tag ≡ next = get_or-set_other ts1 gap (gap + 1) first no_tag (omega arith) ∙ is in
     let front : get_or whole gap no_tag ≡ first = get_or-set_same ts1 gap first no_tag (omega arith) in
     let exchanged : set (set whole gap (get_or whole (gap + 1) no_tag)) (gap + 1) (get_or whole gap no_tag) ≡ set held gap next =
     rw (behind, front, set-set ts1 gap first next) (set_comm ts1 gap (gap + 1) next first (omega arith)) in

@@ -1,13 +1,12 @@
 -- What a column's handles are and what it remembers, place by place, after a row was put at a place or a stretch was turned.
 use Rattle.std.proofs.Common.{◌≡◌, ◌≢◌, ℕ, suc, ◌+◌, ◌-◌, ◌<◌, ◌≤◌, ◌^◌, List, [], ◌∷◌, ◌++◌, length, map, get_or, set, take, drop, slice_get, Some, refl, sym, ap, ◌∙◌, inl, inr, arith, length-append, length-set}
-use Rattle.std.specs.Prelude.{remove, sum_by}
+use Rattle.std.specs.Prelude.{remove}
 use Rattle.std.specs.List.{All, between}
 use Rattle.std.specs.List.Sorted.{IsPermutation}
 use Rattle.std.proofs.lemmas.List.{ext_get_or, append_assoc, take-append-drop, drop-drop, take_more, map-set, take-set-le, take-append-le, drop-drop, drop-map, drop_more, drop-set, drop-set-lt, length-drop, get_or-drop, length-map, get_or-map, get_or-take, length-take-le, get_or-set_same, get_or-set_other, get_or_append_left, get_or_push, map-append, get_or_default}
 use Rattle.std.proofs.lemmas.List.Elements.{All-set}
 use Rattle.std.proofs.lemmas.List.Edits.{length-between, get_or-between, get_or-remove_below, get_or-remove_above, length-remove}
 use Rattle.std.proofs.lemmas.List.Sorted.{All-permutation, IsPermutation-map, IsPermutation-append_right, IsPermutation-append_left, length_permutation}
-use Rattle.std.proofs.lemmas.List.Sums.{sum_by-cons}
 use Rattle.std.proofs.lemmas.Option.{slice_get-get_or}
 use Rattle.std.proofs.Math.Seq.{take-set-lt, drop-append_seam, drop-length}
 use Rattle.std.proofs.lemmas.Bool.{cases_eq, cases_lt}
@@ -340,11 +339,6 @@ unread-between ts len from to within order end =
     let ks = map remembered_key (take len ts) in
     let split : ks ≡ take from ks ++ (between from to ks ++ drop to ks) = split_in_three ks from to order in
     rw (← stretch_of remembered_key 0 ts len from to within end) (omega (arith, ap (times unknown) split, times-append unknown (take from ks) (between from to ks ++ drop to ks), times-append unknown (between from to ks) (drop to ks)))
-
--- what is read off a stretch of tags sums up to what is read off its handles
-pub sum_by-map : {X Y : Type 0} (f : Y → ℕ) (g : X → Y) (xs : List X) → sum_by f (map g xs) ≡ sum_by (λ x. f (g x)) xs
-sum_by-map f g [] = refl
-sum_by-map f g (x ∷ xs) = omega (arith, sum_by-cons f (g x) (map g xs), sum_by-cons (λ y. f (g y)) x xs, sum_by-map f g xs)
 
 -- a stretch of the column was turned
 module _ (cells : List (Cell Row)) (gs : List ℕ) (bound from to : ℕ) (ts ts' : List Tag) (place learned len : ℕ) (are : AreDrawn gs ts len) (order : from ≤ to) (end : to ≤ len) (turned : Turns cells gs bound from to ts ts' place learned) where

@@ -3,17 +3,18 @@ use Rattle.std.specs.Prelude.{◌≡◌, ℕ, ◌+◌, ◌-◌, ◌<◌, ◌≤�
 use Rattle.std.specs.List.{between}
 use Rattle.std.specs.List.Sorted.{IsPermutation}
 use Rattle.crack_arena.specs.Arena.{Cell, Handle, no_handle}
-use Rattle.crack_arena.specs.Rows.{key_at, payload_at, unknown}
+use Rattle.crack_row.specs.declared.Payload.{Payload}
+use Rattle.crack_arena.specs.Rows.{key_at, no_payload, payload_at, unknown}
 use Rattle.crack_row.specs.declared.Row.{Row}
 
 -- what a column remembers of a row
 pub record Memory : Type 0 where
   pub key : ℕ
-  pub payload : ℕ
+  pub payload : Payload
 
 -- the row isn't known
 abbrev pub nothing : Memory
-nothing = record { key = unknown; payload = 0 }
+nothing = record { key = unknown; payload = no_payload }
 
 -- what is to be remembered of the row that the handle reads
 abbrev pub memory_at : List (Cell Row) → Handle → Memory
@@ -37,7 +38,7 @@ pub record Column : Type 0 where
   pub aside : List Aside
 
 abbrev pub no_aside : Aside
-no_aside = record { handle = no_handle; memory = record { key = 0; payload = 0 } }
+no_aside = record { handle = no_handle; memory = record { key = 0; payload = no_payload } }
 
 -- the one aside
 abbrev pub first_aside : Column → Aside

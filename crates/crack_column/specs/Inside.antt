@@ -1,10 +1,11 @@
 -- What private clauses alone cite.
-use Rattle.std.specs.Prelude.{◌≡◌, ℕ, ◌+◌, ◌-◌, ◌≤◌, List, ◌++◌, map, take, drop, All, slice_index_or, slice_set}
+use Rattle.std.specs.Prelude.{◌≡◌, ℕ, ◌+◌, ◌-◌, ◌≤◌, List, ◌++◌, map, take, drop, All, slice_index, slice_index_or, slice_set}
 use Rattle.std.specs.List.{between}
 use Rattle.std.specs.List.Sorted.{IsPermutation}
 use Rattle.crack_arena.specs.Arena.{Cell, Handle}
-use Rattle.crack_arena.specs.Rows.{unknown}
+use Rattle.crack_arena.specs.Rows.{no_payload, unknown}
 use Rattle.crack_row.specs.declared.Row.{Row}
+use Rattle.crack_column.specs.declared.tag.Label.{Label}
 use Rattle.crack_column.specs.declared.tag.Tag.{Tag}
 use Rattle.crack_column.specs.Column.{Memory, memory_at, Agrees, IsDividedAt}
 use Rattle.crack_column.specs.Tickets.{remembered_key, memory_of, tag_handle, unread_in}
@@ -23,10 +24,20 @@ tag_for ticket h m = record { key = m.key; ticket = ticket; payload = m.payload;
 
 -- the tag without what it remembers
 abbrev pub forgotten : Tag → Tag
-forgotten t = record t { key = unknown; payload = 0 }
+forgotten t = record t { key = unknown; payload = no_payload }
 
 abbrev pub no_tag : Tag
-no_tag = record { key = 0; ticket = 0; payload = 0; slot = 0 }
+no_tag = record { key = 0; ticket = 0; payload = no_payload; slot = 0 }
+
+-- a tag comes in at the place `low`, and the one that stood there fills the gap
+abbrev pub shifted : List Tag → ℕ → ℕ → Tag → List Tag
+shifted ts gap low t = slice_set (slice_set ts gap (slice_index_or ts low no_tag)) low t
+
+-- the tag at `upper` fills the gap, the one at `place` its place, and a tag comes in there
+abbrev pub turned : List Tag → ℕ → ℕ → ℕ → Tag → List Tag
+turned ts gap upper place t =
+    let filled = slice_set ts gap (slice_index_or ts upper no_tag) in
+    slice_set (slice_set filled upper (slice_index_or filled place no_tag)) place t
 
 -- the handle is kept at the place now, under the ticket there, with what is remembered of its row; the one that was kept there
 -- comes out, with what was remembered
@@ -47,3 +58,11 @@ pub record Turns (cells : List (Cell Row)) (generations : List ℕ) (bound from 
   pub high : place ≤ to
   pub divided : IsDividedAt bound (map remembered_key stretch) (place - from)
   pub fewer : unread_in stretch + learned ≡ unread_in (between from to tags)
+
+-- the label of a tag
+abbrev pub label_of : Tag → Label
+label_of t = record { key = t.key; ticket = t.ticket; slot = t.slot }
+
+-- the handle of the label's slot, and of the generation under its ticket
+abbrev pub label_handle : List ℕ → Label → Handle
+label_handle generations l = record { slot = l.slot; generation = slice_index generations l.ticket }

@@ -1,4 +1,5 @@
 pub mod Column
 pub mod Held
 pub mod Inside
+pub mod Labels
 pub mod Tickets

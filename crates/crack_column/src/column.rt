@@ -1,30 +1,33 @@
 //! The cracker column, and how a crack divides a stretch of it.
-ghost use Rattle.std.specs.Prelude.{◌≡◌, ◌+◌, ◌-◌, ◌<◌, ◌≤◌, ◌^◌, ◌↔◌, List, [], ◌∷◌, ◌++◌, Some, length, vec_len, slice_get, slice_index_or, slice_set, vec_capacity, IsTrue, OnOk, OnErr, IfErr, All, MatchOption, take, sum_by, drop};
+ghost use Rattle.std.specs.Prelude.{◌≡◌, ◌+◌, ◌-◌, ◌<◌, ◌≤◌, ◌^◌, ◌↔◌, List, [], ◌∷◌, ◌++◌, Some, length, vec_len, slice_get, slice_index_or, slice_set, vec_capacity, IsTrue, OnOk, OnErr, IfErr, All, MatchOption, take, drop, pos, neg_ℤ, ◌≤ℤ◌, ◌*◌};
 ghost use Rattle.std.specs.List.{between};
 ghost use Rattle.crack_arena.specs.Arena.{Cell, StandsAt, IsFirstAt, IsAbsent, no_handle};
-ghost use Rattle.crack_arena.specs.Rows.{key_at, payload_at};
+ghost use Rattle.crack_arena.specs.Rows.{amount_at, key_at};
+ghost use Rattle.crack_row.specs.Rows.{total_by, farthest_amount};
 ghost use Rattle.crack_column.specs.Column.{nothing, Remembers, StillRemembers, StillRemembersWith, Cracks, Agrees, first_aside, with_aside, exchanged_aside, appended_aside, popped_aside};
 ghost use Rattle.crack_column.specs.Tickets.{AreDrawn, handles_in, unread_in, room_in, aside_in};
 ghost use Rattle.crack_column.specs.Inside.{Knows, Turns, Kept, tag_for};
 
 use crate::remembered::Remembered;
-use crate::tag::{self, Tag};
+use crate::tag::Tag;
+use crate::tags::Tags;
 use crack_arena::{Arena, Handle};
-use crack_row::{Bound, Key, Refusal, Row};
+use crack_row::{InnerBound, Key, Refusal, Row};
 use std::alloc::Global;
 use std::marker::Model;
 use std::mem;
 
-/// Handles in cracked order. A crack exchanges tags of 16 bytes, one at each place: a tag has its row's key and payload, the handle's
-/// slot, and the ticket under which the handle's generation is kept, 8 bytes more, which no crack moves.
-/// A ticket has 32 bits, so there are at most 4294967296 places.
+/// Handles in cracked order. A crack exchanges tags, one at each place: a tag has its row's key and payload, the handle's slot, and the
+/// ticket under which the handle's generation is kept, which no crack moves. The payloads stand apart, where a sum of known rows reads
+/// them alone.
+/// A ticket has 32 bits, so there are at most `MOST_PLACES` places.
 /// A row is asked of the arena once, if at all; only one with the greatest key is asked for again.
 #[derive(Drop)]
 pub struct CrackerColumn {
     /// By ticket.
     pub(crate) generations: Vec<u64>,
     /// In cracked order; those behind `len` keep their tickets for later rows.
-    pub(crate) tags: Vec<Tag>,
+    pub(crate) tags: Tags,
     pub(crate) len: usize,
     /// How many tags don't know their rows.
     pub(crate) unread: usize,
@@ -40,7 +43,7 @@ impl Model for CrackerColumn {
     ghost view = { λ c. record {
       handles = handles_in c.generations.items c.tags.items c.len;
       remembered = remembered_in c.tags.items c.len;
-      room = room_in (length c.tags.items) (vec_capacity c.generations) (vec_capacity c.tags) c.len;
+      room = room_in (length c.tags.items) (vec_capacity c.generations) c.tags.capacity c.len;
       aside = aside_in c.generations.items c.tags.items c.len;
     } };
 
@@ -58,7 +61,7 @@ impl CrackerColumn {
     {
         CrackerColumn {
             generations: Vec::new(alloc),
-            tags: Vec::new(alloc),
+            tags: Tags::new(alloc),
             len: 0,
             unread: 0,
         }
@@ -68,7 +71,7 @@ impl CrackerColumn {
     pub fn take(&mut self) -> CrackerColumn
         ensures { result ≡ self.old }
     {
-        let alloc = *self.tags.allocator();
+        let alloc = *self.generations.allocator();
         mem::replace(self, CrackerColumn::new(alloc))
     }
 
@@ -92,7 +95,7 @@ impl CrackerColumn {
         requires { place < length self.now.handles }
         ensures { StandsAt self.now.handles place result }
     {
-        self.tags[place].handle(&self.generations)
+        self.tags.label(place).handle(&self.generations)
     }
 
     /// The slot of the handle at the place. O(1), and reads that place alone.
@@ -100,14 +103,15 @@ impl CrackerColumn {
         requires { place < length self.now.handles }
         ensures { result ≡ (slice_index_or self.now.handles place no_handle).slot }
     {
-        self.tags[place].slot
+        self.tags.label(place).slot
     }
 
     /// The first place where the handle stands; none where it stands nowhere. O(n).
     pub fn place_of(&self, handle: Handle<Row>) -> Option<usize>
         ensures { MatchOption result (IsAbsent self.now.handles handle) (IsFirstAt self.now.handles handle) }
     {
-        tag::find(&self.tags[..self.len], &self.generations, handle)
+        self.tags
+            .find_between(0, self.len, &self.generations, handle)
     }
 
     /// The first place from `from` up to and without `to` where the handle stands; none where it stands at none of them. O(to - from).
@@ -118,7 +122,7 @@ impl CrackerColumn {
             (IsAbsent (between from to self.now.handles) handle)
             (λ place. (from ≤ place) × IsFirstAt (between from to self.now.handles) handle (place - from)) }
     {
-        match tag::find(&self.tags[from..to], &self.generations, handle) {
+        match self.tags.find_between(from, to, &self.generations, handle) {
             Some(place) => Some(from + place),
             None => None,
         }
@@ -126,13 +130,17 @@ impl CrackerColumn {
 
     /// The sum of the payloads of the rows from the place `from` up to and without `to`. O(to - from), takes no memory.
     /// A row is asked of the arena where it isn't known, and only there.
-    pub fn sum_between(&self, from: usize, to: usize, arena: &Arena<Row>) -> u64
+    pub fn sum_between(&self, from: usize, to: usize, arena: &Arena<Row>) -> i128
         requires order { from ≤ to }
         requires within { to ≤ length self.now.handles }
         requires remembered { Remembers arena.now.cells self.now.handles self.now.remembered }
-        ensures { result ≡ sum_by (payload_at arena.now.cells) (between from to self.now.handles) }
+        ensures value { result ≡ total_by (amount_at arena.now.cells) (between from to self.now.handles) }
+        ensures least { neg_ℤ (pos ((to - from) * farthest_amount)) ≤ℤ result }
+        ensures most { result ≤ℤ pos ((to - from) * farthest_amount) }
+        ensures small { (neg_ℤ (pos (2 ^ 95)) ≤ℤ result) × (result ≤ℤ pos (2 ^ 95)) }
     {
-        tag::sum(&self.tags[from..to], self.unread, &self.generations, arena)
+        self.tags
+            .sum_between(from, to, self.unread, &self.generations, arena)
     }
 
     /// Makes room for so many handles more; refused with 8 where it finds no memory. A handle of each cell of an arena fits.
@@ -280,7 +288,7 @@ impl CrackerColumn {
         ensures { self.new ≡ popped_aside self.old }
     {
         self.len -= 1;
-        self.unread -= self.tags[self.len].unread();
+        self.unread -= self.tags.get(self.len).unread();
     }
 
     /// Puts the handle that stands aside behind the last. O(1), and reads no row.
@@ -289,7 +297,7 @@ impl CrackerColumn {
         ensures after { self.new ≡ appended_aside self.old }
         ensures remembered { StillRemembersWith (first_aside self.old).handle (first_aside self.old).memory self.old self.new }
     {
-        self.unread += self.tags[self.len].unread();
+        self.unread += self.tags.get(self.len).unread();
         self.len += 1;
     }
 
@@ -301,10 +309,10 @@ impl CrackerColumn {
         ensures after { self.new ≡ exchanged_aside place self.old }
         ensures remembered { StillRemembersWith (first_aside self.old).handle (first_aside self.old).memory self.old self.new }
     {
-        let aside = self.tags[self.len];
-        let there = self.tags[place];
-        self.tags[place] = aside;
-        self.tags[self.len] = there;
+        let aside = self.tags.get(self.len);
+        let there = self.tags.get(place);
+        self.tags.set(place, aside);
+        self.tags.set(self.len, there);
         self.unread += aside.unread();
         self.unread -= there.unread();
     }
@@ -314,7 +322,7 @@ impl CrackerColumn {
         requires { 0 < length self.now.aside }
         ensures { result ≡ (first_aside self.now).handle }
     {
-        self.tags[self.len].handle(&self.generations)
+        self.tags.label(self.len).handle(&self.generations)
     }
 
     /// The slot of the handle that stands aside. O(1), and reads no generation.
@@ -322,7 +330,7 @@ impl CrackerColumn {
         requires { 0 < length self.now.aside }
         ensures { result ≡ (first_aside self.now).handle.slot }
     {
-        self.tags[self.len].slot
+        self.tags.label(self.len).slot
     }
 
     /// What is remembered of the row of the handle that stands aside. O(1).
@@ -330,7 +338,7 @@ impl CrackerColumn {
         requires { 0 < length self.now.aside }
         ensures { result ≡ (first_aside self.now).memory }
     {
-        self.tags[self.len].remembered()
+        self.tags.get(self.len).remembered()
     }
 
     /// The key of the row that stands aside. O(1); its cell is read only where the row isn't known.
@@ -339,13 +347,19 @@ impl CrackerColumn {
         requires known { Agrees arena.now.cells (first_aside self.now).handle (first_aside self.now).memory }
         ensures { result.0 ≡ key_at arena.now.cells (first_aside self.now).handle }
     {
-        self.tags[self.len].key(&self.generations, arena)
+        self.tags.get(self.len).key(&self.generations, arena)
     }
 
     /// Cracks in two: reorders what stands from the place `from` up to and without `to`, rows below the bound first,
     /// and gives the place of the first row at or above it. In place, without memory.
     /// O(to - from); reads each row there that isn't known through the arena, and remembers it.
-    pub fn crack_two(&mut self, from: usize, to: usize, bound: Bound, arena: &Arena<Row>) -> usize
+    pub fn crack_two(
+        &mut self,
+        from: usize,
+        to: usize,
+        bound: InnerBound,
+        arena: &Arena<Row>,
+    ) -> usize
         requires order { from ≤ to }
         requires within { to ≤ length self.old.handles }
         requires remembered { Remembers arena.now.cells self.old.handles self.old.remembered }
@@ -356,16 +370,9 @@ impl CrackerColumn {
         ensures aside { self.new.aside ≡ self.old.aside }
         ensures remembered { Remembers arena.now.cells self.new.handles self.new.remembered }
     {
-        let unread = self.unread;
-        let (place, learned) = crack_between(
-            &mut self.tags,
-            from,
-            to,
-            unread,
-            &self.generations,
-            bound,
-            arena,
-        );
+        let (place, learned) = self
+            .tags
+            .crack_between(from, to, self.unread, &self.generations, bound, arena);
         self.unread -= learned;
         place
     }
@@ -377,8 +384,8 @@ impl CrackerColumn {
         &mut self,
         from: usize,
         to: usize,
-        low: Bound,
-        high: Bound,
+        low: InnerBound,
+        high: InnerBound,
         arena: &Arena<Row>,
     ) -> (usize, usize)
         requires order { from ≤ to }
@@ -395,94 +402,29 @@ impl CrackerColumn {
         ensures aside { self.new.aside ≡ self.old.aside }
         ensures remembered { Remembers arena.now.cells self.new.handles self.new.remembered }
     {
-        let unread = self.unread;
-        let (places, learned) = crack_between_three(
-            &mut self.tags,
-            from,
-            to,
-            unread,
-            &self.generations,
-            low,
-            high,
-            arena,
-        );
+        let (places, learned) = self
+            .tags
+            .crack_between_three(from, to, self.unread, &self.generations, low, high, arena);
         self.unread -= learned;
         places
     }
 }
 
-/// Cracks the tags from the place `from` up to and without `to`, of which at most so many rows are unread.
-/// The place between, and how many rows are known now that weren't.
-fn crack_between(
-    tags: &mut Vec<Tag>,
-    from: usize,
-    to: usize,
-    unread: usize,
-    generations: &[u64],
-    bound: Bound,
-    arena: &Arena<Row>,
-) -> (usize, usize)
-    requires order { from ≤ to }
-    requires within { to ≤ vec_len tags.old }
-    requires drawn { All (λ t. t.ticket < length generations.now) tags.old.items }
-    requires known { All (Knows arena.now.cells generations.now) (between from to tags.old.items) }
-    requires unread { unread_in (between from to tags.old.items) ≤ unread }
-    ensures turned { Turns arena.now.cells generations.now bound.0 from to tags.old.items tags.new.items result.0 result.1 }
-    ensures capacity { vec_capacity tags.new ≡ vec_capacity tags.old }
-{
-    let (place, learned) = tag::crack(&mut tags[from..to], unread, generations, bound, arena);
-    (from + place, learned)
-}
-
-/// Cracks the tags from the place `from` up to and without `to` in three, of which at most so many rows are unread.
-/// The two places between, and how many rows are known now that weren't.
-fn crack_between_three(
-    tags: &mut Vec<Tag>,
-    from: usize,
-    to: usize,
-    unread: usize,
-    generations: &[u64],
-    low: Bound,
-    high: Bound,
-    arena: &Arena<Row>,
-) -> ((usize, usize), usize)
-    requires order { from ≤ to }
-    requires within { to ≤ vec_len tags.old }
-    requires bounds { low.0 ≤ high.0 }
-    requires drawn { All (λ t. t.ticket < length generations.now) tags.old.items }
-    requires known { All (Knows arena.now.cells generations.now) (between from to tags.old.items) }
-    requires unread { unread_in (between from to tags.old.items) ≤ unread }
-    ensures low { Turns arena.now.cells generations.now low.0 from to tags.old.items tags.new.items result.0.0 result.1 }
-    ensures high { Turns arena.now.cells generations.now high.0 from to tags.old.items tags.new.items result.0.1 result.1 }
-    ensures order { result.0.0 ≤ result.0.1 }
-    ensures capacity { vec_capacity tags.new ≡ vec_capacity tags.old }
-{
-    let (middle, upper, learned) = tag::crack_three(
-        &mut tags[from..to],
-        unread,
-        generations,
-        low,
-        high,
-        arena,
-    );
-    ((from + middle, from + upper), learned)
-}
-
 /// Keeps the handle at the place, under the ticket there, and gives back the one that was kept there.
 fn keep(
     generations: &mut Vec<u64>,
-    tags: &mut Vec<Tag>,
+    tags: &mut Tags,
     place: usize,
     handle: Handle<Row>,
     remembered: Remembered,
 ) -> (Handle<Row>, Remembered)
-    requires within { place < vec_len tags.old }
+    requires within { place < length tags.old.items }
     requires drawn { All (λ t. t.ticket < vec_len generations.old) tags.old.items }
     ensures kept { Kept generations.old.items tags.old.items place handle remembered generations.new.items tags.new.items result.0 result.1 }
-    ensures capacities { (vec_capacity generations.new ≡ vec_capacity generations.old) × (vec_capacity tags.new ≡ vec_capacity tags.old) }
+    ensures capacities { (vec_capacity generations.new ≡ vec_capacity generations.old) × (tags.new.capacity ≡ tags.old.capacity) }
 {
-    let here = tags[place];
-    tags[place] = Tag::new(here.ticket, handle, remembered);
+    let here = tags.get(place);
+    tags.set(place, Tag::new(here.ticket, handle, remembered));
     let generation = mem::replace(&mut generations[here.ticket as usize], handle.generation());
     (Handle::new(here.slot, generation), here.remembered())
 }
@@ -490,20 +432,20 @@ fn keep(
 /// Keeps the handle behind the last place: under the ticket that stands there, or under a new one.
 fn keep_behind(
     generations: &mut Vec<u64>,
-    tags: &mut Vec<Tag>,
+    tags: &mut Tags,
     len: usize,
     handle: Handle<Row>,
     remembered: Remembered,
 )
     requires are { AreDrawn generations.old.items tags.old.items len }
-    requires room { 0 < room_in (vec_len tags.old) (vec_capacity generations.old) (vec_capacity tags.old) len }
+    requires room { 0 < room_in (length tags.old.items) (vec_capacity generations.old) tags.old.capacity len }
     ensures are { AreDrawn generations.new.items tags.new.items len }
     ensures handles { handles_in generations.new.items tags.new.items len ≡ handles_in generations.old.items tags.old.items len }
     ensures first { take len tags.new.items ≡ take len tags.old.items }
     ensures aside { aside_in generations.new.items tags.new.items len
         ≡ record { handle = handle; memory = remembered } ∷ drop 1 (aside_in generations.old.items tags.old.items len) }
-    ensures room { room_in (vec_len tags.new) (vec_capacity generations.new) (vec_capacity tags.new) len
-        ≡ room_in (vec_len tags.old) (vec_capacity generations.old) (vec_capacity tags.old) len }
+    ensures room { room_in (length tags.new.items) (vec_capacity generations.new) tags.new.capacity len
+        ≡ room_in (length tags.old.items) (vec_capacity generations.old) tags.old.capacity len }
 {
     if len < tags.len() {
         keep(generations, tags, len, handle, remembered);
@@ -513,19 +455,14 @@ fn keep_behind(
 }
 
 /// Keeps the handle under a new ticket, with a tag behind all others.
-fn draw(
-    generations: &mut Vec<u64>,
-    tags: &mut Vec<Tag>,
-    handle: Handle<Row>,
-    remembered: Remembered,
-)
-    requires beside { vec_len tags.old ≡ vec_len generations.old }
-    requires few { vec_len tags.old < 2 ^ 32 }
+fn draw(generations: &mut Vec<u64>, tags: &mut Tags, handle: Handle<Row>, remembered: Remembered)
+    requires beside { length tags.old.items ≡ vec_len generations.old }
+    requires few { length tags.old.items < 2 ^ 32 }
     requires generation_room { vec_len generations.old < vec_capacity generations.old }
-    requires tag_room { vec_len tags.old < vec_capacity tags.old }
+    requires tag_room { length tags.old.items < tags.old.capacity }
     ensures generations { generations.new.items ≡ generations.old.items ++ handle.generation ∷ [] }
     ensures tags { tags.new.items ≡ tags.old.items ++ tag_for (length generations.old.items) handle remembered ∷ [] }
-    ensures capacities { (vec_capacity generations.new ≡ vec_capacity generations.old) × (vec_capacity tags.new ≡ vec_capacity tags.old) }
+    ensures capacities { (vec_capacity generations.new ≡ vec_capacity generations.old) × (tags.new.capacity ≡ tags.old.capacity) }
 {
     let ticket = generations.len() as u32;
     generations.push_reserved(handle.generation());

@@ -5,6 +5,7 @@ ghost use Rattle.crack_column.specs.Column.{first_aside, exchanged_aside};
 use crate::CrackerColumn;
 use crate::remembered::Remembered;
 use crate::tag::Tag;
+use crate::tags::Tags;
 use std::marker::Model;
 
 /// A column whose row aside is in hand, for a way on which it takes place after place: an exchange reads and writes the place alone.
@@ -12,7 +13,7 @@ use std::marker::Model;
 #[derive(Drop)]
 pub struct HeldColumn {
     generations: Vec<u64>,
-    tags: Vec<Tag>,
+    tags: Tags,
     len: usize,
     /// How many tags don't know their rows, the one in hand among them.
     unread: usize,
@@ -31,7 +32,7 @@ impl Model for HeldColumn {
     ghost view = { λ c. record {
       handles = handles_in c.generations.items (tags_with c.tags.items c.len c.hand) c.len;
       remembered = remembered_in (tags_with c.tags.items c.len c.hand) c.len;
-      room = room_in (length c.tags.items) (vec_capacity c.generations) (vec_capacity c.tags) c.len;
+      room = room_in (length c.tags.items) (vec_capacity c.generations) c.tags.capacity c.len;
       aside = aside_in c.generations.items (tags_with c.tags.items c.len c.hand) c.len;
     } };
 
@@ -50,7 +51,7 @@ impl CrackerColumn {
             len,
             unread,
         } = self.take();
-        let hand = tags[len];
+        let hand = tags.get(len);
         HeldColumn {
             generations,
             tags,
@@ -73,7 +74,7 @@ impl HeldColumn {
             unread,
             hand,
         } = self;
-        tags[len] = hand;
+        tags.set(len, hand);
         CrackerColumn {
             generations,
             tags,
@@ -112,8 +113,8 @@ impl HeldColumn {
         requires { place < length self.old.handles }
         ensures { self.new ≡ exchanged_aside place self.old }
     {
-        let there = self.tags[place];
-        self.tags[place] = self.hand;
+        let there = self.tags.get(place);
+        self.tags.set(place, self.hand);
         self.hand = there;
     }
 }

@@ -5,17 +5,17 @@ ghost use Rattle.crack_arena.specs.Rows.{key_at, unknown};
 ghost use Rattle.crack_column.specs.Column.{nothing, memory_at, Agrees};
 
 use crack_arena::{Arena, Handle, key_of};
-use crack_row::{Bound, Key, Row};
+use crack_row::{Bound, GREATEST_KEY, Key, KeyNumber, Payload, Row};
 use std::marker::Model;
 
 /// Stands for a key that isn't remembered.
-pub(crate) const UNKNOWN: u32 = u32::MAX;
+pub(crate) const UNKNOWN: KeyNumber = GREATEST_KEY;
 
 /// The key and the payload of a row, or that the row isn't known.
 #[derive(Clone, Copy)]
 pub struct Remembered {
-    key: u32,
-    payload: u32,
+    key: KeyNumber,
+    payload: Payload,
 }
 
 impl Model for Remembered {
@@ -31,11 +31,11 @@ impl Model for Remembered {
 impl Remembered {
     /// What is to be remembered of the row. One with the greatest key isn't known by it. O(1).
     pub fn of(row: Row) -> Remembered
-        ensures { result ≡ record { key = row.key.0; payload = row.payload.0 } }
+        ensures { result ≡ record { key = row.key.0; payload = row.payload } }
     {
         Remembered {
-            key: row.key.0,
-            payload: row.payload.0,
+            key: row.key.number(),
+            payload: row.payload,
         }
     }
 
@@ -45,7 +45,7 @@ impl Remembered {
     {
         Remembered {
             key: UNKNOWN,
-            payload: 0,
+            payload: Payload::from_number(0),
         }
     }
 
@@ -57,7 +57,7 @@ impl Remembered {
         if self.key == UNKNOWN {
             key_of(arena, handle)
         } else {
-            Key(self.key)
+            Key::from_number(self.key)
         }
     }
 
@@ -66,7 +66,7 @@ impl Remembered {
     pub fn is_known_below(&self, bound: Bound) -> bool
         ensures { IsTrue result ↔ ((self.now.key ≢ unknown) × (self.now.key < bound.0)) }
     {
-        self.key != UNKNOWN && (self.key as u64) < bound.0
+        self.key != UNKNOWN && bound.is_above(Key::from_number(self.key))
     }
 
     /// What is to be remembered of the row that the handle reads.
@@ -75,24 +75,24 @@ impl Remembered {
     {
         match arena.get(handle) {
             Some(row) => Remembered::of(*row),
-            None => Remembered::new(0, 0),
+            None => Remembered::new(0, Payload::from_number(0)),
         }
     }
 
     /// Of a row that has this key and this payload.
-    pub(crate) fn new(key: u32, payload: u32) -> Remembered
+    pub(crate) fn new(key: KeyNumber, payload: Payload) -> Remembered
         ensures { result ≡ record { key = key; payload = payload } }
     {
         Remembered { key, payload }
     }
 
-    pub(crate) fn key(&self) -> u32
+    pub(crate) fn key(&self) -> KeyNumber
         ensures { result ≡ self.now.key }
     {
         self.key
     }
 
-    pub(crate) fn payload(&self) -> u32
+    pub(crate) fn payload(&self) -> Payload
         ensures { result ≡ self.now.payload }
     {
         self.payload

@@ -1,23 +1,57 @@
 //! The tags of a cracker column, one at each place: what a crack and a sum read, and what a crack exchanges.
-ghost use Rattle.std.specs.Prelude.{◌≡◌, ◌+◌, ◌<◌, ◌≤◌, ◌^◌, All, [], ◌∷◌, MatchOption, length, map, sum_by, cond};
+//! A tag is kept as its label and its payload, side by side in two lists, so that a sum of known rows reads payloads alone.
+ghost use Rattle.std.specs.Prelude.{◌≡◌, ◌+◌, ◌<◌, ◌≤◌, ◌^◌, All, [], ◌∷◌, MatchOption, length, map, cond, pos, neg_ℤ, ◌≤ℤ◌, ◌*◌};
 ghost use Rattle.std.specs.List.Sorted.{IsPermutation};
 ghost use Rattle.crack_arena.specs.Arena.{times, IsAbsent, IsFirstAt};
-ghost use Rattle.crack_arena.specs.Rows.{key_at, payload_at, unknown};
+ghost use Rattle.crack_arena.specs.Rows.{amount_at, key_at, unknown};
+ghost use Rattle.crack_row.specs.Rows.{amount, total_by, farthest_amount};
+ghost use Rattle.crack_column.specs.declared.TheConstants.{MOST_PLACES};
 ghost use Rattle.crack_column.specs.Column.{IsDividedAt};
 ghost use Rattle.crack_column.specs.Tickets.{remembered_key, memory_of, tag_handle, unread_in};
-ghost use Rattle.crack_column.specs.Inside.{tag_for, forgotten, Knows, Read};
+ghost use Rattle.crack_column.specs.Labels.{tag_of, tags_of};
+ghost use Rattle.crack_column.specs.Inside.{tag_for, label_of, label_handle, forgotten, shifted, turned, Knows, Read};
 
 use crate::remembered::{Remembered, UNKNOWN};
-use crack_arena::{Arena, Handle, key_of, payload_of};
-use crack_row::{Bound, Key, Row};
+use crack_arena::{Arena, Handle, amount_of, key_of};
+use crack_row::{InnerBound, Key, KeyNumber, Payload, Row};
 
-/// What stands at a place, 16 bytes: what is remembered of a row, its handle's slot, and the ticket under which its generation is kept.
+/// What stands at a place: what is remembered of a row, its handle's slot, and the ticket under which its generation is kept.
 #[derive(Clone, Copy)]
 pub(crate) struct Tag {
-    pub(crate) key: u32,
+    pub(crate) key: KeyNumber,
     pub(crate) ticket: u32,
-    pub(crate) payload: u32,
+    pub(crate) payload: Payload,
     pub(crate) slot: u32,
+}
+
+/// A tag without its payload.
+#[derive(Clone, Copy)]
+pub(crate) struct Label {
+    pub(crate) key: KeyNumber,
+    pub(crate) ticket: u32,
+    pub(crate) slot: u32,
+}
+
+impl Label {
+    /// The tag that has this payload besides.
+    #[inline(always)]
+    pub(crate) fn with_payload(self, payload: Payload) -> Tag
+        ensures { result ≡ tag_of self payload }
+    {
+        Tag {
+            key: self.key,
+            ticket: self.ticket,
+            payload,
+            slot: self.slot,
+        }
+    }
+
+    pub(crate) fn handle(&self, generations: &[u64]) -> Handle<Row>
+        requires { self.now.ticket < length generations.now }
+        ensures { result ≡ label_handle generations.now self.now }
+    {
+        Handle::new(self.slot, generations[self.ticket as usize])
+    }
 }
 
 impl Tag {
@@ -39,11 +73,16 @@ impl Tag {
         Remembered::new(self.key, self.payload)
     }
 
-    pub(crate) fn handle(&self, generations: &[u64]) -> Handle<Row>
-        requires { self.now.ticket < length generations.now }
-        ensures { result ≡ tag_handle generations.now self.now }
+    /// The tag without its payload.
+    #[inline(always)]
+    pub(crate) fn label(&self) -> Label
+        ensures { result ≡ label_of self.now }
     {
-        Handle::new(self.slot, generations[self.ticket as usize])
+        Label {
+            key: self.key,
+            ticket: self.ticket,
+            slot: self.slot,
+        }
     }
 
     /// 1 where the row isn't known, else 0.
@@ -60,102 +99,107 @@ impl Tag {
         ensures { result.0 ≡ key_at arena.now.cells (tag_handle generations.now self.now) }
     {
         if self.key == UNKNOWN {
-            return key_of(arena, self.handle(generations));
+            return key_of(arena, self.label().handle(generations));
         }
-        Key(self.key)
+        Key::from_number(self.key)
     }
 
-    /// The tag, once this is remembered of its row.
-    fn knowing(self, remembered: Remembered) -> Tag
-        ensures { result ≡ record self { key = remembered.key; payload = remembered.payload } }
-    {
-        Tag {
-            key: remembered.key(),
-            payload: remembered.payload(),
-            ..self
-        }
-    }
-
-    /// The payload of the row. It is asked of the arena where the row isn't known.
-    fn payload(&self, generations: &[u64], arena: &Arena<Row>) -> u32
+    /// What the row adds to a sum. It is asked of the arena where the row isn't known.
+    fn amount(&self, generations: &[u64], arena: &Arena<Row>) -> i128
         requires drawn { self.now.ticket < length generations.now }
         requires known { Knows arena.now.cells generations.now self.now }
-        ensures { result ≡ payload_at arena.now.cells (tag_handle generations.now self.now) }
+        ensures value { result ≡ amount_at arena.now.cells (tag_handle generations.now self.now) }
+        ensures least { neg_ℤ (pos farthest_amount) ≤ℤ result }
+        ensures most { result ≤ℤ pos farthest_amount }
     {
         if self.key == UNKNOWN {
-            return payload_of(arena, self.handle(generations)).0;
+            return amount_of(arena, self.label().handle(generations));
         }
-        self.payload
+        self.payload.amount()
     }
 }
 
 /// Reads the rows of the tags, if any of at most so many is unread, and puts those below the bound first.
 /// How many these are, and how many rows are known now that weren't.
 pub(crate) fn crack(
-    tags: &mut [Tag],
+    labels: &mut [Label],
+    payloads: &mut [Payload],
     unread: usize,
     generations: &[u64],
-    bound: Bound,
+    bound: InnerBound,
     arena: &Arena<Row>,
 ) -> (usize, usize)
-    requires drawn { All (λ t. t.ticket < length generations.now) tags.old }
-    requires known { All (Knows arena.now.cells generations.now) tags.old }
-    requires unread { unread_in tags.old ≤ unread }
-    ensures kept { IsPermutation (map forgotten tags.old) (map forgotten tags.new) }
-    ensures read { All (Read arena.now.cells generations.now) tags.new }
-    ensures divided { IsDividedAt bound.0 (map remembered_key tags.new) result.0 }
-    ensures fewer { unread_in tags.new + result.1 ≡ unread_in tags.old }
+    requires beside { length payloads.old ≡ length labels.old }
+    requires drawn { All (λ t. t.ticket < length generations.now) (tags_of labels.old payloads.old) }
+    requires known { All (Knows arena.now.cells generations.now) (tags_of labels.old payloads.old) }
+    requires unread { unread_in (tags_of labels.old payloads.old) ≤ unread }
+    ensures kept { IsPermutation (map forgotten (tags_of labels.old payloads.old)) (map forgotten (tags_of labels.new payloads.new)) }
+    ensures read { All (Read arena.now.cells generations.now) (tags_of labels.new payloads.new) }
+    ensures divided { IsDividedAt bound.0 (map remembered_key (tags_of labels.new payloads.new)) result.0 }
+    ensures fewer { unread_in (tags_of labels.new payloads.new) + result.1 ≡ unread_in (tags_of labels.old payloads.old) }
 {
     if unread == 0 {
-        return (divide(tags, bound), 0);
+        return (divide(labels, payloads, bound.number()), 0);
     }
-    let learned = learn(tags, generations, arena);
-    (divide(tags, bound), learned)
+    let learned = learn(labels, payloads, generations, arena);
+    (divide(labels, payloads, bound.number()), learned)
 }
 
 /// Reads the rows of the tags, if any of at most so many is unread, and puts those below the low bound first, then those below the
 /// high one. How many are below either, and how many rows are known now that weren't.
 pub(crate) fn crack_three(
-    tags: &mut [Tag],
+    labels: &mut [Label],
+    payloads: &mut [Payload],
     unread: usize,
     generations: &[u64],
-    low: Bound,
-    high: Bound,
+    low: InnerBound,
+    high: InnerBound,
     arena: &Arena<Row>,
 ) -> (usize, usize, usize)
+    requires beside { length payloads.old ≡ length labels.old }
     requires bounds { low.0 ≤ high.0 }
-    requires drawn { All (λ t. t.ticket < length generations.now) tags.old }
-    requires known { All (Knows arena.now.cells generations.now) tags.old }
-    requires unread { unread_in tags.old ≤ unread }
-    ensures kept { IsPermutation (map forgotten tags.old) (map forgotten tags.new) }
-    ensures read { All (Read arena.now.cells generations.now) tags.new }
-    ensures low { IsDividedAt low.0 (map remembered_key tags.new) result.0 }
-    ensures high { IsDividedAt high.0 (map remembered_key tags.new) result.1 }
+    requires drawn { All (λ t. t.ticket < length generations.now) (tags_of labels.old payloads.old) }
+    requires known { All (Knows arena.now.cells generations.now) (tags_of labels.old payloads.old) }
+    requires unread { unread_in (tags_of labels.old payloads.old) ≤ unread }
+    ensures kept { IsPermutation (map forgotten (tags_of labels.old payloads.old)) (map forgotten (tags_of labels.new payloads.new)) }
+    ensures read { All (Read arena.now.cells generations.now) (tags_of labels.new payloads.new) }
+    ensures low { IsDividedAt low.0 (map remembered_key (tags_of labels.new payloads.new)) result.0 }
+    ensures high { IsDividedAt high.0 (map remembered_key (tags_of labels.new payloads.new)) result.1 }
     ensures order { result.0 ≤ result.1 }
-    ensures fewer { unread_in tags.new + result.2 ≡ unread_in tags.old }
+    ensures fewer { unread_in (tags_of labels.new payloads.new) + result.2 ≡ unread_in (tags_of labels.old payloads.old) }
 {
     if unread == 0 {
-        let (middle, upper) = divide_three(tags, low, high);
+        let (middle, upper) = divide_three(labels, payloads, low.number(), high.number());
         return (middle, upper, 0);
     }
-    let learned = learn(tags, generations, arena);
-    let (middle, upper) = divide_three(tags, low, high);
+    let learned = learn(labels, payloads, generations, arena);
+    let (middle, upper) = divide_three(labels, payloads, low.number(), high.number());
     (middle, upper, learned)
 }
 
 /// Reads each row that isn't known. How many are known now.
-fn learn(tags: &mut [Tag], generations: &[u64], arena: &Arena<Row>) -> usize
-    requires drawn { All (λ t. t.ticket < length generations.now) tags.old }
-    requires known { All (Knows arena.now.cells generations.now) tags.old }
-    ensures kept { map forgotten tags.new ≡ map forgotten tags.old }
-    ensures read { All (Read arena.now.cells generations.now) tags.new }
-    ensures fewer { unread_in tags.new + result ≡ unread_in tags.old }
+fn learn(
+    labels: &mut [Label],
+    payloads: &mut [Payload],
+    generations: &[u64],
+    arena: &Arena<Row>,
+) -> usize
+    requires beside { length payloads.old ≡ length labels.old }
+    requires drawn { All (λ t. t.ticket < length generations.now) (tags_of labels.old payloads.old) }
+    requires known { All (Knows arena.now.cells generations.now) (tags_of labels.old payloads.old) }
+    ensures kept { map forgotten (tags_of labels.new payloads.new) ≡ map forgotten (tags_of labels.old payloads.old) }
+    ensures read { All (Read arena.now.cells generations.now) (tags_of labels.new payloads.new) }
+    ensures fewer { unread_in (tags_of labels.new payloads.new) + result ≡ unread_in (tags_of labels.old payloads.old) }
 {
     let mut learned = 0;
-    'tags: for i in 0..tags.len() {
-        if tags[i].key == UNKNOWN {
-            let read = Remembered::read(arena, tags[i].handle(generations));
-            tags[i] = tags[i].knowing(read);
+    'tags: for i in 0..labels.len() {
+        if labels[i].key == UNKNOWN {
+            let read = Remembered::read(arena, labels[i].handle(generations));
+            labels[i] = Label {
+                key: read.key(),
+                ..labels[i]
+            };
+            payloads[i] = read.payload();
             learned += (read.key() != UNKNOWN) as usize;
         }
     }
@@ -165,61 +209,109 @@ fn learn(tags: &mut [Tag], generations: &[u64], arena: &Arena<Row>) -> usize
 /// Puts the keys below the bound first, and gives their number.
 /// The first tag is held, and the gap that it leaves goes round: each step fills it from the place where the keys at or above the bound
 /// begin, and puts the next tag there, so that no branch hangs on a key. To exchange the two tags instead costs a fourth more. The key
-/// is read first and then its tag: to read the whole tag before its key costs three times as much.
-fn divide(tags: &mut [Tag], bound: Bound) -> usize
-    ensures kept { IsPermutation tags.old tags.new }
-    ensures divided { IsDividedAt bound.0 (map remembered_key tags.new) result }
+/// is read first and then its label: to read the whole label before its key costs three times as much.
+fn divide(labels: &mut [Label], payloads: &mut [Payload], bound: KeyNumber) -> usize
+    requires beside { length payloads.old ≡ length labels.old }
+    ensures kept { IsPermutation (tags_of labels.old payloads.old) (tags_of labels.new payloads.new) }
+    ensures divided { IsDividedAt bound (map remembered_key (tags_of labels.new payloads.new)) result }
 {
-    let Some(last) = tags.len().checked_sub(1) else {
+    let Some(last) = labels.len().checked_sub(1) else {
         return 0;
     };
-    let first = tags[0];
+    let (first, first_payload) = (labels[0], payloads[0]);
     let mut low = 0;
     'tags: for gap in 0..last {
-        let below = (tags[gap + 1].key as u64) < bound.0;
-        let next = tags[gap + 1];
-        tags[gap] = tags[low];
-        tags[low] = next;
+        let below = labels[gap + 1].key < bound;
+        let (next, payload) = (labels[gap + 1], payloads[gap + 1]);
+        shift(labels, payloads, gap, low, next, payload);
         low += below as usize;
     }
-    tags[last] = tags[low];
-    tags[low] = first;
-    low + ((first.key as u64) < bound.0) as usize
+    shift(labels, payloads, last, low, first, first_payload);
+    low + (first.key < bound) as usize
+}
+
+/// Fills the gap from the place `low`, and puts the tag of this label and this payload there.
+/// The labels come first: a payload written between them costs a trip of the label through memory.
+#[inline(always)]
+fn shift(
+    labels: &mut [Label],
+    payloads: &mut [Payload],
+    gap: usize,
+    low: usize,
+    label: Label,
+    payload: Payload,
+)
+    requires beside { length payloads.old ≡ length labels.old }
+    requires order { low ≤ gap }
+    requires within { gap < length labels.old }
+    ensures { tags_of labels.new payloads.new ≡ shifted (tags_of labels.old payloads.old) gap low (tag_of label payload) }
+{
+    labels[gap] = labels[low];
+    labels[low] = label;
+    payloads[gap] = payloads[low];
+    payloads[low] = payload;
 }
 
 /// Puts the keys below the low bound first, then those below the high one, and gives how many are below either.
 /// The gap goes round as in `divide`: each step fills it from the place where the keys at or above the high bound begin, that place
 /// from the one where those at or above the low bound begin, and puts the next tag where it belongs; no branch hangs on a key.
-fn divide_three(tags: &mut [Tag], low: Bound, high: Bound) -> (usize, usize)
-    requires bounds { low.0 ≤ high.0 }
-    ensures kept { IsPermutation tags.old tags.new }
-    ensures low { IsDividedAt low.0 (map remembered_key tags.new) result.0 }
-    ensures high { IsDividedAt high.0 (map remembered_key tags.new) result.1 }
+fn divide_three(
+    labels: &mut [Label],
+    payloads: &mut [Payload],
+    low: KeyNumber,
+    high: KeyNumber,
+) -> (usize, usize)
+    requires beside { length payloads.old ≡ length labels.old }
+    requires bounds { low ≤ high }
+    ensures kept { IsPermutation (tags_of labels.old payloads.old) (tags_of labels.new payloads.new) }
+    ensures low { IsDividedAt low (map remembered_key (tags_of labels.new payloads.new)) result.0 }
+    ensures high { IsDividedAt high (map remembered_key (tags_of labels.new payloads.new)) result.1 }
     ensures order { result.0 ≤ result.1 }
 {
-    let Some(last) = tags.len().checked_sub(1) else {
+    let Some(last) = labels.len().checked_sub(1) else {
         return (0, 0);
     };
-    let first = tags[0];
+    let (first, first_payload) = (labels[0], payloads[0]);
     let (mut middle, mut upper) = (0, 0);
     'tags: for gap in 0..last {
-        let key = tags[gap + 1].key as u64;
-        let (is_low, is_below) = (key < low.0, key < high.0);
-        let next = tags[gap + 1];
+        let key = labels[gap + 1].key;
+        let (is_low, is_below) = (key < low, key < high);
+        let (next, payload) = (labels[gap + 1], payloads[gap + 1]);
         let place = place_of(is_low, middle, upper);
-        tags[gap] = tags[upper];
-        tags[upper] = tags[place];
-        tags[place] = next;
+        turn(labels, payloads, gap, upper, place, next, payload);
         middle += is_low as usize;
         upper += is_below as usize;
     }
-    let key = first.key as u64;
-    let (is_low, is_below) = (key < low.0, key < high.0);
+    let key = first.key;
+    let (is_low, is_below) = (key < low, key < high);
     let place = place_of(is_low, middle, upper);
-    tags[last] = tags[upper];
-    tags[upper] = tags[place];
-    tags[place] = first;
+    turn(labels, payloads, last, upper, place, first, first_payload);
     (middle + is_low as usize, upper + is_below as usize)
+}
+
+/// Fills the gap from the place `upper`, that one from `place`, and puts the tag of this label and this payload there.
+#[inline(always)]
+fn turn(
+    labels: &mut [Label],
+    payloads: &mut [Payload],
+    gap: usize,
+    upper: usize,
+    place: usize,
+    label: Label,
+    payload: Payload,
+)
+    requires beside { length payloads.old ≡ length labels.old }
+    requires low { place ≤ upper }
+    requires order { upper ≤ gap }
+    requires within { gap < length labels.old }
+    ensures { tags_of labels.new payloads.new ≡ turned (tags_of labels.old payloads.old) gap upper place (tag_of label payload) }
+{
+    labels[gap] = labels[upper];
+    labels[upper] = labels[place];
+    labels[place] = label;
+    payloads[gap] = payloads[upper];
+    payloads[upper] = payloads[place];
+    payloads[place] = payload;
 }
 
 /// Where a key goes that is below the low bound or not: to the front of the middle keys, or to that of the upper ones.
@@ -230,56 +322,73 @@ fn place_of(is_low: bool, middle: usize, upper: usize) -> usize
 }
 
 /// The sum of the payloads of the tags' rows, of which at most so many aren't known.
-pub(crate) fn sum(tags: &[Tag], unread: usize, generations: &[u64], arena: &Arena<Row>) -> u64
-    requires few { length tags.now ≤ 2 ^ 32 }
-    requires drawn { All (λ t. t.ticket < length generations.now) tags.now }
-    requires known { All (Knows arena.now.cells generations.now) tags.now }
-    requires unread { unread_in tags.now ≤ unread }
-    ensures { result ≡ sum_by (λ t. payload_at arena.now.cells (tag_handle generations.now t)) tags.now }
+pub(crate) fn sum(
+    labels: &[Label],
+    payloads: &[Payload],
+    unread: usize,
+    generations: &[u64],
+    arena: &Arena<Row>,
+) -> i128
+    requires beside { length payloads.now ≡ length labels.now }
+    requires few { length labels.now ≤ MOST_PLACES }
+    requires drawn { All (λ t. t.ticket < length generations.now) (tags_of labels.now payloads.now) }
+    requires known { All (Knows arena.now.cells generations.now) (tags_of labels.now payloads.now) }
+    requires unread { unread_in (tags_of labels.now payloads.now) ≤ unread }
+    ensures value { result ≡ total_by (λ t. amount_at arena.now.cells (tag_handle generations.now t)) (tags_of labels.now payloads.now) }
+    ensures least { neg_ℤ (pos (length labels.now * farthest_amount)) ≤ℤ result }
+    ensures most { result ≤ℤ pos (length labels.now * farthest_amount) }
+    ensures small { (neg_ℤ (pos (2 ^ 95)) ≤ℤ result) × (result ≤ℤ pos (2 ^ 95)) }
 {
     if unread == 0 {
-        sum_remembered(tags)
+        sum_remembered(payloads)
     } else {
-        sum_read(tags, generations, arena)
+        sum_read(labels, payloads, generations, arena)
     }
 }
 
-/// The sum of the payloads that the tags remember. No branch and no cell.
-fn sum_remembered(tags: &[Tag]) -> u64
-    requires few { length tags.now ≤ 2 ^ 32 }
-    ensures { result ≡ sum_by (λ t. t.payload) tags.now }
+/// The sum of the payloads. No branch and no cell.
+fn sum_remembered(payloads: &[Payload]) -> i128
+    requires few { length payloads.now ≤ MOST_PLACES }
+    ensures value { result ≡ total_by amount payloads.now }
+    ensures least { neg_ℤ (pos (length payloads.now * farthest_amount)) ≤ℤ result }
+    ensures most { result ≤ℤ pos (length payloads.now * farthest_amount) }
 {
-    let mut sum = 0u64;
-    'tags: for i in 0..tags.len() {
-        sum += tags[i].payload as u64;
+    let mut sum = 0;
+    'payloads: for i in 0..payloads.len() {
+        sum += payloads[i].amount();
     }
     sum
 }
 
 /// The sum of the payloads of the tags' rows.
-fn sum_read(tags: &[Tag], generations: &[u64], arena: &Arena<Row>) -> u64
-    requires few { length tags.now ≤ 2 ^ 32 }
-    requires drawn { All (λ t. t.ticket < length generations.now) tags.now }
-    requires known { All (Knows arena.now.cells generations.now) tags.now }
-    ensures { result ≡ sum_by (λ t. payload_at arena.now.cells (tag_handle generations.now t)) tags.now }
+fn sum_read(labels: &[Label], payloads: &[Payload], generations: &[u64], arena: &Arena<Row>) -> i128
+    requires beside { length payloads.now ≡ length labels.now }
+    requires few { length labels.now ≤ MOST_PLACES }
+    requires drawn { All (λ t. t.ticket < length generations.now) (tags_of labels.now payloads.now) }
+    requires known { All (Knows arena.now.cells generations.now) (tags_of labels.now payloads.now) }
+    ensures value { result ≡ total_by (λ t. amount_at arena.now.cells (tag_handle generations.now t)) (tags_of labels.now payloads.now) }
+    ensures least { neg_ℤ (pos (length labels.now * farthest_amount)) ≤ℤ result }
+    ensures most { result ≤ℤ pos (length labels.now * farthest_amount) }
 {
-    let mut sum = 0u64;
-    'tags: for i in 0..tags.len() {
-        sum += tags[i].payload(generations, arena) as u64;
+    let mut sum = 0;
+    'tags: for i in 0..labels.len() {
+        sum += labels[i]
+            .with_payload(payloads[i])
+            .amount(generations, arena);
     }
     sum
 }
 
-/// The first of the tags whose handle this is. Reads the generation where the slot is the same, and nowhere else.
-pub(crate) fn find(tags: &[Tag], generations: &[u64], handle: Handle<Row>) -> Option<usize>
-    requires drawn { All (λ t. t.ticket < length generations.now) tags.now }
+/// The first of the labels whose handle this is. Reads the generation where the slot is the same, and nowhere else.
+pub(crate) fn find(labels: &[Label], generations: &[u64], handle: Handle<Row>) -> Option<usize>
+    requires drawn { All (λ l. l.ticket < length generations.now) labels.now }
     ensures { MatchOption result
-        (IsAbsent (map (tag_handle generations.now) tags.now) handle)
-        (IsFirstAt (map (tag_handle generations.now) tags.now) handle) }
+        (IsAbsent (map (label_handle generations.now) labels.now) handle)
+        (IsFirstAt (map (label_handle generations.now) labels.now) handle) }
 {
     let slot = handle.slot();
-    'tags: for i in 0..tags.len() {
-        if tags[i].slot == slot && tags[i].handle(generations) == handle {
+    'tags: for i in 0..labels.len() {
+        if labels[i].slot == slot && labels[i].handle(generations) == handle {
             return Some(i);
         }
     }

@@ -1,45 +1,41 @@
 -- An insert at the front of bytes.
-use Rattle.std.proofs.Common.{◌≡◌, ℕ, ◌+◌, ◌<◌, ◌≤◌, true, leb, Some, Ok, suc, List, [], ◌∷◌, ◌++◌, codes, length, take, drop, get_or, refl, sym, ap, ◌∙◌, arith, length-take, length-drop}
-use Rattle.std.proofs.lemmas.Bool.{and_parts, le-leb}
+use Rattle.std.proofs.Common.{◌≡◌, ℕ, ◌+◌, ◌<◌, ◌≤◌, ℤ, true, false, eqb, ltb, leb, Some, Ok, suc, List, [], ◌∷◌, ◌++◌, codes, length, take, drop, get_or, refl, sym, ap, ◌∙◌, arith, length-take, length-drop}
+use Rattle.std.proofs.lemmas.Bool.{and_parts, le-leb, ltb-true, ne_eqb}
 use Rattle.std.proofs.lemmas.List.{drop_more, length-append, get_or-append-add, get_or-drop}
 use Rattle.std.proofs.lemmas.List.Folds.{list_all-append}
 use Rattle.std.proofs.Math.Seq.{take-append-add, take-add}
 use Rattle.std.specs.List.{list_all}
-use Rattle.crack_commands.specs.Grammar.{words, is_word, is_digit, number_of, statement_of}
-use Rattle.crack_commands.specs.Inside.{is_row, value_on}
+use Rattle.std.specs.Option.{option_zip}
+use Rattle.crack_row.specs.declared.Key.{Key}
+use Rattle.crack_row.specs.declared.Payload.{Payload}
+use Rattle.crack_commands.specs.Grammar.{words, is_digit, number_of, whole_number_of, key_from, payload_from, statement_of}
+use Rattle.crack_commands.specs.Inside.{value_on, has_space, BeginsWithWhole}
 use Rattle.crack_commands.specs.LeadingInsert.{BeginsWithInsert}
 use Rattle.crack_commands.specs.declared.statement.Statement.TheVariants.{Insert}
-use Rattle.crack_commands.proofs.Numbers.{digit_bounds, digits_no_space}
+use Rattle.crack_commands.proofs.Numbers.{digits_printed, number_of_digits}
 use Rattle.crack_commands.proofs.Splitting.{is_word_some, words_end, words_front, said}
 
--- no digit is a control character
-digits_printed : (xs : List ℕ) → list_all is_digit xs ≡ true → list_all (leb 32) xs ≡ true
-digits_printed [] h = refl
-digits_printed (b ∷ bs) h =
-    let each = and_parts (is_digit b) (list_all is_digit bs) h in
-    let low = (digit_bounds b each.0).0 in
-    let printed : leb 32 b ≡ true = le-leb 32 b (omega (arith, low)) in
-    rw (printed, digits_printed bs each.1) refl
+-- what is above a space is none, and no control character
+printed_no_space : (xs : List ℕ) → list_all (ltb 32) xs ≡ true → (has_space xs ≡ false) × (list_all (leb 32) xs ≡ true)
+printed_no_space [] h = (refl, refl)
+printed_no_space (b ∷ bs) h =
+    let each = and_parts (ltb 32 b) (list_all (ltb 32) bs) h in
+    let above = ltb-true 32 b each.0 in
+    let other : eqb b 32 ≡ false = ne_eqb b 32 (λ is. absurd (omega (arith, is, above))) in
+    let shown : leb 32 b ≡ true = le-leb 32 b (omega (arith, above)) in
+    let rest = printed_no_space bs each.1 in
+    (rw (other, rest.0) refl, rw (shown, rest.1) refl)
 
--- digits, few of them, are a number
-number_of_digits : (xs : List ℕ) → 0 < length xs → length xs ≤ 19 → list_all is_digit xs ≡ true → number_of xs ≡ Some (value_on 0 xs)
-number_of_digits xs some few digits =
-    let word : is_word xs ≡ true = is_word_some xs some in
-    let fits : leb (length xs) 20 ≡ true = le-leb _ _ (omega (arith, few)) in
-    rw (word, fits, digits) refl
-
--- two numbers behind the name of an insert, a space between them
-says_insert : (xs ys : List ℕ) → 0 < length xs → length xs ≤ 19 → 0 < length ys → length ys ≤ 19 → list_all is_digit xs ≡ true → list_all is_digit ys ≡ true
-    → is_row (value_on 0 xs) (value_on 0 ys) ≡ true
-    → statement_of (codes "insert " ++ (xs ++ 32 ∷ ys)) ≡ Ok (Insert (record { 0 = value_on 0 xs }) (record { 0 = value_on 0 ys }))
-says_insert xs ys some few some' few' digits digits' small =
-    let first : words (xs ++ 32 ∷ ys) ≡ xs ∷ words (32 ∷ ys) = words_front xs ys (digits_no_space xs digits) (is_word_some xs some) in
-    let second : words ys ≡ ys ∷ [] = words_end ys (digits_no_space ys digits') (is_word_some ys some') in
+-- a number and a whole number behind the name of an insert, a space between them
+says_insert : (xs ys : List ℕ) (v : ℕ) (z : ℤ) (key : Key) (payload : Payload) → 0 < length xs → has_space xs ≡ false → number_of xs ≡ Some v → 0 < length ys → has_space ys ≡ false → whole_number_of ys ≡ Some z
+    → option_zip (key_from v) (payload_from z) ≡ Some (key, payload)
+    → statement_of (codes "insert " ++ (xs ++ 32 ∷ ys)) ≡ Ok (Insert key payload)
+says_insert xs ys v z key payload some alone is some' alone' is' row =
+    let first : words (xs ++ 32 ∷ ys) ≡ xs ∷ words (32 ∷ ys) = words_front xs ys alone (is_word_some xs some) in
+    let second : words ys ≡ ys ∷ [] = words_end ys alone' (is_word_some ys some') in
     let both : words (xs ++ 32 ∷ ys) ≡ xs ∷ ys ∷ [] = first ∙ ap (λ r. xs ∷ r) second in
     let all : words (codes "insert " ++ (xs ++ 32 ∷ ys)) ≡ codes "insert" ∷ xs ∷ ys ∷ [] = ap (λ r. codes "insert" ∷ r) both in
-    let n = number_of_digits xs some few digits in
-    let m = number_of_digits ys some' few' digits' in
-    said _ (codes "insert") (xs ∷ ys ∷ []) all ∙ rw (n, m, small) refl
+    said _ (codes "insert") (xs ∷ ys ∷ []) all ∙ rw (is, is', row) refl
 
 -- the text behind the name: so many digits, a space, and so many digits
 two_parts : (rest : List ℕ) (m n : ℕ) → m < length rest → get_or rest m 0 ≡ 32 → take (m + 1 + n) rest ≡ take m rest ++ 32 ∷ take n (drop (m + 1) rest)
@@ -48,12 +44,12 @@ two_parts rest m n within space =
     let same : m + 1 + n ≡ m + suc n = omega arith in
     ap (λ k. take k rest) same ∙ take-add m (suc n) rest ∙ ap (λ r. take m rest ++ take (suc n) r) behind
 
-pub begins_with : (bytes rest : List ℕ) (m n v w : ℕ) → bytes ≡ codes "insert " ++ rest
+pub begins_with : (bytes rest : List ℕ) (m n v : ℕ) (z : ℤ) (key : Key) (payload : Payload) → bytes ≡ codes "insert " ++ rest
     → (0 < m) × (m ≤ 19) × (m < length rest) → get_or rest m 0 ≡ 32 → list_all is_digit (take m rest) ≡ true → v ≡ value_on 0 (take m rest)
-    → (0 < n) × (n ≤ 19) × (n < length (drop (m + 1) rest)) → get_or (drop (m + 1) rest) n 0 ≡ 10 → list_all is_digit (take n (drop (m + 1) rest)) ≡ true → w ≡ value_on 0 (take n (drop (m + 1) rest))
-    → is_row v w ≡ true
-    → BeginsWithInsert bytes (7 + m + 1 + n) (record { 0 = v }) (record { 0 = w })
-begins_with bytes rest m n v w whole first space digits is second feed digits' is' small =
+    → BeginsWithWhole (drop (m + 1) rest) 10 z n
+    → option_zip (key_from v) (payload_from z) ≡ Some (key, payload)
+    → BeginsWithInsert bytes (7 + m + 1 + n) key payload
+begins_with bytes rest m n v z key payload whole first space digits is second row =
     let more = drop (m + 1) rest in
     let xs = take m rest in
     let ys = take n more in
@@ -66,14 +62,17 @@ begins_with bytes rest m n v w whole first space digits is second feed digits' i
     let len_bytes : length bytes ≡ 7 + length rest = ap length whole ∙ length-append (codes "insert ") rest in
     let at : get_or bytes (7 + m + 1 + n) 0 ≡ 10 =
     ap (λ k. get_or bytes k 0) same ∙ ap (λ z. get_or z (7 + (m + 1 + n)) 0) whole ∙ get_or-append-add (codes "insert ") rest (m + 1 + n) 0
-    ∙ sym (get_or-drop (m + 1) rest n 0) ∙ feed in
-    let printed : list_all (leb 32) (xs ++ 32 ∷ ys) ≡ true = list_all-append (leb 32) xs (32 ∷ ys) ∙ rw (digits_printed xs digits, digits_printed ys digits') refl in
-    let row = says_insert xs ys (omega (arith, len_xs, first)) (omega (arith, len_xs, first)) (omega (arith, len_ys, second)) (omega (arith, len_ys, second)) digits digits' (rw (sym is, sym is') small) in
+    ∙ sym (get_or-drop (m + 1) rest n 0) ∙ second.stops in
+    let shown = printed_no_space xs (digits_printed xs digits) in
+    let shown' = printed_no_space ys second.printed in
+    let printed : list_all (leb 32) (xs ++ 32 ∷ ys) ≡ true = list_all-append (leb 32) xs (32 ∷ ys) ∙ rw (shown.1, shown'.1) refl in
+    let number : number_of xs ≡ Some v = number_of_digits xs (omega (arith, len_xs, first)) (omega (arith, len_xs, first)) digits ∙ ap Some (sym is) in
+    let says = says_insert xs ys v z key payload (omega (arith, len_xs, first)) shown.0 number (omega (arith, len_ys, second.few)) shown'.0 second.says row in
     record {
-      within = omega (arith, len_bytes, len_more, first, second);
+      within = omega (arith, len_bytes, len_more, first, second.few);
       feed = at;
       printed = ap (list_all (leb 32)) line ∙ printed;
       some = rw line refl;
-      short = omega (arith, first, second);
-      says = ap statement_of line ∙ rw (is, is') row;
+      short = omega (arith, first, second.few);
+      says = ap statement_of line ∙ says;
     }

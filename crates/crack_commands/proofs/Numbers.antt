@@ -1,11 +1,11 @@
 -- Numbers among the words.
-use Rattle.std.proofs.Common.{◌≡◌, ℕ, ◌+◌, ◌-◌, ◌*◌, ◌^◌, ◌%◌, ◌<◌, ◌≤◌, true, false, eqb, ltb, leb, Some, List, [], ◌∷◌, ◌++◌, length, take, drop, get_or, refl, sym, ap, ◌∙◌, arith, ⊎_elim, length-take, length-drop, add-one}
+use Rattle.std.proofs.Common.{◌≡◌, ℕ, zero, suc, ◌+◌, ◌-◌, ◌*◌, ◌^◌, ◌%◌, ◌<◌, ◌≤◌, Bool, true, false, cond, eqb, ltb, leb, Some, List, [], ◌∷◌, ◌++◌, length, take, drop, get_or, refl, sym, ap, ◌∙◌, arith, ⊎_elim, length-take, length-drop, add-one}
 use Rattle.std.proofs.lemmas.Bool.{and_parts, cases_Bool, le-leb, leb-true, lt-ltb, ltb-true, eqb-true}
 use Rattle.std.proofs.lemmas.List.{take_more, take-take, take_all}
 use Rattle.std.proofs.Math.Nat.{pow-suc, pow-le-pow_right}
 use Rattle.std.specs.List.{list_all}
-use Rattle.crack_commands.specs.Grammar.{words, is_word, is_digit}
-use Rattle.crack_commands.specs.Inside.{value_on, has_space, IsFirstNumber}
+use Rattle.crack_commands.specs.Grammar.{words, is_word, is_digit, number_of, whole_number_of, has_sign, unsigned, signed}
+use Rattle.crack_commands.specs.Inside.{value_on, has_space, IsFirstWord, IsFirstNumber, IsFirstWholeNumber, BeginsWithDigits, BeginsWithWhole}
 use Rattle.crack_commands.proofs.Splitting.{is_word_some, first_word}
 
 -- one digit more
@@ -68,13 +68,113 @@ first_number bytes xs n same front some within short digits space =
     let fits : leb (length (take n xs)) 20 ≡ true = le-leb _ _ (omega (arith, long, short)) in
     (take n xs, first_word bytes xs n same front within (digits_no_space (take n xs) digits) space, rw (word, fits, digits) refl)
 
--- the same of digits among the first m bytes
-pub short_number : (bytes xs : List ℕ) (m n value : ℕ) → words xs ≡ words bytes → (get_or xs 0 0 ≡ 32 → ⊥) → m ≤ 19 → 0 < n → n ≤ length (take m xs) → list_all is_digit (take n (take m xs)) ≡ true → value ≡ value_on 0 (take n (take m xs)) → (n < length xs → get_or xs n 0 ≡ 32) → IsFirstNumber bytes (Some value) (take (length xs - n) (drop n xs))
-short_number bytes xs m n value same front few some within digits is space =
+-- digits, few of them, are a number
+pub number_of_digits : (xs : List ℕ) → 0 < length xs → length xs ≤ 19 → list_all is_digit xs ≡ true → number_of xs ≡ Some (value_on 0 xs)
+number_of_digits xs some few digits =
+    let word : is_word xs ≡ true = is_word_some xs some in
+    let fits : leb (length xs) 20 ≡ true = le-leb _ _ (omega (arith, few)) in
+    rw (word, fits, digits) refl
+
+-- digits among the first m bytes
+pub begins_with_digits : (xs : List ℕ) (m n value : ℕ) → m ≤ 19 → 0 < n → n ≤ length (take m xs) → list_all is_digit (take n (take m xs)) ≡ true → value ≡ value_on 0 (take n (take m xs)) → (n < length xs → get_or xs n 0 ≡ 32) → BeginsWithDigits xs value (take (length xs - n) (drop n xs))
+begins_with_digits xs m n value few some within digits is space =
     let long = length-take m xs in
     let rest = length-drop n xs in
     let cut : take n (take m xs) ≡ take n xs = take-take n m xs (omega (arith, long, within)) in
-    let digits' : list_all is_digit (take n xs) ≡ true = ap (list_all is_digit) (sym cut) ∙ digits in
-    let value_is : value ≡ value_on 0 (take n xs) = is ∙ ap (value_on 0) cut in
-    let behind : take (length xs - n) (drop n xs) ≡ drop n xs = take_all (length xs - n) (drop n xs) (omega (arith, rest)) in
-    rw (value_is, behind) (first_number bytes xs n same front some (omega (arith, long, within)) (omega (arith, long, within, few)) digits' space)
+    record {
+      count = n;
+      few = (some, omega (arith, long, within, few), omega (arith, long, within));
+      digits = ap (list_all is_digit) (sym cut) ∙ digits;
+      value = is ∙ ap (value_on 0) cut;
+      ends = space;
+      behind = take_all (length xs - n) (drop n xs) (omega (arith, rest));
+    }
+
+-- they are the first word, and a number
+pub short_number : (bytes xs : List ℕ) (value : ℕ) (rest : List ℕ) → words xs ≡ words bytes → (get_or xs 0 0 ≡ 32 → ⊥) → BeginsWithDigits xs value rest → IsFirstNumber bytes (Some value) rest
+short_number bytes xs value rest same front d =
+    rw (d.value, d.behind) (first_number bytes xs d.count same front d.few.0 d.few.2 (omega (arith, d.few.1)) d.digits d.ends)
+
+-- a front of bytes keeps the sign
+sign_kept : (n : ℕ) (xs : List ℕ) → 0 < n → has_sign (take n xs) ≡ has_sign xs
+sign_kept zero xs some = absurd (omega (arith, some))
+sign_kept (suc n) [] some = refl
+sign_kept (suc n) (x ∷ xs) some = refl
+
+-- a word that is a number but for its sign
+whole_is : (word : List ℕ) (is_negative : Bool) (n : ℕ) → has_sign word ≡ is_negative → number_of (cond is_negative (drop 1 word) word) ≡ Some n → whole_number_of word ≡ Some (signed is_negative n)
+whole_is word is_negative n sign is = rw (sign, is) refl
+
+-- a minus sign and digits are no space
+sign_no_space : (b : ℕ) (xs : List ℕ) → eqb b 45 ≡ true → list_all is_digit xs ≡ true → has_space (b ∷ xs) ≡ false
+sign_no_space b xs sign digits =
+    let is : b ≡ 45 = eqb-true b 45 sign in
+    rw (is, digits_no_space xs digits) refl
+
+short_whole_by : (bytes : List ℕ) (b : ℕ) (bs : List ℕ) (value : ℕ) (rest : List ℕ) (is_negative : Bool) → eqb b 45 ≡ is_negative → words (b ∷ bs) ≡ words bytes → (b ≡ 32 → ⊥) → BeginsWithDigits (cond is_negative bs (b ∷ bs)) value rest → IsFirstWholeNumber bytes (Some (signed is_negative value)) rest
+short_whole_by bytes b bs value rest true sign same front d =
+    let n = d.count in
+    let long = length-take n bs in
+    let word = b ∷ take n bs in
+    let first : IsFirstWord bytes word (drop n bs) = first_word bytes (b ∷ bs) (suc n) same front (omega (arith, d.few)) (sign_no_space b (take n bs) sign d.digits) (λ below. d.ends (omega (arith, below))) in
+    let number : number_of (take n bs) ≡ Some value = number_of_digits (take n bs) (omega (arith, long, d.few)) (omega (arith, long, d.few)) d.digits ∙ ap Some (sym d.value) in
+    (word, rw d.behind first, sym (whole_is word true value sign number))
+short_whole_by bytes b bs value rest false sign same front d =
+    let n = d.count in
+    let xs = b ∷ bs in
+    let long = length-take n xs in
+    let word = take n xs in
+    let first : IsFirstWord bytes word (drop n xs) = first_word bytes xs n same front d.few.2 (digits_no_space word d.digits) d.ends in
+    let number : number_of word ≡ Some value = number_of_digits word (omega (arith, long, d.few)) (omega (arith, long, d.few)) d.digits ∙ ap Some (sym d.value) in
+    (word, rw d.behind first, sym (whole_is word false value (sign_kept n xs d.few.0 ∙ sign) number))
+
+-- digits behind a minus sign or none are the first word, and a whole number
+pub short_whole : (bytes xs : List ℕ) (value : ℕ) (rest : List ℕ) → words xs ≡ words bytes → (get_or xs 0 0 ≡ 32 → ⊥) → BeginsWithDigits (unsigned xs) value rest → IsFirstWholeNumber bytes (Some (signed (has_sign xs) value)) rest
+short_whole bytes [] value rest same front d = absurd (omega (arith, d.few))
+short_whole bytes (b ∷ bs) value rest same front d = short_whole_by bytes b bs value rest (eqb b 45) refl same front d
+
+-- no digit is a space or a control character
+pub digits_printed : (xs : List ℕ) → list_all is_digit xs ≡ true → list_all (ltb 32) xs ≡ true
+digits_printed [] h = refl
+digits_printed (b ∷ bs) h =
+    let each = and_parts (is_digit b) (list_all is_digit bs) h in
+    let low = (digit_bounds b each.0).0 in
+    let printed : ltb 32 b ≡ true = lt-ltb 32 b (omega (arith, low)) in
+    rw (printed, digits_printed bs each.1) refl
+
+-- nor is a minus sign
+sign_printed : (b : ℕ) (xs : List ℕ) → eqb b 45 ≡ true → list_all is_digit xs ≡ true → list_all (ltb 32) (b ∷ xs) ≡ true
+sign_printed b xs sign digits =
+    let is : b ≡ 45 = eqb-true b 45 sign in
+    rw (is, digits_printed xs digits) refl
+
+whole_before_by : (b : ℕ) (bs : List ℕ) (stop value n : ℕ) (is_negative : Bool) → eqb b 45 ≡ is_negative → (let digits = cond is_negative bs (b ∷ bs) in
+    (0 < n) × (n ≤ 19) × (n < length digits) → get_or digits n 0 ≡ stop → list_all is_digit (take n digits) ≡ true → value ≡ value_on 0 (take n digits)
+    → BeginsWithWhole (b ∷ bs) stop (signed is_negative value) (length (b ∷ bs) - length digits + n))
+whole_before_by b bs stop value n true sign few stops digits is =
+    let long = length-take n bs in
+    let number : number_of (take n bs) ≡ Some value = number_of_digits (take n bs) (omega (arith, long, few)) (omega (arith, long, few)) digits ∙ ap Some (sym is) in
+    let count : length (b ∷ bs) - length bs + n ≡ suc n = omega arith in
+    rw count record {
+      few = omega (arith, few);
+      stops = stops;
+      printed = sign_printed b (take n bs) sign digits;
+      says = whole_is (b ∷ take n bs) true value sign number;
+    }
+whole_before_by b bs stop value n false sign few stops digits is =
+    let xs = b ∷ bs in
+    let long = length-take n xs in
+    let number : number_of (take n xs) ≡ Some value = number_of_digits (take n xs) (omega (arith, long, few)) (omega (arith, long, few)) digits ∙ ap Some (sym is) in
+    let count : length (b ∷ bs) - length (b ∷ bs) + n ≡ n = omega arith in
+    rw count record {
+      few = omega (arith, few);
+      stops = stops;
+      printed = digits_printed (take n xs) digits;
+      says = whole_is (take n xs) false value (sign_kept n xs few.0 ∙ sign) number;
+    }
+
+-- digits up to a byte, behind a minus sign or none, are a whole number
+pub whole_before : (xs : List ℕ) (stop value n : ℕ) → (0 < n) × (n ≤ 19) × (n < length (unsigned xs)) → get_or (unsigned xs) n 0 ≡ stop → list_all is_digit (take n (unsigned xs)) ≡ true → value ≡ value_on 0 (take n (unsigned xs))
+    → BeginsWithWhole xs stop (signed (has_sign xs) value) (length xs - length (unsigned xs) + n)
+whole_before [] stop value n few stops digits is = absurd (omega (arith, few))
+whole_before (b ∷ bs) stop value n few stops digits is = whole_before_by b bs stop value n (eqb b 45) refl few stops digits is

@@ -1,10 +1,12 @@
 -- The statements.
-use Rattle.std.specs.Prelude.{ℕ, ◌+◌, ◌-◌, ◌*◌, Bool, true, false, List, [], ◌∷◌, length, drop, fold, filter, Option, None, Some, Result, Ok, Err, ◌==◌, ◌&&◌, nat_lt, nat_le, if◌then◌else◌, codes, slice_index_or}
+use Rattle.std.specs.Prelude.{ℕ, ◌+◌, ◌-◌, ◌*◌, ℤ, pos, neg_ℤ, int_le, Bool, true, false, List, [], ◌∷◌, length, drop, fold, filter, Option, None, Some, Result, Ok, Err, ◌==◌, ◌&&◌, nat_lt, nat_le, if◌then◌else◌, codes, slice_index_or}
 use Rattle.std.specs.Str.{bytes_eq}
 use Rattle.std.specs.List.{list_all, slice_split, before_first, after_first}
 use Rattle.std.specs.Option.{option_zip, option_and_then, option_map, ok_or}
 use Rattle.crack_row.specs.Ranges.{Range}
-use Rattle.crack_row.specs.declared.TheConstants.{GREATEST_KEY, GREATEST_PAYLOAD, GREATEST_BOUND}
+use Rattle.crack_row.specs.declared.Key.{Key}
+use Rattle.crack_row.specs.declared.Payload.{Payload}
+use Rattle.crack_row.specs.declared.TheConstants.{GREATEST_KEY, LEAST_PAYLOAD, GREATEST_PAYLOAD, GREATEST_BOUND}
 use Rattle.crack_row.specs.declared.RowNo.{RowNo}
 use Rattle.crack_row.specs.declared.command.Policy.{Policy as Merging}
 use Rattle.crack_row.specs.declared.command.Policy.TheVariants.{Complete, Gradual, Ripple}
@@ -35,14 +37,48 @@ is_digit b = nat_le 48 b && nat_lt b 58
 abbrev pub number_of : List ℕ → Option ℕ
 number_of word = if is_word word && nat_le (length word) MOST_DIGITS && list_all is_digit word then Some (fold (λ n b. n * 10 + (b - 48)) 0 word) else None
 
+-- whether a minus sign stands at the front
+abbrev pub has_sign : List ℕ → Bool
+has_sign [] = false
+has_sign (b ∷ bs) = b == 45
+
+-- what stands behind a minus sign at the front, if there is one
+abbrev pub unsigned : List ℕ → List ℕ
+unsigned word = if has_sign word then drop 1 word else word
+
+-- a number, or its opposite
+abbrev pub signed : Bool → ℕ → ℤ
+signed is_negative n = if is_negative then neg_ℤ (pos n) else pos n
+
+-- a whole number: a NUMBER, and right before it a minus sign or none
+abbrev pub whole_number_of : List ℕ → Option ℤ
+whole_number_of word = option_map (signed (has_sign word)) (number_of (unsigned word))
+
 -- the two NUMBERs that these words are, if they are that and no more
 abbrev pub two_numbers : List (List ℕ) → Option (ℕ × ℕ)
 two_numbers (first ∷ second ∷ []) = option_zip (number_of first) (number_of second)
 two_numbers _ = None
 
--- the same of a key and a payload, if they are small enough
-abbrev pub key_and_payload : List (List ℕ) → Option (ℕ × ℕ)
-key_and_payload words = option_and_then (λ n. if nat_le n.0 GREATEST_KEY && nat_le n.1 GREATEST_PAYLOAD then Some n else None) (two_numbers words)
+-- the key of this number, if it is at most the greatest
+abbrev pub key_from : ℕ → Option Key
+key_from n = if nat_le n GREATEST_KEY then Some (record { 0 = n }) else None
+
+-- the payload of this whole number, if it is neither below the least nor above the greatest
+abbrev pub payload_from : ℤ → Option Payload
+payload_from z = if int_le LEAST_PAYLOAD z && int_le z GREATEST_PAYLOAD then Some (record { 0 = z }) else None
+
+-- a key: a NUMBER that is at most the greatest
+abbrev pub key_of : List ℕ → Option Key
+key_of word = option_and_then key_from (number_of word)
+
+-- a payload: a whole number that is neither below the least nor above the greatest
+abbrev pub payload_of : List ℕ → Option Payload
+payload_of word = option_and_then payload_from (whole_number_of word)
+
+-- the key and the payload that these words are, if they are that and no more
+abbrev pub key_and_payload : List (List ℕ) → Option (Key × Payload)
+key_and_payload (key ∷ payload ∷ []) = option_zip (key_of key) (payload_of payload)
+key_and_payload _ = None
 
 -- a NUMBER that is at most the greatest
 abbrev pub number_up_to : ℕ → List ℕ → Option ℕ
@@ -77,9 +113,9 @@ over statement None = Err BadStatement
 -- the statement of this name and these arguments
 abbrev pub named : List ℕ → List (List ℕ) → Reading
 named name arguments =
-    if bytes_eq name (codes "insert") then made (λ n. Insert (record { 0 = n.0 }) (record { 0 = n.1 })) (key_and_payload arguments)
+    if bytes_eq name (codes "insert") then made (λ n. Insert n.0 n.1) (key_and_payload arguments)
     else if bytes_eq name (codes "delete") then made Delete (row_number_of (only_word arguments))
-    else if bytes_eq name (codes "update") then made (λ u. Update u.0 (record { 0 = u.1.0 }) (record { 0 = u.1.1 })) (option_zip (row_number_of (slice_index_or arguments 0 [])) (key_and_payload (drop 1 arguments)))
+    else if bytes_eq name (codes "update") then made (λ u. Update u.0 u.1.0 u.1.1) (option_zip (row_number_of (slice_index_or arguments 0 [])) (key_and_payload (drop 1 arguments)))
     else if bytes_eq name (codes "count") then over Count (two_numbers arguments)
     else if bytes_eq name (codes "sum") then over Sum (two_numbers arguments)
     else if bytes_eq name (codes "select") then over Select (two_numbers arguments)

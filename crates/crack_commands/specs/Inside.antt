@@ -1,20 +1,22 @@
 -- What private clauses alone cite.
-use Rattle.std.specs.Prelude.{◌≡◌, ℕ, ◌+◌, ◌-◌, ◌*◌, fold, Bool, true, false, List, [], ◌∷◌, ◌++◌, length, drop, Option, Some, None, Result, Ok, Err, nat_le, ◌==◌, ◌||◌, ◌&&◌, slice_index_or, codes, decimal, if◌then◌else◌}
-use Rattle.std.specs.Option.{option_and_then, option_zip}
-use Rattle.std.specs.List.{flat_map}
+use Rattle.std.specs.Prelude.{◌≡◌, ℕ, ◌+◌, ◌-◌, ◌*◌, ◌<◌, ◌≤◌, ℤ, fold, Bool, true, false, List, [], ◌∷◌, ◌++◌, length, take, drop, Option, Some, None, Result, Ok, Err, nat_le, nat_lt, slice_index, ◌==◌, ◌||◌, ◌&&◌, slice_index_or, codes, decimal, if◌then◌else◌}
+use Rattle.std.specs.Option.{option_zip}
+use Rattle.std.specs.List.{flat_map, list_all}
 use Rattle.std.specs.Int.{bit_at}
+use Rattle.crack_row.specs.declared.Key.{Key}
+use Rattle.crack_row.specs.declared.Payload.{Payload}
 use Rattle.crack_row.specs.declared.Row.{Row}
 use Rattle.crack_row.specs.declared.Serial.{Serial}
 use Rattle.crack_row.specs.declared.layout.Layout.{Layout}
 use Rattle.crack_row.specs.Ranges.{Range}
-use Rattle.crack_row.specs.declared.TheConstants.{GREATEST_KEY, GREATEST_PAYLOAD, GREATEST_BOUND}
+use Rattle.crack_row.specs.declared.TheConstants.{GREATEST_BOUND}
 use Rattle.crack_row.specs.declared.RowNo.{RowNo}
 use Rattle.crack_row.specs.declared.refusal.Refusal.{Refusal}
 use Rattle.crack_row.specs.declared.refusal.Refusal.TheVariants.{BadStatement, BadRange}
 use Rattle.crack_commands.specs.declared.words.TheConstants.{GREATEST_PART}
 use Rattle.crack_commands.specs.declared.statement.Statement.TheVariants.{Insert, Delete, Update, Layout as AsksLayout, Checkpoint, Policy, Quit}
-use Rattle.crack_commands.specs.Grammar.{Reading, is_word, words, number_of, number_up_to, row_number_of, key_and_payload, only_word, policy_named, made}
-use Rattle.crack_commands.specs.Texts.{head_text, row_text, field_text}
+use Rattle.crack_commands.specs.Grammar.{Reading, is_word, words, is_digit, number_of, whole_number_of, number_up_to, row_number_of, key_and_payload, only_word, policy_named, made}
+use Rattle.crack_commands.specs.Texts.{key_text, payload_text, head_text, row_text, field_text}
 
 -- whether there is a space
 abbrev pub has_space : List ℕ → Bool
@@ -30,9 +32,29 @@ pub record IsFirstWord (bytes word rest : List ℕ) : Type 0 where
 abbrev pub IsFirstNumber : List ℕ → Option ℕ → List ℕ → Type 0
 IsFirstNumber bytes number rest = (word : List ℕ) × IsFirstWord bytes word rest × (number ≡ number_of word)
 
+-- the whole number that the first of the words is, if it is one, and what stands behind that word
+abbrev pub IsFirstWholeNumber : List ℕ → Option ℤ → List ℕ → Type 0
+IsFirstWholeNumber bytes number rest = (word : List ℕ) × IsFirstWord bytes word rest × (number ≡ whole_number_of word)
+
 -- the number that digits spell, behind others
 abbrev pub value_on : ℕ → List ℕ → ℕ
 value_on n word = fold (λ n b. n * 10 + (b - 48)) n word
+
+-- Bytes begin with digits, few of them, which end at a space or with the bytes: the number that they spell, and what stands behind them.
+pub record BeginsWithDigits (bytes : List ℕ) (number : ℕ) (rest : List ℕ) : Type 0 where
+  pub count : ℕ
+  pub few : (0 < count) × (count ≤ 19) × (count ≤ length bytes)
+  pub digits : list_all is_digit (take count bytes) ≡ true
+  pub value : number ≡ value_on 0 (take count bytes)
+  pub ends : count < length bytes → slice_index bytes count ≡ 32
+  pub behind : rest ≡ drop count bytes
+
+-- Bytes begin with a whole number of so many bytes, few of them, behind which this byte stands.
+pub record BeginsWithWhole (bytes : List ℕ) (stop : ℕ) (number : ℤ) (count : ℕ) : Type 0 where
+  pub few : (0 < count) × (count ≤ 20) × (count < length bytes)
+  pub stops : slice_index bytes count ≡ stop
+  pub printed : list_all (nat_lt 32) (take count bytes) ≡ true
+  pub says : whole_number_of (take count bytes) ≡ Some number
 
 -- a row that was placed
 abbrev pub placed_text : ℕ → Serial → List ℕ
@@ -40,7 +62,7 @@ placed_text part serial = codes "row " ++ decimal part ++ codes "." ++ decimal s
 
 -- a row that was taken out
 abbrev pub gone_text : Row → List ℕ
-gone_text row = codes "gone " ++ decimal row.key.0 ++ codes " " ++ decimal row.payload.0 ++ codes "\n"
+gone_text row = codes "gone " ++ key_text row.key ++ codes " " ++ payload_text row.payload ++ codes "\n"
 
 -- rows of a partition: how many there are, and then each of them
 abbrev pub rows_text : ℕ → List Row → List ℕ
@@ -71,25 +93,21 @@ bit_text bits number = if has_bit bits number then field_text number else []
 abbrev pub refused_text : ℕ → List ℕ → List ℕ
 refused_text code carried = codes "refused " ++ decimal code ++ carried ++ codes "\n"
 
--- a key and a payload are small enough
-abbrev pub is_row : ℕ → ℕ → Bool
-is_row key payload = nat_le key GREATEST_KEY && nat_le payload GREATEST_PAYLOAD
-
 -- `insert K V`
 abbrev pub insert_of : List (List ℕ) → Reading
-insert_of arguments = made (λ n. Insert (record { 0 = n.0 }) (record { 0 = n.1 })) (key_and_payload arguments)
+insert_of arguments = made (λ n. Insert n.0 n.1) (key_and_payload arguments)
 
 -- `delete P.S`
 abbrev pub delete_of : List (List ℕ) → Reading
 delete_of arguments = made Delete (row_number_of (only_word arguments))
 
 -- an update of this row to this key and payload
-abbrev pub update_from : Option RowNo → Option (ℕ × ℕ) → Reading
-update_from row pair = made (λ u. Update u.0 (record { 0 = u.1.0 }) (record { 0 = u.1.1 })) (option_zip row (option_and_then (λ n. if is_row n.0 n.1 then Some n else None) pair))
+abbrev pub update_from : Option RowNo → Option (Key × Payload) → Reading
+update_from row pair = made (λ u. Update u.0 u.1.0 u.1.1) (option_zip row pair)
 
 -- `update P.S K V`
 abbrev pub update_of : List (List ℕ) → Reading
-update_of arguments = made (λ u. Update u.0 (record { 0 = u.1.0 }) (record { 0 = u.1.1 })) (option_zip (row_number_of (slice_index_or arguments 0 [])) (key_and_payload (drop 1 arguments)))
+update_of arguments = made (λ u. Update u.0 u.1.0 u.1.1) (option_zip (row_number_of (slice_index_or arguments 0 [])) (key_and_payload (drop 1 arguments)))
 
 -- the range between these ends, which alone are refused as a bad range
 abbrev pub range_from : Option (ℕ × ℕ) → Result Range Refusal

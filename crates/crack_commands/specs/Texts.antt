@@ -1,8 +1,12 @@
 -- The texts of replies, layouts and refusals, in lines.
-use Rattle.std.specs.Prelude.{ℕ, ◌<◌, ◌==◌, List, [], ◌++◌, length, take, filter, Option, codes, decimal}
+use Rattle.std.specs.Prelude.{ℕ, ℤ, ◌<◌, ◌==◌, List, [], ◌++◌, length, take, filter, Option, codes, decimal}
 use Rattle.std.specs.List.{flat_map, range_with_len}
 use Rattle.std.specs.Int.{bit_at}
+use Rattle.std.specs.Fmt.{signed_decimal}
 use Rattle.std.specs.Io.KnownBytes.{Appends}
+use Rattle.crack_row.specs.declared.Bound.{Bound}
+use Rattle.crack_row.specs.declared.Key.{Key}
+use Rattle.crack_row.specs.declared.Payload.{Payload}
 use Rattle.crack_row.specs.declared.Row.{Row}
 use Rattle.crack_row.specs.declared.command.Policy.{Policy}
 use Rattle.crack_row.specs.declared.command.Policy.TheVariants.{Complete, Gradual, Ripple}
@@ -13,14 +17,31 @@ use Rattle.crack_row.specs.declared.layout.PieceSize.{PieceSize}
 use Rattle.crack_row.specs.declared.refusal.Refusal.{Refusal}
 use Rattle.crack_row.specs.declared.refusal.Refusal.TheVariants.{HistoryFull, WorkersMissing, StrangeReceipt, BadRecord}
 use Rattle.crack_row.specs.Refusals.{code_of}
+use Rattle.crack_row.specs.Rows.{amount}
+
+-- a whole number: its digits, and a minus sign before them where it is below 0
+abbrev pub whole_text : ℤ → List ℕ
+whole_text number = signed_decimal number
+
+-- a key
+abbrev pub key_text : Key → List ℕ
+key_text key = decimal key.0
+
+-- a payload
+abbrev pub payload_text : Payload → List ℕ
+payload_text payload = whole_text (amount payload)
+
+-- an end of a range
+abbrev pub bound_text : Bound → List ℕ
+bound_text bound = decimal bound.0
 
 -- a number of rows
 abbrev pub count_text : ℕ → List ℕ
 count_text count = codes "count " ++ decimal count ++ codes "\n"
 
 -- a sum of payloads
-abbrev pub sum_text : ℕ → List ℕ
-sum_text sum = codes "sum " ++ decimal sum ++ codes "\n"
+abbrev pub sum_text : ℤ → List ℕ
+sum_text sum = codes "sum " ++ whole_text sum ++ codes "\n"
 
 -- the line above rows: how many there are
 abbrev pub head_text : ℕ → List ℕ
@@ -28,12 +49,12 @@ head_text total = codes "rows " ++ decimal total ++ codes "\n"
 
 -- a row of a partition
 abbrev pub row_text : ℕ → Row → List ℕ
-row_text part row = decimal part ++ codes "." ++ decimal row.serial.0 ++ codes " " ++ decimal row.key.0 ++ codes " " ++ decimal row.payload.0 ++ codes "\n"
+row_text part row = decimal part ++ codes "." ++ decimal row.serial.0 ++ codes " " ++ key_text row.key ++ codes " " ++ payload_text row.payload ++ codes "\n"
 
 -- the reply of a partition
 abbrev pub reply_text : ℕ → Reply → List ℕ
 reply_text part (Placed serial) = codes "row " ++ decimal part ++ codes "." ++ decimal serial.0 ++ codes "\n"
-reply_text part (Gone row) = codes "gone " ++ decimal row.key.0 ++ codes " " ++ decimal row.payload.0 ++ codes "\n"
+reply_text part (Gone row) = codes "gone " ++ key_text row.key ++ codes " " ++ payload_text row.payload ++ codes "\n"
 reply_text part Changed = codes "changed\n"
 reply_text part NoRow = codes "none\n"
 reply_text part (Counted count) = count_text count
@@ -42,7 +63,7 @@ reply_text part (Rows rows) = head_text (length rows) ++ flat_map (row_text part
 
 -- a piece of a column
 abbrev pub piece_text : PieceSize → List ℕ
-piece_text piece = codes "piece " ++ decimal piece.low.0 ++ codes " " ++ decimal piece.high.0 ++ codes " " ++ decimal piece.size ++ codes "\n"
+piece_text piece = codes "piece " ++ bound_text piece.low ++ codes " " ++ bound_text piece.high ++ codes " " ++ decimal piece.size ++ codes "\n"
 
 -- the layout of a partition: its numbers, and a line for each piece
 abbrev pub layout_text : ℕ → Layout → List ℕ

@@ -2,11 +2,10 @@
 ghost use Rattle.std.specs.Prelude.{◌≡◌, ◌<◌, ◌≤◌, true, length, take, slice_index, IfSome};
 ghost use Rattle.std.specs.List.{list_all};
 ghost use Rattle.crack_commands.specs.Grammar.{is_digit};
-ghost use Rattle.crack_commands.specs.Inside.{value_on};
+ghost use Rattle.crack_commands.specs.Inside.{BeginsWithWhole, value_on};
 ghost use Rattle.crack_commands.specs.LeadingInsert.{BeginsWithInsert};
 
-use crate::statement::is_row;
-use crate::words::{SHORT_DIGITS, leading_digits};
+use crate::words::{SHORT_DIGITS, has_sign, leading_digits, row_from, signed, unsigned};
 use crack_row::{Key, Payload};
 
 /// The name of the statement with the space behind it.
@@ -29,15 +28,24 @@ pub fn leading_insert(bytes: &[u8]) -> Option<LeadingInsert>
 {
     let rest = bytes.strip_prefix(NAME)?;
     let (key, first) = number_before(rest, b' ')?;
-    let (payload, second) = number_before(&rest[first + 1..], b'\n')?;
-    if !is_row(key as u128, payload as u128) {
-        return None;
-    }
+    let (payload, second) = whole_number_before(&rest[first + 1..], b'\n')?;
+    let (key, payload) = row_from(key as u128, payload)?;
     Some(LeadingInsert {
-        key: Key(key as u32),
-        payload: Payload(payload as u32),
+        key,
+        payload,
         len: NAME.len() + first + 1 + second,
     })
+}
+
+/// The whole number that bytes begin with, and how many bytes it takes, where this byte stands behind it.
+#[inline(always)]
+fn whole_number_before(bytes: &[u8], stop: u8) -> Option<(i128, usize)>
+    ensures { IfSome result (λ n. BeginsWithWhole bytes.now stop n.0 n.1) }
+{
+    let digits = unsigned(bytes);
+    let (value, count) = number_before(digits, stop)?;
+    let number = signed(has_sign(bytes), value as u128);
+    Some((number, bytes.len() - digits.len() + count))
 }
 
 /// The number that bytes begin with, and how many digits it has, where this byte stands behind them.

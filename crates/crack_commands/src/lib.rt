@@ -14,4 +14,4 @@ pub use text::{
     policy_line, write_count, write_each_row, write_folded, write_head, write_layout,
     write_refusal, write_reply, write_row, write_sum, write_text,
 };
-pub use words::read_number_up_to;
+pub use words::{read_key, read_number_up_to, read_payload};

@@ -1,11 +1,13 @@
 //! The statement language.
 ghost use Rattle.std.specs.Prelude.{◌≡◌, ◌∷◌, codes, Some, IfSome};
 ghost use Rattle.crack_commands.specs.Grammar.{statement_of, words, named, two_numbers, over, policy_named};
-ghost use Rattle.crack_commands.specs.Inside.{insert_of, delete_of, update_of, update_from, range_from, layout_of, checkpoint_of, policy_of, quit_of, is_row};
+ghost use Rattle.crack_commands.specs.Inside.{insert_of, delete_of, update_of, update_from, range_from, layout_of, checkpoint_of, policy_of, quit_of};
 ghost use Rattle.crack_commands.specs.declared.statement.Statement.TheVariants.{Count, Sum, Select};
 
-use crate::words::{next_word, only_word, read_part, read_row_number, two_numbers};
-use crack_row::{GREATEST_KEY, GREATEST_PAYLOAD, Key, KeyRange, Payload, Policy, Refusal, RowNo};
+use crate::words::{
+    key_and_payload, next_word, only_word, read_part, read_row_number, two_numbers,
+};
+use crack_row::{Key, KeyRange, Payload, Policy, Refusal, RowNo};
 
 /// What a line asks.
 #[derive(Clone, Copy, Debug)]
@@ -96,20 +98,10 @@ fn parse_named(name: &[u8], rest: &[u8]) -> Result<Statement, Refusal>
 fn parse_insert(rest: &[u8]) -> Result<Statement, Refusal>
     ensures { result ≡ insert_of (words rest.now) }
 {
-    match two_numbers(rest) {
-        Some((key, payload)) if is_row(key, payload) => Ok(Statement::Insert {
-            key: Key(key as u32),
-            payload: Payload(payload as u32),
-        }),
-        _ => Err(Refusal::BadStatement),
+    match key_and_payload(rest) {
+        Some((key, payload)) => Ok(Statement::Insert { key, payload }),
+        None => Err(Refusal::BadStatement),
     }
-}
-
-/// Whether a key and a payload are small enough.
-pub(crate) fn is_row(key: u128, payload: u128) -> bool
-    ensures { result ≡ is_row key payload }
-{
-    key <= GREATEST_KEY as u128 && payload <= GREATEST_PAYLOAD as u128
 }
 
 /// A delete of the one word behind its name.
@@ -128,22 +120,18 @@ fn parse_update(rest: &[u8]) -> Result<Statement, Refusal>
 {
     let (word, rest) = next_word(rest);
     match read_row_number(word) {
-        Some(row) => update_from(row, two_numbers(rest)),
+        Some(row) => update_from(row, key_and_payload(rest)),
         None => Err(Refusal::BadStatement),
     }
 }
 
-/// An update of a row to a key and a payload, where these are small enough.
-fn update_from(row: RowNo, pair: Option<(u128, u128)>) -> Result<Statement, Refusal>
+/// An update of a row to a key and a payload, if there are any.
+fn update_from(row: RowNo, pair: Option<(Key, Payload)>) -> Result<Statement, Refusal>
     ensures { result ≡ update_from (Some row) pair }
 {
     match pair {
-        Some((key, payload)) if is_row(key, payload) => Ok(Statement::Update {
-            row,
-            key: Key(key as u32),
-            payload: Payload(payload as u32),
-        }),
-        _ => Err(Refusal::BadStatement),
+        Some((key, payload)) => Ok(Statement::Update { row, key, payload }),
+        None => Err(Refusal::BadStatement),
     }
 }
 

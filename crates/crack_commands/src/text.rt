@@ -3,16 +3,18 @@ ghost use Rattle.std.specs.Prelude.{◌≡◌, ◌+◌, ◌<◌, ◌≤◌, ◌+
 ghost use Rattle.std.specs.Io.KnownBytes.{Appends};
 ghost use Rattle.crack_row.specs.Devices.{device, has_failed};
 ghost use Rattle.std.specs.List.{flat_map};
-ghost use Rattle.crack_commands.specs.Texts.{reply_text, count_text, sum_text, head_text, row_text, layout_text, piece_text, folded_text, policy_text, refusal_text, field_text, bits_text, AppendsFront};
+ghost use Rattle.crack_commands.specs.Texts.{whole_text, key_text, payload_text, bound_text, reply_text, count_text, sum_text, head_text, row_text, layout_text, piece_text, folded_text, policy_text, refusal_text, field_text, bits_text, AppendsFront};
 ghost use Rattle.crack_commands.specs.Inside.{placed_text, gone_text, rows_text, layout_head, two_fields, refused_text, has_bit, bit_text};
 
 use crate::output::send;
 use arrayvec::ArrayVec;
-use crack_row::{Layout, PieceSize, Policy, Refusal, Reply, Row, Serial, Watched};
+use crack_row::{
+    Bound, Key, Layout, Payload, PieceSize, Policy, Refusal, Reply, Row, Serial, Watched,
+};
 use std::io::Write;
 
-/// Room for a line of text, or a part of one: words, up to four numbers of 20 digits, and a line feed.
-const TEXT_BYTES: usize = 96;
+/// Room for a line of text, or a part of one. The longest is a piece's: a word, two bounds of up to 40 digits, a size of 20, and four bytes more.
+const TEXT_BYTES: usize = 112;
 
 /// A line of text in the making.
 type Text = ArrayVec<u8, TEXT_BYTES>;
@@ -85,9 +87,9 @@ fn write_gone<W: Write>(row: &Row, writer: &mut Watched<W>) -> Result<(), Refusa
 {
     let mut text = Text::new();
     push(&mut text, b"gone ");
-    push_number(&mut text, row.key.0 as u64);
+    push_key(&mut text, row.key);
     push(&mut text, b" ");
-    push_number(&mut text, row.payload.0 as u64);
+    push_payload(&mut text, row.payload);
     push(&mut text, b"\n");
     send(writer, text.as_slice())
 }
@@ -107,7 +109,7 @@ pub fn write_count<W: Write>(count: u64, writer: &mut Watched<W>) -> Result<(), 
 }
 
 /// Writes the line of a sum.
-pub fn write_sum<W: Write>(sum: u128, writer: &mut Watched<W>) -> Result<(), Refusal>
+pub fn write_sum<W: Write>(sum: i128, writer: &mut Watched<W>) -> Result<(), Refusal>
     ensures ok { OnOk result (Appends (W.contents (device writer.old)) (W.contents (device writer.new)) (sum_text sum)) }
     ensures unfailed { OnOk result (has_failed writer.new ≡ has_failed writer.old) }
     ensures err { IfErr result (λ e. (e ≡ Refusal.WriteFault) × (has_failed writer.new ≡ true)) }
@@ -115,7 +117,7 @@ pub fn write_sum<W: Write>(sum: u128, writer: &mut Watched<W>) -> Result<(), Ref
 {
     let mut text = Text::new();
     push(&mut text, b"sum ");
-    push_wide_number(&mut text, sum);
+    push_whole(&mut text, sum);
     push(&mut text, b"\n");
     send(writer, text.as_slice())
 }
@@ -188,9 +190,9 @@ pub fn write_row<W: Write>(part: u32, row: &Row, writer: &mut Watched<W>) -> Res
     push(&mut text, b".");
     push_number(&mut text, row.serial.0);
     push(&mut text, b" ");
-    push_number(&mut text, row.key.0 as u64);
+    push_key(&mut text, row.key);
     push(&mut text, b" ");
-    push_number(&mut text, row.payload.0 as u64);
+    push_payload(&mut text, row.payload);
     push(&mut text, b"\n");
     send(writer, text.as_slice())
 }
@@ -279,9 +281,9 @@ fn write_piece<W: Write>(piece: &PieceSize, writer: &mut Watched<W>) -> Result<(
 {
     let mut text = Text::new();
     push(&mut text, b"piece ");
-    push_number(&mut text, piece.low.0);
+    push_bound(&mut text, piece.low);
     push(&mut text, b" ");
-    push_number(&mut text, piece.high.0);
+    push_bound(&mut text, piece.high);
     push(&mut text, b" ");
     push_number(&mut text, piece.size);
     push(&mut text, b"\n");
@@ -431,6 +433,55 @@ fn push_field(text: &mut Text, number: u64)
 {
     push(text, b" ");
     push_number(text, number);
+}
+
+/// Adds a key in decimal.
+#[inline(always)]
+fn push_key(text: &mut Text, key: Key)
+    requires { length text.old.items + 20 ≤ TEXT_BYTES }
+    ensures digits { text.new.items ≡ text.old.items ++ key_text key }
+    ensures few { length text.new.items ≤ length text.old.items + 20 }
+{
+    push_number(text, key.number());
+}
+
+/// Adds a payload in decimal: 19 digits and a minus sign at most.
+#[inline(always)]
+fn push_payload(text: &mut Text, payload: Payload)
+    requires { length text.old.items + 20 ≤ TEXT_BYTES }
+    ensures digits { text.new.items ≡ text.old.items ++ payload_text payload }
+    ensures few { length text.new.items ≤ length text.old.items + 20 }
+{
+    let mut digits = itoa::Buffer::new();
+    push(text, digits.format(payload.number()).as_bytes());
+}
+
+/// Adds the end of a range in decimal: mostly one that 64 bits hold.
+fn push_bound(text: &mut Text, bound: Bound)
+    requires { length text.old.items + 40 ≤ TEXT_BYTES }
+    ensures digits { text.new.items ≡ text.old.items ++ bound_text bound }
+    ensures few { length text.new.items ≤ length text.old.items + 40 }
+{
+    match u64::try_from(bound.number()) {
+        Ok(number) => push_number(text, number),
+        Err(_) => push_wide_number(text, bound.number()),
+    }
+}
+
+/// Adds a whole number in decimal, a minus sign before it where it is below 0: 40 bytes at most.
+#[inline(always)]
+fn push_whole(text: &mut Text, number: i128)
+    requires { length text.old.items + 40 ≤ TEXT_BYTES }
+    ensures digits { text.new.items ≡ text.old.items ++ whole_text number }
+    ensures few { length text.new.items ≤ length text.old.items + 40 }
+{
+    match u64::try_from(number) {
+        Ok(small) => push_number(text, small),
+        Err(_) => {
+            let mut digits = itoa::Buffer::new();
+            push(text, digits.format(number).as_bytes());
+        }
+    }
 }
 
 /// Adds a number in decimal: 20 digits at most.

@@ -1,10 +1,14 @@
 //! Words and numbers among bytes.
-ghost use Rattle.std.specs.Prelude.{◌≡◌, ◌+◌, ◌^◌, ◌<◌, ◌≤◌, ◌≢◌, ◌↔◌, true, false, length, IsTrue, Some, take, ◌==◌, IfSome, slice_index};
+ghost use Rattle.std.specs.Prelude.{int_le, ◌&&◌, ◌≡◌, ◌+◌, ◌^◌, ◌<◌, ◌≤◌, ◌≢◌, ◌↔◌, true, false, length, IsTrue, Some, take, ◌==◌, IfSome, slice_index};
 ghost use Rattle.std.specs.List.{list_all, position_or_len};
-ghost use Rattle.crack_commands.specs.Grammar.{words, number_of, number_up_to, two_numbers, only_word, row_number_of, is_digit};
-ghost use Rattle.crack_commands.specs.Inside.{value_on, has_space, IsFirstWord, IsFirstNumber};
+ghost use Rattle.std.specs.Option.{option_zip};
+ghost use Rattle.crack_commands.specs.Grammar.{words, number_of, whole_number_of, has_sign, unsigned, signed, number_up_to, two_numbers, key_from, payload_from, key_of, payload_of, key_and_payload, only_word, row_number_of, is_digit};
+ghost use Rattle.crack_commands.specs.Inside.{value_on, has_space, IsFirstWord, IsFirstNumber, IsFirstWholeNumber, BeginsWithDigits};
 
-use crack_row::{RowNo, Serial};
+use crack_row::{
+    GREATEST_KEY, GREATEST_PAYLOAD, Key, KeyNumber, LEAST_PAYLOAD, Payload, PayloadNumber, RowNo,
+    Serial,
+};
 
 /// The greatest number of digits of a number in a statement, leading zeros counted.
 pub const MOST_DIGITS: usize = 20;
@@ -21,19 +25,121 @@ pub const GREATEST_PART: u32 = 4294967295;
 /// The greatest number that a statement names a row of a partition by.
 pub const GREATEST_SERIAL: u64 = 18446744073709551615;
 
+/// The key and the payload, where there are just two words, and they are such.
+#[inline(always)]
+pub fn key_and_payload(bytes: &[u8]) -> Option<(Key, Payload)>
+    ensures { result ≡ key_and_payload (words bytes.now) }
+{
+    if let Some((key, payload)) = two_short_words(bytes) {
+        if let Some(row) = row_from(key as u128, payload) {
+            return Some(row);
+        }
+    }
+    any_key_and_payload(bytes)
+}
+
+/// A number and a whole number, where there are just two words, these, each has at most `SHORT_DIGITS` digits, and no space stands behind them.
+#[inline(always)]
+fn two_short_words(bytes: &[u8]) -> Option<(u64, i128)>
+    ensures { IfSome result (λ pair. key_and_payload (words bytes.now) ≡ option_zip (key_from pair.0) (payload_from pair.1)) }
+{
+    let (key, rest) = short_number(bytes)?;
+    let (payload, rest) = short_whole_number(rest)?;
+    if rest.is_empty() {
+        Some((key, payload))
+    } else {
+        None
+    }
+}
+
+/// The same for numbers of any length, with any spaces.
+#[cold]
+#[inline(never)]
+fn any_key_and_payload(bytes: &[u8]) -> Option<(Key, Payload)>
+    ensures { result ≡ key_and_payload (words bytes.now) }
+{
+    let (key, rest) = next_word(bytes);
+    let (payload, rest) = next_word(rest);
+    let (more, _) = next_word(rest);
+    if more.is_empty() {
+        read_key(key).zip(read_payload(payload))
+    } else {
+        None
+    }
+}
+
+/// The key and the payload of two numbers, if they are such. Both are looked at, side by side.
+#[inline(always)]
+pub(crate) fn row_from(key: u128, payload: i128) -> Option<(Key, Payload)>
+    ensures { result ≡ option_zip (key_from key) (payload_from payload) }
+{
+    if is_key(key) & is_payload(payload) {
+        Some((
+            Key::from_number(key as KeyNumber),
+            Payload::from_number(payload as PayloadNumber),
+        ))
+    } else {
+        None
+    }
+}
+
+/// The key that a word is, if it is one.
+pub fn read_key(word: &[u8]) -> Option<Key>
+    ensures { result ≡ key_of word.now }
+{
+    match read_number(word) {
+        Some(number) if is_key(number) => Some(Key::from_number(number as KeyNumber)),
+        _ => None,
+    }
+}
+
+/// The payload that a word is, if it is one.
+pub fn read_payload(word: &[u8]) -> Option<Payload>
+    ensures { result ≡ payload_of word.now }
+{
+    match read_whole_number(word) {
+        Some(number) if is_payload(number) => Some(Payload::from_number(number as PayloadNumber)),
+        _ => None,
+    }
+}
+
+/// Whether a number is a key.
+fn is_key(number: u128) -> bool
+    ensures { IsTrue result ↔ (number ≤ GREATEST_KEY) }
+{
+    number <= GREATEST_KEY as u128
+}
+
+/// Whether a whole number is a payload.
+fn is_payload(number: i128) -> bool
+    ensures { result ≡ (int_le LEAST_PAYLOAD number && int_le number GREATEST_PAYLOAD) }
+{
+    LEAST_PAYLOAD as i128 <= number && number <= GREATEST_PAYLOAD as i128
+}
+
 /// The two numbers, where there are just two words and both are numbers.
 #[inline(always)]
 pub fn two_numbers(bytes: &[u8]) -> Option<(u128, u128)>
     ensures { result ≡ two_numbers (words bytes.now) }
 {
-    if let Some((first, rest)) = short_number(bytes) {
-        if let Some((second, rest)) = short_number(rest) {
-            if rest.is_empty() {
-                return Some((first as u128, second as u128));
-            }
-        }
+    match two_short_numbers(bytes) {
+        Some((first, second)) => Some((first as u128, second as u128)),
+        None => any_two_numbers(bytes),
     }
-    any_two_numbers(bytes)
+}
+
+/// The two numbers, where there are just two words, both are numbers of at most `SHORT_DIGITS` digits, and no space stands behind them.
+#[inline(always)]
+fn two_short_numbers(bytes: &[u8]) -> Option<(u64, u64)>
+    ensures { IfSome result (λ pair. two_numbers (words bytes.now) ≡ Some (pair.0, pair.1)) }
+{
+    let (first, rest) = short_number(bytes)?;
+    let (second, rest) = short_number(rest)?;
+    if rest.is_empty() {
+        Some((first, second))
+    } else {
+        None
+    }
 }
 
 /// The same for numbers of any length, with any spaces.
@@ -124,12 +230,60 @@ fn stop_at(word: &[u8]) -> usize
 fn short_number(bytes: &[u8]) -> Option<(u64, &[u8])>
     ensures { IfSome result (λ pair. IsFirstNumber bytes.now (Some pair.0) pair.1.now) }
 {
+    short_digits(without_spaces(bytes))
+}
+
+/// The whole number that the first word is, if it is one of at most `SHORT_DIGITS` digits,
+/// and what stands behind the word.
+#[inline(always)]
+fn short_whole_number(bytes: &[u8]) -> Option<(i128, &[u8])>
+    ensures { IfSome result (λ pair. IsFirstWholeNumber bytes.now (Some pair.0) pair.1.now) }
+{
     let word = without_spaces(bytes);
-    let (value, end) = leading_digits(&word[..word.len().min(SHORT_DIGITS)]);
-    if end > 0 && ends_at(word, end) {
-        Some((value, &word[end..]))
+    let (value, rest) = short_digits(unsigned(word))?;
+    Some((signed(has_sign(word), value as u128), rest))
+}
+
+/// The number of at most `SHORT_DIGITS` digits that bytes begin with, where a space stands behind it or nothing,
+/// and what stands behind it.
+#[inline(always)]
+fn short_digits(bytes: &[u8]) -> Option<(u64, &[u8])>
+    ensures { IfSome result (λ pair. BeginsWithDigits bytes.now pair.0 pair.1.now) }
+{
+    let (value, end) = leading_digits(&bytes[..bytes.len().min(SHORT_DIGITS)]);
+    if end > 0 && ends_at(bytes, end) {
+        Some((value, &bytes[end..]))
     } else {
         None
+    }
+}
+
+/// Whether a minus sign stands at the front.
+#[inline(always)]
+pub(crate) fn has_sign(bytes: &[u8]) -> bool
+    ensures { result ≡ has_sign bytes.now }
+{
+    !bytes.is_empty() && bytes[0] == b'-'
+}
+
+/// What stands behind a minus sign at the front, if there is one.
+#[inline(always)]
+pub(crate) fn unsigned(bytes: &[u8]) -> &[u8]
+    ensures { result.now ≡ unsigned bytes.now }
+{
+    if has_sign(bytes) { &bytes[1..] } else { bytes }
+}
+
+/// The number, or its opposite.
+#[inline(always)]
+pub(crate) fn signed(is_negative: bool, number: u128) -> i128
+    requires { number < 2 ^ 127 }
+    ensures { result ≡ signed is_negative number }
+{
+    if is_negative {
+        -(number as i128)
+    } else {
+        number as i128
     }
 }
 
@@ -205,9 +359,18 @@ fn block_value(block: &[u8]) -> u64
     value
 }
 
+/// A number of 1 to `MOST_DIGITS` digits, and right before it a minus sign or none.
+fn read_whole_number(word: &[u8]) -> Option<i128>
+    ensures { result ≡ whole_number_of word.now }
+{
+    let number = read_number(unsigned(word))?;
+    Some(signed(has_sign(word), number))
+}
+
 /// A number of 1 to `MOST_DIGITS` digits.
 fn read_number(word: &[u8]) -> Option<u128>
-    ensures { result ≡ number_of word.now }
+    ensures value { result ≡ number_of word.now }
+    ensures small { IfSome result (λ n. n < 2 ^ 127) }
 {
     if !word.is_empty() && word.len() <= MOST_DIGITS && all_digits(word) {
         Some(value_of(word))
@@ -234,7 +397,8 @@ fn is_digit(b: u8) -> bool
 fn value_of(word: &[u8]) -> u128
     requires digits { list_all is_digit word.now ≡ true }
     requires few { length word.now ≤ MOST_DIGITS }
-    ensures { result ≡ value_on 0 word.now }
+    ensures value { result ≡ value_on 0 word.now }
+    ensures below { result < 10 ^ length word.now }
 {
     let mut value: u128 = 0;
     for b in word {

@@ -10,7 +10,7 @@ ghost use Rattle.crack_core.specs.Opening.{splits_fault, limits_fault, AreParts}
 use crate::MOST_SPLITS;
 use crate::routes::keys_of_part;
 use crack_part::Partition;
-use crack_row::{Bound, GREATEST_BOUND, Limits, Refusal};
+use crack_row::{Bound, KeyRange, Limits, Refusal};
 use std::alloc::Global;
 
 /// What is wrong with splits, if anything: 11 where they don't rise strictly or one isn't 1 to `GREATEST_KEY`, else 12 where there are
@@ -65,12 +65,13 @@ pub fn open_partitions(
 fn is_rising(splits: &[Bound]) -> bool
     ensures { result ≡ is_rising 0 splits.now }
 {
-    let mut low = 0;
+    let all = KeyRange::all();
+    let mut low = all.low();
     for split in splits {
-        if split.0 <= low || split.0 >= GREATEST_BOUND {
+        if *split <= low || all.high() <= *split {
             return false;
         }
-        low = split.0;
+        low = *split;
     }
     true
 }

@@ -1,10 +1,11 @@
 //! Which partitions a key or a range meets, where splits cut the keys into partitions.
 ghost use Rattle.std.specs.Prelude.{◌≡◌, ◌+◌, ◌-◌, ◌<◌, ◌≤◌, [], ◌∷◌, length, IsOk, IfOk, IfErr, IfSome, IfNone};
 ghost use Rattle.crack_row.specs.Ranges.{IsIn};
+ghost use Rattle.crack_row.specs.declared.TheConstants.{GREATEST_BOUND};
 ghost use Rattle.crack_core.specs.Routes.{AreSplits, keys_of_part, route, parts_of};
 ghost use Rattle.smallvec.specs.SmallVec.{HasRoomFor};
 
-use crack_row::{Bound, GREATEST_BOUND, Key, KeyRange, Refusal};
+use crack_row::{Bound, Key, KeyRange, Refusal};
 use smallvec::SmallVec;
 use std::alloc::Global;
 
@@ -16,7 +17,7 @@ pub fn route(splits: &[Bound], key: Key) -> u32
     ensures there { result ≤ length splits.now }
     ensures within { IsIn (keys_of_part splits.now result) key.0 }
 {
-    splits_up_to(splits, u64::from(key.0)) as u32
+    splits_up_to(splits, key.bound()) as u32
 }
 
 /// The partitions that a range meets, in rising order, each with its part of the range; an empty range goes as it is to the partition in
@@ -38,8 +39,8 @@ pub fn parts_of(
         parts.push_reserved((part, range));
         return Ok(parts);
     }
-    let first = splits_up_to(splits, range.low().0);
-    let last = splits_up_to(splits, range.high().0 - 1);
+    let first = splits_up_to(splits, range.low());
+    let last = splits_below(splits, range.high());
     parts.reserve(last + 1 - first)?;
     push_parts(&mut parts, splits, range, first, last);
     Ok(parts)
@@ -53,11 +54,11 @@ pub fn only_part(splits: &[Bound], range: KeyRange) -> Option<u32>
     ensures several { IfNone result (1 < length (parts_of splits.now range)) }
     ensures filled { IfNone result (range.low < range.high) }
 {
-    let first = splits_up_to(splits, range.low().0);
+    let first = splits_up_to(splits, range.low());
     if range.is_empty() {
         return Some(first as u32);
     }
-    if range.high().0 > high_end(splits, first) {
+    if high_end(splits, first) < range.high() {
         return None;
     }
     Some(first as u32)
@@ -71,7 +72,7 @@ pub fn keys_of_part(splits: &[Bound], part: usize) -> KeyRange
 {
     let low = low_end(splits, part);
     let high = high_end(splits, part);
-    match KeyRange::new(u128::from(low), u128::from(high)) {
+    match KeyRange::between(low, high) {
         Ok(keys) => keys,
         Err(_) => unreachable!(),
     }
@@ -99,29 +100,43 @@ fn push_parts(
     }
 }
 
-/// How many splits are at or below a number. O(log splits).
-fn splits_up_to(splits: &[Bound], number: u64) -> usize
+/// How many splits are at or below a bound. O(log splits).
+fn splits_up_to(splits: &[Bound], bound: Bound) -> usize
     requires { AreSplits splits.now }
-    ensures value { result ≡ route splits.now number }
+    ensures value { result ≡ route splits.now bound.0 }
     ensures within { result ≤ length splits.now }
 {
-    splits.partition_point(|split| split.0 <= number)
+    splits.partition_point(|split| *split <= bound)
+}
+
+/// How many splits are below a bound. O(log splits).
+fn splits_below(splits: &[Bound], bound: Bound) -> usize
+    requires splits { AreSplits splits.now }
+    requires above { 0 < bound.0 }
+    ensures value { result ≡ route splits.now (bound.0 - 1) }
+    ensures within { result ≤ length splits.now }
+{
+    splits.partition_point(|split| *split < bound)
 }
 
 /// The low end of a partition's keys.
-fn low_end(splits: &[Bound], part: usize) -> u64
+fn low_end(splits: &[Bound], part: usize) -> Bound
     requires { part ≤ length splits.now }
-    ensures { result ≡ (keys_of_part splits.now part).low }
+    ensures { result.0 ≡ (keys_of_part splits.now part).low }
 {
-    if part == 0 { 0 } else { splits[part - 1].0 }
+    if part == 0 {
+        KeyRange::all().low()
+    } else {
+        splits[part - 1]
+    }
 }
 
 /// The high end of a partition's keys.
-fn high_end(splits: &[Bound], part: usize) -> u64
-    ensures { result ≡ (keys_of_part splits.now part).high }
+fn high_end(splits: &[Bound], part: usize) -> Bound
+    ensures { result.0 ≡ (keys_of_part splits.now part).high }
 {
     match splits.get(part) {
-        Some(split) => split.0,
-        None => GREATEST_BOUND,
+        Some(split) => *split,
+        None => KeyRange::all().high(),
     }
 }

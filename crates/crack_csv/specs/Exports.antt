@@ -1,5 +1,5 @@
 -- What `export_csv` leaves.
-use Rattle.std.specs.Prelude.{◌≡◌, ℕ, ◌+◌, ◌<◌, ◌⊎◌, List, [], ◌∷◌, ◌++◌, length, map, take, slice_get, Option, Some, Err, codes, decimal, Bool, true}
+use Rattle.std.specs.Prelude.{◌≡◌, ℕ, ◌+◌, ◌<◌, ◌⊎◌, List, [], ◌∷◌, ◌++◌, length, map, take, slice_get, Option, Some, Err, codes, Bool, true}
 use Rattle.std.specs.List.{concat, flat_map}
 use Rattle.std.specs.Io.KnownBytes.{Appends}
 use Rattle.csv.specs.Writing.{default_writer, row_text}
@@ -11,7 +11,7 @@ use Rattle.crack_row.specs.declared.refusal.Refusal.TheVariants.{OutOfMemory, Wr
 use Rattle.crack_plain.specs.Plain.{PlainView, rows_in}
 use Rattle.crack_core.specs.Routes.{keys_of_part}
 use Rattle.crack_core.specs.Steps.{Bounds, IsOutcome}
-use Rattle.crack_commands.specs.Texts.{AppendsFront}
+use Rattle.crack_commands.specs.Texts.{AppendsFront, key_text, payload_text}
 
 -- the text of the header
 abbrev pub header_text : List ℕ
@@ -19,7 +19,7 @@ header_text = row_text default_writer (codes "key" ∷ codes "payload" ∷ [])
 
 -- the text of a row's record: its key and its payload
 abbrev pub record_text : Row → List ℕ
-record_text row = row_text default_writer (decimal row.key.0 ∷ decimal row.payload.0 ∷ [])
+record_text row = row_text default_writer (key_text row.key ∷ payload_text row.payload ∷ [])
 
 -- the rows of a partition, in rising serial
 abbrev pub rows_at : List Bound → ℕ → PlainView → List Row

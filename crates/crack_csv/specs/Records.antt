@@ -17,9 +17,9 @@ abbrev pub without_header : List (List (List ℕ)) → List (List (List ℕ))
 without_header [] = []
 without_header (first ∷ records) = if is_header first then records else first ∷ records
 
--- the row that a record brings: it has just two fields, both NUMBERs, each at most the greatest of its kind
+-- the row that a record brings: it has just two fields, a key and a payload
 abbrev pub new_row_of : List (List ℕ) → Option NewRow
-new_row_of fields = option_map (λ n. record { key = record { 0 = n.0 }; payload = record { 0 = n.1 } }) (key_and_payload fields)
+new_row_of fields = option_map (λ n. record { key = n.0; payload = n.1 }) (key_and_payload fields)
 
 -- these are the first records of a text
 abbrev pub AreFirstOf : List ℕ → List (List (List ℕ)) → Type 0

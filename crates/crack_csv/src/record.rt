@@ -6,8 +6,8 @@ ghost use Rattle.csv.specs.declared.parser.State.TheVariants as st;
 ghost use Rattle.crack_csv.specs.Inside.{Fields, AreAllOf, unread_by, IsReady, IsBehind};
 ghost use Rattle.crack_csv.specs.Records.{is_header, new_row_of};
 
-use crack_commands::read_number_up_to;
-use crack_row::{GREATEST_KEY, GREATEST_PAYLOAD, Key, Payload, Refusal};
+use crack_commands::{read_key, read_payload};
+use crack_row::{Key, Payload, Refusal};
 use csv::{ByteRecord, ErrorKind, Reader};
 use std::io::Read;
 
@@ -23,8 +23,8 @@ pub fn new_row(fields: &ByteRecord) -> Option<NewRow>
     ensures { result ≡ new_row_of (fields_of fields.now) }
 {
     let (key, payload) = two_fields(fields)?;
-    let key = Key(read_number_up_to(GREATEST_KEY, key)?);
-    let payload = Payload(read_number_up_to(GREATEST_PAYLOAD, payload)?);
+    let key = read_key(key)?;
+    let payload = read_payload(payload)?;
     Some(NewRow { key, payload })
 }
 

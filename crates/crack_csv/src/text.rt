@@ -44,8 +44,8 @@ fn write_row(writer: &mut Writer<Vec<u8>>, row: &Row) -> Result<(), Refusal>
     let mut payload = itoa::Buffer::new();
     write_record(
         writer,
-        key.format(row.key.0).as_bytes(),
-        payload.format(row.payload.0).as_bytes(),
+        key.format(row.key.number()).as_bytes(),
+        payload.format(row.payload.number()).as_bytes(),
     )
 }
 

@@ -1,12 +1,17 @@
 //! What a worker asks next, drawn from a seed.
 
-use crack_row::{Bound, Command, Key, KeyRange, Payload, Refusal, Reply, Serial};
+use crack_row::{
+    Bound, BoundNumber, Command, Key, KeyNumber, KeyRange, Payload, PayloadNumber, Refusal, Reply,
+    Serial,
+};
 
 /// How many keys a partition has, but for the last one, which has all that are above.
 const PART_WIDTH: u32 = 1000;
 
 /// Where the three partitions meet.
-pub static SPLITS: [Bound; 2] = [Bound(1000), Bound(2000)];
+pub fn splits() -> [Bound; 2] {
+    [Bound::from_number(1000), Bound::from_number(2000)]
+}
 
 /// How many partitions there are.
 pub const PARTS: usize = 3;
@@ -36,6 +41,11 @@ impl Numbers {
     fn below(&mut self, most: u32) -> u32 {
         ((self.next() >> 32) as u32) % most.max(1)
     }
+}
+
+/// The key of this number.
+fn key_at(number: u32) -> Key {
+    Key::from_number(KeyNumber::from(number))
 }
 
 /// What a partition is asked.
@@ -116,7 +126,7 @@ impl Draws {
     fn insert(&mut self, part: u32) -> Command {
         Command::Insert {
             key: self.key(part),
-            payload: Payload(self.numbers.below(u32::MAX)),
+            payload: self.payload(),
         }
     }
 
@@ -124,18 +134,22 @@ impl Draws {
         Command::Update {
             serial: self.serial(part),
             key: self.key(part),
-            payload: Payload(self.numbers.below(u32::MAX)),
+            payload: self.payload(),
         }
     }
 
     fn key(&mut self, part: u32) -> Key {
         match self.numbers.below(32) {
-            0 => Key(self.numbers.below(PART_WIDTH * 3)),
-            _ => Key(
+            0 => key_at(self.numbers.below(PART_WIDTH * 3)),
+            _ => key_at(
                 part.wrapping_mul(PART_WIDTH)
                     .wrapping_add(self.numbers.below(PART_WIDTH)),
             ),
         }
+    }
+
+    fn payload(&mut self) -> Payload {
+        Payload::from_number(PayloadNumber::from(self.numbers.below(u32::MAX)))
     }
 
     /// The serial of a row that may be there: one of the last that were placed.
@@ -149,10 +163,10 @@ impl Draws {
         let low = part
             .wrapping_mul(PART_WIDTH)
             .wrapping_add(self.numbers.below(PART_WIDTH));
-        let wide = self.numbers.below(WIDEST);
+        let (low, wide) = (BoundNumber::from(low), self.numbers.below(WIDEST));
         let range = match self.numbers.below(32) {
             0 => Ok(KeyRange::all()),
-            _ => KeyRange::new(u128::from(low), u128::from(low) + u128::from(wide)),
+            _ => KeyRange::new(low, low + BoundNumber::from(wide)),
         };
         range.unwrap_or_default()
     }

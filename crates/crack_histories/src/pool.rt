@@ -1,6 +1,6 @@
 //! A table with its workers, each on a thread of its own.
 
-use crate::draws::{Asked, Draws, Question, SPLITS};
+use crate::draws::{Asked, Draws, Question, splits};
 use crate::gate::Restless;
 use crate::texts::{
     write_answer, write_base, write_checkpoint, write_entry, write_receipt, written,
@@ -114,7 +114,7 @@ impl Pool {
     pub fn open(alloc: Global, plan: Plan) -> Result<Pool, Refusal> {
         let (table, workers) = Table::open_with(
             alloc,
-            &SPLITS,
+            &splits(),
             plan.limits,
             u64::from(plan.workers),
         )?;

@@ -22,13 +22,21 @@ fn write_command<W: Write>(
     writer: &mut Watched<W>,
 ) -> Result<(), Refusal> {
     let line = match *command {
-        Command::Insert { key, payload } => { writeln!(writer, "insert {} {}", key.0, payload.0) }
+        Command::Insert { key, payload } => {
+            writeln!(writer, "insert {} {}", key.number(), payload.number())
+        }
         Command::Delete { serial } => writeln!(writer, "delete {part}.{}", serial.0),
         Command::Update {
             serial,
             key,
             payload,
-        } => writeln!(writer, "update {part}.{} {} {}", serial.0, key.0, payload.0),
+        } => writeln!(
+            writer,
+            "update {part}.{} {} {}",
+            serial.0,
+            key.number(),
+            payload.number()
+        ),
         Command::Count(range) => write_query("count", range, writer),
         Command::Sum(range) => write_query("sum", range, writer),
         Command::Select(range) => write_query("select", range, writer),
@@ -37,7 +45,7 @@ fn write_command<W: Write>(
 }
 
 fn write_query<W: Write>(name: &str, range: KeyRange, writer: &mut Watched<W>) -> io::Result<()> {
-    let (low, high) = (range.low().0, range.high().0);
+    let (low, high) = (range.low().number(), range.high().number());
     writeln!(writer, "{name} {low} {high}")
 }
 

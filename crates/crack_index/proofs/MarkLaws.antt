@@ -444,7 +444,7 @@ AreJoined-pieces low from (m ∷ ms) high to order rising between =
     let first = All-head (λ n. (low.0 ≤ n.bound.0) × (n.bound.0 ≤ high.0)) m ms between in
     let rest = All-tail (λ n. (low.0 ≤ n.bound.0) × (n.bound.0 ≤ high.0)) m ms between in
     let above = Rising-head m ms rising in
-    (refl, first.0, AreJoined-pieces m.bound m.position ms high to first.1 (Rising-tail m ms rising) (λ k d h. (omega (arith, (above k d h).bounds), (rest k d h).1)))
+    (refl, first.0, AreJoined-pieces (record { 0 = m.bound.0 }) m.position ms high to first.1 (Rising-tail m ms rising) (λ k d h. (omega (arith, (above k d h).bounds), (rest k d h).1)))
 
 -- the sizes add up to what lies between the ends
 pub sum_of_sizes : (low : Bound) (from : ℕ) (marks : List Mark) (high : Bound) (to : ℕ) → Rising marks → All (λ m. from ≤ m.position) marks → All (λ m. m.position ≤ to) marks → from ≤ to → sum_by (λ (p : PieceSize). p.size) (pieces_from low from marks high to) + from ≡ to
@@ -452,7 +452,7 @@ sum_of_sizes low from [] high to rising above below h = omega arith
 sum_of_sizes low from (m ∷ ms) high to rising above below h =
     let first : from ≤ m.position = above zero m (omega arith) in
     let last : m.position ≤ to = below zero m (omega arith) in
-    let rest = sum_of_sizes m.bound m.position ms high to (Rising-tail m ms rising) (λ k d l. (Rising-head m ms rising k d l).positions) (All-tail (λ x. x.position ≤ to) m ms below) last in
+    let rest = sum_of_sizes (record { 0 = m.bound.0 }) m.position ms high to (Rising-tail m ms rising) (λ k d l. (Rising-head m ms rising k d l).positions) (All-tail (λ x. x.position ≤ to) m ms below) last in
     let size : PieceSize → ℕ = λ p. p.size in
-    let step : sum_by size (pieces_from low from (m ∷ ms) high to) ≡ (m.position - from) + sum_by size (pieces_from m.bound m.position ms high to) = sum_by-cons size (size_between low from m.bound m.position) (pieces_from m.bound m.position ms high to) in
+    let step : sum_by size (pieces_from low from (m ∷ ms) high to) ≡ (m.position - from) + sum_by size (pieces_from (record { 0 = m.bound.0 }) m.position ms high to) = sum_by-cons size (size_between low from (record { 0 = m.bound.0 }) m.position) (pieces_from (record { 0 = m.bound.0 }) m.position ms high to) in
     omega (arith, rest, step)

@@ -6,6 +6,7 @@ use Rattle.std.proofs.lemmas.Bool.{cases_eq, cases_lt, lt-ltb, le-ltb, lt-leb, l
 use Rattle.std.proofs.lemmas.List.{map-append, length-map}
 use Rattle.std.proofs.lemmas.List.Elements.{All-nil, All-cons, All-head, All-tail}
 use Rattle.crack_index.specs.declared.mark.Mark.{Mark}
+use Rattle.crack_index.specs.declared.tree.Edge.{Edge}
 use Rattle.crack_row.specs.declared.Bound.{Bound}
 use Rattle.crack_row.specs.declared.layout.PieceSize.{PieceSize}
 use Rattle.crack_index.specs.Marks.{pieces_from, size_between, InOrder, Rising, next_mark, last_mark, first_behind, last_before, added, raised, lowered, lowered_at}
@@ -309,18 +310,8 @@ leans_right-behind left top inner outer p q k b j is parts rising = Rising-inner
 
 -- Pieces
 
--- those of the left side, the one between, and those of the right side
-pub pieces_node : (old first second third : List PieceSize) (a b c : Mark) (l : List Mark) (m : Mark) (r rest : List Mark) (high : Bound) (to : ℕ)
-    → old ++ pieces_from a.bound a.position (l ++ m ∷ (r ++ rest)) high to ≡ first ++ pieces_from b.bound b.position (m ∷ (r ++ rest)) high to
-    → second ≡ first ++ size_between b.bound b.position m.bound m.position ∷ []
-    → second ++ pieces_from m.bound m.position (r ++ rest) high to ≡ third ++ pieces_from c.bound c.position rest high to
-    → old ++ pieces_from a.bound a.position ((l ++ m ∷ r) ++ rest) high to ≡ third ++ pieces_from c.bound c.position rest high to
-pieces_node old first second third a b c l m r rest high to left pushed right =
-    let whole : (l ++ m ∷ r) ++ rest ≡ l ++ m ∷ (r ++ rest) = append_assoc l (m ∷ r) rest in
-    rw whole (left ∙ sym (append_assoc first (size_between b.bound b.position m.bound m.position ∷ []) (pieces_from m.bound m.position (r ++ rest) high to)) ∙ (rw pushed at right))
-
 -- all pieces, the last one too
-pub pieces_whole : (none made all : List PieceSize) (low high : Bound) (l h : ℕ) (last : Mark) (marks : List Mark) (len : ℕ) (piece : PieceSize)
+pub pieces_whole : (none made all : List PieceSize) (low high : Bound) (l h : ℕ) (last : Edge) (marks : List Mark) (len : ℕ) (piece : PieceSize)
     → none ≡ [] → low.0 ≡ l → high.0 ≡ h
     → none ++ pieces_from low 0 (marks ++ []) high len ≡ made ++ pieces_from last.bound last.position [] high len
     → piece ≡ size_between last.bound last.position high len → all ≡ made ++ piece ∷ []

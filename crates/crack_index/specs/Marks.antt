@@ -58,10 +58,6 @@ abbrev pub last_before : ℕ → List Mark → Option Mark
 last_before place [] = None
 last_before place (m ∷ ms) = cond (nat_lt m.position place) (Some (unwrap_or (last_before place ms) m)) None
 
--- a mark as a pair
-abbrev pub pair_of : Mark → Bound × ℕ
-pair_of m = (m.bound, m.position)
-
 -- where a piece begins: at the place of the mark below it, or at the column's front
 abbrev pub start_of : Option Mark → ℕ
 start_of None = 0
@@ -86,7 +82,9 @@ size_between low from high to = record { low = low; high = high; size = to - fro
 -- the pieces from a bound and its place on, by way of the marks, up to another
 abbrev pub pieces_from : Bound → ℕ → List Mark → Bound → ℕ → List PieceSize
 pieces_from low from [] high to = size_between low from high to ∷ []
-pieces_from low from (m ∷ ms) high to = size_between low from m.bound m.position ∷ pieces_from m.bound m.position ms high to
+pieces_from low from (m ∷ ms) high to =
+    let bound : Bound = record { 0 = m.bound.0 } in
+    size_between low from bound m.position ∷ pieces_from bound m.position ms high to
 
 -- the marks with one more, before the first whose bound is above its own
 abbrev pub added : Mark → List Mark → List Mark

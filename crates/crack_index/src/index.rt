@@ -1,14 +1,13 @@
 //! The cracker index: the bounds that divide a cracked column, each with its place.
 ghost use Rattle.std.specs.Prelude.{◌≡◌, ℕ, ◌+◌, ◌-◌, ◌<◌, ◌≤◌, ◌==◌, ◌↔◌, [], map, length, All, Contains, sum_by, IsOk, IsSome, IfSome, IfOk, IfErr, OnOk, IsTrue};
-ghost use Rattle.std.specs.Option.{option_map};
 ghost use Rattle.crack_row.specs.Layouts.{AreJoined};
 ghost use Rattle.crack_index.specs.Heights.{least, most};
 ghost use Rattle.crack_index.specs.Walks.{Climbs, Descends};
-ghost use Rattle.crack_index.specs.Marks.{Rising, Fits, HasBound, position_of, next_mark, last_mark, first_behind, last_before, pair_of, added, raised, lowered, lowered_at, piece_at, pieces_from};
+ghost use Rattle.crack_index.specs.Marks.{Rising, Fits, HasBound, position_of, next_mark, last_mark, first_behind, last_before, added, raised, lowered, lowered_at, piece_at, pieces_from};
 
 use crate::tree::{self, Link, Node};
 use crate::{Mark, Visitor, walk};
-use crack_row::{Bound, Key, KeyRange, PieceSize, Refusal};
+use crack_row::{InnerBound, Key, KeyRange, PieceSize, Refusal};
 use std::alloc::Global;
 use std::marker::Model;
 
@@ -16,9 +15,9 @@ use std::marker::Model;
 #[derive(Clone, Copy, PartialEq, Eq, Debug)]
 pub struct Piece {
     /// The greatest bound at or below its keys; `None` at the partition's low end.
-    pub low: Option<Bound>,
+    pub low: Option<InnerBound>,
     /// The least bound above its keys; `None` at the partition's high end.
-    pub high: Option<Bound>,
+    pub high: Option<InnerBound>,
     /// The place of its first row.
     pub from: usize,
     /// The place behind its last row.
@@ -101,7 +100,7 @@ impl CrackerIndex {
     }
 
     /// Adds a bound that stands at the place. Takes no memory. O(log bounds).
-    pub fn add(&mut self, bound: Bound, position: usize)
+    pub fn add(&mut self, bound: InnerBound, position: usize)
         requires room { 0 < self.old.room }
         requires absent { HasBound self.old.marks bound.0 → ⊥ }
         requires order { Fits (record { bound = bound; position = position }) self.old.marks }
@@ -118,23 +117,15 @@ impl CrackerIndex {
     }
 
     /// Where the bound stands, if it is there. O(log bounds).
-    pub fn position(&self, bound: Bound) -> Option<usize>
+    pub fn position(&self, bound: InnerBound) -> Option<usize>
         ensures found { IsSome result ↔ HasBound self.now.marks bound.0 }
         ensures place { IfSome result (λ place. place ≡ position_of bound.0 self.now.marks) }
         ensures rising { Rising self.now.marks }
     {
-        match tree::last_at(&self.root, bound.0) {
-            Some(mark) if mark.bound.0 == bound.0 => Some(mark.position),
+        match tree::last_at(&self.root, bound.number()) {
+            Some(mark) if mark.bound == bound => Some(mark.position),
             _ => None,
         }
-    }
-
-    /// The least bound above this one, with its place. O(log bounds).
-    pub fn next_after(&self, bound: Bound) -> Option<(Bound, usize)>
-        ensures value { result ≡ option_map pair_of (next_mark bound.0 self.now.marks) }
-        ensures rising { Rising self.now.marks }
-    {
-        tree::next_above(&self.root, bound.0).map(|mark| (mark.bound, mark.position))
     }
 
     /// The least bound above this key. O(log bounds).
@@ -143,7 +134,7 @@ impl CrackerIndex {
         ensures there { IfSome result (λ m. Contains self.now.marks m) }
         ensures rising { Rising self.now.marks }
     {
-        tree::next_above(&self.root, u64::from(key.0))
+        tree::next_above(&self.root, key.number())
     }
 
     /// The greatest bound at or below this key. O(log bounds).
@@ -152,7 +143,7 @@ impl CrackerIndex {
         ensures there { IfSome result (λ m. Contains self.now.marks m) }
         ensures rising { Rising self.now.marks }
     {
-        tree::last_at(&self.root, u64::from(key.0))
+        tree::last_at(&self.root, key.number())
     }
 
     /// The piece whose keys hold this key, in a column of `len` rows. O(log bounds).
@@ -162,7 +153,7 @@ impl CrackerIndex {
         ensures fits { (p : ℕ) → result.from ≤ p → p ≤ result.to → Fits (record { bound = record { 0 = key.0 }; position = p }) self.now.marks }
         ensures rising { Rising self.now.marks }
     {
-        let (below, above) = tree::neighbours(&self.root, u64::from(key.0));
+        let (below, above) = tree::neighbours(&self.root, key.number());
         Piece {
             low: below.map(|mark| mark.bound),
             high: above.map(|mark| mark.bound),
@@ -184,7 +175,7 @@ impl CrackerIndex {
 
     /// Each bound at or above this one that stands where it stands moves up by one.
     /// O(log bounds) and the bounds at that place.
-    pub fn raise_from(&mut self, bound: Bound)
+    pub fn raise_from(&mut self, bound: InnerBound)
         requires there { HasBound self.old.marks bound.0 }
         requires small { position_of bound.0 self.old.marks < usize.MAX }
         ensures marks { self.new.marks ≡ map (raised bound.0 (position_of bound.0 self.old.marks)) self.old.marks }
@@ -192,13 +183,13 @@ impl CrackerIndex {
         ensures rising { Rising self.new.marks }
     {
         if let Some(place) = self.position(bound) {
-            tree::raise(&mut self.root, bound.0, place);
+            tree::raise(&mut self.root, bound.number(), place);
         }
     }
 
     /// Each bound at or below this one that stands where it stands moves down by one.
     /// O(log bounds) and the bounds at that place.
-    pub fn lower_to(&mut self, bound: Bound)
+    pub fn lower_to(&mut self, bound: InnerBound)
         requires there { HasBound self.old.marks bound.0 }
         requires above_zero { 0 < position_of bound.0 self.old.marks }
         ensures marks { self.new.marks ≡ map (lowered bound.0 (position_of bound.0 self.old.marks)) self.old.marks }
@@ -206,7 +197,7 @@ impl CrackerIndex {
         ensures rising { Rising self.new.marks }
     {
         if let Some(place) = self.position(bound) {
-            tree::lower(&mut self.root, bound.0, place);
+            tree::lower(&mut self.root, bound.number(), place);
         }
     }
 
@@ -236,7 +227,7 @@ impl CrackerIndex {
     {
         let Mark { bound, position } = mark;
         let next = tree::first_behind(&self.root, position);
-        tree::raise(&mut self.root, bound.0, position);
+        tree::raise(&mut self.root, bound.number(), position);
         next
     }
 
@@ -253,7 +244,7 @@ impl CrackerIndex {
     {
         let Mark { bound, position } = mark;
         let next = tree::last_before(&self.root, position);
-        tree::lower(&mut self.root, bound.0, position);
+        tree::lower(&mut self.root, bound.number(), position);
         next
     }
 
@@ -270,7 +261,7 @@ impl CrackerIndex {
         ensures room { self.new.room ≡ self.old.room }
         ensures rising { Rising self.new.marks }
     {
-        walk::climb(&mut self.root, u64::from(key.0), visitor)
+        walk::climb(&mut self.root, key.number(), visitor)
     }
 
     /// Walks down from the greatest bound at or below the key: the visitor is told the last place before the bound, and where it says so,
@@ -286,6 +277,6 @@ impl CrackerIndex {
         ensures room { self.new.room ≡ self.old.room }
         ensures rising { Rising self.new.marks }
     {
-        walk::descend(&mut self.root, u64::from(key.0), visitor)
+        walk::descend(&mut self.root, key.number(), visitor)
     }
 }

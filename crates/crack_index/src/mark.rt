@@ -1,10 +1,10 @@
 //! A bound of a cracked column with its place.
 
-use crack_row::Bound;
+use crack_row::InnerBound;
 
 /// A bound, and the place at which it divides the column: as many rows are below the bound, and they stand first.
 #[derive(Clone, Copy, PartialEq, Eq, Debug)]
 pub struct Mark {
-    pub bound: Bound,
+    pub bound: InnerBound,
     pub position: usize,
 }

@@ -8,7 +8,7 @@ ghost use Rattle.crack_index.specs.declared.mark.Mark.{Mark};
 ghost use Rattle.crack_row.specs.declared.Bound.{Bound};
 
 use crate::Mark;
-use crack_row::{Bound, KeyRange, PieceSize, Refusal};
+use crack_row::{Bound, InnerBound, KeyNumber, KeyRange, PieceSize, Refusal};
 use std::alloc::Global;
 use std::marker::Model;
 use std::mem;
@@ -91,7 +91,7 @@ pub(crate) fn height(link: &Link) -> u32
 }
 
 /// The last mark whose bound is at or below the number. O(log marks), one comparison a level.
-pub(crate) fn last_at(link: &Link, number: u64) -> Option<Mark>
+pub(crate) fn last_at(link: &Link, number: KeyNumber) -> Option<Mark>
     ensures { result ≡ last_mark number (marks_of link.now) }
 {
     let mut found = None;
@@ -103,7 +103,7 @@ pub(crate) fn last_at(link: &Link, number: u64) -> Option<Mark>
             right,
             ..
         } = &**node;
-        if mark.bound.0 <= number {
+        if mark.bound.number() <= number {
             found = Some(*mark);
             here = right;
         } else {
@@ -114,7 +114,7 @@ pub(crate) fn last_at(link: &Link, number: u64) -> Option<Mark>
 }
 
 /// The first mark whose bound is above the number. O(log marks), one comparison a level.
-pub(crate) fn next_above(link: &Link, number: u64) -> Option<Mark>
+pub(crate) fn next_above(link: &Link, number: KeyNumber) -> Option<Mark>
     ensures { result ≡ next_mark number (marks_of link.now) }
 {
     let mut found = None;
@@ -126,7 +126,7 @@ pub(crate) fn next_above(link: &Link, number: u64) -> Option<Mark>
             right,
             ..
         } = &**node;
-        if mark.bound.0 <= number {
+        if mark.bound.number() <= number {
             here = right;
         } else {
             found = Some(*mark);
@@ -137,7 +137,7 @@ pub(crate) fn next_above(link: &Link, number: u64) -> Option<Mark>
 }
 
 /// The last mark whose bound is at or below the number, and the first above it. O(log marks), one comparison a level.
-pub(crate) fn neighbours(link: &Link, number: u64) -> (Option<Mark>, Option<Mark>)
+pub(crate) fn neighbours(link: &Link, number: KeyNumber) -> (Option<Mark>, Option<Mark>)
     ensures below { result.0 ≡ last_mark number (marks_of link.now) }
     ensures above { result.1 ≡ next_mark number (marks_of link.now) }
 {
@@ -151,7 +151,7 @@ pub(crate) fn neighbours(link: &Link, number: u64) -> (Option<Mark>, Option<Mark
             right,
             ..
         } = &**node;
-        if mark.bound.0 <= number {
+        if mark.bound.number() <= number {
             below = Some(*mark);
             here = right;
         } else {
@@ -221,7 +221,7 @@ pub(crate) fn insert(link: Link, mark: Mark, mut node: Box<Node>) -> Box<Node>
         return node;
     };
     let parts = here.open();
-    if mark.bound.0 < parts.mark.bound.0 {
+    if mark.bound.number() < parts.mark.bound.number() {
         let left = insert(parts.left, mark, node);
         join(Some(left), parts.mark, parts.right, here)
     } else {
@@ -320,7 +320,7 @@ fn lean_right(left: Link, mark: Mark, mut top: Box<Node>, spare: Box<Node>) -> B
 }
 
 /// Each bound at or above `low` that stands at the place moves up by one. O(log marks) and the marks at that place.
-pub(crate) fn raise(link: &mut Link, low: u64, place: usize)
+pub(crate) fn raise(link: &mut Link, low: KeyNumber, place: usize)
     requires { place < usize.MAX }
     ensures marks { marks_of link.new ≡ map (raised low place) (marks_of link.old) }
     ensures height { height_of link.new ≡ height_of link.old }
@@ -334,7 +334,7 @@ pub(crate) fn raise(link: &mut Link, low: u64, place: usize)
         right,
         ..
     } = &mut **node;
-    if mark.bound.0 < low || mark.position < place {
+    if mark.bound.number() < low || mark.position < place {
         raise(right, low, place);
     } else if place < mark.position {
         raise(left, low, place);
@@ -346,7 +346,7 @@ pub(crate) fn raise(link: &mut Link, low: u64, place: usize)
 }
 
 /// Each bound at or below `high` that stands at the place moves down by one. O(log marks) and the marks at that place.
-pub(crate) fn lower(link: &mut Link, high: u64, place: usize)
+pub(crate) fn lower(link: &mut Link, high: KeyNumber, place: usize)
     requires { 0 < place }
     ensures marks { marks_of link.new ≡ map (lowered high place) (marks_of link.old) }
     ensures height { height_of link.new ≡ height_of link.old }
@@ -360,7 +360,7 @@ pub(crate) fn lower(link: &mut Link, high: u64, place: usize)
         right,
         ..
     } = &mut **node;
-    if high < mark.bound.0 || place < mark.position {
+    if high < mark.bound.number() || place < mark.position {
         lower(left, high, place);
     } else if mark.position < place {
         lower(right, high, place);
@@ -397,9 +397,16 @@ pub(crate) fn lower_at(link: &mut Link, place: usize)
     }
 }
 
+/// Where one piece ends and the next begins.
+#[derive(Clone, Copy)]
+struct Edge {
+    bound: Bound,
+    position: usize,
+}
+
 /// Adds the sizes of the pieces that end at the marks of the tree, in order. The first begins at `last`, which is the last mark then.
 /// O(marks), takes no memory.
-fn append_pieces(link: &Link, last: &mut Mark, pieces: &mut Vec<PieceSize>)
+fn append_pieces(link: &Link, last: &mut Edge, pieces: &mut Vec<PieceSize>)
     requires room { vec_len pieces.old + length (marks_of link.now) ≤ vec_capacity pieces.old }
     ensures made { (rest : List Mark) (high : Bound) (to : ℕ)
         → pieces.old.items ++ pieces_from last.old.bound last.old.position (marks_of link.now ++ rest) high to
@@ -417,8 +424,9 @@ fn append_pieces(link: &Link, last: &mut Mark, pieces: &mut Vec<PieceSize>)
         ..
     } = &**node;
     append_pieces(left, last, pieces);
-    pieces.push_reserved(piece_between(*last, *mark));
-    *last = *mark;
+    let edge = edge_at(*mark);
+    pieces.push_reserved(piece_between(*last, edge));
+    *last = edge;
     append_pieces(right, last, pieces);
 }
 
@@ -436,12 +444,12 @@ pub(crate) fn piece_sizes(
     ensures err { IfErr result (λ e. e ≡ Refusal.OutOfMemory) }
 {
     let mut pieces = Vec::with_capacity(alloc, marks + 1)?;
-    let mut last = Mark {
+    let mut last = Edge {
         bound: keys.low(),
         position: 0,
     };
     append_pieces(link, &mut last, &mut pieces);
-    let end = Mark {
+    let end = Edge {
         bound: keys.high(),
         position: len,
     };
@@ -449,8 +457,18 @@ pub(crate) fn piece_sizes(
     Ok(pieces)
 }
 
-/// The size of the piece between two marks: 0 where the second stands before the first.
-fn piece_between(low: Mark, high: Mark) -> PieceSize
+/// Where the piece below a mark ends.
+fn edge_at(mark: Mark) -> Edge
+    ensures { result ≡ record { bound = record { 0 = mark.bound.0 }; position = mark.position } }
+{
+    Edge {
+        bound: mark.bound.bound(),
+        position: mark.position,
+    }
+}
+
+/// The size of the piece between two edges: 0 where the second stands before the first.
+fn piece_between(low: Edge, high: Edge) -> PieceSize
     ensures { result ≡ size_between low.bound low.position high.bound high.position }
 {
     PieceSize {
@@ -473,7 +491,7 @@ pub(crate) fn fill(spare: &mut Vec<Box<Node>>, nodes: usize) -> Result<(), Refus
     let alloc = *spare.allocator();
     'nodes: while spare.len() < nodes {
         let empty = Mark {
-            bound: Bound(0),
+            bound: InnerBound::least(),
             position: 0,
         };
         let node = Box::new(alloc, Node::leaf(empty))?;

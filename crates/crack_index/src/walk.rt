@@ -8,6 +8,7 @@ ghost use Rattle.crack_index.specs.Walks.{Climbs, Descends};
 
 use crate::tree::{Link, Node};
 use crate::{Mark, Visitor};
+use crack_row::KeyNumber;
 
 /// How far a walk has come.
 #[derive(Clone, Copy)]
@@ -20,7 +21,7 @@ struct Way {
 
 /// Walks up from the first mark above the number. The mark at which it ended. O(log marks) and the marks at the places on its way.
 #[inline(always)]
-pub(crate) fn climb<V: Visitor>(link: &mut Link, number: u64, visitor: &mut V) -> Option<Mark>
+pub(crate) fn climb<V: Visitor>(link: &mut Link, number: KeyNumber, visitor: &mut V) -> Option<Mark>
     requires rising { Rising (marks_of link.old) }
     requires small { All (λ m. m.position < usize.MAX) (marks_of link.old) }
     requires ready { V.is_ready visitor.old }
@@ -42,7 +43,11 @@ pub(crate) fn climb<V: Visitor>(link: &mut Link, number: u64, visitor: &mut V) -
 
 /// Walks down from the last mark at or below the number. The mark at which it ended. O(log marks) and the marks at the places on its way.
 #[inline(always)]
-pub(crate) fn descend<V: Visitor>(link: &mut Link, number: u64, visitor: &mut V) -> Option<Mark>
+pub(crate) fn descend<V: Visitor>(
+    link: &mut Link,
+    number: KeyNumber,
+    visitor: &mut V,
+) -> Option<Mark>
     requires rising { Rising (marks_of link.old) }
     requires ready { V.is_ready visitor.old }
     ensures descends { Descends V.visits (last_mark number (marks_of link.old)) (marks_of link.old) visitor.old result (marks_of link.new) visitor.new }
@@ -62,7 +67,12 @@ pub(crate) fn descend<V: Visitor>(link: &mut Link, number: u64, visitor: &mut V)
 }
 
 /// The part of a walk up that is in this tree. Whether the walk has ended.
-fn raise_along<V: Visitor>(node: &mut Node, number: u64, way: &mut Way, visitor: &mut V) -> bool
+fn raise_along<V: Visitor>(
+    node: &mut Node,
+    number: KeyNumber,
+    way: &mut Way,
+    visitor: &mut V,
+) -> bool
     requires going { way.old.ended ≡ None }
     requires small { All (λ m. m.position < usize.MAX) node.old.marks }
     requires ready { V.is_ready visitor.old }
@@ -77,7 +87,7 @@ fn raise_along<V: Visitor>(node: &mut Node, number: u64, way: &mut Way, visitor:
         right,
         ..
     } = node;
-    if mark.bound.0 <= number {
+    if mark.bound.number() <= number {
         return match right {
             Some(right) => raise_along(&mut **right, number, way, visitor),
             None => false,
@@ -131,7 +141,12 @@ fn raise_all<V: Visitor>(node: &mut Node, way: &mut Way, visitor: &mut V) -> boo
 }
 
 /// The part of a walk down that is in this tree. Whether the walk has ended.
-fn lower_along<V: Visitor>(node: &mut Node, number: u64, way: &mut Way, visitor: &mut V) -> bool
+fn lower_along<V: Visitor>(
+    node: &mut Node,
+    number: KeyNumber,
+    way: &mut Way,
+    visitor: &mut V,
+) -> bool
     requires going { way.old.ended ≡ None }
     requires ready { V.is_ready visitor.old }
     ensures goes { Goes (StepsDown V.visits number) (reverse node.old.marks) way.old visitor.old (reverse node.new.marks) way.new visitor.new }
@@ -145,7 +160,7 @@ fn lower_along<V: Visitor>(node: &mut Node, number: u64, way: &mut Way, visitor:
         right,
         ..
     } = node;
-    if mark.bound.0 > number {
+    if mark.bound.number() > number {
         return match left {
             Some(left) => lower_along(&mut **left, number, way, visitor),
             None => false,

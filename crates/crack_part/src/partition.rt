@@ -1,5 +1,5 @@
 //! Commands and their history.
-ghost use Rattle.std.specs.Prelude.{◌≡◌, ◌⊎◌, None, Some, ◌+◌, ◌<◌, ◌≤◌, ◌↔◌, ◌^◌, List, [], ◌∷◌, ◌++◌, length, map, filter, count_by, IsTrue, IsOk, IfOk, IfErr, IfSome, OnErr, OnOk, Err, vec_len, vec_capacity};
+ghost use Rattle.std.specs.Prelude.{◌≡◌, ◌⊎◌, None, Some, ◌+◌, ◌<◌, ◌≤◌, ◌<ℤ◌, neg_ℤ, pos, ◌↔◌, ◌^◌, List, [], ◌∷◌, ◌++◌, length, map, filter, count_by, IsTrue, IsOk, IfOk, IfErr, IfSome, OnErr, OnOk, Err, vec_len, vec_capacity};
 ghost use Rattle.std.specs.List.Sorted.{IsPermutation};
 ghost use Rattle.crack_row.specs.Commands.{change_of, range_of};
 ghost use Rattle.crack_row.specs.Ranges.{Range, IsIn, in_range};
@@ -500,10 +500,10 @@ fn count(store: &Store, common: Option<KeyRange>) -> u64
 
 /// The sum of the payloads of the rows whose key is in a range: of those between two places of the column, as for a count.
 #[inline(never)]
-fn sum(store: &Store, common: Option<KeyRange>) -> u128
+fn sum(store: &Store, common: Option<KeyRange>) -> i128
     requires settled { IfSome common (λ r. IsSettled store.now r) }
     ensures is { (range : Range) → IsCommon range store.now.keys common → (plain : List Row) → IsPermutation (live_rows store.now) plain → result ≡ sum_of (rows_in range plain) }
-    ensures small { result < 2 ^ 64 }
+    ensures small { (neg_ℤ (pos (2 ^ 96)) <ℤ result) × (result <ℤ pos (2 ^ 96)) }
 {
     store.facts();
     match common {

@@ -1,10 +1,11 @@
 -- What a block of keys without a hit says of its rows.
-use Rattle.std.proofs.Common.{◌≡◌, ◌≢◌, ℕ, ◌+◌, ◌-◌, ◌<◌, ◌≤◌, ◌^◌, ◌%◌, Bool, true, false, List, get_or, take, drop, leb, refl, ap, ◌∙◌, inl, inr, arith, leb-false}
+use Rattle.std.proofs.Common.{◌≡◌, ◌≢◌, ℕ, ◌+◌, ◌-◌, ◌<◌, ◌≤◌, ◌%◌, Bool, true, false, List, get_or, take, drop, leb, refl, ap, ◌∙◌, inl, inr, arith, leb-false}
 use Rattle.std.specs.Prelude.{bit_or}
 use Rattle.std.proofs.lemmas.Nat.{le_or_l, le_or_r}
 use Rattle.std.proofs.lemmas.List.{get_or-take, get_or-drop}
 use mir.Val.{bool_byte}
 use Rattle.crack_row.specs.Ranges.{Range}
+use Rattle.crack_row.specs.declared.TheConstants.{GREATEST_BOUND}
 use Rattle.crack_row.specs.declared.Row.{Row}
 use Rattle.crack_arena.specs.Arena.{Cell, Handle}
 use Rattle.crack_arena.specs.Rows.{unknown}
@@ -16,9 +17,9 @@ no_flag any true none = absurd (omega (arith, none, le_or_r any (bool_byte true)
 no_flag any false none = (omega (arith, none, le_or_l any (bool_byte false)), refl)
 
 -- one comparison tells that a key doesn't lie between two
-pub apart : (key low last : ℕ) → low ≤ last → last < 4294967296 → leb ((key + (4294967296 - low)) % 4294967296) (last - low) ≡ false → ¬ Lies low last key
+pub apart : (key low last : ℕ) → low ≤ last → last < GREATEST_BOUND → leb ((key + (GREATEST_BOUND - low)) % GREATEST_BOUND) (last - low) ≡ false → ¬ Lies low last key
 apart key low last order small far lies =
-    let beyond : last - low < (key + (4294967296 - low)) % 4294967296 = leb-false _ _ far in
+    let beyond : last - low < (key + (GREATEST_BOUND - low)) % GREATEST_BOUND = leb-false _ _ far in
     absurd (omega (arith, beyond, order, small, lies.0, lies.1))
 
 -- where none of a block's keys lies between the ends of the range, nor isn't known, none of its rows has its key in the range

@@ -1,10 +1,10 @@
 -- What private clauses alone cite.
-use Rattle.std.specs.Prelude.{◌≡◌, ◌≢◌, ℕ, ◌-◌, ◌<◌, ◌≤◌, Bool, List, length, ◌⊎◌, slice_index, slice_index_or}
+use Rattle.std.specs.Prelude.{◌≡◌, ◌≢◌, ℕ, ◌<◌, ◌≤◌, Bool, List, length, ◌⊎◌, slice_index, slice_index_or}
 use Rattle.crack_row.specs.Ranges.{Range, IsIn}
 use Rattle.crack_row.specs.declared.Row.{Row}
 use Rattle.crack_arena.specs.Arena.{Cell, Handle, no_handle}
 use Rattle.crack_arena.specs.Rows.{key_at, unknown}
-use Rattle.crack_pending.specs.Spots.{kept, place_at, HasRow, LeadsTo}
+use Rattle.crack_pending.specs.Spots.{HasRow, LeadsTo}
 
 -- a key that lies between the two
 abbrev pub Lies : ℕ → ℕ → ℕ → Type 0

@@ -126,7 +126,7 @@ impl<Kind> PendingList<Kind> {
         } }
         ensures remembered { RemembersOneMore handle key.0 self.old self.new }
     {
-        self.add(handle, key.0);
+        self.add(handle, key.number());
     }
 
     /// Puts the handle behind all others, with what stands beside it, and marks its cell.
@@ -214,7 +214,7 @@ impl<Kind> PendingList<Kind> {
         } }
         ensures remembered { RemembersAnew handle.slot key.0 self.old self.new }
     {
-        self.list.remember(handle.slot(), key.0);
+        self.list.remember(handle.slot(), key.number());
     }
 
     /// The first place whose row has its key in the range. O(len), without a branch for each key.

@@ -19,7 +19,7 @@ pub(crate) struct Wanted {
     some_unknown: bool,
 }
 
-/// Whether one of a block's keys lies between the two. Found out in 32 bits, by one comparison for each key: a `bool` takes twice as long.
+/// Whether one of a block's keys lies between the two. Found out by one comparison for each key, without a branch.
 fn any_lies(keys: &[StoredKey], low: StoredKey, last: StoredKey) -> bool
     requires block { length keys.now ≡ 16 }
     requires order { low ≤ last }
@@ -66,7 +66,7 @@ fn key_beside(key: StoredKey, handle: Handle<Row>, arena: &Arena<Row>) -> Key
     if key == UNKNOWN {
         key_of(arena, handle)
     } else {
-        Key(key)
+        Key::from_number(key)
     }
 }
 
@@ -176,14 +176,12 @@ pub(crate) fn first_hit(
         (IsMissed range arena.now.cells handles.now stands.now from (length handles.now))
         (λ spot. IsHit range arena.now.cells handles.now stands.now from (length handles.now) spot) }
 {
-    let low = range.low().0;
-    let high = range.high().0;
-    if high <= low {
+    let Some((first, last)) = range.first_and_last() else {
         return None;
-    }
+    };
     let wanted = Wanted {
-        low: low as StoredKey,
-        last: (high - 1) as StoredKey,
+        low: first.number(),
+        last: last.number(),
         some_unknown,
     };
     hit_in_blocks(handles, keys, stands, from, range, wanted, arena)

@@ -13,15 +13,15 @@ use crate::closing::close_up;
 use crate::pass::first_hit;
 use crate::rows::{rows_between, spot_before, spot_of};
 use crack_arena::{Arena, Handle};
-use crack_row::{KeyRange, Refusal, Row};
+use crack_row::{GREATEST_KEY, KeyNumber, KeyRange, Refusal, Row};
 use std::alloc::Global;
 use std::marker::Model;
 
 /// What stands beside a handle.
-pub(crate) type StoredKey = u32;
+pub(crate) type StoredKey = KeyNumber;
 
 /// Stands for a key that isn't remembered. A row with this very key is always looked up.
-pub(crate) const UNKNOWN: StoredKey = StoredKey::MAX;
+pub(crate) const UNKNOWN: StoredKey = GREATEST_KEY;
 
 /// A spot is numbered by 32 bits.
 const MOST_SPOTS: usize = 4294967296;

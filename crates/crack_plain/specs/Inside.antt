@@ -1,5 +1,7 @@
 -- What private clauses alone cite.
-use Rattle.std.specs.Prelude.{Option, unwrap_or, option_map}
+use Rattle.std.specs.Prelude.{ℤ, pos, Option, unwrap_or, option_map, cond}
+use Rattle.crack_row.specs.Ranges.{Range, in_range}
+use Rattle.crack_row.specs.Rows.{amount}
 use Rattle.crack_row.specs.declared.Row.{Row}
 use Rattle.crack_row.specs.declared.command.Reply.{Reply}
 use Rattle.crack_row.specs.declared.command.Reply.TheVariants.{Gone, Changed, NoRow}
@@ -11,3 +13,7 @@ gone row = unwrap_or (option_map Gone row) NoRow
 -- what an update is replied where this is the row of its serial
 abbrev pub rewritten : Option Row → Reply
 rewritten row = unwrap_or (option_map (λ r. Changed) row) NoRow
+
+-- what a row adds to the sum of a range: its payload, where its key is in the range
+abbrev pub amount_in : Range → Row → ℤ
+amount_in range row = cond (in_range range row) (amount row.payload) (pos 0)

@@ -1,9 +1,9 @@
 -- The plain table: rows changed by commands and filtered by ranges, with no piece, handle, pending row, policy or lock.
-use Rattle.std.specs.Prelude.{◌≡◌, ℕ, ◌+◌, ◌<◌, ◌^◌, List, [], ◌∷◌, ◌++◌, length, map, filter, find, fold, count_by, unwrap_or, option_map, All, AllPairs, Option, Some, None, IfSome, Bool, true, false}
+use Rattle.std.specs.Prelude.{◌≡◌, ℕ, ℤ, pos, neg_ℤ, ◌<ℤ◌, cond, ◌+◌, ◌<◌, ◌^◌, List, [], ◌∷◌, ◌++◌, length, map, filter, find, fold, count_by, unwrap_or, option_map, All, AllPairs, Option, Some, None, IfSome, Bool, true, false}
 use Rattle.crack_row.specs.Ranges.{Range, IsIn, in_range}
 use Rattle.crack_row.specs.Commands.{change_of, key_of}
 use Rattle.crack_row.specs.Replies.{IsFlat}
-use Rattle.crack_row.specs.Rows.{row_with, has_serial, is_other, replaced, sum_of}
+use Rattle.crack_row.specs.Rows.{row_with, has_serial, is_other, replaced, amount, sum_of}
 use Rattle.crack_row.specs.declared.TheConstants.{GREATEST_BOUND}
 use Rattle.crack_row.specs.declared.layout.Layout.{Layout}
 use Rattle.crack_row.specs.declared.Key.{Key}
@@ -48,10 +48,10 @@ reply_to s (Count range) = Counted (count_by (in_range range) s.rows)
 reply_to s (Sum range) = Summed (sum_of (rows_in range s.rows))
 reply_to s (Select range) = Rows (rows_in range s.rows)
 
--- a count is below 2^32, a sum below 2^96, and a list has fewer rows than 2^32
+-- a count is below 2^32, a sum between 2^96 and its opposite, and a list has fewer rows than 2^32
 abbrev pub IsSmall : Reply → Type 0
 IsSmall (Counted count) = count < 2 ^ 32
-IsSmall (Summed sum) = sum < 2 ^ 96
+IsSmall (Summed sum) = (neg_ℤ (pos (2 ^ 96)) <ℤ sum) × (sum <ℤ pos (2 ^ 96))
 IsSmall (Rows rows) = length rows < 2 ^ 32
 IsSmall _ = Unit {0}
 

@@ -1,8 +1,9 @@
 //! Slow look-ups in a list of rows, and changes of it.
-ghost use Rattle.std.specs.Prelude.{◌≡◌, ◌≤◌, ◌*◌, length, map, filter, count_by, IfOk, IfErr};
+ghost use Rattle.std.specs.Prelude.{◌≡◌, ◌≤◌, ◌*◌, pos, neg_ℤ, ◌≤ℤ◌, length, map, filter, count_by, IfOk, IfErr};
 ghost use Rattle.crack_row.specs.Ranges.{in_range};
-ghost use Rattle.crack_row.specs.Rows.{is_other, replaced, sum_of};
+ghost use Rattle.crack_row.specs.Rows.{is_other, replaced, sum_of, farthest_amount};
 ghost use Rattle.crack_plain.specs.Plain.{row_in, rows_in};
+ghost use Rattle.crack_plain.specs.Inside.{amount_in};
 
 use crack_row::{KeyRange, Refusal, Row, Serial};
 use std::alloc::Global;
@@ -51,17 +52,29 @@ pub(crate) fn count_in(rows: &[Row], range: KeyRange) -> u64
 }
 
 /// The sum of the payloads of the rows whose key is in the range: O(rows).
-pub(crate) fn sum_in(rows: &[Row], range: KeyRange) -> u128
+pub(crate) fn sum_in(rows: &[Row], range: KeyRange) -> i128
     ensures is { result ≡ sum_of (rows_in range rows.now) }
-    ensures small { result ≤ length rows.now * 4294967295 }
+    ensures least { neg_ℤ (pos (length rows.now * farthest_amount)) ≤ℤ result }
+    ensures most { result ≤ℤ pos (length rows.now * farthest_amount) }
 {
     let mut sum = 0;
     'rows: for place in 0..rows.len() {
-        if range.contains(rows[place].key) {
-            sum += rows[place].payload.0 as u128;
-        }
+        sum += amount_in(range, rows[place]);
     }
     sum
+}
+
+/// What a row adds to the sum of a range: its payload, where its key is in the range.
+fn amount_in(range: KeyRange, row: Row) -> i128
+    ensures value { result ≡ amount_in range row }
+    ensures least { neg_ℤ (pos farthest_amount) ≤ℤ result }
+    ensures most { result ≤ℤ pos farthest_amount }
+{
+    if range.contains(row.key) {
+        row.payload.amount()
+    } else {
+        0
+    }
 }
 
 /// The rows whose key is in the range: O(rows). Refused with 8 where it finds no memory.

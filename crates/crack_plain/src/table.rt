@@ -86,8 +86,8 @@ impl PlainTable {
         let rows = self.rows.len() as u64;
         let mut pieces = Vec::new(*self.rows.allocator());
         pieces.push(PieceSize {
-            low: Bound(0),
-            high: Bound(GREATEST_BOUND),
+            low: Bound::from_number(0),
+            high: Bound::from_number(GREATEST_BOUND),
             size: rows,
         })?;
         Ok(Layout {

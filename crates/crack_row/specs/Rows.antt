@@ -1,5 +1,5 @@
 -- Rows of one serial, and sums of payloads.
-use Rattle.std.specs.Prelude.{ℕ, ◌==◌, Bool, not, List, sum_by, if◌then◌else◌}
+use Rattle.std.specs.Prelude.{ℕ, ℤ, pos, ◌+ℤ◌, ◌^◌, ◌==◌, Bool, not, List, fold, if◌then◌else◌}
 use Rattle.crack_row.specs.declared.Key.{Key}
 use Rattle.crack_row.specs.declared.Payload.{Payload}
 use Rattle.crack_row.specs.declared.Row.{Row}
@@ -21,6 +21,18 @@ is_other serial row = not (row.serial.0 == serial)
 abbrev pub replaced : Row → Row → Row
 replaced new row = if row.serial.0 == new.serial.0 then new else row
 
+-- what a payload adds to a sum
+abbrev pub amount : Payload → ℤ
+amount payload = payload.0
+
+-- no amount is farther from 0
+abbrev pub farthest_amount : ℕ
+farthest_amount = 2 ^ 63
+
+-- what the numbers of a list's elements come to
+abbrev pub total_by : {X : Type 0} → (X → ℤ) → List X → ℤ
+total_by number xs = fold (λ total x. total +ℤ number x) (pos 0) xs
+
 -- the sum of the payloads of rows
-abbrev pub sum_of : List Row → ℕ
-sum_of rows = sum_by (λ (row : Row). row.payload.0) rows
+abbrev pub sum_of : List Row → ℤ
+sum_of rows = total_by (λ (row : Row). amount row.payload) rows

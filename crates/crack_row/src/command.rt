@@ -120,7 +120,7 @@ pub enum Reply {
     /// The number of rows in the range.
     Counted(u64),
     /// The sum of the payloads in the range.
-    Summed(u128),
+    Summed(i128),
     /// The rows in the range, in rising serial.
     Rows(RowList),
 }

@@ -4,6 +4,7 @@
 pub mod command;
 pub mod layout;
 pub mod limit;
+pub mod number;
 pub mod range;
 pub mod refusal;
 pub mod rows;
@@ -12,19 +13,23 @@ pub mod watched;
 pub use command::{Change, Command, Entry, Policy, Reply};
 pub use layout::{Layout, PieceList, PieceSize};
 pub use limit::Limits;
+pub use number::{BoundNumber, KeyNumber, PayloadNumber};
 pub use range::KeyRange;
 pub use refusal::Refusal;
 pub use rows::RowList;
 pub use watched::Watched;
 
 /// The greatest key.
-pub const GREATEST_KEY: u32 = 4294967295;
+pub const GREATEST_KEY: KeyNumber = 18446744073709551615;
 
 /// The greatest bound, one above the greatest key: the high end of the range of all keys.
-pub const GREATEST_BOUND: u64 = 4294967296;
+pub const GREATEST_BOUND: BoundNumber = 18446744073709551616;
+
+/// The least payload.
+pub const LEAST_PAYLOAD: PayloadNumber = -9223372036854775808;
 
 /// The greatest payload.
-pub const GREATEST_PAYLOAD: u32 = 4294967295;
+pub const GREATEST_PAYLOAD: PayloadNumber = 9223372036854775807;
 
 /// The greatest number of entries that a partition's history may be limited to.
 pub const GREATEST_LIMIT: u64 = 1000000;
@@ -37,11 +42,11 @@ pub const GREATEST_LIFE: u64 = 1099511627776;
 
 /// What a row is found by: 0 to `GREATEST_KEY`.
 #[derive(Clone, Copy, PartialEq, Eq, PartialOrd, Ord, Hash, Debug)]
-pub struct Key(pub u32);
+pub struct Key(KeyNumber);
 
-/// What a row carries: 0 to `GREATEST_PAYLOAD`.
+/// What a row carries: a whole number with a sign, `LEAST_PAYLOAD` to `GREATEST_PAYLOAD`.
 #[derive(Clone, Copy, PartialEq, Eq, PartialOrd, Ord, Hash, Debug)]
-pub struct Payload(pub u32);
+pub struct Payload(PayloadNumber);
 
 /// The count of insertions that a partition accepted before a row. It is never given twice.
 #[derive(Clone, Copy, PartialEq, Eq, PartialOrd, Ord, Hash, Debug)]
@@ -49,7 +54,11 @@ pub struct Serial(pub u64);
 
 /// An end of a range: it stands between the keys below it and the keys at or above it.
 #[derive(Clone, Copy, PartialEq, Eq, PartialOrd, Ord, Hash, Debug)]
-pub struct Bound(pub u64);
+pub struct Bound(BoundNumber);
+
+/// A bound that stands between two keys: 1 to `GREATEST_KEY`. It is as wide as a key, and a cracker index has no others.
+#[derive(Clone, Copy, PartialEq, Eq, PartialOrd, Ord, Hash, Debug)]
+pub struct InnerBound(KeyNumber);
 
 /// A row's number: its partition, and its serial there.
 #[derive(Clone, Copy, PartialEq, Eq, PartialOrd, Ord, Hash, Debug)]

@@ -1,8 +1,8 @@
 //! Ranges of keys.
-ghost use Rattle.std.specs.Prelude.{◌≡◌, ℕ, ◌<◌, ◌≤◌, ◌↔◌, IsTrue, IfOk, IfErr};
+ghost use Rattle.std.specs.Prelude.{◌≡◌, ◌+◌, MatchOption, IfSome, ℕ, ◌<◌, ◌≤◌, ◌↔◌, IsTrue, IfOk, IfErr};
 ghost use Rattle.crack_row.specs.Ranges.{IsIn, clipped};
 
-use crate::{Bound, GREATEST_BOUND, Key, Refusal};
+use crate::{Bound, BoundNumber, GREATEST_BOUND, Key, KeyNumber, Refusal};
 use std::marker::Model;
 
 /// A half open range of keys: from its low end on, up to and without its high end.
@@ -44,19 +44,26 @@ impl Default for KeyRange {
 
 impl KeyRange {
     /// The range between two numbers; refused with 2 where they are no ends of one.
-    /// They have 128 bits, since a number of 20 digits passes 64.
-    pub fn new(low: u128, high: u128) -> Result<KeyRange, Refusal>
+    pub fn new(low: BoundNumber, high: BoundNumber) -> Result<KeyRange, Refusal>
         ensures ok { IfOk result (λ r. (r.low ≡ low) × (r.high ≡ high) × (low ≤ high) × (high ≤ GREATEST_BOUND)) }
         ensures err { IfErr result (λ e. (e ≡ Refusal.BadRange) × ((low ≤ high) × (high ≤ GREATEST_BOUND) → ⊥)) }
     {
-        if low <= high && high <= GREATEST_BOUND as u128 {
+        if low <= high && high <= GREATEST_BOUND {
             Ok(KeyRange {
-                low: Bound(low as u64),
-                high: Bound(high as u64),
+                low: Bound(low),
+                high: Bound(high),
             })
         } else {
             Err(Refusal::BadRange)
         }
+    }
+
+    /// The range between two bounds; refused with 2 where they are no ends of one.
+    pub fn between(low: Bound, high: Bound) -> Result<KeyRange, Refusal>
+        ensures ok { IfOk result (λ r. (r.low ≡ low.0) × (r.high ≡ high.0) × (low.0 ≤ high.0) × (high.0 ≤ GREATEST_BOUND)) }
+        ensures err { IfErr result (λ e. (e ≡ Refusal.BadRange) × ((low.0 ≤ high.0) × (high.0 ≤ GREATEST_BOUND) → ⊥)) }
+    {
+        KeyRange::new(low.0, high.0)
     }
 
     /// The range of all keys.
@@ -93,11 +100,25 @@ impl KeyRange {
         self.high <= self.low
     }
 
+    /// The least key in the range and the greatest; none where it has no key.
+    #[inline]
+    pub fn first_and_last(&self) -> Option<(Key, Key)>
+        ensures value { MatchOption result (self.now.high ≤ self.now.low) (λ ends. (ends.0.0 ≡ self.now.low) × (ends.1.0 + 1 ≡ self.now.high)) }
+        ensures order { IfSome result (λ ends. ends.0.0 ≤ ends.1.0) }
+    {
+        if self.is_empty() {
+            return None;
+        }
+        let first = Key(self.low.0 as KeyNumber);
+        let last = Key((self.high.0 - 1) as KeyNumber);
+        Some((first, last))
+    }
+
     /// Whether the key is in the range.
     pub fn contains(&self, key: Key) -> bool
         ensures { IsTrue result ↔ IsIn self.now key.0 }
     {
-        self.low.0 <= key.0 as u64 && (key.0 as u64) < self.high.0
+        !self.low.is_above(key) && self.high.is_above(key)
     }
 
     /// The common part of two ranges; where there is none, the empty range at the low end of `other`.

@@ -19,7 +19,7 @@ fn batch<H: Threads + Wait + Sync, G: Gate + Sync>(
     let ended = run_batch(
         rt,
         alloc,
-        &[Bound(100)],
+        &[Bound::from_number(100)],
         Limits::of_history(10),
         Policy::Ripple,
         2,

@@ -73,7 +73,7 @@ fn two_clients<N: Net<Listener = TcpListener, Stream = TcpStream>>(
     port: u16,
 ) -> io::Result<(Vec<u8>, Vec<u8>)> {
     let first = client(rt, alloc, port, b"insert 7 70\nquit\n")?;
-    let second = client(rt, alloc, port, b"count 0 4294967296\nquit\n")?;
+    let second = client(rt, alloc, port, b"count 0 18446744073709551616\nquit\n")?;
     Ok((first, second))
 }
 
@@ -155,7 +155,7 @@ fn behind_one_cut_off<N: Net<Listener = TcpListener, Stream = TcpStream>>(
     let mut first = sender(rt, port, b"insert 7 70\n")?;
     first.read_exact(&mut [0u8; 1])?;
     drop(first);
-    client(rt, alloc, port, b"count 0 4294967296\nquit\n")
+    client(rt, alloc, port, b"count 0 18446744073709551616\nquit\n")
 }
 
 #[test]

@@ -1,5 +1,6 @@
 -- What is asked of a range, and what several partitions reply together.
-use Rattle.std.specs.Prelude.{ℕ, List, [], length, sum_by}
+use Rattle.std.specs.Prelude.{ℕ, ℤ, pos, List, [], length, sum_by}
+use Rattle.crack_row.specs.Rows.{total_by}
 use Rattle.crack_row.specs.Ranges.{Range}
 use Rattle.crack_row.specs.declared.Row.{Row}
 use Rattle.crack_row.specs.declared.command.Command.{Command}
@@ -25,9 +26,9 @@ counted (TellsRows rows) = length rows
 counted _ = 0
 
 -- the sum that a reply tells
-abbrev pub summed : Reply → ℕ
+abbrev pub summed : Reply → ℤ
 summed (TellsSum sum) = sum
-summed _ = 0
+summed _ = pos 0
 
 -- the rows that a reply lists
 abbrev pub listed : Reply → List Row
@@ -37,5 +38,5 @@ listed _ = []
 -- what several partitions reply together: counts and sums are added, and rows are listed one partition behind the other
 abbrev pub joined : Query → List PartReply → Answer
 joined Count replies = Counted (sum_by (λ (r : PartReply). counted r.reply) replies)
-joined Sum replies = Summed (sum_by (λ (r : PartReply). summed r.reply) replies)
+joined Sum replies = Summed (total_by (λ (r : PartReply). summed r.reply) replies)
 joined Select replies = Listed (sum_by (λ (r : PartReply). counted r.reply) replies) replies

@@ -1,8 +1,9 @@
 -- What private clauses alone cite.
 use Rattle.std.specs.List.{flat_map}
-use Rattle.std.specs.Prelude.{◌≡◌, ℕ, ◌+◌, ◌⊎◌, ◌++◌, sum_by, Bool, true, false, List, Option, None, Some, Result, is_ok, OnOk, IfErr, if◌then◌else◌}
+use Rattle.std.specs.Prelude.{◌≡◌, ℕ, ℤ, ◌+◌, ◌⊎◌, ◌++◌, sum_by, Bool, true, false, List, Option, None, Some, Result, is_ok, OnOk, IfErr, if◌then◌else◌}
 use Rattle.std.specs.Io.KnownBytes.{Appends}
 use Rattle.crack_row.specs.Devices.{device, has_failed}
+use Rattle.crack_row.specs.Rows.{total_by}
 use Rattle.crack_row.specs.declared.Bound.{Bound}
 use Rattle.crack_row.specs.declared.command.Policy.{Policy as MergePolicy}
 use Rattle.crack_row.specs.declared.refusal.Refusal.{Refusal}
@@ -65,8 +66,8 @@ abbrev pub rows_told : List PartReply → ℕ
 rows_told replies = sum_by (λ (r : PartReply). counted r.reply) replies
 
 -- their sums, added
-abbrev pub sum_told : List PartReply → ℕ
-sum_told replies = sum_by (λ (r : PartReply). summed r.reply) replies
+abbrev pub sum_told : List PartReply → ℤ
+sum_told replies = total_by (λ (r : PartReply). summed r.reply) replies
 
 -- the rows that a partition listed
 abbrev pub list_text : PartReply → List ℕ

@@ -26,7 +26,7 @@ pub enum Answer {
     /// Several partitions counted rows: so many in all.
     Counted(u64),
     /// Several partitions added up payloads: the sum of all.
-    Summed(u128),
+    Summed(i128),
     /// Several partitions listed rows: so many in all.
     Listed { total: u64, lists: ReplyList },
     /// What stands where in a partition.

@@ -49,7 +49,7 @@ impl PartReply {
     }
 
     /// The sum that it tells.
-    fn summed(&self) -> u128
+    fn summed(&self) -> i128
         ensures { result ≡ summed self.now.reply }
     {
         match &self.reply {
@@ -130,8 +130,9 @@ fn rows_told(replies: &[PartReply]) -> u64
 }
 
 /// The sums of replies, added.
-fn sum_told(replies: &[PartReply]) -> u128
-    requires { sum_told replies.now < 2 ^ 128 }
+fn sum_told(replies: &[PartReply]) -> i128
+    requires small { All (λ (r : PartReply). IsSmall r.reply) replies.now }
+    requires few { length replies.now ≤ 64 }
     ensures { result ≡ sum_told replies.now }
 {
     let mut total = 0;

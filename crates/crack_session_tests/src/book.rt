@@ -8,8 +8,8 @@ use std::process::Abort;
 fn ask_insert(book: &mut Book, partition: &mut Partition) -> Result<Reply, Refusal> {
     book.reserve()?;
     let insert = Command::Insert {
-        key: Key(7),
-        payload: Payload(70),
+        key: Key::from_number(7),
+        payload: Payload::from_number(70),
     };
     book.ask(2, partition, insert, Policy::Gradual)
 }

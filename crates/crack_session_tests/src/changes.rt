@@ -1,7 +1,8 @@
 //! Partitions whose rows go, change, are added up and listed, and what stands where after a merge.
 use crack_part::Partition;
 use crack_row::{
-    Command, Key, KeyRange, Layout, Payload, Policy, Refusal, Reply, Row, RowList, Serial,
+    BoundNumber, Command, Key, KeyNumber, KeyRange, Layout, Payload, PayloadNumber, Policy,
+    Refusal, Reply, Row, RowList, Serial,
 };
 use std::process::Abort;
 
@@ -15,8 +16,8 @@ fn ask(partition: &mut Partition, command: Command, policy: Policy) -> Result<Re
 fn fill(partition: &mut Partition, keys: &[u32]) -> Result<(), Refusal> {
     for key in keys {
         let insert = Command::Insert {
-            key: Key(*key),
-            payload: Payload(*key),
+            key: Key::from_number(KeyNumber::from(*key)),
+            payload: Payload::from_number(PayloadNumber::from(*key)),
         };
         ask(partition, insert, Policy::Gradual)?;
     }
@@ -51,8 +52,8 @@ fn assert_gone(
             row,
             Row {
                 serial: Serial(serial),
-                key: Key(key),
-                payload: Payload(key)
+                key: Key::from_number(KeyNumber::from(key)),
+                payload: Payload::from_number(PayloadNumber::from(key))
             }
         ),
         _ => assert!(rt; false),
@@ -71,7 +72,7 @@ fn assert_layout(
     rt: &impl Abort,
     partition: &Partition,
     numbers: [u64; 6],
-    wanted: &[[u64; 2]],
+    wanted: &[[BoundNumber; 2]],
 ) -> Result<(), Refusal> {
     let layout = layout_of(partition)?;
     let told = [
@@ -86,7 +87,10 @@ fn assert_layout(
     let pieces = layout.pieces.as_slice();
     assert_eq!(rt; pieces.len(), wanted.len());
     for place in 0..wanted.len() {
-        let piece = [pieces[place].low.0, pieces[place].size];
+        let piece = [
+            pieces[place].low.number(),
+            BoundNumber::from(pieces[place].size),
+        ];
         assert_eq!(rt; piece, wanted[place], "piece {place}");
     }
     Ok(())
@@ -278,8 +282,8 @@ fn a_row_is_deleted_twice(rt: HostRuntime) -> Result<(), Refusal> {
 fn update(partition: &mut Partition, key: u32) -> Result<Reply, Refusal> {
     let update = Command::Update {
         serial: Serial(0),
-        key: Key(key),
-        payload: Payload(key),
+        key: Key::from_number(KeyNumber::from(key)),
+        payload: Payload::from_number(PayloadNumber::from(key)),
     };
     ask(partition, update, Policy::Gradual)
 }
@@ -288,8 +292,8 @@ fn update(partition: &mut Partition, key: u32) -> Result<Reply, Refusal> {
 fn assert_listed(rt: &impl Abort, rows: &RowList) {
     let row = Row {
         serial: Serial(0),
-        key: Key(8),
-        payload: Payload(8),
+        key: Key::from_number(8),
+        payload: Payload::from_number(8),
     };
     assert_eq!(rt; rows.as_slice(), [row].as_slice());
 }

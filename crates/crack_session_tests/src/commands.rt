@@ -1,29 +1,29 @@
-//! The texts of the greatest numbers, a layout's among them, and writers that fail within one.
+//! The texts of the greatest numbers and the least, a layout's among them, and writers that fail within one.
 use crack_commands::{write_head, write_layout, write_reply, write_row};
 use crack_failing::Sink;
 use crack_row::{
-    Bound, GREATEST_BOUND, GREATEST_KEY, GREATEST_PAYLOAD, Key, Layout, Payload, PieceList,
-    PieceSize, Refusal, Reply, Row, Serial, Watched,
+    Bound, GREATEST_BOUND, GREATEST_KEY, GREATEST_PAYLOAD, Key, LEAST_PAYLOAD, Layout, Payload,
+    PayloadNumber, PieceList, PieceSize, Refusal, Reply, Row, Serial, Watched,
 };
 use std::alloc::Global;
 use std::io::Write;
 use std::process::Abort;
 use std::test::Fail;
 
-/// The row of the greatest numbers.
-fn greatest_row() -> Row {
+/// The row of the greatest serial and key, with this payload.
+fn greatest_row(payload: PayloadNumber) -> Row {
     Row {
         serial: Serial(u64::MAX),
-        key: Key(GREATEST_KEY),
-        payload: Payload(GREATEST_PAYLOAD),
+        key: Key::from_number(GREATEST_KEY),
+        payload: Payload::from_number(payload),
     }
 }
 
 /// A layout of the greatest numbers, with two pieces.
 fn greatest_layout(alloc: Global) -> Result<Layout, Fail> {
     let piece = PieceSize {
-        low: Bound(GREATEST_BOUND),
-        high: Bound(GREATEST_BOUND),
+        low: Bound::from_number(GREATEST_BOUND),
+        high: Bound::from_number(GREATEST_BOUND),
         size: u64::MAX,
     };
     let mut pieces = Vec::new(alloc);
@@ -43,10 +43,19 @@ fn greatest_layout(alloc: Global) -> Result<Layout, Fail> {
 /// Writes replies of the greatest numbers.
 fn write_greatest<W: Write>(writer: &mut Watched<W>) -> Result<(), Refusal> {
     write_reply(u32::MAX, &Reply::Placed(Serial(u64::MAX)), writer)?;
-    write_reply(0, &Reply::Gone(greatest_row()), writer)?;
-    write_reply(0, &Reply::Summed(u128::MAX), writer)?;
+    write_reply(0, &Reply::Gone(greatest_row(GREATEST_PAYLOAD)), writer)?;
+    write_reply(0, &Reply::Summed(i128::MAX), writer)?;
     write_head(u64::MAX, writer)?;
-    write_row(u32::MAX, &greatest_row(), writer)
+    write_row(u32::MAX, &greatest_row(GREATEST_PAYLOAD), writer)
+}
+
+/// Writes replies of the least payload, of the least sum, and of sums next to 0.
+fn write_least<W: Write>(writer: &mut Watched<W>) -> Result<(), Refusal> {
+    write_reply(0, &Reply::Gone(greatest_row(LEAST_PAYLOAD)), writer)?;
+    write_reply(0, &Reply::Summed(i128::MIN), writer)?;
+    write_reply(0, &Reply::Summed(-1), writer)?;
+    write_reply(0, &Reply::Summed(0), writer)?;
+    write_row(0, &greatest_row(LEAST_PAYLOAD), writer)
 }
 
 #[test]
@@ -56,8 +65,21 @@ fn greatest_numbers_are_written(rt: HostRuntime) -> Result<(), Fail> {
     let text = writer.into_inner();
     written?;
     let told =
-        "row 4294967295.18446744073709551615\ngone 4294967295 4294967295\nsum 340282366920938463463374607431768211455\n\
-rows 18446744073709551615\n4294967295.18446744073709551615 4294967295 4294967295\n";
+        "row 4294967295.18446744073709551615\ngone 18446744073709551615 9223372036854775807\nsum 170141183460469231731687303715884105727\n\
+rows 18446744073709551615\n4294967295.18446744073709551615 18446744073709551615 9223372036854775807\n";
+    assert_eq!(rt; text.as_slice(), told.as_bytes());
+    Ok(())
+}
+
+#[test]
+fn numbers_below_0_are_written(rt: HostRuntime) -> Result<(), Fail> {
+    let mut writer = Watched::new(Vec::new(rt.alloc()));
+    let written = write_least(&mut writer);
+    let text = writer.into_inner();
+    written?;
+    let told =
+        "gone 18446744073709551615 -9223372036854775808\nsum -170141183460469231731687303715884105728\nsum -1\nsum 0\n\
+0.18446744073709551615 18446744073709551615 -9223372036854775808\n";
     assert_eq!(rt; text.as_slice(), told.as_bytes());
     Ok(())
 }
@@ -90,7 +112,7 @@ fn assert_greatest(rt: &impl Abort, alloc: Global, whole: &[u8]) -> Result<(), F
     let most = "18446744073709551615";
     let told = format!(in alloc;
         "layout 4294967295 rows {most} column {most} out {most} in {most} cells {most} free {most} pieces 2\n\
-piece 4294967296 4294967296 {most}\npiece 4294967296 4294967296 {most}\n"
+piece 18446744073709551616 18446744073709551616 {most}\npiece 18446744073709551616 18446744073709551616 {most}\n"
     )?;
     assert_eq!(rt; whole, told.as_bytes());
     Ok(())

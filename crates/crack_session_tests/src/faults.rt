@@ -30,7 +30,7 @@ static REPLIES: [&[u8]; 10] = [
     b"refused 1\n",
     b"refused 2\n",
     b"policy ripple\n",
-    b"layout 0 rows 2 column 2 out 0 in 0 cells 2 free 0 pieces 2\npiece 0 100 2\npiece 100 4294967296 0\n",
+    b"layout 0 rows 2 column 2 out 0 in 0 cells 2 free 0 pieces 2\npiece 0 100 2\npiece 100 18446744073709551616 0\n",
     b"gone 7 70\n",
     b"none\n",
     b"sum 90\n",

@@ -2,7 +2,8 @@
 use crack_commands::{write_folded, write_refusal, write_reply};
 use crack_core::{Core, Done, Job, Step};
 use crack_row::{
-    Command, GREATEST_LIMIT, Key, KeyRange, Limits, Payload, Policy, Refusal, Serial, Watched,
+    Command, GREATEST_LIMIT, Key, KeyNumber, KeyRange, Limits, Payload, PayloadNumber, Policy,
+    Refusal, Serial, Watched,
 };
 use std::alloc::Global;
 use std::io::Write;
@@ -21,8 +22,8 @@ fn perform(command: Command) -> Job {
 /// An insert of a row whose payload is its key.
 fn insert(key: u32) -> Job {
     perform(Command::Insert {
-        key: Key(key),
-        payload: Payload(key),
+        key: Key::from_number(KeyNumber::from(key)),
+        payload: Payload::from_number(PayloadNumber::from(key)),
     })
 }
 
@@ -32,11 +33,11 @@ fn delete(serial: u64) -> Job {
     })
 }
 
-fn update(serial: u64, key: u32, payload: u32) -> Job {
+fn update(serial: u64, key: KeyNumber, payload: PayloadNumber) -> Job {
     perform(Command::Update {
         serial: Serial(serial),
-        key: Key(key),
-        payload: Payload(payload),
+        key: Key::from_number(key),
+        payload: Payload::from_number(payload),
     })
 }
 

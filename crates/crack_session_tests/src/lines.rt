@@ -35,15 +35,21 @@ fn assert_each(rt: &impl Abort, alloc: Global, lines: &[&[u8]], text: &[u8]) -> 
 
 #[test]
 fn bad_lines_are_refused(rt: HostRuntime) -> Result<(), Fail> {
-    let lines: [&[u8]; 43] = [
+    let lines: [&[u8]; 51] = [
         b"insert",
         b"insert 1",
         b"insert 1 2 3",
         b"INSERT 1 2",
-        b"insert 1 -2",
+        b"insert 1 - 2",
+        b"insert 1 --2",
+        b"insert 1 +2",
+        b"insert 1 -",
+        b"insert -1 2",
         b"insert 1\t2",
-        b"insert 4294967296 1",
-        b"insert 1 4294967296",
+        b"insert 18446744073709551616 1",
+        b"insert 1 9223372036854775808",
+        b"insert 1 -9223372036854775809",
+        b"insert 1 -000000000000000000001",
         b"insert 1 1\r\r\n",
         b"inserts 1 1",
         b"quit now",
@@ -61,9 +67,11 @@ fn bad_lines_are_refused(rt: HostRuntime) -> Result<(), Fail> {
         b"update 0.0 1",
         b"update 0.0 1 2 3",
         b"update 0 1 2",
-        b"update 0.0 4294967296 1",
-        b"update 0.0 1 4294967296",
+        b"update 0.0 18446744073709551616 1",
+        b"update 0.0 1 9223372036854775808",
+        b"update 0.0 1 -9223372036854775809",
         b"count 1",
+        b"count -1 1",
         b"count 000000000000000000000 1",
         b"sum 1",
         b"sum 1 2 3",
@@ -85,10 +93,26 @@ fn bad_lines_are_refused(rt: HostRuntime) -> Result<(), Fail> {
         b"count 18446744073709551616 0",
         b"count 0 99999999999999999999",
         b"sum 2 1",
-        b"sum 0 4294967297",
+        b"sum 0 18446744073709551617",
         b"select 6 5",
     ];
     assert_each(&rt, rt.alloc(), &ranges, b"refused 2\n")
+}
+
+/// A minus sign stands right before a payload's digits, which may be as many as ever.
+#[test]
+fn payloads_have_a_sign(rt: HostRuntime) -> Result<(), Fail> {
+    let inserts: [&[u8]; 6] = [
+        b"insert 1 -2",
+        b"insert 1 -0",
+        b"insert 18446744073709551615 -9223372036854775808",
+        b"insert 4294967296 9223372036854775807",
+        b"insert 1 -09223372036854775808",
+        b"  insert   007   -00000000000000000008  ",
+    ];
+    assert_each(&rt, rt.alloc(), &inserts, b"row 0.0\n")?;
+    let updates: [&[u8]; 2] = [b"update 0.0 18446744073709551615 -1", b"update 0.0 0 -0"];
+    assert_each(&rt, rt.alloc(), &updates, b"none\n")
 }
 
 /// A line of `insert 1 1`, filled with spaces to the greatest length, and so much more behind it.

@@ -19,7 +19,7 @@ static LINES: [&[u8]; 17] = [
     b"insert 20 20\n",
     b"insert 30 30\n",
     b"insert 40 40\n",
-    b"count 0 4294967296\n",
+    b"count 0 18446744073709551616\n",
     b"count 15 25\n",
     b"insert 17 0\n",
     b"insert 90 0\n",
@@ -29,7 +29,7 @@ static LINES: [&[u8]; 17] = [
     b"count 15 25\n",
     b"delete 0.3\n",
     b"sum 0 15\n",
-    b"select 0 4294967296\n",
+    b"select 0 18446744073709551616\n",
     b"delete 0.5\n",
     b"count 0 50\n",
 ];

@@ -77,7 +77,7 @@ fn tell_all(alloc: Global, core: &mut Core) -> Result<Vec<u8>, Refusal> {
 
 #[test]
 fn one_core_is_served_and_then_exported(rt: HostRuntime) -> Result<(), Fail> {
-    let mut core = Core::open(rt.alloc(), &[Bound(100)], 10)?;
+    let mut core = Core::open(rt.alloc(), &[Bound::from_number(100)], 10)?;
     let told = tell_all(rt.alloc(), &mut core);
     drop(core);
     let text = told?;

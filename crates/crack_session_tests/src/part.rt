@@ -1,16 +1,16 @@
 //! A partition: each call once, with ample memory, and each refusal but that for want of memory.
 use crack_part::Partition;
 use crack_row::{
-    Command, Entry, GREATEST_BOUND, GREATEST_CELLS, GREATEST_LIFE, GREATEST_LIMIT, Key, KeyRange,
-    Limits, Payload, Policy, Refusal, Reply, Serial,
+    Command, Entry, GREATEST_BOUND, GREATEST_CELLS, GREATEST_LIFE, GREATEST_LIMIT, Key, KeyNumber,
+    KeyRange, Limits, Payload, PayloadNumber, Policy, Refusal, Reply, Serial,
 };
 use std::process::Abort;
 
 /// An insert of a key, with ten times the key as its payload.
 fn insert(key: u16) -> Command {
     Command::Insert {
-        key: Key(key as u32),
-        payload: Payload(key as u32 * 10),
+        key: Key::from_number(KeyNumber::from(key)),
+        payload: Payload::from_number(PayloadNumber::from(key) * 10),
     }
 }
 
@@ -27,13 +27,7 @@ fn refusal_of(partition: &mut Partition, command: Command) -> Option<Refusal> {
 /// Whether the entry is worker 3's insert of key 7, which was given serial 0.
 fn is_first_insert(entry: &Entry) -> bool {
     entry.worker == 3
-        && matches!(
-            entry.command,
-            Command::Insert {
-                key: Key(7),
-                payload: Payload(70)
-            }
-        )
+        && entry.command == insert(7)
         && matches!(entry.reply, Reply::Placed(Serial(0)))
 }
 
@@ -46,8 +40,8 @@ fn assert_opened(rt: &impl Abort, partition: &Partition) {
     };
     assert_eq!(rt; partition.limit(), GREATEST_LIMIT);
     assert!(rt; partition.limits() == greatest);
-    assert_eq!(rt; partition.keys().low().0, 0);
-    assert_eq!(rt; partition.keys().high().0, GREATEST_BOUND);
+    assert_eq!(rt; partition.keys().low().number(), 0);
+    assert_eq!(rt; partition.keys().high().number(), GREATEST_BOUND);
     assert!(rt; partition.history().is_empty());
 }
 

@@ -1,30 +1,40 @@
 //! Partitions by key range that one thread asks: which a key or a range meets, what steps are answered, and what isn't opened.
 use crack_core::{Core, Step};
 use crack_row::{
-    Bound, Command, GREATEST_LIMIT, Key, KeyRange, Layout, Payload, Policy, Refusal, Reply, Serial,
+    Bound, BoundNumber, Command, GREATEST_BOUND, GREATEST_LIMIT, Key, KeyRange, Layout, Payload,
+    Policy, Refusal, Reply, Serial,
 };
 use smallvec::SmallVec;
 use std::alloc::Global;
 use std::process::Abort;
 
 /// The parts of a range: its partitions, and the ends of its part in each.
-fn parts(core: &Core, low: u64, high: u64) -> Result<SmallVec<(u32, KeyRange), 8>, Refusal> {
-    core.parts_of(KeyRange::new(u128::from(low), u128::from(high))?)
+fn parts(
+    core: &Core,
+    low: BoundNumber,
+    high: BoundNumber,
+) -> Result<SmallVec<(u32, KeyRange), 8>, Refusal> {
+    let range = KeyRange::between(Bound::from_number(low), Bound::from_number(high))?;
+    core.parts_of(range)
 }
 
 /// Asserts the parts of a range: the partition of each, and its ends.
 fn assert_parts(
     rt: &impl Abort,
     core: &Core,
-    low: u64,
-    high: u64,
-    wanted: &[[u64; 3]],
+    low: BoundNumber,
+    high: BoundNumber,
+    wanted: &[[BoundNumber; 3]],
 ) -> Result<(), Refusal> {
     let parts = parts(core, low, high)?;
     assert_eq!(rt; parts.len(), wanted.len());
     for place in 0..wanted.len() {
         let (number, range) = parts[place];
-        let told = [u64::from(number), range.low().0, range.high().0];
+        let told = [
+            BoundNumber::from(number),
+            range.low().number(),
+            range.high().number(),
+        ];
         assert_eq!(rt; told, wanted[place], "part {place}");
     }
     Ok(())
@@ -36,18 +46,22 @@ fn cut_at_splits(rt: &impl Abort, core: &Core) -> Result<(), Refusal> {
     let three = [[0, 50, 100], [1, 100, 200], [2, 200, 201]];
     assert_parts(rt, core, 50, 201, &three)?;
     assert_parts(rt, core, 100, 100, &[[1, 100, 100]])?;
-    let end = 4294967296;
+    let end = GREATEST_BOUND;
     assert_parts(rt, core, end, end, &[[2, end, end]])
 }
 
 #[test]
 fn ranges_are_cut_at_splits(rt: HostRuntime) -> Result<(), Refusal> {
-    let core = Core::open(rt.alloc(), &[Bound(100), Bound(200)], GREATEST_LIMIT)?;
+    let core = Core::open(
+        rt.alloc(),
+        &[Bound::from_number(100), Bound::from_number(200)],
+        GREATEST_LIMIT,
+    )?;
     let told = cut_at_splits(&rt, &core);
     let places = [
-        core.route(Key(99)),
-        core.route(Key(100)),
-        core.route(Key(200)),
+        core.route(Key::from_number(99)),
+        core.route(Key::from_number(100)),
+        core.route(Key::from_number(200)),
     ];
     drop(core);
     assert_eq!(rt; places, [0, 1, 2]);
@@ -67,8 +81,8 @@ fn step(part: u32, command: Command) -> Step {
 /// A step at a partition that isn't there is refused, and the next one is made.
 fn make_three(rt: &impl Abort, core: &mut Core) -> Result<(), Refusal> {
     let insert = Command::Insert {
-        key: Key(7),
-        payload: Payload(70),
+        key: Key::from_number(7),
+        payload: Payload::from_number(70),
     };
     let count = Command::Count(KeyRange::all());
     let results = core.run_steps(&[step(0, insert), step(7, count), step(0, count)])?;
@@ -119,7 +133,7 @@ fn assert_two(rt: &impl Abort, core: &Core) -> Result<(), Refusal> {
 
 #[test]
 fn each_partition_has_the_limit(rt: HostRuntime) -> Result<(), Refusal> {
-    let mut core = Core::open(rt.alloc(), &[Bound(100)], 1)?;
+    let mut core = Core::open(rt.alloc(), &[Bound::from_number(100)], 1)?;
     fill_each(&rt, &mut core);
     let told = assert_two(&rt, &core);
     drop(core);
@@ -133,21 +147,25 @@ fn refused(alloc: Global, splits: &[Bound], limit: u64) -> Option<Refusal> {
 
 #[test]
 fn bad_splits_are_refused(rt: HostRuntime) {
-    let twice = refused(rt.alloc(), &[Bound(100), Bound(100)], 0);
+    let twice = refused(
+        rt.alloc(),
+        &[Bound::from_number(100), Bound::from_number(100)],
+        0,
+    );
     assert!(rt; matches!(twice, Some(Refusal::BadSplits)));
-    let least = refused(rt.alloc(), &[Bound(0)], 1);
+    let least = refused(rt.alloc(), &[Bound::from_number(0)], 1);
     assert!(rt; matches!(least, Some(Refusal::BadSplits)));
-    let greatest = refused(rt.alloc(), &[Bound(4294967296)], 1);
+    let greatest = refused(rt.alloc(), &[Bound::from_number(GREATEST_BOUND)], 1);
     assert!(rt; matches!(greatest, Some(Refusal::BadSplits)));
-    let limit = refused(rt.alloc(), &[Bound(4294967295)], 0);
+    let limit = refused(rt.alloc(), &[Bound::from_number(GREATEST_BOUND - 1)], 0);
     assert!(rt; matches!(limit, Some(Refusal::BadLimit)));
 }
 
 #[test]
 fn too_many_splits_are_refused(rt: HostRuntime) {
-    let mut splits = [Bound(0); 64];
+    let mut splits = [Bound::from_number(0); 64];
     for place in 0..64 {
-        splits[place] = Bound(place as u64 + 1);
+        splits[place] = Bound::from_number(place as BoundNumber + 1);
     }
     let many = refused(rt.alloc(), &splits, 0);
     assert!(rt; matches!(many, Some(Refusal::TooManyPartitions)));

@@ -1,14 +1,17 @@
 //! The plain table: each call once, with ample memory.
 use crack_plain::PlainTable;
-use crack_row::{Command, Key, KeyRange, Payload, Refusal, Reply, Row, Serial};
+use crack_row::{
+    BoundNumber, Command, GREATEST_BOUND, GREATEST_KEY, Key, KeyNumber, KeyRange, LEAST_PAYLOAD,
+    Payload, PayloadNumber, Refusal, Reply, Row, Serial,
+};
 use std::process::Abort;
 
 /// A row.
-fn row(serial: u64, key: u32, payload: u32) -> Row {
+fn row(serial: u64, key: KeyNumber, payload: PayloadNumber) -> Row {
     Row {
         serial: Serial(serial),
-        key: Key(key),
-        payload: Payload(payload),
+        key: Key::from_number(key),
+        payload: Payload::from_number(payload),
     }
 }
 
@@ -113,6 +116,36 @@ fn fold(rt: &impl Abort, table: &mut PlainTable) -> Result<(), Refusal> {
     assert_since(rt, table, 3, 5);
     assert_since(rt, table, 0, 5);
     insert(rt, table, row(2, 9, 90))
+}
+
+/// What the payloads of a range add up to.
+fn sum(table: &mut PlainTable, low: BoundNumber, high: BoundNumber) -> Result<i128, Refusal> {
+    match ask(table, &Command::Sum(KeyRange::new(low, high)?))? {
+        Reply::Summed(sum) => Ok(sum),
+        _ => Ok(i128::MAX),
+    }
+}
+
+fn add_up(rt: &impl Abort, table: &mut PlainTable) -> Result<(), Refusal> {
+    insert(rt, table, row(0, GREATEST_KEY, LEAST_PAYLOAD))?;
+    insert(rt, table, row(1, 4294967296, -1))?;
+    insert(rt, table, row(2, 4294967295, 5))?;
+    assert_eq!(rt; sum(table, 0, GREATEST_BOUND)?, -9223372036854775804);
+    assert_eq!(rt;
+        sum(table, 4294967296, GREATEST_BOUND)?,
+        -9223372036854775809
+    );
+    assert_eq!(rt; sum(table, 4294967296, 18446744073709551615)?, -1);
+    Ok(())
+}
+
+/// Payloads of both signs, at keys on both sides of 2^32.
+#[test]
+fn plain_table_adds_up_below_0(rt: HostRuntime) -> Result<(), Refusal> {
+    let mut table = PlainTable::new(rt.alloc());
+    let told = add_up(&rt, &mut table);
+    drop(table);
+    told
 }
 
 /// A checkpoint tells what came since the last one, and changes no row.

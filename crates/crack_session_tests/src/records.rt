@@ -132,7 +132,7 @@ fn a_reader_fails_behind_each_byte(rt: HostRuntime) -> Result<(), Fail> {
 #[test]
 fn rows_come_out_partition_by_partition(rt: HostRuntime) -> Result<(), Fail> {
     let sorted = b"key,payload\n50,5\n150,6\n";
-    assert_through(&rt, rt.alloc(), &[Bound(100)], TEXT, 2, sorted)
+    assert_through(&rt, rt.alloc(), &[Bound::from_number(100)], TEXT, 2, sorted)
 }
 
 #[test]
@@ -144,8 +144,8 @@ fn nothing_is_exported_as_a_header(rt: HostRuntime) -> Result<(), Fail> {
 #[test]
 fn records_have_many_forms(rt: HostRuntime) -> Result<(), Fail> {
     let bytes =
-        b"\xEF\xBB\xBFkey,payload\r\n\r\n\"7\",\"70\"\r8,80\n\n00000000000000000009,4294967295";
-    let text = b"key,payload\n7,70\n8,80\n9,4294967295\n";
+        b"\xEF\xBB\xBFkey,payload\r\n\r\n\"7\",\"70\"\r8,80\n\n00000000000000000009,9223372036854775807";
+    let text = b"key,payload\n7,70\n8,80\n9,9223372036854775807\n";
     assert_through(&rt, rt.alloc(), &[], bytes, 3, text)
 }
 
@@ -159,8 +159,28 @@ fn a_header_is_the_first_record_alone(rt: HostRuntime) -> Result<(), Fail> {
 fn fields_are_numbers_in_range(rt: HostRuntime) -> Result<(), Fail> {
     assert_bad(&rt, rt.alloc(), b"5,+6\n", 1, 0)?;
     assert_bad(&rt, rt.alloc(), b"5, 6\n", 1, 0)?;
-    assert_bad(&rt, rt.alloc(), b"4294967296,6\n", 1, 0)?;
+    assert_bad(&rt, rt.alloc(), b"18446744073709551616,6\n", 1, 0)?;
+    assert_bad(&rt, rt.alloc(), b"5,9223372036854775808\n", 1, 0)?;
     assert_bad(&rt, rt.alloc(), b"000000000000000000005,6\n", 1, 0)
+}
+
+/// A payload's sign comes in and goes out; what is above 0 has none.
+#[test]
+fn payloads_below_0_go_through(rt: HostRuntime) -> Result<(), Fail> {
+    let same = b"key,payload\n5,-6\n";
+    assert_through(&rt, rt.alloc(), &[], same, 1, same)?;
+    let bytes = b"18446744073709551615,-9223372036854775808\n4294967296,\"-1\"\n1,-0\n";
+    let text = b"key,payload\n18446744073709551615,-9223372036854775808\n4294967296,-1\n1,0\n";
+    assert_through(&rt, rt.alloc(), &[], bytes, 3, text)
+}
+
+#[test]
+fn a_sign_stands_right_before_a_payload(rt: HostRuntime) -> Result<(), Fail> {
+    assert_bad(&rt, rt.alloc(), b"-5,6\n", 1, 0)?;
+    assert_bad(&rt, rt.alloc(), b"5,6\n5,--6\n", 2, 1)?;
+    assert_bad(&rt, rt.alloc(), b"5,-\n", 1, 0)?;
+    assert_bad(&rt, rt.alloc(), b"5,- 6\n", 1, 0)?;
+    assert_bad(&rt, rt.alloc(), b"5,-9223372036854775809\n", 1, 0)
 }
 
 #[test]

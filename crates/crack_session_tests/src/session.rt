@@ -163,6 +163,36 @@ fn the_greatest_key_and_bound_are_taken(rt: HostRuntime) -> Result<(), Fail> {
     )
 }
 
+/// The greatest key with the least payload, a sum below every payload, and what is just past the limits.
+#[test]
+fn wide_numbers_are_read_and_told(rt: HostRuntime) -> Result<(), Fail> {
+    assert_alike(
+        &rt,
+        rt.alloc(),
+        b"insert 18446744073709551615 -9223372036854775808\ninsert 18446744073709551615 -1\n\
+sum 18446744073709551615 18446744073709551616\ninsert 18446744073709551616 1\ncount 0 18446744073709551617\n\
+insert 1 9223372036854775808\ninsert 1 - 2\ninsert 1 -0\nselect 0 2\ndelete 0.1\n",
+        b"row 0.0\nrow 0.1\nsum -9223372036854775809\nrefused 1\nrefused 2\nrefused 1\nrefused 1\nrow 0.2\n\
+rows 1\n0.2 1 0\ngone 18446744073709551615 -1\n",
+        ends(How::InputEnded, 10),
+    )
+}
+
+/// Keys at both sides of 2^32, with payloads of both signs.
+#[test]
+fn keys_next_to_32_bits_are_told_apart(rt: HostRuntime) -> Result<(), Fail> {
+    assert_alike(
+        &rt,
+        rt.alloc(),
+        b"insert 4294967295 -7\ninsert 4294967296 5\ninsert 4294967297 -1\ninsert 1 9\n\
+sum 0 4294967296\nsum 4294967295 4294967297\ncount 4294967296 18446744073709551616\nselect 4294967296 4294967298\n\
+update 0.2 4294967295 -9223372036854775808\nsum 4294967295 4294967296\nselect 4294967295 4294967296\n",
+        b"row 0.0\nrow 0.1\nrow 0.2\nrow 0.3\nsum 2\nsum -2\ncount 2\nrows 2\n0.1 4294967296 5\n0.2 4294967297 -1\n\
+changed\nsum -9223372036854775815\nrows 2\n0.0 4294967295 -7\n0.2 4294967295 -9223372036854775808\n",
+        ends(How::InputEnded, 11),
+    )
+}
+
 #[test]
 fn a_full_history_is_told(rt: HostRuntime) -> Result<(), Fail> {
     assert_script(
@@ -215,7 +245,7 @@ fn each_statement_is_answered(rt: HostRuntime) -> Result<(), Fail> {
         rt.alloc(),
         b"insert 7 70\ninsert 9 90\nupdate 0.0 8 80\nsum 0 100\nselect 0 100\nselect 9 9\ndelete 0.1\ndelete 0.1\n\
 update 0.1 5 5\npolicy gradual\npolicy complete\ncount 0 9\ndelete 1.0\nupdate 1.0 1 1\nlayout 1\nlayout 4294967295\n\
-delete 0.18446744073709551615\nselect 0 4294967296\nquit\n",
+delete 0.18446744073709551615\nselect 0 18446744073709551616\nquit\n",
         b"row 0.0\nrow 0.1\nchanged\nsum 170\nrows 2\n0.0 8 80\n0.1 9 90\nrows 0\ngone 9 90\nnone\n\
 none\npolicy gradual\npolicy complete\ncount 1\nrefused 5\nrefused 5\nrefused 5\nrefused 5\n\
 none\nrows 1\n0.0 8 80\nbye\n",
@@ -226,7 +256,7 @@ none\nrows 1\n0.0 8 80\nbye\n",
 /// A session whose first line names this policy, and whose last one gets this layout.
 fn assert_policy(rt: &impl Abort, alloc: Global, name: &str, layout: &str) -> Result<(), Fail> {
     let rows =
-        "insert 10 10\ninsert 20 20\ninsert 30 30\ninsert 40 40\ncount 0 4294967296\ncount 15 25\n";
+        "insert 10 10\ninsert 20 20\ninsert 30 30\ninsert 40 40\ncount 0 18446744073709551616\ncount 15 25\n";
     let more = "insert 17 0\ninsert 90 0\ncount 15 25\nlayout 0\n";
     let input = format!(in alloc; "policy {name}\n{rows}{more}")?;
     let replies = "row 0.0\nrow 0.1\nrow 0.2\nrow 0.3\ncount 4\ncount 1\n";
@@ -246,11 +276,11 @@ fn assert_policy(rt: &impl Abort, alloc: Global, name: &str, layout: &str) -> Re
 #[test]
 fn a_policy_holds_for_the_rest(rt: HostRuntime) -> Result<(), Fail> {
     let all =
-        "layout 0 rows 6 column 6 out 0 in 0 cells 6 free 0 pieces 3\npiece 0 15 1\npiece 15 25 2\npiece 25 4294967296 3\n";
+        "layout 0 rows 6 column 6 out 0 in 0 cells 6 free 0 pieces 3\npiece 0 15 1\npiece 15 25 2\npiece 25 18446744073709551616 3\n";
     let some =
-        "layout 0 rows 6 column 5 out 0 in 1 cells 6 free 0 pieces 3\npiece 0 15 1\npiece 15 25 2\npiece 25 4294967296 2\n";
+        "layout 0 rows 6 column 5 out 0 in 1 cells 6 free 0 pieces 3\npiece 0 15 1\npiece 15 25 2\npiece 25 18446744073709551616 2\n";
     let near =
-        "layout 0 rows 6 column 4 out 0 in 2 cells 6 free 0 pieces 3\npiece 0 15 1\npiece 15 25 2\npiece 25 4294967296 1\n";
+        "layout 0 rows 6 column 4 out 0 in 2 cells 6 free 0 pieces 3\npiece 0 15 1\npiece 15 25 2\npiece 25 18446744073709551616 1\n";
     assert_policy(&rt, rt.alloc(), "complete", all)?;
     assert_policy(&rt, rt.alloc(), "gradual", some)?;
     assert_policy(&rt, rt.alloc(), "ripple", near)
@@ -264,7 +294,7 @@ fn layouts_of_other_desks(rt: HostRuntime) -> Result<(), Fail> {
         rt.alloc(),
         PlainTable::new(rt.alloc()),
         b"insert 7 70\ninsert 9 90\ncount 8 9\nlayout 0",
-        b"row 0.0\nrow 0.1\ncount 0\nlayout 0 rows 2 column 2 out 0 in 0 cells 2 free 0 pieces 1\npiece 0 4294967296 2\n",
+        b"row 0.0\nrow 0.1\ncount 0\nlayout 0 rows 2 column 2 out 0 in 0 cells 2 free 0 pieces 1\npiece 0 18446744073709551616 2\n",
         ends(How::InputEnded, 4),
     )?;
     let refusal = Refusal::OutOfMemory;
@@ -319,8 +349,8 @@ fn ask<D: Desk>(desk: &mut D, part: u32, command: Command) -> Result<Reply, Refu
 /// A desk by itself: what it is asked, how many it accepted, and that there is one partition.
 fn ask_it<D: Desk>(rt: &impl Abort, desk: &mut D) -> Result<(), Fail> {
     let insert = Command::Insert {
-        key: Key(7),
-        payload: Payload(70),
+        key: Key::from_number(7),
+        payload: Payload::from_number(70),
     };
     assert!(rt; matches!(ask(desk, 0, insert)?, Reply::Placed(Serial(0))));
     let count = Command::Count(KeyRange::new(7, 8)?);

@@ -7,7 +7,7 @@ use Rattle.std.proofs.lemmas.List.{length-map, get_or-map}
 use Rattle.std.proofs.lemmas.List.Elements.{All-contains, All-cons, All-push, All-map, Contains-get_or, Contains-append_left, Contains-append_right}
 use Rattle.std.proofs.lemmas.List.Sorted.{IsPermutation-refl, IsPermutation-trans, All-permutation}
 use Rattle.crack_row.specs.Ranges.{Range, IsIn}
-use Rattle.crack_row.specs.declared.Bound.{Bound}
+use Rattle.crack_row.specs.declared.InnerBound.{InnerBound}
 use Rattle.crack_row.specs.declared.Row.{Row}
 use Rattle.crack_arena.specs.Arena.{Cell, Handle, times, empty_cell, slots}
 use Rattle.crack_arena.proofs.Times.{times-map-IsPermutation}
@@ -31,11 +31,11 @@ abbrev pub AreEnds : Range → ℕ → ℕ → Type 0
 AreEnds r first second = ((first ≡ r.low) × (second ≡ r.high)) ⊎ ((first ≡ r.high) × (second ≡ r.low))
 
 -- crack: a bound divides its own piece at a place; the column's handles stand in this order
-abbrev pub cracked_at : Bound → ℕ → List Handle → State → State
+abbrev pub cracked_at : InnerBound → ℕ → List Handle → State → State
 cracked_at bound place handles s = record s { column = handles; marks = added (record { bound = bound; position = place }) s.marks }
 
 -- how a bound's own piece is cracked: its rows, divided by the bound, and no other; whatever is remembered of them
-pub record CracksAt (s u : State) (bound : Bound) : Type 0 where
+pub record CracksAt (s u : State) (bound : InnerBound) : Type 0 where
   pub place : ℕ
   pub missing : HasBound s.marks bound.0 → ⊥
   pub low : s.keys.low < bound.0
@@ -71,7 +71,7 @@ piece_behind s hand bound high intact =
     let is_next = next_mark-is bound s.marks m intact.rising found in
     (m.bound.0, omega (arith, is_next.above), Divides-listed (column_keys s) s.marks m intact.obeyed is_next.listed))
 
-module _ (s u : State) (hand : List Handle) (bound : Bound) (c : CracksAt s u bound) (intact : IsIntact s hand) where
+module _ (s u : State) (hand : List Handle) (bound : InnerBound) (c : CracksAt s u bound) (intact : IsIntact s hand) where
   abbrev from : ℕ
   from = piece_start s bound.0
 

@@ -1,9 +1,9 @@
 -- What is read off a stretch of the column: as places are passed, and once the range is settled.
-use Rattle.std.proofs.Common.{◌≡◌, ℕ, suc, ◌<◌, ◌≤◌, List, [], ◌∷◌, map, refl, ap, inl, inr, arith, ◌+◌, ◌++◌, filter, length, get_or, Option, Some, None, sym, ◌∙◌}
-use Rattle.std.specs.List.{All, AllPairs, Contains, cons_option, filter_map, between, sum_by}
+use Rattle.std.proofs.Common.{◌≡◌, ℕ, suc, ◌<◌, ◌≤◌, List, [], ◌∷◌, map, refl, ap, inl, inr, arith, ◌+◌, ◌+ℤ◌, ◌++◌, filter, length, get_or, Option, Some, None, sym, ◌∙◌}
+use Rattle.std.specs.List.{All, AllPairs, Contains, cons_option, filter_map, between}
 use Rattle.std.specs.List.Sorted.{IsPermutation, IsNonDecreasingBy}
 use Rattle.std.proofs.lemmas.List.Elements.{All-cons, All-head, All-tail, All-contains, filter_map-append}
-use Rattle.std.proofs.lemmas.List.Sorted.{IsPermutation-sym, Contains-permutation, IsPermutation-trans, sum_by-IsPermutation}
+use Rattle.std.proofs.lemmas.List.Sorted.{IsPermutation-sym, Contains-permutation, IsPermutation-trans}
 use Rattle.crack_row.proofs.Lists.{Contains-either, IsPermutation-filter}
 use Rattle.crack_row.specs.declared.Row.{Row}
 use Rattle.crack_arena.specs.Arena.{times, Cell, Handle, no_handle, read}
@@ -11,10 +11,11 @@ use Rattle.crack_arena.proofs.Times.{times-nil, times-cons, times_one, times_oth
 use Rattle.crack_state.specs.Stretch.{serial_of, rows_within, stretch_rows}
 use Rattle.std.proofs.lemmas.List.Edits.{between_more}
 use Rattle.std.proofs.lemmas.List.Kept.{AllPairs-filter}
-use Rattle.std.proofs.lemmas.List.Sums.{sum_by-cons}
 use Rattle.crack_row.specs.Ranges.{Range, in_range}
-use Rattle.crack_row.specs.Rows.{sum_of}
-use Rattle.crack_arena.specs.Rows.{payload_of_row, payload_at}
+use Rattle.crack_row.specs.Rows.{amount, total_by, sum_of}
+use Rattle.crack_row.proofs.Totals.{total_by-cons, total_by-permutation}
+use Rattle.std.proofs.lemmas.Int.{ints}
+use Rattle.crack_arena.specs.Rows.{amount_at, amount_of_row}
 use Rattle.crack_state.specs.State.{State, live_rows}
 use Rattle.crack_state.specs.Merge.{IsSettled}
 
@@ -74,13 +75,13 @@ rows_within-more s from place row order within reads =
     ap (filter_map (read s.cells)) (between_more s.column from place no_handle order within) ∙ filter_map-append (read s.cells) (between from place s.column) (h ∷ []) ∙ ap (λ rows. rows_within s from place ++ rows) last
 
 -- the sum of their payloads, by handles
-pub sum-payloads : (cells : List (Cell Row)) (hs : List Handle) → sum_of (filter_map (read cells) hs) ≡ sum_by (payload_at cells) hs
+pub sum-payloads : (cells : List (Cell Row)) (hs : List Handle) → sum_of (filter_map (read cells) hs) ≡ total_by (amount_at cells) hs
 sum-payloads cells [] = refl
-sum-payloads cells (h ∷ hs) = by_value (read cells h) (sum-payloads cells hs) ∙ sym (sum_by-cons (payload_at cells) h hs)
+sum-payloads cells (h ∷ hs) = by_value (read cells h) (sum-payloads cells hs) ∙ sym (total_by-cons (amount_at cells) h hs)
   where
-    by_value : (o : Option Row) → sum_of (filter_map (read cells) hs) ≡ sum_by (payload_at cells) hs → sum_of (cons_option o (filter_map (read cells) hs)) ≡ payload_of_row o + sum_by (payload_at cells) hs
-    by_value None rest = omega (arith, rest)
-    by_value (Some row) rest = omega (arith, sum_by-cons (λ (r : Row). r.payload.0) row (filter_map (read cells) hs), rest)
+    by_value : (o : Option Row) → sum_of (filter_map (read cells) hs) ≡ total_by (amount_at cells) hs → sum_of (cons_option o (filter_map (read cells) hs)) ≡ amount_of_row o +ℤ total_by (amount_at cells) hs
+    by_value None rest = omega (arith, ints, rest)
+    by_value (Some row) rest = omega (arith, ints, total_by-cons (λ (r : Row). amount r.payload) row (filter_map (read cells) hs), rest)
 
 -- a settled stretch has the rows of the range, of any list of the live rows
 pub stretch-settled : (s : State) (r : Range) (plain : List Row) → IsSettled s r → IsPermutation (live_rows s) plain → IsPermutation (filter (in_range r) plain) (stretch_rows s r)
@@ -89,7 +90,7 @@ stretch-settled s r plain settled same =
 
 -- so its sum is theirs
 pub sum-settled : (s : State) (r : Range) (plain : List Row) → IsSettled s r → IsPermutation (live_rows s) plain → sum_of (stretch_rows s r) ≡ sum_of (filter (in_range r) plain)
-sum-settled s r plain settled same = sum_by-IsPermutation (λ (row : Row). row.payload.0) (filter (in_range r) plain) (stretch_rows s r) (stretch-settled s r plain settled same)
+sum-settled s r plain settled same = total_by-permutation (λ (row : Row). amount row.payload) (filter (in_range r) plain) (stretch_rows s r) (stretch-settled s r plain settled same)
 
 -- and its rows, in rising serial, are just theirs, where those stand in rising serial
 pub rows-settled : (s : State) (r : Range) (plain rows : List Row) → IsSettled s r → IsPermutation (live_rows s) plain → AreRising plain → IsPermutation (stretch_rows s r) rows → IsNonDecreasingBy serial_of rows → rows ≡ filter (in_range r) plain

@@ -8,13 +8,13 @@ use Rattle.std.proofs.lemmas.List.Elements.{All-head, All-tail, All-contains}
 use Rattle.std.proofs.lemmas.List.Edits.{length-between, get_or-between}
 use Rattle.std.proofs.lemmas.List.Sorted.{IsPermutation-refl, length_permutation}
 use Rattle.crack_row.specs.Ranges.{Range}
-use Rattle.crack_row.specs.declared.Bound.{Bound}
+use Rattle.crack_row.specs.declared.InnerBound.{InnerBound}
 use Rattle.crack_row.specs.declared.Row.{Row}
 use Rattle.crack_arena.specs.Arena.{Cell, Handle, no_handle}
 use Rattle.crack_arena.specs.Rows.{key_at}
 use Rattle.crack_index.specs.declared.index.Piece.{Piece}
 use Rattle.crack_index.specs.declared.mark.Mark.{Mark}
-use Rattle.crack_index.specs.Marks.{Rising, HasBound, added, next_mark, last_mark, start_of, end_of, Fits, piece_at}
+use Rattle.crack_index.specs.Marks.{Rising, HasBound, added, next_mark, last_mark, start_of, end_of, Fits}
 use Rattle.crack_index.proofs.MarkLaws.{next_mark-is, next_mark-none, last_mark-is, last_mark-none, HasBound-mark, HasBound-contains, HasBound-added, Fits-piece}
 use Rattle.crack_column.specs.Column.{Memory, nothing, memory_at, Cracks}
 use Rattle.crack_column.proofs.Cracking.{Replaced, replaced, length-Cracks}
@@ -23,28 +23,28 @@ use Rattle.crack_state.specs.Steps.{piece_start, piece_end}
 use Rattle.crack_state.specs.Merge.{IsInner, Refines, bound_or, bound_above}
 use Rattle.crack_state.specs.Inside.{RefinesAt}
 use Rattle.crack_state.proofs.CrackLaws.{keys-refined, CracksAt, cracked_at, IsIntact-cracked, RefinesAt-cracked, Refines-both}
-use Rattle.crack_store.specs.declared.cracking.Missing.TheVariants.{Together}
-use Rattle.crack_store.specs.Gaps.{MissesIn, Misses, IsMissing}
+use Rattle.crack_store.specs.declared.cracking.Gap.{Gap}
+use Rattle.crack_store.specs.Gaps.{MissesIn, FallTogether, IsMissing, above_or}
 
 -- A bound among the marks
 
 -- where the last bound up to a bound equals it, it is there
-pub listed_bound : (bound low : Bound) (marks : List Mark) → Rising marks → option_map (λ (m : Mark). m.bound) (last_mark bound.0 marks) ≡ Some low → low.0 ≡ bound.0 → HasBound marks bound.0
+pub listed_bound : (bound low : InnerBound) (marks : List Mark) → Rising marks → option_map (λ (m : Mark). m.bound) (last_mark bound.0 marks) ≡ Some low → low.0 ≡ bound.0 → HasBound marks bound.0
 listed_bound bound low marks rising is same = by_last (last_mark bound.0 marks) refl is
   where
     by_last : (o : Option Mark) → o ≡ last_mark bound.0 marks → option_map (λ (m : Mark). m.bound) o ≡ Some low → HasBound marks bound.0
     by_last None e is = absurd (cc)
     by_last (Some m) e is =
         let is_low : m.bound ≡ low = cc in
-        rw (ap (λ (b : Bound). b.0) is_low ∙ same) at (HasBound-mark marks m (last_mark-is bound.0 marks m rising (sym e)).listed)
+        rw (ap (λ (b : InnerBound). b.0) is_low ∙ same) at (HasBound-mark marks m (last_mark-is bound.0 marks m rising (sym e)).listed)
 
 -- where it is another, or there is none, it isn't
-pub absent_bound : (bound : Bound) (marks : List Mark) → Rising marks → ((low : Bound) → option_map (λ (m : Mark). m.bound) (last_mark bound.0 marks) ≡ Some low → low.0 ≢ bound.0) → HasBound marks bound.0 → ⊥
+pub absent_bound : (bound : InnerBound) (marks : List Mark) → Rising marks → ((low : InnerBound) → option_map (λ (m : Mark). m.bound) (last_mark bound.0 marks) ≡ Some low → low.0 ≢ bound.0) → HasBound marks bound.0 → ⊥
 absent_bound bound marks rising other there =
     let at = HasBound-contains marks bound.0 there in
     by_last at.0 at.1 at.2 (last_mark bound.0 marks) refl other
   where
-    by_last : (m : Mark) → Contains marks m → m.bound.0 ≡ bound.0 → (o : Option Mark) → o ≡ last_mark bound.0 marks → ((low : Bound) → option_map (λ (n : Mark). n.bound) o ≡ Some low → low.0 ≢ bound.0) → ⊥
+    by_last : (m : Mark) → Contains marks m → m.bound.0 ≡ bound.0 → (o : Option Mark) → o ≡ last_mark bound.0 marks → ((low : InnerBound) → option_map (λ (n : Mark). n.bound) o ≡ Some low → low.0 ≢ bound.0) → ⊥
     by_last m listed is None e apart = absurd (let above = All-contains (λ n. bound.0 < n.bound.0) marks m (last_mark-none bound.0 marks rising (sym e)) listed in omega (arith, above, is))
     by_last m listed is (Some n) e apart =
         let last = last_mark-is bound.0 marks n rising (sym e) in
@@ -248,7 +248,7 @@ module _ (cells : List (Cell Row)) (low high from to : ℕ) (handles : List Hand
 
 -- Both ends at once
 
-module _ (s u : State) (low high : Bound) (handles : List Handle) (known known' : List Memory) (a b : ℕ) (intact : IsIntact s []) (missing : IsMissing s low.0) (order : low.0 < high.0) (below : high.0 < bound_above s low.0) (c : Cracks s.cells low.0 (piece_start s low.0) (piece_end s low.0) s.column known handles known' a) (d : Cracks s.cells high.0 (piece_start s low.0) (piece_end s low.0) s.column known handles known' b) (rises : a ≤ b) (beside : length known ≡ length s.column) (after : u ≡ cracked_at high b handles (cracked_at low a handles s)) where
+module _ (s u : State) (low high : InnerBound) (handles : List Handle) (known known' : List Memory) (a b : ℕ) (intact : IsIntact s []) (missing : IsMissing s low.0) (order : low.0 < high.0) (below : high.0 < bound_above s low.0) (c : Cracks s.cells low.0 (piece_start s low.0) (piece_end s low.0) s.column known handles known' a) (d : Cracks s.cells high.0 (piece_start s low.0) (piece_end s low.0) s.column known handles known' b) (rises : a ≤ b) (beside : length known ≡ length s.column) (after : u ≡ cracked_at high b handles (cracked_at low a handles s)) where
   abbrev low_mark : Mark
   low_mark = record { bound = low; position = a }
 
@@ -309,28 +309,26 @@ module _ (s u : State) (low high : Bound) (handles : List Handle) (known known' 
   second_absent : HasBound (added low_mark s.marks) high.0 → ⊥
   second_absent = second.missing
 
--- what a crack in three of the piece into which both ends fall leaves, and what is true while the bounds are added
-pub record IsThree (s u : State) (r : Range) (low high : Bound) (a b : ℕ) : Type 0 where
+-- what a crack in three of the piece into which two bounds fall leaves, and what is true while they are added
+pub record IsThree (s u : State) (gap : Gap) (high : InnerBound) (a b : ℕ) : Type 0 where
   pub intact : IsIntact u []
-  pub refined : Refines s u r
-  pub fits : Fits (record { bound = high; position = b }) (added (record { bound = low; position = a }) s.marks)
-  pub absent : HasBound (added (record { bound = low; position = a }) s.marks) high.0 → ⊥
+  pub refined : Refines s u (record { low = gap.bound.0; high = high.0 })
+  pub fits : Fits (record { bound = high; position = b }) (added (record { bound = gap.bound; position = a }) s.marks)
+  pub absent : HasBound (added (record { bound = gap.bound; position = a }) s.marks) high.0 → ⊥
 
-pub three : (s u : State) (r : Range) (low high : Bound) (piece : Piece) (handles : List Handle) (known known' : List Memory) (a b : ℕ) → IsIntact s [] → low.0 ≡ r.low → high.0 ≡ r.high → Misses s r (Together piece)
-    → Cracks s.cells low.0 piece.from piece.to s.column known handles known' a → Cracks s.cells high.0 piece.from piece.to s.column known handles known' b → a ≤ b → length known ≡ length s.column → u ≡ cracked_at high b handles (cracked_at low a handles s)
-    → IsThree s u r low high a b
-three s u r low high piece handles known known' a b intact low_is high_is told c d rises beside after =
-    let missing : IsMissing s low.0 = rw low_is told.0.missing in
-    let order : low.0 < high.0 = omega (arith, told.1, low_is, high_is) in
-    let below : high.0 < bound_above s low.0 = rw (low_is, high_is) told.2 in
-    let piece_is : piece ≡ piece_at low.0 (length s.column) s.marks = rw low_is told.0.piece_is in
-    let c_at : Cracks s.cells low.0 (piece_start s low.0) (piece_end s low.0) s.column known handles known' a = rw piece_is at c in
-    let d_at : Cracks s.cells high.0 (piece_start s low.0) (piece_end s low.0) s.column known handles known' b = rw piece_is at d in
+pub three : (s u : State) (gap : Gap) (high : InnerBound) (handles : List Handle) (known known' : List Memory) (a b : ℕ) → IsIntact s [] → FallTogether s gap high
+    → Cracks s.cells gap.bound.0 gap.piece.from gap.piece.to s.column known handles known' a → Cracks s.cells high.0 gap.piece.from gap.piece.to s.column known handles known' b → a ≤ b → length known ≡ length s.column → u ≡ cracked_at high b handles (cracked_at gap.bound a handles s)
+    → IsThree s u gap high a b
+three s u gap high handles known known' a b intact told c d rises beside after =
+    let low = gap.bound in
+    let missing = told.low.missing in
+    let c_at : Cracks s.cells low.0 (piece_start s low.0) (piece_end s low.0) s.column known handles known' a = rw told.low.piece_is at c in
+    let d_at : Cracks s.cells high.0 (piece_start s low.0) (piece_end s low.0) s.column known handles known' b = rw told.low.piece_is at d in
     record {
-      intact = IsIntact-three s u low high handles known known' a b intact missing order below c_at d_at rises beside after;
-      refined = Refines-three s u low high handles known known' a b intact missing order below c_at d_at rises beside after r low_is high_is;
-      fits = second_fits s u low high handles known known' a b intact missing order below c_at d_at rises beside after;
-      absent = second_absent s u low high handles known known' a b intact missing order below c_at d_at rises beside after;
+      intact = IsIntact-three s u low high handles known known' a b intact missing told.order told.below c_at d_at rises beside after;
+      refined = Refines-three s u low high handles known known' a b intact missing told.order told.below c_at d_at rises beside after (record { low = low.0; high = high.0 }) refl refl;
+      fits = second_fits s u low high handles known known' a b intact missing told.order told.below c_at d_at rises beside after;
+      absent = second_absent s u low high handles known known' a b intact missing told.order told.below c_at d_at rises beside after;
     }
 
 -- One end alone
@@ -353,3 +351,19 @@ Refines-one s u r bound refined missing end others = record {
     | inr new ↦ inr (elim end [ inl e ↦ inl (new.0 ∙ e) | inr e ↦ inr (new.0 ∙ e) ], new.1, new.2)
   ];
 }
+
+-- where a bound's own piece ends
+pub above_or-piece : (end : ℕ) (o : Option Mark) → above_or end (option_map (λ (m : Mark). m.bound) o) ≡ bound_or end o
+above_or-piece end None = refl
+above_or-piece end (Some m) = refl
+
+-- no bound of an intact store is above its keys' high end
+pub none_above : (s : State) (hand : List Handle) (number : ℕ) → IsIntact s hand → s.keys.high ≤ number → s.keys.high ≡ bound_above s number
+none_above s hand number intact past = by_next (next_mark number s.marks) refl
+  where
+    by_next : (o : Option Mark) → o ≡ next_mark number s.marks → s.keys.high ≡ bound_or s.keys.high o
+    by_next None is = refl
+    by_next (Some m) is =
+        let next = next_mark-is number s.marks m intact.rising (sym is) in
+        let inner = All-contains (λ (x : Mark). (s.keys.low < x.bound.0) × (x.bound.0 < s.keys.high)) s.marks m intact.inside next.listed in
+        absurd (omega (arith, next.above, inner.1, past))

@@ -1,10 +1,12 @@
 -- What private clauses alone cite.
-use Rattle.std.specs.Prelude.{◌≡◌, ◌≢◌, ◌⊎◌, ℕ, ◌<◌, ◌≤◌, length}
+use Rattle.std.specs.Prelude.{◌≡◌, ◌≢◌, ◌⊎◌, ℕ, ◌<◌, ◌≤◌, length, Option, Some, None}
 use Rattle.crack_row.specs.Ranges.{Range}
+use Rattle.crack_row.specs.declared.InnerBound.{InnerBound}
 use Rattle.crack_index.specs.declared.index.Piece.{Piece}
 use Rattle.crack_index.specs.Marks.{HasBound, piece_at}
 use Rattle.crack_state.specs.State.{State}
 use Rattle.crack_state.specs.Merge.{IsInner, IsCracked, bound_above}
+use Rattle.crack_store.specs.declared.cracking.Gap.{Gap}
 use Rattle.crack_store.specs.declared.cracking.Missing.{Missing}
 use Rattle.crack_store.specs.declared.cracking.Missing.TheVariants.{Neither, One, Together, Apart}
 
@@ -22,14 +24,34 @@ pub record MissesIn (s : State) (bound : ℕ) (piece : Piece) : Type 0 where
 -- how many bounds are missing
 abbrev pub bounds_in : Missing → ℕ
 bounds_in Neither = 0
-bounds_in (One bound piece) = 1
-bounds_in (Together piece) = 2
+bounds_in (One gap) = 1
+bounds_in (Together low high) = 2
 bounds_in (Apart low high) = 2
 
--- what is told of the ends of a range is right: where one alone is missing, no other inner end of the range is; two are missing in
--- one piece where the high end is below the next bound above the low end, and each in a piece of its own where it is above that
+-- the bound of a gap is missing, and so is the second, which is above it and falls into the same piece
+pub record FallTogether (s : State) (gap : Gap) (second : InnerBound) : Type 0 where
+  pub low : MissesIn s gap.bound.0 gap.piece
+  pub order : gap.bound.0 < second.0
+  pub below : second.0 < bound_above s gap.bound.0
+
+-- the bounds of two gaps are missing, and the second is at or above the next bound above the first
+pub record FallApart (s : State) (first second : Gap) : Type 0 where
+  pub low : MissesIn s first.bound.0 first.piece
+  pub high : MissesIn s second.bound.0 second.piece
+  pub behind : bound_above s first.bound.0 ≤ second.bound.0
+
+-- these are the ends of the range
+abbrev pub AreEnds : Range → ℕ → ℕ → Type 0
+AreEnds r low high = (low ≡ r.low) × (high ≡ r.high)
+
+-- what is told of the ends of a range is right: where one alone is missing, no other inner end of the range is
 abbrev pub Misses : State → Range → Missing → Type 0
 Misses s r Neither = IsCracked s r
-Misses s r (One bound piece) = MissesIn s bound.0 piece × ((bound.0 ≡ r.low) ⊎ (bound.0 ≡ r.high)) × ((b : ℕ) → IsInner s.keys r b → b ≢ bound.0 → HasBound s.marks b)
-Misses s r (Together piece) = MissesIn s r.low piece × (r.low < r.high) × (r.high < bound_above s r.low)
-Misses s r (Apart low high) = MissesIn s r.low low × MissesIn s r.high high × (bound_above s r.low ≤ r.high)
+Misses s r (One gap) = MissesIn s gap.bound.0 gap.piece × ((gap.bound.0 ≡ r.low) ⊎ (gap.bound.0 ≡ r.high)) × ((b : ℕ) → IsInner s.keys r b → b ≢ gap.bound.0 → HasBound s.marks b)
+Misses s r (Together low high) = AreEnds r low.bound.0 high.0 × FallTogether s low high
+Misses s r (Apart low high) = AreEnds r low.bound.0 high.bound.0 × FallApart s low high
+
+-- where the keys of a piece end, which is at the bound above them, if there is one
+abbrev pub above_or : ℕ → Option InnerBound → ℕ
+above_or end None = end
+above_or end (Some bound) = bound.0

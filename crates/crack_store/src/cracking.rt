@@ -4,11 +4,18 @@ ghost use Rattle.crack_index.specs.Marks.{added, piece_at};
 ghost use Rattle.crack_state.specs.Merge.{Refines, Stands};
 ghost use Rattle.crack_state.specs.Inside.{RefinesAt};
 ghost use Rattle.crack_store.specs.Inside.{lists_of, KeepsIntact};
-ghost use Rattle.crack_store.specs.Gaps.{MissesIn, Misses, bounds_in};
+ghost use Rattle.crack_store.specs.Gaps.{MissesIn, FallTogether, Misses, bounds_in, above_or};
 
 use crate::inside::Inside;
 use crack_index::Piece;
-use crack_row::{Bound, Key, KeyRange};
+use crack_row::{Bound, InnerBound, KeyRange};
+
+/// A bound that is missing, and the piece of the column into which it falls.
+#[derive(Clone, Copy)]
+pub(crate) struct Gap {
+    bound: InnerBound,
+    piece: Piece,
+}
 
 /// Which ends of a range are missing, and in which pieces of the column they fall.
 #[derive(Clone, Copy)]
@@ -16,11 +23,11 @@ pub(crate) enum Missing {
     /// Both stand.
     Neither,
     /// This one alone; where the range is empty it is both.
-    One(Bound, Piece),
-    /// Both, and they fall into one piece.
-    Together(Piece),
-    /// Both, and the low one falls into the first piece, the high one into the second.
-    Apart(Piece, Piece),
+    One(Gap),
+    /// Both, and they fall into one piece: the low one with it, and the high one.
+    Together(Gap, InnerBound),
+    /// Both, the low one and the high one, and they fall into different pieces.
+    Apart(Gap, Gap),
 }
 
 impl Missing {
@@ -30,26 +37,40 @@ impl Missing {
     {
         match self {
             Missing::Neither => 0,
-            Missing::One(_, _) => 1,
-            Missing::Together(_) | Missing::Apart(_, _) => 2,
+            Missing::One(_) => 1,
+            Missing::Together(_, _) | Missing::Apart(_, _) => 2,
         }
     }
 }
 
-/// The bound's own piece, where the bound lies between the partition's ends and isn't in the index. O(log bounds): a bound is there
-/// just where its piece begins with it.
-fn gap_at(inside: &Inside, bound: Bound) -> Option<Piece>
-    ensures missing { IfSome result (λ piece. MissesIn (lists_of inside.now) bound.0 piece) }
+/// The bound with its own piece, where the bound lies between the partition's ends and isn't in the index. O(log bounds): a bound is
+/// there just where its piece begins with it.
+fn gap_at(inside: &Inside, bound: Bound) -> Option<Gap>
+    ensures bound { IfSome result (λ gap. gap.bound.0 ≡ bound.0) }
+    ensures missing { IfSome result (λ gap. MissesIn (lists_of inside.now) gap.bound.0 gap.piece) }
     ensures stands { IfNone result (Stands (lists_of inside.now) bound.0) }
 {
-    if bound.0 <= inside.keys.low().0 || inside.keys.high().0 <= bound.0 {
+    if bound <= inside.keys.low() || inside.keys.high() <= bound {
         return None;
     }
-    let key = Key(bound.0 as u32);
-    let piece = inside.index.piece_of(key, inside.column.len());
+    let inner = bound.inner()?;
+    let piece = inside.index.piece_of(inner.key(), inside.column.len());
     match piece.low {
-        Some(low) if low.0 == bound.0 => None,
-        _ => Some(piece),
+        Some(low) if low.number() == inner.number() => None,
+        _ => Some(Gap {
+            bound: inner,
+            piece,
+        }),
+    }
+}
+
+/// Where the keys of a piece end: at the bound above them, or with the partition's keys.
+fn end_of(piece: Piece, keys: KeyRange) -> Bound
+    ensures { result.0 ≡ above_or keys.high piece.high }
+{
+    match piece.high {
+        Some(bound) => bound.bound(),
+        None => keys.high(),
     }
 }
 
@@ -61,19 +82,19 @@ pub(crate) fn missing_ends(inside: &Inside, range: KeyRange) -> Missing
     let (low, high) = (range.low(), range.high());
     let Some(first) = gap_at(inside, low) else {
         return match gap_at(inside, high) {
-            Some(piece) => Missing::One(high, piece),
+            Some(gap) => Missing::One(gap),
             None => Missing::Neither,
         };
     };
     if high <= low {
-        return Missing::One(low, first);
+        return Missing::One(first);
     }
-    if high < first.high.unwrap_or(inside.keys.high()) {
-        return Missing::Together(first);
-    }
-    match gap_at(inside, high) {
-        Some(second) => Missing::Apart(first, second),
-        None => Missing::One(low, first),
+    match high.inner() {
+        Some(bound) if high < end_of(first.piece, inside.keys) => Missing::Together(first, bound),
+        _ => match gap_at(inside, high) {
+            Some(second) => Missing::Apart(first, second),
+            None => Missing::One(first),
+        },
     }
 }
 
@@ -87,27 +108,28 @@ pub(crate) fn crack_at_ends(inside: &mut Inside, range: KeyRange, missing: Missi
 {
     match missing {
         Missing::Neither => {}
-        Missing::One(bound, piece) => {
-            crack_in(inside, bound, piece);
+        Missing::One(gap) => {
+            crack_in(inside, gap);
         }
-        Missing::Together(piece) => crack_together(inside, range, piece),
+        Missing::Together(low, high) => crack_together(inside, low, high),
         Missing::Apart(low, high) => {
-            crack_in(inside, range.high(), high);
-            crack_in(inside, range.low(), low);
+            crack_in(inside, high);
+            crack_in(inside, low);
         }
     }
 }
 
-/// Cracks the bound's own piece in two by it; where the bound stands then. Takes no memory. O(size of the piece + bounds).
-fn crack_in(inside: &mut Inside, bound: Bound, piece: Piece) -> usize
+/// Cracks a missing bound's own piece in two by it; where the bound stands then. Takes no memory. O(size of the piece + bounds).
+fn crack_in(inside: &mut Inside, gap: Gap) -> usize
     requires intact { KeepsIntact inside.old [] }
-    requires missing { MissesIn (lists_of inside.old) bound.0 piece }
+    requires missing { MissesIn (lists_of inside.old) gap.bound.0 gap.piece }
     requires room { 1 ≤ inside.old.index.room }
     ensures intact { KeepsIntact inside.new [] }
-    ensures refined { RefinesAt (lists_of inside.old) (lists_of inside.new) bound.0 }
-    ensures marks { inside.new.index.marks ≡ added (record { bound = bound; position = result }) inside.old.index.marks }
+    ensures refined { RefinesAt (lists_of inside.old) (lists_of inside.new) gap.bound.0 }
+    ensures marks { inside.new.index.marks ≡ added (record { bound = gap.bound; position = result }) inside.old.index.marks }
     ensures room { inside.new.index.room + 1 ≡ inside.old.index.room }
 {
+    let Gap { bound, piece } = gap;
     let place = inside
         .column
         .crack_two(piece.from, piece.to, bound, &inside.arena);
@@ -115,15 +137,15 @@ fn crack_in(inside: &mut Inside, bound: Bound, piece: Piece) -> usize
     place
 }
 
-/// Cracks the piece into which both ends of the range fall in three by them. Takes no memory. O(size of the piece + bounds).
-fn crack_together(inside: &mut Inside, range: KeyRange, piece: Piece)
+/// Cracks the piece into which two missing bounds fall in three by them. Takes no memory. O(size of the piece + bounds).
+fn crack_together(inside: &mut Inside, low: Gap, high: InnerBound)
     requires intact { KeepsIntact inside.old [] }
-    requires missing { Misses (lists_of inside.old) range (Missing.Together piece) }
+    requires missing { FallTogether (lists_of inside.old) low high }
     requires room { 2 ≤ inside.old.index.room }
     ensures intact { KeepsIntact inside.new [] }
-    ensures refined { Refines (lists_of inside.old) (lists_of inside.new) range }
+    ensures refined { Refines (lists_of inside.old) (lists_of inside.new) (record { low = low.bound.0; high = high.0 }) }
 {
-    let (low, high) = (range.low(), range.high());
+    let Gap { bound: low, piece } = low;
     let (middle, upper) = inside
         .column
         .crack_three(piece.from, piece.to, low, high, &inside.arena);

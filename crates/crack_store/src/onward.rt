@@ -1,5 +1,5 @@
 //! From one row in hand to the next: what ends the way of the one and begins that of the other, with the store where it is.
-ghost use Rattle.std.specs.Prelude.{◌≡◌, ◌<◌, ◌≤◌, length, OnOk, IfErr};
+ghost use Rattle.std.specs.Prelude.{◌≡◌, ◌<◌, ◌≤◌, ◌↔◌, IsTrue, length, OnOk, IfErr};
 ghost use Rattle.crack_arena.specs.Arena.{times, slots, StandsAt};
 ghost use Rattle.crack_arena.specs.Rows.{keys_at};
 ghost use Rattle.crack_pending.specs.Pending.{Finds};
@@ -94,8 +94,7 @@ impl Carrying {
         ensures same { self.new ≡ self.old }
     {
         let inside = &mut self.inside;
-        let keys = inside.keys;
-        if range.low().0 <= keys.low().0 && keys.high().0 <= range.high().0 {
+        if holds_all(range, inside.keys) {
             if from < inside.pending_in.len() {
                 return Some(from);
             }
@@ -127,4 +126,11 @@ impl Carrying {
     {
         self.inside.pending_in.len()
     }
+}
+
+/// Whether each of these keys is in the range.
+fn holds_all(range: KeyRange, keys: KeyRange) -> bool
+    ensures { IsTrue result ↔ ((range.low ≤ keys.low) × (keys.high ≤ range.high)) }
+{
+    range.low() <= keys.low() && keys.high() <= range.high()
 }

@@ -23,7 +23,7 @@ impl Store {
         let _ = self.inside.keys.high();
         let low = range.high();
         let high = self.next_bound(low);
-        match KeyRange::new(low.0 as u128, high.0 as u128) {
+        match KeyRange::between(low, high) {
             Ok(keys) => keys,
             Err(_) => unreachable!(),
         }

@@ -1,5 +1,5 @@
 //! What a range command reads off the column.
-ghost use Rattle.std.specs.Prelude.{◌≡◌, ◌<◌, ◌≤◌, ◌^◌, Some, length, IfOk, IfErr, slice_index_or};
+ghost use Rattle.std.specs.Prelude.{◌≡◌, ◌<◌, ◌≤◌, ◌≤ℤ◌, ◌^◌, neg_ℤ, pos, Some, length, IfOk, IfErr, slice_index_or};
 ghost use Rattle.std.specs.List.Sorted.{IsPermutation, IsNonDecreasingBy};
 ghost use Rattle.crack_row.specs.Rows.{sum_of};
 ghost use Rattle.crack_arena.specs.Arena.{read, no_handle};
@@ -13,13 +13,13 @@ use crack_row::{KeyRange, Refusal, Row};
 impl Store {
     /// The sum of the payloads of the rows that stand in the column between the ends of a range by which it was cracked.
     /// Takes no memory. O(rows there + log bounds); it reads no cell of a row that the column knows.
-    pub fn sum_between(&self, range: KeyRange) -> u128
+    pub fn sum_between(&self, range: KeyRange) -> i128
         requires { IsCracked self.now range }
         ensures is { result ≡ sum_of (stretch_rows self.now range) }
-        ensures small { result < 2 ^ 64 }
+        ensures small { (neg_ℤ (pos (2 ^ 95)) ≤ℤ result) × (result ≤ℤ pos (2 ^ 95)) }
     {
         let (from, to) = self.places_of(range);
-        self.inside.column.sum_between(from, to, &self.inside.arena) as u128
+        self.inside.column.sum_between(from, to, &self.inside.arena)
     }
 
     /// The rows that stand in the column between the ends of a range by which it was cracked, in rising serial.

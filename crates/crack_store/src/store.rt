@@ -198,7 +198,10 @@ impl Store {
         if self.inside.keys.high() <= bound {
             return self.inside.column.len();
         }
-        match self.inside.index.position(bound) {
+        let Some(inner) = bound.inner() else {
+            unreachable!()
+        };
+        match self.inside.index.position(inner) {
             Some(place) => place,
             None => unreachable!(),
         }
@@ -208,8 +211,11 @@ impl Store {
     pub fn next_bound(&self, bound: Bound) -> Bound
         ensures { result.0 ≡ bound_above self.now bound.0 }
     {
-        match self.inside.index.next_after(bound) {
-            Some((next, _)) => next,
+        let Some(key) = bound.least_key() else {
+            return self.inside.keys.high();
+        };
+        match self.inside.index.bound_above(key) {
+            Some(mark) => mark.bound.bound(),
             None => self.inside.keys.high(),
         }
     }

@@ -94,7 +94,7 @@ impl Carrying {
         ensures below { IsFalse result → IsBelow (ceiling_of ceiling) (hand_key self.now) }
     {
         match ceiling {
-            Some(bound) => bound.0 <= self.hand_key().0 as u64,
+            Some(bound) => !bound.is_above(self.hand_key()),
             None => false,
         }
     }

@@ -3,7 +3,7 @@ ghost use Rattle.std.specs.Prelude.{◌+◌, ◌≤◌};
 ghost use Rattle.crack_table.specs.Cover.{told, IsKept};
 
 use crack_core::Receipt;
-use crack_row::{Command, Entry, Key, KeyRange, Payload, Refusal, Reply, Serial};
+use crack_row::{Command, Entry, Key, KeyRange, Payload, PayloadNumber, Refusal, Reply, Serial};
 use crack_table::{Kept, cover};
 use std::alloc::Global;
 
@@ -162,10 +162,10 @@ fn more_than_a_table_has_are_covered(rt: HostRuntime) {
 }
 
 /// An insert of key 1 with this payload.
-fn insert(payload: u32) -> Command {
+fn insert(payload: PayloadNumber) -> Command {
     Command::Insert {
-        key: Key(1),
-        payload: Payload(payload),
+        key: Key::from_number(1),
+        payload: Payload::from_number(payload),
     }
 }
 

@@ -13,13 +13,15 @@ use std::sync::Wait;
 use std::test::Fail;
 
 /// Two partitions, which meet at key 100.
-static HUNDRED: [Bound; 1] = [Bound(100)];
+fn hundred() -> [Bound; 1] {
+    [Bound::from_number(100)]
+}
 
 /// Each statement, at both partitions, and each refusal that needs no want of room and no gate.
 static SCRIPT: &[u8] = b"insert 50 5\ninsert 150 6\ninsert 99 7\ninsert 100 8\n\
-count 50 151\nsum 0 4294967296\nselect 60 160\nupdate 0.0 60 9\nupdate 0.0 100 9\n\
+count 50 151\nsum 0 18446744073709551616\nselect 60 160\nupdate 0.0 60 9\nupdate 0.0 100 9\n\
 delete 1.0\ndelete 1.0\nlayout 2\nupdate 2.0 100 9\ncount 5 1\nx\npolicy complete\n\
-select 0 4294967296\nlayout 0\nlayout 1\n\
+select 0 18446744073709551616\nlayout 0\nlayout 1\n\
 policy gradual\ninsert 10 1\ninsert 20 2\ncount 10 11\nlayout 0\nquit\ninsert 1 1\n";
 
 /// What is replied to it.
@@ -30,7 +32,7 @@ rows 3\n0.0 60 9\n0.1 99 7\n1.1 100 8\n\
 layout 0 rows 2 column 2 out 0 in 0 cells 3 free 1 pieces 3\n\
 piece 0 50 0\npiece 50 60 0\npiece 60 100 2\n\
 layout 1 rows 1 column 1 out 0 in 0 cells 2 free 1 pieces 3\n\
-piece 100 151 1\npiece 151 160 0\npiece 160 4294967296 0\n\
+piece 100 151 1\npiece 151 160 0\npiece 160 18446744073709551616 0\n\
 policy gradual\nrow 0.2\nrow 0.3\ncount 1\n\
 layout 0 rows 4 column 3 out 0 in 1 cells 4 free 0 pieces 5\n\
 piece 0 10 0\npiece 10 11 1\npiece 11 50 0\npiece 50 60 0\npiece 60 100 2\nbye\n";
@@ -40,29 +42,41 @@ static UNDIVIDED: [Bound; 0] = [];
 
 /// A row of the range 10 to 20 pends, and one outside it, over bounds that stand at one place: by the complete merge both are put in.
 static COMPLETE: &[u8] =
-    b"policy complete\ninsert 10 1\ninsert 40 4\ncount 0 4294967296\ncount 20 30\n\
+    b"policy complete\ninsert 10 1\ninsert 40 4\ncount 0 18446744073709551616\ncount 20 30\n\
 insert 15 5\ninsert 50 6\ncount 10 20\nlayout 0\n";
 
 static COMPLETED: &[u8] = b"policy complete\nrow 0.0\nrow 0.1\ncount 2\ncount 0\n\
 row 0.2\nrow 0.3\ncount 2\nlayout 0 rows 4 column 4 out 0 in 0 cells 4 free 0 pieces 4\n\
-piece 0 10 0\npiece 10 20 2\npiece 20 30 0\npiece 30 4294967296 2\n";
+piece 0 10 0\npiece 10 20 2\npiece 20 30 0\npiece 30 18446744073709551616 2\n";
 
 /// By the gradual merge the one of the range is.
 static GRADUAL: &[u8] =
-    b"policy gradual\ninsert 10 1\ninsert 40 4\ncount 0 4294967296\ncount 20 30\n\
+    b"policy gradual\ninsert 10 1\ninsert 40 4\ncount 0 18446744073709551616\ncount 20 30\n\
 insert 15 5\ninsert 50 6\ncount 10 20\nlayout 0\n";
 
 static MERGED: &[u8] = b"policy gradual\nrow 0.0\nrow 0.1\ncount 2\ncount 0\n\
 row 0.2\nrow 0.3\ncount 2\nlayout 0 rows 4 column 3 out 0 in 1 cells 4 free 0 pieces 4\n\
-piece 0 10 0\npiece 10 20 2\npiece 20 30 0\npiece 30 4294967296 1\n";
+piece 0 10 0\npiece 10 20 2\npiece 20 30 0\npiece 30 18446744073709551616 1\n";
 
 /// By ripple it is, and the row above the range that makes room for it pends again.
-static RIPPLE: &[u8] = b"policy ripple\ninsert 10 1\ninsert 40 4\ncount 0 4294967296\ncount 20 30\n\
+static RIPPLE: &[u8] =
+    b"policy ripple\ninsert 10 1\ninsert 40 4\ncount 0 18446744073709551616\ncount 20 30\n\
 insert 15 5\ninsert 50 6\ncount 10 20\nlayout 0\n";
 
 static RIPPLED: &[u8] = b"policy ripple\nrow 0.0\nrow 0.1\ncount 2\ncount 0\n\
 row 0.2\nrow 0.3\ncount 2\nlayout 0 rows 4 column 2 out 0 in 2 cells 4 free 0 pieces 4\n\
-piece 0 10 0\npiece 10 20 2\npiece 20 30 0\npiece 30 4294967296 0\n";
+piece 0 10 0\npiece 10 20 2\npiece 20 30 0\npiece 30 18446744073709551616 0\n";
+
+/// Keys at both sides of 2^32 and the two greatest, with payloads of both signs.
+static WIDE: &[u8] =
+    b"policy complete\ninsert 4294967296 -4\ninsert 18446744073709551615 -9223372036854775808\n\
+sum 4294967296 18446744073709551616\ninsert 4294967295 5\ninsert 18446744073709551614 -1\n\
+sum 0 4294967296\nsum 4294967297 18446744073709551616\nlayout 0\n";
+
+static ADDED: &[u8] = b"policy complete\nrow 0.0\nrow 0.1\nsum -9223372036854775812\n\
+row 0.2\nrow 0.3\nsum 5\nsum -9223372036854775809\n\
+layout 0 rows 4 column 4 out 0 in 0 cells 4 free 0 pieces 3\n\
+piece 0 4294967296 1\npiece 4294967296 4294967297 1\npiece 4294967297 18446744073709551616 2\n";
 
 /// Serves a session over memory, which is to write these replies and to end so, with no want of room.
 fn assert_session<D: Desk>(
@@ -91,7 +105,7 @@ fn assert_session<D: Desk>(
 #[test]
 fn a_core_is_told_the_script(rt: HostRuntime) -> Result<(), Fail> {
     let alloc: Global = rt.alloc();
-    let mut core = Core::open(alloc, &HUNDRED, GREATEST_LIMIT)?;
+    let mut core = Core::open(alloc, &hundred(), GREATEST_LIMIT)?;
     assert_session(&rt, alloc, &mut core, SCRIPT, REPLIES, (How::Quit, 25));
     let receipts = core.receipts();
     drop(core);
@@ -102,12 +116,12 @@ fn a_core_is_told_the_script(rt: HostRuntime) -> Result<(), Fail> {
 #[test]
 fn a_worker_desk_is_told_the_same(rt: HostRuntime) -> Result<(), Fail> {
     let alloc: Global = rt.alloc();
-    let (table, mut workers) = Table::open(alloc, &HUNDRED, GREATEST_LIMIT, 1)?;
+    let (table, mut workers) = Table::open(alloc, &hundred(), GREATEST_LIMIT, 1)?;
     let worker = workers.pop().ok_or("worker")?;
     let mut desk = WorkerDesk::new(&rt, &table, &OpenGate, worker);
     assert_session(&rt, alloc, &mut desk, SCRIPT, REPLIES, (How::Quit, 25));
     assert_eq!(rt; desk.receipts(), 18);
-    assert_eq!(rt; desk.splits(), HUNDRED.as_slice());
+    assert_eq!(rt; desk.splits(), hundred().as_slice());
     workers.push(desk.into_worker())?;
     assert_eq!(rt; totals(alloc, table, workers), Ok([18, 6, 1, 5]));
     Ok(())
@@ -138,18 +152,23 @@ fn a_worker_desk_merges_by_the_policy(rt: HostRuntime) -> Result<(), Fail> {
     assert_desk(&rt, alloc, RIPPLE, RIPPLED)
 }
 
+#[test]
+fn a_worker_desk_adds_up_below_0(rt: HostRuntime) -> Result<(), Fail> {
+    assert_desk(&rt, rt.alloc(), WIDE, ADDED)
+}
+
 /// A layout goes through no gate.
 #[test]
 fn a_shut_gate_refuses_each_command_of_a_session(rt: HostRuntime) -> Result<(), Fail> {
     let alloc: Global = rt.alloc();
-    let (table, mut workers) = Table::open(alloc, &HUNDRED, GREATEST_LIMIT, 1)?;
+    let (table, mut workers) = Table::open(alloc, &hundred(), GREATEST_LIMIT, 1)?;
     let worker = workers.pop().ok_or("worker")?;
     let mut desk = WorkerDesk::new(&rt, &table, &Shut, worker);
     assert_session(
         &rt,
         alloc,
         &mut desk,
-        b"insert 50 5\ncount 0 4294967296\ndelete 1.0\nlayout 0\npolicy ripple\n",
+        b"insert 50 5\ncount 0 18446744073709551616\ndelete 1.0\nlayout 0\npolicy ripple\n",
         b"refused 7\nrefused 7\nrefused 7\n\
 layout 0 rows 0 column 0 out 0 in 0 cells 0 free 0 pieces 1\npiece 0 100 0\npolicy ripple\n",
         (How::InputEnded, 5),

@@ -2,7 +2,8 @@
 use crate::values::{ask, insert, totals};
 use crack_commands::{write_folded, write_refusal, write_reply};
 use crack_row::{
-    Command, GREATEST_LIMIT, Key, KeyRange, Limits, Payload, Refusal, Serial, Watched,
+    Command, GREATEST_LIMIT, Key, KeyNumber, KeyRange, Limits, Payload, PayloadNumber, Refusal,
+    Serial, Watched,
 };
 use crack_table::{Table, Worker};
 use std::alloc::Global;
@@ -20,8 +21,8 @@ enum Turn {
 /// An insert of a row whose payload is its key.
 fn place(key: u32) -> Turn {
     Turn::Ask(Command::Insert {
-        key: Key(key),
-        payload: Payload(key),
+        key: Key::from_number(KeyNumber::from(key)),
+        payload: Payload::from_number(PayloadNumber::from(key)),
     })
 }
 
@@ -31,11 +32,11 @@ fn delete(serial: u64) -> Turn {
     })
 }
 
-fn update(serial: u64, key: u32, payload: u32) -> Turn {
+fn update(serial: u64, key: KeyNumber, payload: PayloadNumber) -> Turn {
     Turn::Ask(Command::Update {
         serial: Serial(serial),
-        key: Key(key),
-        payload: Payload(payload),
+        key: Key::from_number(key),
+        payload: Payload::from_number(payload),
     })
 }
 

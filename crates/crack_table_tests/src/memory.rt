@@ -19,8 +19,8 @@ fn commands() -> [Asked; 12] {
     let serial = Serial(1);
     let update = Command::Update {
         serial,
-        key: Key(25),
-        payload: Payload(9),
+        key: Key::from_number(25),
+        payload: Payload::from_number(9),
     };
     [
         (insert(10), Policy::Ripple),

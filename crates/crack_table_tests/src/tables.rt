@@ -1,5 +1,5 @@
 //! Tables and workers, on one thread.
-use crate::values::{SPLITS, ask, ask_by, count, insert, totals};
+use crate::values::{ask, ask_by, count, insert, splits, totals};
 use crack_failing::{Counting, Shut, ShutAt};
 use crack_row::{Bound, Command, KeyRange, Layout, Refusal, Reply};
 use crack_table::{GatherRefused, Table, Worker, gather};
@@ -22,7 +22,7 @@ fn a_shut_gate_keeps_a_worker_out(rt: HostRuntime) -> Result<(), Fail> {
 #[test]
 fn a_shut_gate_is_asked_at_a_thousand_turns_in_order(rt: HostRuntime) -> Result<(), Fail> {
     let alloc: Global = rt.alloc();
-    let (table, mut workers) = Table::open(alloc, &SPLITS, 10, 1)?;
+    let (table, mut workers) = Table::open(alloc, &splits(), 10, 1)?;
     let mut worker = workers.pop().ok_or("worker")?;
     let gate = Counting::new(1, u32::MAX);
     let answer = ask_by(&rt, &mut worker, &table, &gate, 1, insert(1000007));
@@ -35,7 +35,13 @@ fn a_shut_gate_is_asked_at_a_thousand_turns_in_order(rt: HostRuntime) -> Result<
 }
 
 /// Four partitions.
-static FOUR: [Bound; 3] = [Bound(100), Bound(200), Bound(300)];
+fn four() -> [Bound; 3] {
+    [
+        Bound::from_number(100),
+        Bound::from_number(200),
+        Bound::from_number(300),
+    ]
+}
 
 /// Whether a worker that asks each of four partitions for a count is refused 7 by the one at which the gate says no, and answered by the others.
 fn is_kept_out_there<R: Wait>(rt: &R, worker: &mut Worker, table: &Table, shut: u32) -> bool {
@@ -57,7 +63,7 @@ fn is_kept_out_there<R: Wait>(rt: &R, worker: &mut Worker, table: &Table, shut: 
 #[test]
 fn a_gate_shut_at_one_partition_refuses_it_alone(rt: HostRuntime) -> Result<(), Fail> {
     let alloc: Global = rt.alloc();
-    let (table, mut workers) = Table::open(alloc, &FOUR, 100, 1)?;
+    let (table, mut workers) = Table::open(alloc, &four(), 100, 1)?;
     let mut worker = workers.pop().ok_or("worker")?;
     let mut fine = true;
     'rounds: for shut in 0..4u32 {
@@ -81,7 +87,7 @@ fn rows_of(layout: Result<Layout, Refusal>) -> Option<u64> {
 #[test]
 fn a_worker_is_refused_as_its_partition_is(rt: HostRuntime) -> Result<(), Fail> {
     let alloc: Global = rt.alloc();
-    let (table, mut workers) = Table::open(alloc, &SPLITS, 1, 1)?;
+    let (table, mut workers) = Table::open(alloc, &splits(), 1, 1)?;
     let mut worker = workers.pop().ok_or("worker")?;
     let nowhere = ask(&rt, &mut worker, &table, 2, insert(7));
     assert!(rt; matches!(nowhere, Err(Refusal::NoSuchPartition)));
@@ -110,24 +116,24 @@ fn refused(alloc: Global, splits: &[Bound], limit: u64, workers: u64) -> Option<
 #[test]
 fn openings_are_refused_in_order(rt: HostRuntime) {
     let alloc: Global = rt.alloc();
-    let twice = [Bound(5), Bound(5)];
+    let twice = [Bound::from_number(5), Bound::from_number(5)];
     assert_eq!(rt; refused(alloc, &twice, 0, 0), Some(Refusal::BadSplits));
     assert_eq!(rt;
-        refused(alloc, &SPLITS, 0, 0),
+        refused(alloc, &splits(), 0, 0),
         Some(Refusal::BadWorkerCount)
     );
     assert_eq!(rt;
-        refused(alloc, &SPLITS, 0, 65),
+        refused(alloc, &splits(), 0, 65),
         Some(Refusal::BadWorkerCount)
     );
-    assert_eq!(rt; refused(alloc, &SPLITS, 0, 64), Some(Refusal::BadLimit));
-    assert_eq!(rt; refused(alloc, &SPLITS, 1, 64), None);
+    assert_eq!(rt; refused(alloc, &splits(), 0, 64), Some(Refusal::BadLimit));
+    assert_eq!(rt; refused(alloc, &splits(), 1, 64), None);
 }
 
 #[test]
 fn a_missing_worker_is_told_and_all_are_handed_back(rt: HostRuntime) -> Result<(), Fail> {
     let alloc: Global = rt.alloc();
-    let (table, mut workers) = Table::open(alloc, &SPLITS, 10, 2)?;
+    let (table, mut workers) = Table::open(alloc, &splits(), 10, 2)?;
     let mut second = workers.pop().ok_or("second")?;
     assert!(rt; ask(&rt, &mut second, &table, 0, insert(7)).is_ok());
     let Err(refused) = gather(alloc, table, workers) else {
@@ -189,7 +195,7 @@ fn a_table_that_a_stranger_was_refused_is_gathered_by_its_own_worker(
     rt: HostRuntime,
 ) -> Result<(), Fail> {
     let alloc: Global = rt.alloc();
-    let (table, mut workers) = Table::open(alloc, &SPLITS, 10, 1)?;
+    let (table, mut workers) = Table::open(alloc, &splits(), 10, 1)?;
     let mut own = workers.pop().ok_or("own")?;
     assert!(rt; ask(&rt, &mut own, &table, 0, insert(7)).is_ok());
     assert!(rt; ask(&rt, &mut own, &table, 1, insert(1000007)).is_ok());

@@ -1,5 +1,5 @@
 //! Workers on threads of their own.
-use crate::values::{SPLITS, ask, ask_by, count, insert, totals};
+use crate::values::{ask, ask_by, count, insert, splits, totals};
 use crack_failing::{Alone, Meeting};
 use crack_row::{Command, KeyRange, Layout, Refusal, Reply};
 use crack_table::{Table, Worker};
@@ -26,7 +26,7 @@ fn meet<R: Wait>(
 #[test]
 fn two_partitions_at_once(rt: HostRuntime) -> Result<(), Fail> {
     let alloc: Global = rt.alloc();
-    let (table, mut workers) = Table::open(alloc, &SPLITS, 10, 2)?;
+    let (table, mut workers) = Table::open(alloc, &splits(), 10, 2)?;
     let gate = Meeting::new();
     let second = workers.pop().ok_or("second")?;
     let first = workers.pop().ok_or("first")?;
@@ -128,10 +128,11 @@ fn insert_one<R: Wait>(rt: &R, worker: &mut Worker, table: &Table, own: u16, num
 
 /// Whether the layout is that of partition 0, with as many rows as one worker has there at least.
 fn shows_own_rows(layout: &Layout) -> bool {
+    let [end] = splits();
     let pieces = layout.pieces.as_slice();
     match (pieces.first(), pieces.last()) {
         (Some(first), Some(last)) => {
-            first.low.0 == 0 && last.high.0 == SPLITS[0].0 && layout.rows >= 500
+            first.low.number() == 0 && last.high == end && layout.rows >= 500
         }
         _ => false,
     }
@@ -189,7 +190,7 @@ fn work_and_fold<R: Wait>(rt: &R, mut worker: Worker, table: &Table) -> (Worker,
 #[test]
 fn four_workers_come_to_one_account(rt: HostRuntime) -> Result<(), Fail> {
     let alloc: Global = rt.alloc();
-    let (table, workers) = Table::open(alloc, &SPLITS, 1000000, 4)?;
+    let (table, workers) = Table::open(alloc, &splits(), 1000000, 4)?;
     let shared = &table;
     let runtime = &rt;
     let done = thread::map_vec(&rt, workers, &|worker| work(runtime, worker, shared))?;
@@ -206,7 +207,7 @@ fn four_workers_come_to_one_account(rt: HostRuntime) -> Result<(), Fail> {
 #[test]
 fn four_workers_come_to_one_account_over_folded_histories(rt: HostRuntime) -> Result<(), Fail> {
     let alloc: Global = rt.alloc();
-    let (table, workers) = Table::open(alloc, &SPLITS, 1000000, 4)?;
+    let (table, workers) = Table::open(alloc, &splits(), 1000000, 4)?;
     let shared = &table;
     let runtime = &rt;
     let done = thread::map_vec(

@@ -1,23 +1,28 @@
 //! What the tests ask, and how they end a table.
-use crack_row::{Bound, Command, Key, KeyRange, Payload, Policy, Refusal, Reply};
+use crack_row::{
+    Bound, BoundNumber, Command, Key, KeyNumber, KeyRange, Payload, Policy, Refusal, Reply,
+};
 use crack_table::{Gate, OpenGate, Table, Worker, gather};
 use std::alloc::Global;
 use std::sync::Wait;
 
 /// Two partitions, which meet at key 1000000.
-pub(crate) static SPLITS: [Bound; 1] = [Bound(1000000)];
+pub(crate) fn splits() -> [Bound; 1] {
+    [Bound::from_number(1000000)]
+}
 
 /// An insert of a key.
 pub(crate) fn insert(key: u32) -> Command {
     Command::Insert {
-        key: Key(key),
-        payload: Payload(1),
+        key: Key::from_number(KeyNumber::from(key)),
+        payload: Payload::from_number(1),
     }
 }
 
 /// A count of one key.
 pub(crate) fn count(key: u32) -> Result<Command, Refusal> {
-    let range = KeyRange::new(u128::from(key), u128::from(key) + 1)?;
+    let low = BoundNumber::from(key);
+    let range = KeyRange::new(low, low + 1)?;
     Ok(Command::Count(range))
 }
 

@@ -4,9 +4,13 @@ ghost use Rattle.crack_arena.specs.Arena.{Cell};
 ghost use Rattle.crack_row.specs.declared.Row.{Row as RowValue};
 ghost use Rattle.crack_column.specs.Column.{Agrees, Remembers};
 
+use crate::index::bound_at;
 use crack_arena::{Arena, Handle};
 use crack_column::{CrackerColumn, Remembered};
-use crack_row::{Bound, Key, Payload, Row, Serial};
+use crack_row::{
+    Bound, GREATEST_KEY, GREATEST_PAYLOAD, Key, KeyNumber, LEAST_PAYLOAD, Payload, PayloadNumber,
+    Row, Serial,
+};
 use std::process::Abort;
 use std::test::Fail;
 
@@ -14,22 +18,22 @@ fn put(
     rt: &impl Abort,
     arena: &mut Arena<Row>,
     serial: u64,
-    key: u32,
-    payload: u32,
+    key: KeyNumber,
+    payload: PayloadNumber,
 ) -> Result<Handle<Row>, Fail> {
     let cells = arena.cells();
     assert!(rt; cells < 1000);
     let row = Row {
         serial: Serial(serial),
-        key: Key(key),
-        payload: Payload(payload),
+        key: Key::from_number(key),
+        payload: Payload::from_number(payload),
     };
     Ok(arena.put(row)?)
 }
 
-fn key_of(arena: &Arena<Row>, handle: Handle<Row>) -> u32 {
+fn key_of(arena: &Arena<Row>, handle: Handle<Row>) -> KeyNumber {
     match arena.get(handle) {
-        Some(row) => row.key.0,
+        Some(row) => row.key.number(),
         None => 0,
     }
 }
@@ -40,7 +44,7 @@ fn crack(
     arena: &Arena<Row>,
     column: &mut CrackerColumn,
     stretch: (usize, usize),
-    bound: u64,
+    bound: KeyNumber,
 ) -> usize
     requires remembered { Remembers arena.now.cells column.old.handles column.old.remembered }
     ensures remembered { Remembers arena.now.cells column.new.handles column.new.remembered }
@@ -48,11 +52,12 @@ fn crack(
     let len = column.len();
     assert!(rt; stretch.0 <= stretch.1);
     assert!(rt; stretch.1 <= len);
-    column.crack_two(stretch.0, stretch.1, Bound(bound), arena)
+    assert!(rt; 0 < bound);
+    column.crack_two(stretch.0, stretch.1, bound_at(bound), arena)
 }
 
 /// The sum of a stretch of the column.
-fn sum(rt: &impl Abort, arena: &Arena<Row>, column: &CrackerColumn, stretch: (usize, usize)) -> u64
+fn sum(rt: &impl Abort, arena: &Arena<Row>, column: &CrackerColumn, stretch: (usize, usize)) -> i128
     requires remembered { Remembers arena.now.cells column.now.handles column.now.remembered }
 {
     let len = column.len();
@@ -73,7 +78,7 @@ fn assert_two(
     arena: &Arena<Row>,
     column: &CrackerColumn,
     places: [usize; 2],
-    keys: [u32; 2],
+    keys: [KeyNumber; 2],
 ) {
     let one = key_of(arena, at(rt, column, places[0]));
     let two = key_of(arena, at(rt, column, places[1]));
@@ -81,15 +86,21 @@ fn assert_two(
     assert!(rt; told == keys || told == [keys[1], keys[0]]);
 }
 
-/// Fills a column with rows of the keys 40, 10, 30 and 20, and of the payloads 1, 2, 4 and 8.
-fn fill(rt: &impl Abort, arena: &mut Arena<Row>, column: &mut CrackerColumn) -> Result<(), Fail>
+/// Fills a column with four rows of these keys and payloads.
+fn fill(
+    rt: &impl Abort,
+    arena: &mut Arena<Row>,
+    column: &mut CrackerColumn,
+    keys: [KeyNumber; 4],
+    payloads: [PayloadNumber; 4],
+) -> Result<(), Fail>
     requires remembered { (cells : List (Cell RowValue)) → Remembers cells column.old.handles column.old.remembered }
     ensures remembered { OnOk result ((cells : List (Cell RowValue)) → Remembers cells column.new.handles column.new.remembered) }
 {
-    let a = put(rt, arena, 0, 40, 1)?;
-    let b = put(rt, arena, 1, 10, 2)?;
-    let c = put(rt, arena, 2, 30, 4)?;
-    let d = put(rt, arena, 3, 20, 8)?;
+    let a = put(rt, arena, 0, keys[0], payloads[0])?;
+    let b = put(rt, arena, 1, keys[1], payloads[1])?;
+    let c = put(rt, arena, 2, keys[2], payloads[2])?;
+    let d = put(rt, arena, 3, keys[3], payloads[3])?;
     assert!(rt; column.is_empty());
     let len = column.len();
     assert!(rt; len == 0);
@@ -109,7 +120,7 @@ fn fill_and_crack(
 ) -> Result<(), Fail>
     requires remembered { (cells : List (Cell RowValue)) → Remembers cells column.old.handles column.old.remembered }
 {
-    fill(rt, arena, column)?;
+    fill(rt, arena, column, [40, 10, 30, 20], [1, 2, 4, 8])?;
     assert_eq!(rt; sum(rt, arena, column, (1, 3)), 6);
     assert_eq!(rt; crack(rt, arena, column, (0, 4), 25), 2);
     assert_eq!(rt; sum(rt, arena, column, (0, 2)), 10);
@@ -127,6 +138,44 @@ fn crack_puts_rows_below_the_bound_first(rt: HostRuntime) -> Result<(), Fail> {
     let mut arena = Arena::new(rt.alloc());
     let mut column = CrackerColumn::new(rt.alloc());
     let told = fill_and_crack(&rt, &mut arena, &mut column);
+    drop(column);
+    drop(arena);
+    told
+}
+
+/// Keys at both sides of 2^32 and the two greatest, with payloads whose sum is below every payload.
+fn crack_far_apart(
+    rt: &impl Abort,
+    arena: &mut Arena<Row>,
+    column: &mut CrackerColumn,
+) -> Result<(), Fail>
+    requires remembered { (cells : List (Cell RowValue)) → Remembers cells column.old.handles column.old.remembered }
+{
+    let keys = [GREATEST_KEY, 4294967295, GREATEST_KEY - 1, 4294967296];
+    let payloads = [LEAST_PAYLOAD, LEAST_PAYLOAD, 5, -1];
+    fill(rt, arena, column, keys, payloads)?;
+    assert_eq!(rt; sum(rt, arena, column, (0, 4)), -18446744073709551612);
+    assert_eq!(rt; crack(rt, arena, column, (0, 4), 4294967296), 1);
+    assert_eq!(rt; key_of(arena, at(rt, column, 0)), 4294967295);
+    assert_eq!(rt; crack(rt, arena, column, (1, 4), GREATEST_KEY), 3);
+    assert_two(
+        rt,
+        arena,
+        column,
+        [1, 2],
+        [4294967296, 18446744073709551614],
+    );
+    assert_eq!(rt; sum(rt, arena, column, (0, 3)), -9223372036854775804);
+    assert_eq!(rt; sum(rt, arena, column, (3, 4)), -9223372036854775808);
+    assert_eq!(rt; sum(rt, arena, column, (0, 4)), -18446744073709551612);
+    Ok(())
+}
+
+#[test]
+fn keys_and_payloads_are_wide(rt: HostRuntime) -> Result<(), Fail> {
+    let mut arena = Arena::new(rt.alloc());
+    let mut column = CrackerColumn::new(rt.alloc());
+    let told = crack_far_apart(&rt, &mut arena, &mut column);
     drop(column);
     drop(arena);
     told
@@ -163,7 +212,7 @@ fn crack_in_three(
     arena: &Arena<Row>,
     column: &mut CrackerColumn,
     stretch: (usize, usize),
-    bounds: (u64, u64),
+    bounds: (KeyNumber, KeyNumber),
 ) -> (usize, usize)
     requires remembered { Remembers arena.now.cells column.old.handles column.old.remembered }
     ensures remembered { Remembers arena.now.cells column.new.handles column.new.remembered }
@@ -171,12 +220,13 @@ fn crack_in_three(
     let len = column.len();
     assert!(rt; stretch.0 <= stretch.1);
     assert!(rt; stretch.1 <= len);
+    assert!(rt; 0 < bounds.0);
     assert!(rt; bounds.0 <= bounds.1);
     column.crack_three(
         stretch.0,
         stretch.1,
-        Bound(bounds.0),
-        Bound(bounds.1),
+        bound_at(bounds.0),
+        bound_at(bounds.1),
         arena,
     )
 }
@@ -311,13 +361,16 @@ fn remember(rt: &impl Abort, arena: &mut Arena<Row>, column: &mut CrackerColumn)
     requires remembered { (cells : List (Cell RowValue)) → Remembers cells column.old.handles column.old.remembered }
 {
     let a = put(rt, arena, 0, 40, 1)?;
-    let b = put(rt, arena, 1, 4294967295, 4294967295)?;
+    let b = put(rt, arena, 1, GREATEST_KEY, GREATEST_PAYLOAD)?;
     let c = put(rt, arena, 2, 30, 4)?;
     append_remembered(rt, arena, column, a, b, c)?;
     assert_eq!(rt; slot_at(rt, column, 1), 1);
     assert_eq!(rt; place_in_second(rt, column, b), Some(1));
     assert_eq!(rt; place_in_second(rt, column, c), None);
-    assert_eq!(rt; sum(rt, arena, column, (0, 2)), 4294967299);
+    assert_eq!(rt;
+        sum(rt, arena, column, (0, 2)),
+        i128::from(GREATEST_PAYLOAD) + 4
+    );
     assert_eq!(rt; crack(rt, arena, column, (0, 2), 31), 1);
     let popped = column.pop_remembered();
     assert!(rt; popped.is_some());
@@ -349,7 +402,7 @@ fn go_aside(rt: &impl Abort, arena: &mut Arena<Row>, column: &mut CrackerColumn)
     column.append_remembered(b, memory(arena, b));
     column.set_aside(c, memory(arena, c));
     assert_eq!(rt; column.aside_slot(), 2);
-    assert_eq!(rt; column.aside_key(arena), Key(30));
+    assert_eq!(rt; column.aside_key(arena).number(), 30);
     column.exchange(0);
     assert!(rt; column.aside() == a);
     assert_eq!(rt; sum(rt, arena, column, (0, 2)), 6);
@@ -379,7 +432,7 @@ fn go_in_hand(
 ) -> Result<(), Fail> {
     let a = put(rt, arena, 0, 40, 1)?;
     let b = put(rt, arena, 1, 10, 2)?;
-    let c = put(rt, arena, 2, 4294967295, 4)?;
+    let c = put(rt, arena, 2, GREATEST_KEY, 4)?;
     let len = column.len();
     assert!(rt; len == 0);
     column.reserve(3)?;
@@ -392,7 +445,7 @@ fn go_in_hand(
     assert_eq!(rt; held.slot(), 2);
     held.exchange(1);
     assert_eq!(rt; held.slot(), 1);
-    assert!(rt; held.memory().is_known_below(Bound(11)));
+    assert!(rt; held.memory().is_known_below(Bound::from_number(11)));
     held.exchange(0);
     assert_eq!(rt; held.slot(), 0);
     *column = held.release();

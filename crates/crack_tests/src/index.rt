@@ -1,11 +1,25 @@
 //! The bounds of a cracked column and their places.
 
-ghost use Rattle.std.specs.Prelude.{◌<◌, All};
+ghost use Rattle.std.specs.Prelude.{◌≡◌, ◌<◌, All};
 
 use crack_index::{CrackerIndex, Mark, Piece, Visitor};
-use crack_row::{Bound, GREATEST_BOUND, Key, KeyRange, PieceSize};
+use crack_row::{
+    Bound, BoundNumber, GREATEST_BOUND, GREATEST_KEY, InnerBound, Key, KeyNumber, KeyRange,
+    PieceSize,
+};
 use std::alloc::Global;
 use std::process::Abort;
+
+/// The bound of this number, which stands between two keys.
+pub fn bound_at(number: KeyNumber) -> InnerBound
+    requires { 0 < number }
+    ensures { result.0 ≡ number }
+{
+    match Key::from_number(number).bound().inner() {
+        Some(bound) => bound,
+        None => unreachable!(),
+    }
+}
 
 /// The bounds 10, 20 and 30 at the places 0, 1 and 1.
 fn tens(rt: &impl Abort, alloc: Global) -> CrackerIndex
@@ -14,18 +28,18 @@ fn tens(rt: &impl Abort, alloc: Global) -> CrackerIndex
     let mut index = CrackerIndex::new(alloc);
     let room = index.reserve(3);
     assert!(rt; room.is_ok());
-    index.add(Bound(10), 0);
-    index.add(Bound(30), 1);
-    index.add(Bound(20), 1);
+    index.add(bound_at(10), 0);
+    index.add(bound_at(30), 1);
+    index.add(bound_at(20), 1);
     index
 }
 
 /// Where the bounds 10, 20 and 30 stand.
 fn places(index: &CrackerIndex) -> [Option<usize>; 3] {
     [
-        index.position(Bound(10)),
-        index.position(Bound(20)),
-        index.position(Bound(30)),
+        index.position(bound_at(10)),
+        index.position(bound_at(20)),
+        index.position(bound_at(30)),
     ]
 }
 
@@ -35,33 +49,36 @@ fn fifteen_and_twenty_five(rt: &impl Abort, alloc: Global) -> CrackerIndex {
     assert!(rt; index.is_empty());
     let room = index.reserve(2);
     assert!(rt; room.is_ok());
-    index.add(Bound(25), 2);
-    index.add(Bound(15), 1);
+    index.add(bound_at(25), 2);
+    index.add(bound_at(15), 1);
     index
 }
 
 #[test]
 fn neighbours_and_piece_of_a_bound(rt: HostRuntime) {
     let index = fifteen_and_twenty_five(&rt, rt.alloc());
-    let next = [index.next_after(Bound(15)), index.next_after(Bound(25))];
-    assert_eq!(rt; next, [Some((Bound(25), 2)), None]);
-    let places = [index.position(Bound(25)), index.position(Bound(20))];
+    let next = [
+        index.bound_above(Key::from_number(15)),
+        index.bound_above(Key::from_number(25)),
+    ];
+    assert_eq!(rt; next, [Some(mark(25, 2)), None]);
+    let places = [index.position(bound_at(25)), index.position(bound_at(20))];
     assert_eq!(rt; places, [Some(2), None]);
     let between = Piece {
-        low: Some(Bound(15)),
-        high: Some(Bound(25)),
+        low: Some(bound_at(15)),
+        high: Some(bound_at(25)),
         from: 1,
         to: 2,
     };
-    assert_eq!(rt; index.piece_of(Key(15), 4), between);
+    assert_eq!(rt; index.piece_of(Key::from_number(15), 4), between);
     assert_eq!(rt; index.len(), 2);
     drop(index);
 }
 
-fn piece(low: u64, high: u64, size: u64) -> PieceSize {
+fn piece(low: BoundNumber, high: BoundNumber, size: u64) -> PieceSize {
     PieceSize {
-        low: Bound(low),
-        high: Bound(high),
+        low: Bound::from_number(low),
+        high: Bound::from_number(high),
         size,
     }
 }
@@ -80,8 +97,39 @@ fn pieces_join_and_make_up_the_column(rt: HostRuntime) {
     drop(index);
 }
 
+/// The bounds 4294967296 and 18446744073709551615, which is the greatest between two keys, at the places 1 and 2.
+fn far_apart(rt: &impl Abort, alloc: Global) -> CrackerIndex {
+    let mut index = CrackerIndex::new(alloc);
+    let room = index.reserve(2);
+    assert!(rt; room.is_ok());
+    index.add(bound_at(GREATEST_KEY), 2);
+    index.add(bound_at(4294967296), 1);
+    index
+}
+
+#[test]
+fn bounds_are_as_wide_as_keys(rt: HostRuntime) {
+    let index = far_apart(&rt, rt.alloc());
+    let above = [
+        index.bound_above(Key::from_number(4294967295)),
+        index.bound_above(Key::from_number(4294967296)),
+        index.bound_above(Key::from_number(GREATEST_KEY)),
+    ];
+    let greatest = mark(GREATEST_KEY, 2);
+    assert_eq!(rt; above, [Some(mark(4294967296, 1)), Some(greatest), None]);
+    let sizes = [
+        piece(0, 4294967296, 1),
+        piece(4294967296, 18446744073709551615, 1),
+        piece(18446744073709551615, 18446744073709551616, 2),
+    ];
+    let pieces = index.pieces(KeyRange::all(), 4).expect(&rt, "the pieces");
+    assert_eq!(rt; pieces.as_slice(), sizes.as_slice());
+    drop(pieces);
+    drop(index);
+}
+
 /// Where the bounds stand once those from this one on that stand where it stands moved up.
-fn raised(rt: &impl Abort, alloc: Global, bound: Bound) -> [Option<usize>; 3] {
+fn raised(rt: &impl Abort, alloc: Global, bound: InnerBound) -> [Option<usize>; 3] {
     let mut index = tens(rt, alloc);
     match index.position(bound) {
         Some(place) => {
@@ -94,7 +142,7 @@ fn raised(rt: &impl Abort, alloc: Global, bound: Bound) -> [Option<usize>; 3] {
 }
 
 /// Where the bounds stand once those up to this one that stand where it stands moved down.
-fn lowered(rt: &impl Abort, alloc: Global, bound: Bound) -> [Option<usize>; 3] {
+fn lowered(rt: &impl Abort, alloc: Global, bound: InnerBound) -> [Option<usize>; 3] {
     let mut index = tens(rt, alloc);
     match index.position(bound) {
         Some(place) => {
@@ -116,15 +164,26 @@ fn lowered_at_one(rt: &impl Abort, alloc: Global) -> [Option<usize>; 3] {
 #[test]
 fn bounds_at_one_place_move_together(rt: HostRuntime) {
     let alloc = rt.alloc();
-    assert_eq!(rt; raised(&rt, alloc, Bound(30)), [Some(0), Some(1), Some(2)]);
-    assert_eq!(rt; raised(&rt, alloc, Bound(20)), [Some(0), Some(2), Some(2)]);
-    assert_eq!(rt; lowered(&rt, alloc, Bound(20)), [Some(0), Some(0), Some(1)]);
+    assert_eq!(rt;
+        raised(&rt, alloc, bound_at(30)),
+        [Some(0), Some(1), Some(2)]
+    );
+    assert_eq!(rt;
+        raised(&rt, alloc, bound_at(20)),
+        [Some(0), Some(2), Some(2)]
+    );
+    assert_eq!(rt;
+        lowered(&rt, alloc, bound_at(20)),
+        [Some(0), Some(0), Some(1)]
+    );
     assert_eq!(rt; lowered_at_one(&rt, alloc), [Some(0), Some(0), Some(0)]);
 }
 
-fn mark(bound: u64, position: usize) -> Mark {
+fn mark(bound: KeyNumber, position: usize) -> Mark
+    requires { 0 < bound }
+{
     Mark {
-        bound: Bound(bound),
+        bound: bound_at(bound),
         position,
     }
 }
@@ -132,9 +191,15 @@ fn mark(bound: u64, position: usize) -> Mark {
 #[test]
 fn bounds_next_to_a_key(rt: HostRuntime) {
     let index = tens(&rt, rt.alloc());
-    let above = [index.bound_above(Key(10)), index.bound_above(Key(30))];
+    let above = [
+        index.bound_above(Key::from_number(10)),
+        index.bound_above(Key::from_number(30)),
+    ];
     assert_eq!(rt; above, [Some(mark(20, 1)), None]);
-    let below = [index.bound_below(Key(29)), index.bound_below(Key(9))];
+    let below = [
+        index.bound_below(Key::from_number(29)),
+        index.bound_below(Key::from_number(9)),
+    ];
     assert_eq!(rt; below, [Some(mark(20, 1)), None]);
     drop(index);
 }
@@ -143,7 +208,7 @@ fn bounds_next_to_a_key(rt: HostRuntime) {
 #[test]
 fn steps_up_go_from_place_to_place(rt: HostRuntime) {
     let mut index = tens(&rt, rt.alloc());
-    let Some(ten) = index.bound_above(Key(9)) else {
+    let Some(ten) = index.bound_above(Key::from_number(9)) else {
         panic!(rt; "no bound above 9")
     };
     assert!(rt; ten.position == 0);
@@ -160,7 +225,7 @@ fn steps_up_go_from_place_to_place(rt: HostRuntime) {
 #[test]
 fn a_step_down_goes_to_the_place_before(rt: HostRuntime) {
     let mut index = tens(&rt, rt.alloc());
-    let Some(thirty) = index.bound_below(Key(30)) else {
+    let Some(thirty) = index.bound_below(Key::from_number(30)) else {
         panic!(rt; "no bound at or below 30")
     };
     assert!(rt; thirty.position == 1);
@@ -204,7 +269,7 @@ fn ending_at(at_most: u32) -> Sums {
 fn a_walk_up_raises_what_it_passes(rt: HostRuntime) {
     let mut index = tens(&rt, rt.alloc());
     let mut visitor = ending_at(9);
-    let end = index.climb(Key(10), &mut visitor);
+    let end = index.climb(Key::from_number(10), &mut visitor);
     assert!(rt; end.is_none());
     assert_eq!(rt; [visitor.told as usize, visitor.sum], [1, 1]);
     assert_eq!(rt; places(&index), [Some(0), Some(2), Some(2)]);
@@ -215,7 +280,7 @@ fn a_walk_up_raises_what_it_passes(rt: HostRuntime) {
 fn a_walk_down_ends_where_the_visitor_says(rt: HostRuntime) {
     let mut index = tens(&rt, rt.alloc());
     let mut visitor = ending_at(1);
-    let end = index.descend(Key(30), &mut visitor);
+    let end = index.descend(Key::from_number(30), &mut visitor);
     assert_eq!(rt; end, Some(mark(30, 1)));
     assert_eq!(rt; [visitor.told as usize, visitor.sum], [1, 0]);
     assert_eq!(rt; places(&index), [Some(0), Some(1), Some(1)]);

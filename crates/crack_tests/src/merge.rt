@@ -5,13 +5,13 @@ ghost use Rattle.crack_state.specs.Merge.{IsCracked};
 use crate::store::assert_piece_sizes;
 use crack_merge::{merge_complete, merge_gradual};
 use crack_ripple::merge_ripple;
-use crack_row::{GREATEST_BOUND, Key, KeyRange, Payload, Policy, Row, Serial};
+use crack_row::{GREATEST_BOUND, Key, KeyNumber, KeyRange, Payload, Policy, Row, Serial};
 use crack_store::{MergeReport, Store};
 use std::alloc::Global;
 use std::process::Abort;
 
 /// Puts a row of this key among the pending insertions of a store of all keys.
-fn insert(rt: &impl Abort, store: &mut Store, key: u32)
+fn insert(rt: &impl Abort, store: &mut Store, key: KeyNumber)
     requires low { store.old.keys.low ≡ 0 }
     requires high { store.old.keys.high ≡ GREATEST_BOUND }
     ensures low { store.new.keys.low ≡ 0 }
@@ -24,8 +24,8 @@ fn insert(rt: &impl Abort, store: &mut Store, key: u32)
     assert!(rt; !there);
     let admitted = store.admit(Row {
         serial,
-        key: Key(key),
-        payload: Payload(0),
+        key: Key::from_number(key),
+        payload: Payload::from_number(0),
     });
     assert!(rt; admitted.is_ok());
 }
@@ -153,7 +153,7 @@ fn assert_layout(rt: &impl Abort, store: &Store, rows: [u64; 2], sizes: &[u64]) 
 fn merge_two(
     rt: &impl Abort,
     store: Store,
-    keys: [u32; 2],
+    keys: [KeyNumber; 2],
     policy: Policy,
 ) -> (Store, MergeReport, u64)
     requires low { store.keys.low ≡ 0 }

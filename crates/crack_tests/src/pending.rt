@@ -6,19 +6,22 @@ ghost use Rattle.crack_arena.specs.Rows.{RemembersKeys};
 
 use crack_arena::{Arena, Handle, key_of};
 use crack_pending::{PendingIn, PendingList, PendingOut};
-use crack_row::{Key, KeyRange, Payload, Row, Serial};
+use crack_row::{
+    Bound, BoundNumber, GREATEST_BOUND, GREATEST_KEY, Key, KeyNumber, KeyRange, Payload, Row,
+    Serial,
+};
 use std::alloc::Global;
 use std::process::Abort;
 use std::test::Fail;
 
 /// The handle of a new row with this key.
-fn put(rt: &impl Abort, arena: &mut Arena<Row>, key: u32) -> Result<Handle<Row>, Fail> {
+fn put(rt: &impl Abort, arena: &mut Arena<Row>, key: KeyNumber) -> Result<Handle<Row>, Fail> {
     let cells = arena.cells();
     assert!(rt; cells < 2000);
     Ok(arena.put(Row {
-        serial: Serial(key as u64),
-        key: Key(key),
-        payload: Payload(0),
+        serial: Serial(cells as u64),
+        key: Key::from_number(key),
+        payload: Payload::from_number(0),
     })?)
 }
 
@@ -27,7 +30,7 @@ fn put_all(
     rt: &impl Abort,
     alloc: Global,
     arena: &mut Arena<Row>,
-    keys: &[u32],
+    keys: &[KeyNumber],
 ) -> Result<Vec<Handle<Row>>, Fail> {
     let mut handles = Vec::new(alloc);
     for key in keys {
@@ -89,22 +92,22 @@ fn assert_keys<Kind>(
     rt: &impl Abort,
     arena: &Arena<Row>,
     pending: &PendingList<Kind>,
-    keys: &[u32],
+    keys: &[KeyNumber],
 ) {
     assert_eq!(rt; pending.len(), keys.len());
     assert_eq!(rt; pending.is_empty(), keys.len() == 0);
     for place in 0..keys.len() {
         let handle = at(rt, pending, place);
-        assert_eq!(rt; key_of(arena, handle).0, keys[place], "at {place}");
+        assert_eq!(rt; key_of(arena, handle).number(), keys[place], "at {place}");
         assert_eq!(rt; pending.place_of(handle), Some(place));
         assert!(rt; pending.contains(handle.slot()));
     }
 }
 
 /// The first of the keys at or after a place that lies in a range.
-fn first_from(keys: &[u32], low: u32, high: u64, from: usize) -> Option<usize> {
+fn first_from(keys: &[KeyNumber], low: KeyNumber, high: BoundNumber, from: usize) -> Option<usize> {
     for place in from..keys.len() {
-        if low <= keys[place] && (keys[place] as u64) < high {
+        if low <= keys[place] && Bound::from_number(high).is_above(Key::from_number(keys[place])) {
             return Some(place);
         }
     }
@@ -116,13 +119,13 @@ fn assert_found<Kind>(
     rt: &impl Abort,
     arena: &Arena<Row>,
     pending: &PendingList<Kind>,
-    keys: &[u32],
-    low: u32,
-    high: u64,
+    keys: &[KeyNumber],
+    low: KeyNumber,
+    high: BoundNumber,
 ) -> Result<(), Fail>
     requires { RemembersKeys arena.now.cells pending.now.handles pending.now.keys }
 {
-    let range = KeyRange::new(low as u128, high as u128)?;
+    let range = KeyRange::between(Key::from_number(low).bound(), Bound::from_number(high))?;
     assert_eq!(rt;
         pending.first_in(range, arena),
         first_from(keys, low, high, 0)
@@ -143,7 +146,7 @@ fn take<Kind>(
     arena: &Arena<Row>,
     pending: &mut PendingList<Kind>,
     place: usize,
-    keys: &mut Vec<u32>,
+    keys: &mut Vec<KeyNumber>,
 ) -> Handle<Row>
     requires { RemembersKeys arena.now.cells pending.old.handles pending.old.keys }
     ensures { RemembersKeys arena.now.cells pending.new.handles pending.new.keys }
@@ -151,7 +154,11 @@ fn take<Kind>(
     let length = pending.len();
     assert!(rt; place < length && place < keys.len());
     let handle = pending.take(place);
-    assert_eq!(rt; key_of(arena, handle).0, keys.remove(place), "at {place}");
+    assert_eq!(rt;
+        key_of(arena, handle).number(),
+        keys.remove(place),
+        "at {place}"
+    );
     assert!(rt; !pending.contains(handle.slot()));
     handle
 }
@@ -162,7 +169,7 @@ fn strike<Kind>(
     arena: &Arena<Row>,
     pending: &mut PendingList<Kind>,
     handle: Handle<Row>,
-    keys: &mut Vec<u32>,
+    keys: &mut Vec<KeyNumber>,
 )
     requires { RemembersKeys arena.now.cells pending.old.handles pending.old.keys }
     ensures { RemembersKeys arena.now.cells pending.new.handles pending.new.keys }
@@ -173,10 +180,10 @@ fn strike<Kind>(
     pending.strike(handle);
     assert!(rt; !pending.contains(handle.slot()));
     assert_eq!(rt; pending.place_of(handle), None);
-    remove_key(keys, key_of(arena, handle).0);
+    remove_key(keys, key_of(arena, handle).number());
 }
 
-fn remove_key(keys: &mut Vec<u32>, key: u32) {
+fn remove_key(keys: &mut Vec<KeyNumber>, key: KeyNumber) {
     for place in 0..keys.len() {
         if keys[place] == key {
             keys.remove(place);
@@ -198,20 +205,27 @@ fn go_and_come<Kind>(
     assert!(rt; handles.len() == 4);
     push_all(rt, arena, pending, handles)?;
     let mut keys = Vec::new(alloc);
-    keys.extend_from_slice(&[40, 10, 4294967295, 20])?;
-    assert_keys(rt, arena, pending, &[40, 10, 4294967295, 20]);
-    assert_found(rt, arena, pending, &keys, 15, 4294967296)?;
+    keys.extend_from_slice(&[40, 10, GREATEST_KEY, 20])?;
+    assert_keys(rt, arena, pending, &[40, 10, GREATEST_KEY, 20]);
+    assert_found(rt, arena, pending, &keys, 15, GREATEST_BOUND)?;
     let greatest = take(rt, arena, pending, 2, &mut keys);
     assert_keys(rt, arena, pending, &[40, 10, 20]);
     take(rt, arena, pending, 0, &mut keys);
     push(rt, arena, pending, greatest, true)?;
-    assert_keys(rt, arena, pending, &[10, 20, 4294967295]);
-    assert_found(rt, arena, pending, &[10, 20, 4294967295], 15, 4294967296)?;
-    assert_found(rt, arena, pending, &[10, 20, 4294967295], 0, 0)?;
+    assert_keys(rt, arena, pending, &[10, 20, GREATEST_KEY]);
+    assert_found(
+        rt,
+        arena,
+        pending,
+        &[10, 20, GREATEST_KEY],
+        15,
+        GREATEST_BOUND,
+    )?;
+    assert_found(rt, arena, pending, &[10, 20, GREATEST_KEY], 0, 0)?;
     strike(rt, arena, pending, handles[3], &mut keys);
-    assert_keys(rt, arena, pending, &[10, 4294967295]);
+    assert_keys(rt, arena, pending, &[10, GREATEST_KEY]);
     strike(rt, arena, pending, handles[1], &mut keys);
-    assert_found(rt, arena, pending, &[4294967295], 10, 4294967295)?;
+    assert_found(rt, arena, pending, &[GREATEST_KEY], 10, GREATEST_BOUND - 1)?;
     Ok(())
 }
 
@@ -223,7 +237,7 @@ fn goes_and_comes<Kind: Drop>(
     requires { (cells : List (Cell Row)) → RemembersKeys cells pending.handles pending.keys }
 {
     let mut arena = Arena::new(alloc);
-    let told = match put_all(rt, alloc, &mut arena, &[40, 10, 4294967295, 20]) {
+    let told = match put_all(rt, alloc, &mut arena, &[40, 10, GREATEST_KEY, 20]) {
         Ok(handles) => go_and_come(rt, alloc, &arena, &mut pending, &handles),
         Err(fail) => Err(fail),
     };
@@ -245,7 +259,7 @@ fn step(
     pending: &mut PendingIn,
     handle: Handle<Row>,
     step: usize,
-    keys: &mut Vec<u32>,
+    keys: &mut Vec<KeyNumber>,
 ) -> Result<(), Fail>
     requires { RemembersKeys arena.now.cells pending.old.handles pending.old.keys }
     ensures { RemembersKeys arena.now.cells pending.new.handles pending.new.keys }
@@ -256,7 +270,7 @@ fn step(
         return Ok(());
     }
     if step % 7 == 3 {
-        keys.push(key_of(arena, handle).0)?;
+        keys.push(key_of(arena, handle).number())?;
         return push(rt, arena, pending, handle, step % 2 == 0);
     }
     Ok(())
@@ -267,7 +281,7 @@ fn strike_all(
     arena: &Arena<Row>,
     pending: &mut PendingIn,
     handles: &[Handle<Row>],
-    keys: &mut Vec<u32>,
+    keys: &mut Vec<KeyNumber>,
 ) -> Result<(), Fail>
     requires { RemembersKeys arena.now.cells pending.old.handles pending.old.keys }
     ensures { RemembersKeys arena.now.cells pending.new.handles pending.new.keys }
@@ -289,9 +303,9 @@ fn strike_all(
 }
 
 /// The keys below 199, each once, in no order.
-fn scattered(alloc: Global) -> Result<Vec<u32>, Fail> {
+fn scattered(alloc: Global) -> Result<Vec<KeyNumber>, Fail> {
     let mut keys = Vec::new(alloc);
-    for key in 0..199u32 {
+    for key in 0..199 {
         keys.push(key * 37 % 199)?;
     }
     Ok(keys)

@@ -1,8 +1,9 @@
 //! Copies of replies, the size of an entry, lists of pieces, common parts of ranges, and a writer that takes nothing.
 
 use crack_row::{
-    Bound, Entry, Key, KeyRange, Payload, PieceList, PieceSize, Reply, Row, RowList, Serial,
-    Watched,
+    Bound, Entry, GREATEST_BOUND, GREATEST_KEY, GREATEST_PAYLOAD, Key, KeyNumber, KeyRange,
+    LEAST_PAYLOAD, Payload, PayloadNumber, PieceList, PieceSize, Refusal, Reply, Row, RowList,
+    Serial, Watched,
 };
 use std::io;
 use std::io::Write;
@@ -24,11 +25,11 @@ impl Write for Full {
 }
 
 /// A row.
-fn row(serial: u64, key: u32, payload: u32) -> Row {
+fn row(serial: u64, key: KeyNumber, payload: PayloadNumber) -> Row {
     Row {
         serial: Serial(serial),
-        key: Key(key),
-        payload: Payload(payload),
+        key: Key::from_number(key),
+        payload: Payload::from_number(payload),
     }
 }
 
@@ -37,18 +38,22 @@ fn flat_replies_are_copied(rt: HostRuntime) -> Result<(), Fail> {
     let placed = Reply::Placed(Serial(3)).copy(rt.alloc())?;
     assert!(rt; matches!(placed, Reply::Placed(Serial(3))));
     let gone = Reply::Gone(row(3, 7, 70)).copy(rt.alloc())?;
-    assert!(rt;
-        matches!(
-            gone,
-            Reply::Gone(Row {
-                serial: Serial(3),
-                key: Key(7),
-                payload: Payload(70)
-            })
-        )
-    );
+    assert!(rt; matches!(gone, Reply::Gone(gone) if gone == row(3, 7, 70)));
     let summed = Reply::Summed(79228162514264337593543950335).copy(rt.alloc())?;
     assert!(rt; matches!(summed, Reply::Summed(79228162514264337593543950335)));
+    Ok(())
+}
+
+/// The greatest key, with the least payload, and the least sum.
+#[test]
+fn replies_of_the_widest_numbers_are_copied(rt: HostRuntime) -> Result<(), Fail> {
+    let widest = row(u64::MAX, GREATEST_KEY, LEAST_PAYLOAD);
+    let gone = Reply::Gone(widest).copy(rt.alloc())?;
+    assert!(rt; matches!(gone, Reply::Gone(gone) if gone == widest));
+    let summed = Reply::Summed(i128::MIN).copy(rt.alloc())?;
+    assert!(rt; matches!(summed, Reply::Summed(i128::MIN)));
+    let other = Reply::Gone(row(u64::MAX, GREATEST_KEY, GREATEST_PAYLOAD));
+    assert!(rt; !gone.is_same(&other));
     Ok(())
 }
 
@@ -68,16 +73,16 @@ fn listed_rows_are_copied(rt: HostRuntime) -> Result<(), Fail> {
 
 /// What a history takes for each answered command, beside the rows of a select.
 #[test]
-fn an_entry_takes_at_most_64_bytes(rt: HostRuntime) -> Result<(), Fail> {
-    assert!(rt; size_of::<Entry>() <= 64);
+fn an_entry_takes_at_most_96_bytes(rt: HostRuntime) -> Result<(), Fail> {
+    assert!(rt; size_of::<Entry>() <= 96);
     Ok(())
 }
 
 #[test]
 fn pieces_go_in_and_out(rt: HostRuntime) -> Result<(), Fail> {
     let piece = PieceSize {
-        low: Bound(0),
-        high: Bound(15),
+        low: Bound::from_number(0),
+        high: Bound::from_number(15),
         size: 2,
     };
     let mut pieces = Vec::new(rt.alloc());
@@ -94,8 +99,21 @@ fn pieces_go_in_and_out(rt: HostRuntime) -> Result<(), Fail> {
 fn ranges_that_meet(rt: HostRuntime) -> Result<(), Fail> {
     let common = KeyRange::new(0, 50)?.clip(KeyRange::new(50, 60)?);
     assert!(rt; common.is_empty());
-    assert_eq!(rt; common.low(), Bound(50));
-    assert_eq!(rt; common.high(), Bound(50));
+    assert_eq!(rt; common.low(), Bound::from_number(50));
+    assert_eq!(rt; common.high(), Bound::from_number(50));
+    Ok(())
+}
+
+/// The range of the greatest key alone ends at the greatest bound, which no range passes.
+#[test]
+fn the_range_of_the_greatest_key(rt: HostRuntime) -> Result<(), Fail> {
+    let greatest = KeyRange::new(18446744073709551615, 18446744073709551616)?;
+    assert_eq!(rt; greatest.high().number(), GREATEST_BOUND);
+    assert!(rt; greatest.contains(Key::from_number(18446744073709551615)));
+    assert!(rt; !greatest.contains(Key::from_number(18446744073709551614)));
+    assert!(rt; !greatest.contains(Key::from_number(4294967295)));
+    let past = KeyRange::new(0, 18446744073709551617).err();
+    assert_eq!(rt; past, Some(Refusal::BadRange));
     Ok(())
 }
 

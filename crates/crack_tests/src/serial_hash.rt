@@ -2,7 +2,7 @@
 ghost use Rattle.std.specs.Prelude.{◌<◌};
 
 use crate::store::admit;
-use crack_row::{KeyRange, Serial};
+use crack_row::{KeyNumber, KeyRange, Serial};
 use crack_store::Store;
 use crack_store::serial_hash::SerialHashing;
 use std::alloc::Global;
@@ -74,9 +74,9 @@ fn rows_kept_far_apart_do_not_pile_up(rt: HostRuntime) {
 }
 
 /// Asserts that a row of this serial is there, with this key.
-fn assert_there(rt: &impl Abort, store: &Store, serial: u64, key: u32) {
+fn assert_there(rt: &impl Abort, store: &Store, serial: u64, key: KeyNumber) {
     let row = store.row_of(Serial(serial)).expect(rt, "the row");
-    assert_eq!(rt; row.key.0, key);
+    assert_eq!(rt; row.key.number(), key);
 }
 
 /// Rows whose serials are far apart are found by them, and none between them.

@@ -2,17 +2,18 @@
 
 ghost use Rattle.std.specs.Prelude.{◌<◌, All};
 
+use crate::index::bound_at;
 use crack_index::{CrackerIndex, Visitor};
-use crack_row::{Bound, Key};
+use crack_row::{InnerBound, Key, KeyNumber};
 use std::alloc::Global;
 use std::process::Abort;
 use std::test::Fail;
 
 /// A bound's number, and its place.
-type Mark = (u64, usize);
+type Mark = (KeyNumber, usize);
 
 /// How many marks have a bound at or below the number.
-fn up_to(marks: &[Mark], number: u64) -> usize {
+fn up_to(marks: &[Mark], number: KeyNumber) -> usize {
     let mut count = 0;
     'marks: for i in 0..marks.len() {
         if marks[i].0 <= number {
@@ -23,7 +24,7 @@ fn up_to(marks: &[Mark], number: u64) -> usize {
 }
 
 /// Where the bound stands, if it is there.
-fn place_of(marks: &[Mark], number: u64) -> Option<usize> {
+fn place_of(marks: &[Mark], number: KeyNumber) -> Option<usize> {
     'marks: for i in 0..marks.len() {
         if marks[i].0 == number {
             return Some(marks[i].1);
@@ -37,43 +38,40 @@ fn add(
     rt: &impl Abort,
     index: &mut CrackerIndex,
     marks: &mut Vec<Mark>,
-    key: u32,
+    bound: InnerBound,
 ) -> Result<(), Fail> {
     index.reserve(1)?;
     marks.reserve(1)?;
-    let bound = Bound(u64::from(key));
     let there = index.position(bound);
     if there.is_some() {
         return Ok(());
     }
-    let piece = index.piece_of(Key(key), 500);
+    let piece = index.piece_of(bound.key(), 500);
     assert!(rt; piece.from <= piece.to);
     let place = piece.from;
     index.add(bound, place);
-    let at = up_to(marks, bound.0);
+    let at = up_to(marks, bound.number());
     assert!(rt; at <= marks.len());
-    marks.insert(at, (bound.0, place))?;
+    marks.insert(at, (bound.number(), place))?;
     Ok(())
 }
 
 /// The bound and those above it that stand at its place move up, in both.
-fn raise(rt: &impl Abort, index: &mut CrackerIndex, marks: &mut [Mark], key: u32) {
-    let bound = Bound(u64::from(key));
+fn raise(rt: &impl Abort, index: &mut CrackerIndex, marks: &mut [Mark], bound: InnerBound) {
     let Some(place) = index.position(bound) else {
         return;
     };
     assert!(rt; place < 100000);
     index.raise_from(bound);
     'marks: for i in 0..marks.len() {
-        if marks[i].0 >= bound.0 && marks[i].1 == place {
+        if marks[i].0 >= bound.number() && marks[i].1 == place {
             marks[i].1 = place + 1;
         }
     }
 }
 
 /// The bound and those below it that stand at its place move down, in both.
-fn lower(index: &mut CrackerIndex, marks: &mut [Mark], key: u32) {
-    let bound = Bound(u64::from(key));
+fn lower(index: &mut CrackerIndex, marks: &mut [Mark], bound: InnerBound) {
     let Some(place) = index.position(bound) else {
         return;
     };
@@ -82,7 +80,7 @@ fn lower(index: &mut CrackerIndex, marks: &mut [Mark], key: u32) {
     }
     index.lower_to(bound);
     'marks: for i in 0..marks.len() {
-        if marks[i].0 <= bound.0 && marks[i].1 == place {
+        if marks[i].0 <= bound.number() && marks[i].1 == place {
             marks[i].1 = place - 1;
         }
     }
@@ -111,16 +109,16 @@ impl Visitor for Places {
 }
 
 /// A walk down from the number over so many places, in both.
-fn descend(index: &mut CrackerIndex, marks: &mut [Mark], key: u32, places: u64) {
+fn descend(index: &mut CrackerIndex, marks: &mut [Mark], key: KeyNumber, places: u64) {
     let mut visitor = Places { left: places };
-    index.descend(Key(key), &mut visitor);
+    index.descend(Key::from_number(key), &mut visitor);
     let mut left = places;
     let mut last = 0;
     let len = marks.len();
     'marks: for k in 0..len {
         let i = len - 1 - k;
         let (bound, place) = marks[i];
-        if bound > u64::from(key) {
+        if bound > key {
             continue;
         }
         if place != last {
@@ -137,11 +135,11 @@ fn descend(index: &mut CrackerIndex, marks: &mut [Mark], key: u32, places: u64) 
     }
 }
 
-/// Asserts that the bounds below 64 stand at the same places in both.
+/// Asserts that the bounds up to 64 stand at the same places in both.
 fn assert_same(rt: &impl Abort, index: &CrackerIndex, marks: &[Mark]) {
     assert!(rt; index.len() == marks.len());
-    'bounds: for number in 0..64 {
-        let told = index.position(Bound(number));
+    'bounds: for number in 1..65 {
+        let told = index.position(bound_at(number));
         assert!(rt; told == place_of(marks, number));
     }
 }
@@ -159,12 +157,12 @@ fn call(rt: &impl Abort, alloc: Global, seed: u64, calls: usize) -> Result<(), F
     let mut seed = seed;
     'calls: for _ in 0..calls {
         seed = next(seed);
-        let key = ((seed >> 33) % 64) as u32;
+        let key = ((seed >> 33) % 64) as KeyNumber;
         match (seed >> 40) % 5 {
-            0 => raise(rt, &mut index, &mut marks, key),
-            1 => lower(&mut index, &mut marks, key),
+            0 => raise(rt, &mut index, &mut marks, bound_at(key + 1)),
+            1 => lower(&mut index, &mut marks, bound_at(key + 1)),
             2 => descend(&mut index, &mut marks, key, (seed >> 50) % 4),
-            _ => add(rt, &mut index, &mut marks, key)?,
+            _ => add(rt, &mut index, &mut marks, bound_at(key + 1))?,
         }
         assert_same(rt, &index, &marks);
     }
@@ -183,38 +181,38 @@ fn add_rising(
     rt: &impl Abort,
     index: &mut CrackerIndex,
     marks: &mut Vec<Mark>,
-    key: u32,
+    bound: InnerBound,
 ) -> Result<(), Fail>
     requires { All (λ m. m.position < usize.MAX) index.old.marks }
     ensures { All (λ m. m.position < usize.MAX) index.new.marks }
 {
     index.reserve(1)?;
     marks.reserve(1)?;
-    let bound = Bound(u64::from(key));
     if index.position(bound).is_some() {
         return Ok(());
     }
-    let place = (key / 4) as usize;
-    let piece = index.piece_of(Key(key), 500);
-    assert!(rt; piece.from <= place && place <= piece.to);
+    let place = (bound.number() / 4) as usize;
+    let piece = index.piece_of(bound.key(), 500);
+    assert!(rt; piece.from <= place);
+    assert!(rt; place <= piece.to);
     index.add(bound, place);
-    let at = up_to(marks, bound.0);
+    let at = up_to(marks, bound.number());
     assert!(rt; at <= marks.len());
-    marks.insert(at, (bound.0, place))?;
+    marks.insert(at, (bound.number(), place))?;
     Ok(())
 }
 
 /// A walk up from the number over so many places, in both.
-fn climb(index: &mut CrackerIndex, marks: &mut [Mark], key: u32, places: u64)
+fn climb(index: &mut CrackerIndex, marks: &mut [Mark], key: KeyNumber, places: u64)
     requires { All (λ m. m.position < usize.MAX) index.old.marks }
 {
     let mut visitor = Places { left: places };
-    index.climb(Key(key), &mut visitor);
+    index.climb(Key::from_number(key), &mut visitor);
     let mut left = places;
     let mut last = None;
     'marks: for i in 0..marks.len() {
         let (bound, place) = marks[i];
-        if bound <= u64::from(key) {
+        if bound <= key {
             continue;
         }
         if last != Some(place) {
@@ -235,13 +233,14 @@ fn climb_once(rt: &impl Abort, alloc: Global, seed: u64) -> Result<(), Fail> {
     let mut seed = seed;
     'bounds: for _ in 0..20 {
         seed = next(seed);
-        add_rising(rt, &mut index, &mut marks, ((seed >> 33) % 64) as u32)?;
+        let bound = bound_at(((seed >> 33) % 64) as KeyNumber + 1);
+        add_rising(rt, &mut index, &mut marks, bound)?;
     }
     seed = next(seed);
     climb(
         &mut index,
         &mut marks,
-        ((seed >> 33) % 64) as u32,
+        ((seed >> 33) % 64) as KeyNumber,
         (seed >> 50) % 8,
     );
     assert_same(rt, &index, &marks);

@@ -1,13 +1,15 @@
 //! A store: each call with ample memory; and which bounds move where several stand at one place.
 ghost use Rattle.std.specs.Prelude.{◌≡◌, ◌<◌, length};
 
-use crack_row::{Bound, GREATEST_BOUND, Key, KeyRange, Payload, PieceSize, Row, Serial};
+use crack_row::{
+    Bound, GREATEST_BOUND, Key, KeyNumber, KeyRange, Payload, PayloadNumber, PieceSize, Row, Serial,
+};
 use crack_store::{Carrying, Store};
 use std::alloc::Global;
 use std::process::Abort;
 
 /// Puts a row among the pending insertions of a store of all keys; its payload is half its key.
-pub fn admit(rt: &impl Abort, store: &mut Store, serial: u64, key: u32)
+pub fn admit(rt: &impl Abort, store: &mut Store, serial: u64, key: u16)
     requires low { store.old.keys.low ≡ 0 }
     requires high { store.old.keys.high ≡ GREATEST_BOUND }
     ensures low { store.new.keys.low ≡ 0 }
@@ -19,15 +21,15 @@ pub fn admit(rt: &impl Abort, store: &mut Store, serial: u64, key: u32)
     assert!(rt; cells < 1000);
     let admitted = store.admit(Row {
         serial: Serial(serial),
-        key: Key(key),
-        payload: Payload(key / 2),
+        key: Key::from_number(KeyNumber::from(key)),
+        payload: Payload::from_number(PayloadNumber::from(key / 2)),
     });
     assert!(rt; admitted.is_ok());
     assert_eq!(rt; store.is_pending(Serial(serial)), Some(true));
 }
 
 /// A store of all keys with three rows among its pending insertions.
-pub fn admit_three(rt: &impl Abort, alloc: Global, keys: [u32; 3]) -> Store
+pub fn admit_three(rt: &impl Abort, alloc: Global, keys: [u16; 3]) -> Store
     ensures low { result.keys.low ≡ 0 }
     ensures high { result.keys.high ≡ GREATEST_BOUND }
 {
@@ -99,12 +101,12 @@ fn assert_sizes(rt: &impl Abort, store: &Store, sizes: &[u64]) {
 pub fn assert_piece_sizes(rt: &impl Abort, pieces: &[PieceSize], sizes: &[u64]) {
     assert_eq!(rt; pieces.len(), sizes.len());
     for i in 0..pieces.len() {
-        assert_eq!(rt; pieces[i].size, sizes[i], "from {}", pieces[i].low.0);
+        assert_eq!(rt; pieces[i].size, sizes[i], "from {}", pieces[i].low.number());
     }
 }
 
 /// A store of three rows, the first two of them in its column.
-pub fn append_two(rt: &impl Abort, alloc: Global, keys: [u32; 3]) -> Store
+pub fn append_two(rt: &impl Abort, alloc: Global, keys: [u16; 3]) -> Store
     ensures low { result.keys.low ≡ 0 }
     ensures high { result.keys.high ≡ GREATEST_BOUND }
 {
@@ -126,14 +128,17 @@ fn assert_found(rt: &impl Abort, store: &Store) {
     let range = KeyRange::new(20, 50).expect(rt, "a range");
     assert_eq!(rt; store.first_in(range), Some(1));
     assert_eq!(rt; store.first_out(KeyRange::all()), None);
-    assert_eq!(rt; store.next_bound(Bound(20)).0, GREATEST_BOUND);
+    assert_eq!(rt;
+        store.next_bound(Bound::from_number(20)).number(),
+        GREATEST_BOUND
+    );
 }
 
 /// Pushes the first pending insertion on once, which takes a row of this key into the hand, and appends that.
-fn push_once(rt: &impl Abort, store: Store, key: u32) -> Store {
+fn push_once(rt: &impl Abort, store: Store, key: KeyNumber) -> Store {
     let carrying = push_on(rt, lift_first(rt, store));
     let (_, row) = carrying.hand();
-    assert_eq!(rt; row.key.0, key);
+    assert_eq!(rt; row.key.number(), key);
     let tally = carrying.tally();
     assert_eq!(rt; tally.put_in, 3);
     assert_eq!(rt; tally.moved, 1);

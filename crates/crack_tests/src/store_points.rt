@@ -2,15 +2,15 @@
 ghost use Rattle.std.specs.Prelude.{◌≡◌};
 
 use crate::store::{admit, admit_three, append_two};
-use crack_row::{GREATEST_BOUND, Key, KeyRange, Payload, Row, Serial};
+use crack_row::{GREATEST_BOUND, Key, KeyNumber, KeyRange, Payload, PayloadNumber, Row, Serial};
 use crack_store::Store;
 use std::process::Abort;
 
-fn row(serial: u64, key: u32, payload: u32) -> Row {
+fn row(serial: u64, key: KeyNumber, payload: PayloadNumber) -> Row {
     Row {
         serial: Serial(serial),
-        key: Key(key),
-        payload: Payload(payload),
+        key: Key::from_number(key),
+        payload: Payload::from_number(payload),
     }
 }
 
@@ -90,7 +90,7 @@ fn assert_rows(rt: &impl Abort, store: &Store, rows: u64) {
 }
 
 /// Cracks by the range, and asserts the sum of its payloads and its rows.
-fn assert_reads(rt: &impl Abort, store: &mut Store, high: u128, sum: u128, rows: &[Row]) {
+fn assert_reads(rt: &impl Abort, store: &mut Store, high: u128, sum: i128, rows: &[Row]) {
     let range = KeyRange::new(0, high).expect(rt, "a range");
     let cracked = store.crack(range);
     assert!(rt; cracked.is_ok());

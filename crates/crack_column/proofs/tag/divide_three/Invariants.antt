@@ -1,5 +1,6 @@
+use Rattle.crack_column.specs.Labels.{tag_of, tags_of}
 use Rattle.crack_column.proofs.Thirds.{IsThirdway}
 use Rattle.crack_column.proofs.tag.divide_three.Given as goal
 
 abbrev pub invariant-tags : goal.invariant-tags
-invariant-tags l = IsThirdway l.low.0 l.high.0 l.initial.tags l.tags l.first l.middle l.upper l.gap
+invariant-tags l = IsThirdway l.low l.high (tags_of l.initial.labels l.initial.payloads) (tags_of l.labels l.payloads) (tag_of l.first l.first_payload) l.middle l.upper l.gap

@@ -1,7 +1,7 @@
 use Rattle.std.proofs.Common.{ℕ, ◌<◌, map}
 use Rattle.crack_arena.specs.Arena.{StandsAt}
-use Rattle.crack_column.specs.Tickets.{tag_handle}
+use Rattle.crack_column.specs.Inside.{label_handle}
 use Rattle.crack_column.proofs.tag.find.Given as goal
 
 abbrev pub invariant-tags : goal.invariant-tags
-invariant-tags l = (k : ℕ) → k < l.i → ¬ StandsAt (map (tag_handle l.generations) l.tags) k l.handle
+invariant-tags l = (k : ℕ) → k < l.i → ¬ StandsAt (map (label_handle l.generations) l.labels) k l.handle

@@ -1,34 +1,58 @@
-use Rattle.std.proofs.Common.{◌≡◌, arith, ap, sym, ◌∙◌, refl, inl, inr, get_or, ◌+◌, add-zero}
+use Rattle.std.proofs.Common.{◌≡◌, arith, ap, sym, ◌∙◌, refl, inl, inr, length, get_or, set, ◌<◌, ◌+◌, add-zero}
 use Rattle.std.proofs.lemmas.Bool.{cases_eq, eq-eqb, ne_eqb}
 use Rattle.crack_arena.specs.Rows.{unknown}
+use Rattle.crack_column.specs.declared.tag.Tag.{Tag}
 use Rattle.crack_column.specs.Column.{memory_at}
 use Rattle.crack_column.specs.Tickets.{tag_handle}
 use Rattle.crack_column.specs.Inside.{no_tag}
+use Rattle.crack_column.specs.Labels.{tags_of}
+use Rattle.crack_column.specs.Inside.{label_handle}
+use Rattle.crack_column.proofs.LabelLaws.{no_label, length-tags_of, get_or-tags_of, set-tags_of}
 use Rattle.crack_column.proofs.Passes.{IsLearned-read, IsLearned-known, drawn-IsLearned, learned_all}
 use Rattle.crack_column.proofs.tag.learn.Goals as goal
-use Rattle.crack_column.proofs.tag.learn.Goals.{then-tags-i, else-tags-i}
+use Rattle.crack_column.proofs.tag.learn.Goals.{then-labels-i, else-labels-i}
 
 pub handle-requires : goal.handle-requires
 handle-requires c =
-    drawn-IsLearned c.args.arena.now.cells c.args.generations.now c.args.tags.now c.tags.tags c.tags.learned c.tags.i c.tags.i no_tag c.tags.invariant c.requires.drawn (omega arith)
+    let ls = c.tags.labels in
+    let ps = c.tags.payloads in
+    let i = c.tags.i in
+    let beside : length ps ≡ length ls = omega (arith, c.requires.beside) in
+    let drawn : (get_or (tags_of ls ps) i no_tag).ticket < length c.args.generations.now = drawn-IsLearned c.args.arena.now.cells c.args.generations.now (tags_of c.args.labels.now c.args.payloads.now) (tags_of ls ps) c.tags.learned i i no_tag c.tags.invariant c.requires.drawn (omega (arith, length-tags_of ls ps beside)) in
+    rw (get_or-tags_of ls ps i beside) at drawn
 
 pub tags-preserved : goal.tags-preserved
 tags-preserved c =
     let cells = c.args.arena.now.cells in
     let gs = c.args.generations.now in
-    let ts = c.args.tags.now in
-    let now = c.tags.tags in
-    elim c.if-tags-i.branch [
-      | then-tags-i w ↦
+    let was = tags_of c.args.labels.now c.args.payloads.now in
+    let ls = c.tags.labels in
+    let ps = c.tags.payloads in
+    let i = c.tags.i in
+    let beside : length ps ≡ length ls = omega (arith, c.requires.beside) in
+    let now = tags_of ls ps in
+    let is = get_or-tags_of ls ps i beside in
+    let inside : i < length now = omega (arith, length-tags_of ls ps beside) in
+    elim c.if-labels-i.branch [
+      | then-labels-i w ↦
           let m = w.read-read.result in
           let x = w.key.result in
-          let read : m ≡ memory_at cells (tag_handle gs (get_or now c.tags.i no_tag)) = w.read-read.ensures ∙ ap (memory_at cells) w.handle.ensures in
-          elim (cases_eq x unknown) [
-            | inl e ↦ rw (w.tags-is, w.knowing.ensures, w.learned-is, eq-eqb x unknown e, add-zero) (IsLearned-read cells gs ts now _ c.tags.learned c.tags.learned c.tags.i m (omega arith) read refl w.if-tags-i.true (inl (sym w.key.ensures ∙ e, refl)) c.tags.invariant)
-            | inr ne ↦ rw (w.tags-is, w.knowing.ensures, w.learned-is, ne_eqb x unknown ne) (IsLearned-read cells gs ts now _ c.tags.learned (c.tags.learned + 1) c.tags.i m (omega arith) read refl w.if-tags-i.true (inr (λ e. ne (w.key.ensures ∙ e), refl)) c.tags.invariant)
+          let handle_is : label_handle gs (get_or ls i no_label) ≡ tag_handle gs (get_or now i no_tag) = ap (tag_handle gs) (sym is) in
+          let read : m ≡ memory_at cells (tag_handle gs (get_or now i no_tag)) = w.read-read.ensures ∙ ap (memory_at cells) (w.handle.ensures ∙ handle_is) in
+          let was_unknown : (get_or now i no_tag).key ≡ unknown = ap (λ (t : Tag). t.key) is ∙ w.if-labels-i.true in
+          let label = record (get_or ls i no_label) { key = x } in
+          let after : tags_of (set ls i label) (set ps i w.payload.result) ≡ set now i (record (get_or now i no_tag) { key = m.key; payload = m.payload }) =
+          rw (is, ← w.key.ensures, ← w.payload.ensures) (set-tags_of ls ps i label w.payload.result) in
+          elim (cases_eq w.key-then-labels-i.result unknown) [
+            | inl e ↦ rw (w.labels-is, w.payloads-is, w.learned-is, eq-eqb w.key-then-labels-i.result unknown e, add-zero) (IsLearned-read cells gs was now _ c.tags.learned c.tags.learned i m inside read after was_unknown (inl (sym w.key-then-labels-i.ensures ∙ e, refl)) c.tags.invariant)
+            | inr ne ↦ rw (w.labels-is, w.payloads-is, w.learned-is, ne_eqb w.key-then-labels-i.result unknown ne) (IsLearned-read cells gs was now _ c.tags.learned (c.tags.learned + 1) i m inside read after was_unknown (inr (λ e. ne (w.key-then-labels-i.ensures ∙ e), refl)) c.tags.invariant)
           ]
-      | else-tags-i w ↦ rw (w.tags-is, w.learned-is) (IsLearned-known cells gs ts now c.tags.learned c.tags.i w.if-tags-i.false c.tags.invariant)
+      | else-labels-i w ↦ rw (w.labels-is, w.payloads-is, w.learned-is) (IsLearned-known cells gs was now c.tags.learned i (λ e. w.if-labels-i.false (ap (λ (t : Tag). t.key) (sym is) ∙ e)) c.tags.invariant)
     ]
 
 pub returns-clause-read : goal.returns-clause-read
-returns-clause-read c = learned_all c.args.arena.now.cells c.args.generations.now c.args.tags.now c.tags.tags c.tags.learned c.tags.i (omega arith) c.tags.invariant
+returns-clause-read c =
+    let ls = c.tags.labels in
+    let ps = c.tags.payloads in
+    let beside : length ps ≡ length ls = omega (arith, c.requires.beside) in
+    learned_all c.args.arena.now.cells c.args.generations.now (tags_of c.args.labels.now c.args.payloads.now) (tags_of ls ps) c.tags.learned c.tags.i (omega (arith, length-tags_of ls ps beside)) c.tags.invariant

@@ -9,7 +9,7 @@ overflow_sub-last c =
     let range = c.args.range in
     let order = first-le-last splits range c.requires c.in_default.ensures.filled c.high.ensures.bounded in
     let first = rw c.low.ensures.value at c.splits_up_to-first.ensures.value in
-    let last = rw c.high.ensures.value at c.splits_up_to-last.ensures.value in
+    let last = rw c.high.ensures.value at c.splits_below-last.ensures.value in
     omega (arith, order, first, last)
 
 pub returns-in_err-reserve-clause-spare : goal.returns-in_err-reserve-clause-spare
@@ -18,7 +18,7 @@ returns-in_err-reserve-clause-spare c = λ few.
     let range = c.args.range in
     let long = length-parts_of splits range c.requires c.in_default.ensures.filled c.high.ensures.bounded in
     let first = rw c.low.ensures.value at c.splits_up_to-first.ensures.value in
-    let last = rw c.high.ensures.value at c.splits_up_to-last.ensures.value in
+    let last = rw c.high.ensures.value at c.splits_below-last.ensures.value in
     let none = ap length c.new-parts.ensures.items in
     absurd (false≢true (c.in_err-reserve.ensures.succeeds (omega (arith, few, long, first, last, none))))
 

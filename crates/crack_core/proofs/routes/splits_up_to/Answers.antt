@@ -6,7 +6,7 @@ use Rattle.crack_core.proofs.routes.splits_up_to.Goals as goal
 
 pub returns-clause-value : goal.returns-clause-value
 returns-clause-value c =
-    let test = λ (b : Bound). leb b.0 c.args.number in
-    let parted = IsPartitionedBy-leb (λ (b : Bound). b.0) c.args.splits.now c.args.number (sorted-rising 0 c.args.splits.now c.requires.rising) in
+    let test = λ (b : Bound). leb b.0 c.args.bound.0 in
+    let parted = IsPartitionedBy-leb (λ (b : Bound). b.0) c.args.splits.now c.args.bound.0 (sorted-rising 0 c.args.splits.now c.requires.rising) in
     let point = IsPartitionPoint-from_clause test _ _ c.partition_point.ensures.partitioned parted (λ a r q k. search rules) in
     count-point test c.args.splits.now c.partition_point.result c.partition_point.ensures.bound point.0 point.1

@@ -17,7 +17,7 @@ lower_along-requires g t c κs within =
 
 pub invariant_of-node : goal.invariant_of-node
 invariant_of-node g t c =
-    let near : Neared (StepsDown g.V.Visitor.visits c.args.number) reverse c.node.inside.right c.node.inside.right c.node.inside.mark c.node.inside.mark c.args.way.now c.args.way.now c.args.visitor.now c.args.visitor.now = (down-apart g.V.Visitor.visits c.args.number c.node.inside.left c.node.inside.left c.node.inside.mark c.node.inside.mark c.node.inside.right c.node.inside.right c.args.way.now c.args.visitor.now c.node.invariant.rising c.if-mark-number.true c.requires.going) in
+    let near : Neared (StepsDown g.V.Visitor.visits c.args.number) reverse c.node.inside.right c.node.inside.right c.node.inside.mark c.node.inside.mark c.args.way.now c.args.way.now c.args.visitor.now c.args.visitor.now = (down-apart g.V.Visitor.visits c.args.number c.node.inside.left c.node.inside.left c.node.inside.mark c.node.inside.mark c.node.inside.right c.node.inside.right c.args.way.now c.args.visitor.now c.node.invariant.rising (rw c.number.ensures at c.if-number.true) c.requires.going) in
     elim c.match-left.branch [
       | in-Some w ↦ rw w.node-inside-is (down-balanced g.V.Visitor.visits c.args.number c.node.inside.left _ c.node.inside.mark c.node.inside.mark c.node.inside.right c.node.inside.right c.node.inside.height c.args.way.now c.args.way.now _ c.args.visitor.now c.args.visitor.now _ near
           (Walked-some (StepsDown g.V.Visitor.visits c.args.number) reverse c.node.inside.left w.in-Some.left w.deref_mut.result.now w.lower_along.new.node c.args.way.now w.lower_along.new.way c.args.visitor.now w.lower_along.new.visitor w.in-Some.is w.deref_mut.ensures.value w.lower_along.ensures.goes w.lower_along.ensures.height) c.node.invariant)
@@ -25,9 +25,9 @@ invariant_of-node g t c =
           (Walked-none (StepsDown g.V.Visitor.visits c.args.number) reverse c.node.inside.left c.args.way.now c.args.visitor.now w.in-None.is refl) c.node.invariant)
     ]
 
-pub returns-then-mark-number-clause-goes : goal.returns-then-mark-number-clause-goes
-returns-then-mark-number-clause-goes g t c =
-    let near : Neared (StepsDown g.V.Visitor.visits c.args.number) reverse c.node.inside.right c.node.inside.right c.node.inside.mark c.node.inside.mark c.args.way.now c.args.way.now c.args.visitor.now c.args.visitor.now = (down-apart g.V.Visitor.visits c.args.number c.node.inside.left c.node.inside.left c.node.inside.mark c.node.inside.mark c.node.inside.right c.node.inside.right c.args.way.now c.args.visitor.now c.node.invariant.rising c.if-mark-number.true c.requires.going) in
+pub returns-then-number-clause-goes : goal.returns-then-number-clause-goes
+returns-then-number-clause-goes g t c =
+    let near : Neared (StepsDown g.V.Visitor.visits c.args.number) reverse c.node.inside.right c.node.inside.right c.node.inside.mark c.node.inside.mark c.args.way.now c.args.way.now c.args.visitor.now c.args.visitor.now = (down-apart g.V.Visitor.visits c.args.number c.node.inside.left c.node.inside.left c.node.inside.mark c.node.inside.mark c.node.inside.right c.node.inside.right c.args.way.now c.args.visitor.now c.node.invariant.rising (rw c.number.ensures at c.if-number.true) c.requires.going) in
     elim c.match-left.branch [
       | in-Some w ↦ rw (w.node-inside-is, w.way'-is, w.visitor-is, ← ap (λ (n : Grown). n.marks) c.node.view_is) (down-whole g.V.Visitor.visits c.args.number c.node.inside.left _ c.node.inside.mark c.node.inside.mark c.node.inside.right c.node.inside.right c.args.way.now c.args.way.now _ c.args.visitor.now c.args.visitor.now _ near
           (Walked-some (StepsDown g.V.Visitor.visits c.args.number) reverse c.node.inside.left w.in-Some.left w.deref_mut.result.now w.lower_along.new.node c.args.way.now w.lower_along.new.way c.args.visitor.now w.lower_along.new.visitor w.in-Some.is w.deref_mut.ensures.value w.lower_along.ensures.goes w.lower_along.ensures.height))
@@ -67,34 +67,34 @@ pub invariant_of-node-then-step_down : goal.invariant_of-node-then-step_down
 invariant_of-node-then-step_down g t c =
     let near = nearer g t (goal.at.invariant_of-node-then-step_down g t c).Joined-right in
     IsBalanced-down g.V.Visitor.visits c.args.number c.node.inside.left c.node.inside.left c.node.inside.mark c.step_down.new.mark c.node.inside.right c.match-right.node-inside.1.1.1.1.0 c.node.inside.height c.args.way.now c.step_down.new.way c.args.visitor.now c.step_down.new.visitor
-    (down-middle g.V.Visitor.visits c.args.number c.node.inside.left c.node.inside.left c.node.inside.mark c.step_down.new.mark c.node.inside.right c.match-right.node-inside.1.1.1.1.0 c.args.way.now c.match-right.way' c.step_down.new.way c.args.visitor.now c.match-right.visitor c.step_down.new.visitor near (c.step_down.ensures.steps c.args.number c.if-mark-number.false) (sym c.step_down.ensures.ended ∙ c.if-step_down.true)) refl near.height c.node.invariant
+    (down-middle g.V.Visitor.visits c.args.number c.node.inside.left c.node.inside.left c.node.inside.mark c.step_down.new.mark c.node.inside.right c.match-right.node-inside.1.1.1.1.0 c.args.way.now c.match-right.way' c.step_down.new.way c.args.visitor.now c.match-right.visitor c.step_down.new.visitor near (c.step_down.ensures.steps c.args.number (rw c.number.ensures at c.if-number.false)) (sym c.step_down.ensures.ended ∙ c.if-step_down.true)) refl near.height c.node.invariant
 
 pub returns-then-step_down-clause-goes : goal.returns-then-step_down-clause-goes
 returns-then-step_down-clause-goes g t c =
     let near = nearer g t (goal.at.returns-then-step_down-clause-goes g t c).Joined-right in
-    rw (← ap (λ (n : Grown). n.marks) c.node.view_is) (down-middle g.V.Visitor.visits c.args.number c.node.inside.left c.node.inside.left c.node.inside.mark c.step_down.new.mark c.node.inside.right c.match-right.node-inside.1.1.1.1.0 c.args.way.now c.match-right.way' c.step_down.new.way c.args.visitor.now c.match-right.visitor c.step_down.new.visitor near (c.step_down.ensures.steps c.args.number c.if-mark-number.false) (sym c.step_down.ensures.ended ∙ c.if-step_down.true))
+    rw (← ap (λ (n : Grown). n.marks) c.node.view_is) (down-middle g.V.Visitor.visits c.args.number c.node.inside.left c.node.inside.left c.node.inside.mark c.step_down.new.mark c.node.inside.right c.match-right.node-inside.1.1.1.1.0 c.args.way.now c.match-right.way' c.step_down.new.way c.args.visitor.now c.match-right.visitor c.step_down.new.visitor near (c.step_down.ensures.steps c.args.number (rw c.number.ensures at c.if-number.false)) (sym c.step_down.ensures.ended ∙ c.if-step_down.true))
 
 -- the bounds on the farther side are all on the number's side, too
 
 pub lower_all-requires-clause-below : goal.lower_all-requires-clause-below
-lower_all-requires-clause-below g t c = (c.args.number, All-some (λ m. m.bound.0 ≤ c.args.number) c.node.inside.left c.in-Some-left.left c.deref_mut-in-Some-left.result.now c.in-Some-left.is c.deref_mut-in-Some-left.ensures.value (below-left c.args.number (marks_of c.node.inside.left) c.node.inside.mark (marks_of c.node.inside.right) c.node.invariant.rising c.if-mark-number.false))
+lower_all-requires-clause-below g t c = (c.args.number, All-some (λ m. m.bound.0 ≤ c.args.number) c.node.inside.left c.in-Some-left.left c.deref_mut-in-Some-left.result.now c.in-Some-left.is c.deref_mut-in-Some-left.ensures.value (below-left c.args.number (marks_of c.node.inside.left) c.node.inside.mark (marks_of c.node.inside.right) c.node.invariant.rising (rw c.number.ensures at c.if-number.false)))
 
 pub invariant_of-node-2 : goal.invariant_of-node-2
 invariant_of-node-2 g t c =
-    let near : Neared (StepsDown g.V.Visitor.visits c.args.number) reverse c.node.inside.right c.match-right.node-inside.1.1.1.1.0 c.node.inside.mark c.step_down.new.mark c.args.way.now c.step_down.new.way c.args.visitor.now c.step_down.new.visitor = Neared-stepped (StepsDown g.V.Visitor.visits c.args.number) reverse c.node.inside.right c.match-right.node-inside.1.1.1.1.0 c.node.inside.mark c.step_down.new.mark c.args.way.now c.match-right.way' c.step_down.new.way c.args.visitor.now c.match-right.visitor c.step_down.new.visitor (nearer g t (goal.at.invariant_of-node-2 g t c).Joined-right) (c.step_down.ensures.steps c.args.number c.if-mark-number.false) (sym c.step_down.ensures.ended ∙ c.if-step_down.false) in
+    let near : Neared (StepsDown g.V.Visitor.visits c.args.number) reverse c.node.inside.right c.match-right.node-inside.1.1.1.1.0 c.node.inside.mark c.step_down.new.mark c.args.way.now c.step_down.new.way c.args.visitor.now c.step_down.new.visitor = Neared-stepped (StepsDown g.V.Visitor.visits c.args.number) reverse c.node.inside.right c.match-right.node-inside.1.1.1.1.0 c.node.inside.mark c.step_down.new.mark c.args.way.now c.match-right.way' c.step_down.new.way c.args.visitor.now c.match-right.visitor c.step_down.new.visitor (nearer g t (goal.at.invariant_of-node-2 g t c).Joined-right) (c.step_down.ensures.steps c.args.number (rw c.number.ensures at c.if-number.false)) (sym c.step_down.ensures.ended ∙ c.if-step_down.false) in
     elim c.match-left-2.branch [
       | in-Some-left w ↦ rw w.node-inside-is (down-balanced g.V.Visitor.visits c.args.number c.node.inside.left _ c.node.inside.mark c.step_down.new.mark c.node.inside.right c.match-right.node-inside.1.1.1.1.0 c.node.inside.height c.args.way.now c.step_down.new.way _ c.args.visitor.now c.step_down.new.visitor _ near
-          (Walked-some (StepsDown g.V.Visitor.visits c.args.number) reverse c.node.inside.left w.in-Some-left.left w.deref_mut-in-Some-left.result.now w.lower_all.new.node c.step_down.new.way w.lower_all.new.way c.step_down.new.visitor w.lower_all.new.visitor w.in-Some-left.is w.deref_mut-in-Some-left.ensures.value (w.lower_all.ensures.goes c.args.number (All-some (λ m. m.bound.0 ≤ c.args.number) c.node.inside.left w.in-Some-left.left w.deref_mut-in-Some-left.result.now w.in-Some-left.is w.deref_mut-in-Some-left.ensures.value (below-left c.args.number (marks_of c.node.inside.left) c.node.inside.mark (marks_of c.node.inside.right) c.node.invariant.rising c.if-mark-number.false))) w.lower_all.ensures.height) c.node.invariant)
+          (Walked-some (StepsDown g.V.Visitor.visits c.args.number) reverse c.node.inside.left w.in-Some-left.left w.deref_mut-in-Some-left.result.now w.lower_all.new.node c.step_down.new.way w.lower_all.new.way c.step_down.new.visitor w.lower_all.new.visitor w.in-Some-left.is w.deref_mut-in-Some-left.ensures.value (w.lower_all.ensures.goes c.args.number (All-some (λ m. m.bound.0 ≤ c.args.number) c.node.inside.left w.in-Some-left.left w.deref_mut-in-Some-left.result.now w.in-Some-left.is w.deref_mut-in-Some-left.ensures.value (below-left c.args.number (marks_of c.node.inside.left) c.node.inside.mark (marks_of c.node.inside.right) c.node.invariant.rising (rw c.number.ensures at c.if-number.false)))) w.lower_all.ensures.height) c.node.invariant)
       | in-None-left w ↦ rw w.node-inside-is (down-balanced g.V.Visitor.visits c.args.number c.node.inside.left c.node.inside.left c.node.inside.mark c.step_down.new.mark c.node.inside.right c.match-right.node-inside.1.1.1.1.0 c.node.inside.height c.args.way.now c.step_down.new.way _ c.args.visitor.now c.step_down.new.visitor _ near
           (Walked-none (StepsDown g.V.Visitor.visits c.args.number) reverse c.node.inside.left c.step_down.new.way c.step_down.new.visitor w.in-None-left.is refl) c.node.invariant)
     ]
 
 pub returns-clause-goes : goal.returns-clause-goes
 returns-clause-goes g t c =
-    let near : Neared (StepsDown g.V.Visitor.visits c.args.number) reverse c.node.inside.right c.match-right.node-inside.1.1.1.1.0 c.node.inside.mark c.step_down.new.mark c.args.way.now c.step_down.new.way c.args.visitor.now c.step_down.new.visitor = Neared-stepped (StepsDown g.V.Visitor.visits c.args.number) reverse c.node.inside.right c.match-right.node-inside.1.1.1.1.0 c.node.inside.mark c.step_down.new.mark c.args.way.now c.match-right.way' c.step_down.new.way c.args.visitor.now c.match-right.visitor c.step_down.new.visitor (nearer g t (goal.at.returns-clause-goes g t c).Joined-right) (c.step_down.ensures.steps c.args.number c.if-mark-number.false) (sym c.step_down.ensures.ended ∙ c.if-step_down.false) in
+    let near : Neared (StepsDown g.V.Visitor.visits c.args.number) reverse c.node.inside.right c.match-right.node-inside.1.1.1.1.0 c.node.inside.mark c.step_down.new.mark c.args.way.now c.step_down.new.way c.args.visitor.now c.step_down.new.visitor = Neared-stepped (StepsDown g.V.Visitor.visits c.args.number) reverse c.node.inside.right c.match-right.node-inside.1.1.1.1.0 c.node.inside.mark c.step_down.new.mark c.args.way.now c.match-right.way' c.step_down.new.way c.args.visitor.now c.match-right.visitor c.step_down.new.visitor (nearer g t (goal.at.returns-clause-goes g t c).Joined-right) (c.step_down.ensures.steps c.args.number (rw c.number.ensures at c.if-number.false)) (sym c.step_down.ensures.ended ∙ c.if-step_down.false) in
     elim c.match-left-2.branch [
       | in-Some-left w ↦ rw (w.node-inside-is, w.way'-is, w.visitor-is, ← ap (λ (n : Grown). n.marks) c.node.view_is) (down-whole g.V.Visitor.visits c.args.number c.node.inside.left _ c.node.inside.mark c.step_down.new.mark c.node.inside.right c.match-right.node-inside.1.1.1.1.0 c.args.way.now c.step_down.new.way _ c.args.visitor.now c.step_down.new.visitor _ near
-          (Walked-some (StepsDown g.V.Visitor.visits c.args.number) reverse c.node.inside.left w.in-Some-left.left w.deref_mut-in-Some-left.result.now w.lower_all.new.node c.step_down.new.way w.lower_all.new.way c.step_down.new.visitor w.lower_all.new.visitor w.in-Some-left.is w.deref_mut-in-Some-left.ensures.value (w.lower_all.ensures.goes c.args.number (All-some (λ m. m.bound.0 ≤ c.args.number) c.node.inside.left w.in-Some-left.left w.deref_mut-in-Some-left.result.now w.in-Some-left.is w.deref_mut-in-Some-left.ensures.value (below-left c.args.number (marks_of c.node.inside.left) c.node.inside.mark (marks_of c.node.inside.right) c.node.invariant.rising c.if-mark-number.false))) w.lower_all.ensures.height))
+          (Walked-some (StepsDown g.V.Visitor.visits c.args.number) reverse c.node.inside.left w.in-Some-left.left w.deref_mut-in-Some-left.result.now w.lower_all.new.node c.step_down.new.way w.lower_all.new.way c.step_down.new.visitor w.lower_all.new.visitor w.in-Some-left.is w.deref_mut-in-Some-left.ensures.value (w.lower_all.ensures.goes c.args.number (All-some (λ m. m.bound.0 ≤ c.args.number) c.node.inside.left w.in-Some-left.left w.deref_mut-in-Some-left.result.now w.in-Some-left.is w.deref_mut-in-Some-left.ensures.value (below-left c.args.number (marks_of c.node.inside.left) c.node.inside.mark (marks_of c.node.inside.right) c.node.invariant.rising (rw c.number.ensures at c.if-number.false)))) w.lower_all.ensures.height))
       | in-None-left w ↦ rw (w.node-inside-is, w.way'-is, w.visitor-is, ← ap (λ (n : Grown). n.marks) c.node.view_is) (down-whole g.V.Visitor.visits c.args.number c.node.inside.left c.node.inside.left c.node.inside.mark c.step_down.new.mark c.node.inside.right c.match-right.node-inside.1.1.1.1.0 c.args.way.now c.step_down.new.way c.step_down.new.way c.args.visitor.now c.step_down.new.visitor c.step_down.new.visitor near
           (Walked-none (StepsDown g.V.Visitor.visits c.args.number) reverse c.node.inside.left c.step_down.new.way c.step_down.new.visitor w.in-None-left.is refl))
     ]

@@ -1,11 +1,8 @@
-use Rattle.crack_session.proofs.Joining.{rows_told-fit, sum_told-fit}
+use Rattle.crack_session.proofs.Joining.{rows_told-fit}
 use Rattle.crack_session.proofs.query.joined.Goals as goal
 
 pub rows_told-requires : goal.rows_told-requires
 rows_told-requires c = rw c.as_slice.ensures.value (rows_told-fit c.args.replies.items c.requires.small c.requires.few)
-
-pub sum_told-requires : goal.sum_told-requires
-sum_told-requires c = rw c.as_slice-in-Sum.ensures.value (sum_told-fit c.args.replies.items c.requires.small c.requires.few)
 
 pub rows_told-total-requires : goal.rows_told-total-requires
 rows_told-total-requires c = rw c.as_slice-in-Select.ensures.value (rows_told-fit c.args.replies.items c.requires.small c.requires.few)

@@ -1,8 +1,7 @@
-use Rattle.std.proofs.Common.{◌≡◌, take}
+use Rattle.std.proofs.Common.{◌≡◌, ◌*◌, ◌^◌, take, pos, neg_ℤ, ◌≤ℤ◌}
 use Rattle.crack_session.specs.Telling.{sum_told}
 use Rattle.crack_session.proofs.query.sum_told.Given as goal
 
 abbrev pub invariant-replies : goal.invariant-replies
-invariant-replies l = record {
-  total : l.total ≡ sum_told (take l.reply-index l.replies);
-}
+invariant-replies l =
+    (l.total ≡ sum_told (take l.reply-index l.replies)) × (neg_ℤ (pos (l.reply-index * 2 ^ 96)) ≤ℤ l.total) × (l.total ≤ℤ pos (l.reply-index * 2 ^ 96))

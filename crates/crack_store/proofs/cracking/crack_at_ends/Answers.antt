@@ -9,17 +9,23 @@ pub returns-in-One-clause-refined : goal.returns-in-One-clause-refined
 returns-in-One-clause-refined c =
     let s = lists_of c.args.inside.now in
     let told = rw c.in-One.is at c.requires.missing in
-    Refines-one s (lists_of c.crack_in.new.inside) c.args.range c.in-One.bound.0 c.crack_in.ensures.refined told.0.missing told.1 told.2
+    Refines-one s (lists_of c.crack_in.new.inside) c.args.range c.in-One.gap.bound.0 c.crack_in.ensures.refined told.0.missing told.1 told.2
+
+pub returns-in-Together-clause-refined : goal.returns-in-Together-clause-refined
+returns-in-Together-clause-refined c =
+    let told = rw c.in-Together.is at c.requires.missing in
+    rw (told.0.0, told.0.1) at c.crack_together.ensures.refined
 
 pub crack_in-requires-in-Apart-2-clause-missing : goal.crack_in-requires-in-Apart-2-clause-missing
 crack_in-requires-in-Apart-2-clause-missing c =
     let s = lists_of c.args.inside.now in
     let u = lists_of c.crack_in-in-Apart.new.inside in
     let told = rw c.in-Apart.is at c.requires.missing in
-    let high : Mark = record { bound = c.high.result; position = c.crack_in-in-Apart.result } in
-    missing_after s u high c.low.result.0 c.in-Apart.low (rw (← c.low.ensures.value) at told.0) (rw (← c.high.ensures.value) at told.1.missing) (rw (c.low.ensures.value, c.high.ensures.value) told.2) c.crack_in-in-Apart.ensures.refined c.crack_in-in-Apart.ensures.marks
+    let high : Mark = record { bound = c.in-Apart.high.bound; position = c.crack_in-in-Apart.result } in
+    missing_after s u high c.in-Apart.low.bound.0 c.in-Apart.low.piece told.1.low told.1.high.missing told.1.behind c.crack_in-in-Apart.ensures.refined c.crack_in-in-Apart.ensures.marks
 
 pub returns-in-Apart-clause-refined : goal.returns-in-Apart-clause-refined
 returns-in-Apart-clause-refined c =
     let s = lists_of c.args.inside.now in
-    Refines-both s (lists_of c.crack_in-in-Apart.new.inside) (lists_of c.crack_in-in-Apart-2.new.inside) c.args.range c.high.result.0 c.low.result.0 (inr (c.high.ensures.value, c.low.ensures.value)) c.crack_in-in-Apart.ensures.refined c.crack_in-in-Apart-2.ensures.refined
+    let told = rw c.in-Apart.is at c.requires.missing in
+    Refines-both s (lists_of c.crack_in-in-Apart.new.inside) (lists_of c.crack_in-in-Apart-2.new.inside) c.args.range c.in-Apart.high.bound.0 c.in-Apart.low.bound.0 (inr (told.0.1, told.0.0)) c.crack_in-in-Apart.ensures.refined c.crack_in-in-Apart-2.ensures.refined

@@ -11,38 +11,37 @@ pub crack_three-middle-requires-clause-order : goal.crack_three-middle-requires-
 crack_three-middle-requires-clause-order c =
     let s = lists_of c.args.inside.now in
     let intact = c.requires.intact.intact in
-    rw c.requires.missing.0.piece_is (piece_order c.args.range.low _ s.marks intact.rising (positions_within s [] intact))
+    rw c.requires.missing.low.piece_is (piece_order c.args.low.bound.0 _ s.marks intact.rising (positions_within s [] intact))
 
 pub crack_three-middle-requires-clause-within : goal.crack_three-middle-requires-clause-within
 crack_three-middle-requires-clause-within c =
     let intact = c.requires.intact.intact in
-    rw c.requires.missing.0.piece_is (piece_end-le (lists_of c.args.inside.now) c.args.range.low intact.rising intact.obeyed)
+    rw c.requires.missing.low.piece_is (piece_end-le (lists_of c.args.inside.now) c.args.low.bound.0 intact.rising intact.obeyed)
 
 pub add-requires-clause-order : goal.add-requires-clause-order
 add-requires-clause-order c =
     let s = lists_of c.args.inside.now in
-    let low = c.low-low.ensures.value in
-    let cracked = rw c.requires.missing.0.piece_is at c.crack_three-middle.ensures.low in
-    Fits-piece (record { bound = c.low-low.result; position = c.crack_three-middle.result.0 }) (length s.column) s.marks c.requires.intact.intact.rising (rw low cracked.low) (rw low cracked.high)
+    let cracked = rw c.requires.missing.low.piece_is at c.crack_three-middle.ensures.low in
+    Fits-piece (record { bound = c.args.low.bound; position = c.crack_three-middle.result.0 }) (length s.column) s.marks c.requires.intact.intact.rising cracked.low cracked.high
 
 pub add-requires-2-clause-absent : goal.add-requires-2-clause-absent
 add-requires-2-clause-absent c =
     let p = c.args.inside.now in
     let q = c.crack_three-middle in
-    rw c.add.ensures.marks (three (lists_of p) _ c.args.range c.low-low.result c.high-high.result c.args.piece q.new.self.handles p.column.remembered q.new.self.remembered q.result.0 q.result.1 c.requires.intact.intact c.low-low.ensures.value c.high-high.ensures.value c.requires.missing q.ensures.low q.ensures.high q.ensures.order c.requires.intact.remembers.beside refl).absent
+    rw c.add.ensures.marks (three (lists_of p) _ c.args.low c.args.high q.new.self.handles p.column.remembered q.new.self.remembered q.result.0 q.result.1 c.requires.intact.intact c.requires.missing q.ensures.low q.ensures.high q.ensures.order c.requires.intact.remembers.beside refl).absent
 
 pub add-requires-2-clause-order : goal.add-requires-2-clause-order
 add-requires-2-clause-order c =
     let p = c.args.inside.now in
     let q = c.crack_three-middle in
-    rw c.add.ensures.marks (three (lists_of p) _ c.args.range c.low-low.result c.high-high.result c.args.piece q.new.self.handles p.column.remembered q.new.self.remembered q.result.0 q.result.1 c.requires.intact.intact c.low-low.ensures.value c.high-high.ensures.value c.requires.missing q.ensures.low q.ensures.high q.ensures.order c.requires.intact.remembers.beside refl).fits
+    rw c.add.ensures.marks (three (lists_of p) _ c.args.low c.args.high q.new.self.handles p.column.remembered q.new.self.remembered q.result.0 q.result.1 c.requires.intact.intact c.requires.missing q.ensures.low q.ensures.high q.ensures.order c.requires.intact.remembers.beside refl).fits
 
--- both ends divide their piece
-divided : (c : goal.After-add-2) → IsThree (lists_of c.args.inside.now) (lists_of (record c.args.inside.now { column = c.crack_three-middle.new.self; index = c.add-2.new.self })) c.args.range c.low-low.result c.high-high.result c.crack_three-middle.result.0 c.crack_three-middle.result.1
+-- both bounds divide their piece
+divided : (c : goal.After-add-2) → IsThree (lists_of c.args.inside.now) (lists_of (record c.args.inside.now { column = c.crack_three-middle.new.self; index = c.add-2.new.self })) c.args.low c.args.high c.crack_three-middle.result.0 c.crack_three-middle.result.1
 divided c =
     let p = c.args.inside.now in
     let q = c.crack_three-middle in
-    three (lists_of p) _ c.args.range c.low-low.result c.high-high.result c.args.piece q.new.self.handles p.column.remembered q.new.self.remembered q.result.0 q.result.1 c.requires.intact.intact c.low-low.ensures.value c.high-high.ensures.value c.requires.missing q.ensures.low q.ensures.high q.ensures.order c.requires.intact.remembers.beside (rw (q.ensures.room, c.add-2.ensures.marks, c.add.ensures.marks) refl)
+    three (lists_of p) _ c.args.low c.args.high q.new.self.handles p.column.remembered q.new.self.remembered q.result.0 q.result.1 c.requires.intact.intact c.requires.missing q.ensures.low q.ensures.high q.ensures.order c.requires.intact.remembers.beside (rw (q.ensures.room, c.add-2.ensures.marks, c.add.ensures.marks) refl)
 
 pub returns-clause-intact : goal.returns-clause-intact
 returns-clause-intact c =

@@ -1,5 +1,4 @@
 use Rattle.std.proofs.Common.{◌≡◌, ◌<◌, ◌+◌, length, take, get_or, ◌∷◌, [], arith, ap, ◌∙◌}
-use Rattle.std.proofs.lemmas.List.{get_or_default}
 use Rattle.crack_arena.specs.Arena.{times}
 use Rattle.crack_arena.proofs.Times.{times-le-length}
 use Rattle.crack_arena.specs.Rows.{unknown}
@@ -21,13 +20,13 @@ counted : (c : After-unread) → unread_in (take (c.self.inside.len + 1) c.self.
 counted c =
     let ts = c.self.inside.tags.items in
     let n = c.self.inside.len in
-    let key : c.index.result.now.key ≡ (get_or ts n no_tag).key = ap remembered_key (c.index.ensures ∙ get_or_default ts n c.index.result.now no_tag (inside c)) in
+    let key : c.get.result.key ≡ (get_or ts n no_tag).key = ap remembered_key c.get.ensures in
     let one : c.unread.result ≡ times unknown ((get_or ts n no_tag).key ∷ []) = c.unread.ensures ∙ ap (λ k. times unknown (k ∷ [])) key in
     omega (arith, c.self.invariant.counted, one, unread-last ts n (inside c))
 
 pub overflow_add-self : goal.overflow_add-self
 overflow_add-self c =
-    omega (arith, unread-le c.self.inside.tags.items c.self.inside.len c.self.invariant.are.within, c.self.invariant.counted, c.self.invariant.are.within, c.self.invariant.are.few, c.unread.ensures, times-le-length unknown (c.index.result.now.key ∷ []))
+    omega (arith, unread-le c.self.inside.tags.items c.self.inside.len c.self.invariant.are.within, c.self.invariant.counted, c.self.invariant.are.within, c.self.invariant.are.few, c.unread.ensures, times-le-length unknown (c.get.result.key ∷ []))
 
 pub invariant_of-self : goal.invariant_of-self
 invariant_of-self c = record {

@@ -15,33 +15,33 @@ end_len c =
 remembers : (c : After-deref) → Remembers c.args.arena.now.cells (handles_in c.self.inside.generations.items c.self.inside.tags.items c.self.inside.len) (remembered_in c.self.inside.tags.items c.self.inside.len)
 remembers c = rw (← c.self.view_is) at c.requires.remembered
 
-turned : (c : After-crack_between_three-learned) → Turns c.args.arena.now.cells c.self.inside.generations.items c.args.low.0 c.args.from c.args.to c.self.inside.tags.items c.crack_between_three-learned.new.tags.items c.crack_between_three-learned.result.0.0 c.crack_between_three-learned.result.1
+turned : (c : After-crack_between_three-learned) → Turns c.args.arena.now.cells c.self.inside.generations.items c.args.low.0 c.args.from c.args.to c.self.inside.tags.items c.crack_between_three-learned.new.self.items c.crack_between_three-learned.result.0.0 c.crack_between_three-learned.result.1
 turned c = rw (c.deref.ensures.value) at c.crack_between_three-learned.ensures.low
 
-turned_high : (c : After-crack_between_three-learned) → Turns c.args.arena.now.cells c.self.inside.generations.items c.args.high.0 c.args.from c.args.to c.self.inside.tags.items c.crack_between_three-learned.new.tags.items c.crack_between_three-learned.result.0.1 c.crack_between_three-learned.result.1
+turned_high : (c : After-crack_between_three-learned) → Turns c.args.arena.now.cells c.self.inside.generations.items c.args.high.0 c.args.from c.args.to c.self.inside.tags.items c.crack_between_three-learned.new.self.items c.crack_between_three-learned.result.0.1 c.crack_between_three-learned.result.1
 turned_high c = rw (c.deref.ensures.value) at c.crack_between_three-learned.ensures.high
 
-cracked : (c : After-crack_between_three-learned) → Cracks c.args.arena.now.cells c.args.low.0 c.args.from c.args.to (handles_in c.self.inside.generations.items c.self.inside.tags.items c.self.inside.len) (remembered_in c.self.inside.tags.items c.self.inside.len) (handles_in c.self.inside.generations.items c.crack_between_three-learned.new.tags.items c.self.inside.len) (remembered_in c.crack_between_three-learned.new.tags.items c.self.inside.len) c.crack_between_three-learned.result.0.0
+cracked : (c : After-crack_between_three-learned) → Cracks c.args.arena.now.cells c.args.low.0 c.args.from c.args.to (handles_in c.self.inside.generations.items c.self.inside.tags.items c.self.inside.len) (remembered_in c.self.inside.tags.items c.self.inside.len) (handles_in c.self.inside.generations.items c.crack_between_three-learned.new.self.items c.self.inside.len) (remembered_in c.crack_between_three-learned.new.self.items c.self.inside.len) c.crack_between_three-learned.result.0.0
 cracked c =
-    Cracks-Turns c.args.arena.now.cells c.self.inside.generations.items c.args.low.0 c.args.from c.args.to c.self.inside.tags.items c.crack_between_three-learned.new.tags.items c.crack_between_three-learned.result.0.0 c.crack_between_three-learned.result.1 c.self.inside.len c.self.invariant.are c.requires.order (end_len c.before) (turned c)
+    Cracks-Turns c.args.arena.now.cells c.self.inside.generations.items c.args.low.0 c.args.from c.args.to c.self.inside.tags.items c.crack_between_three-learned.new.self.items c.crack_between_three-learned.result.0.0 c.crack_between_three-learned.result.1 c.self.inside.len c.self.invariant.are c.requires.order (end_len c.before) (turned c)
 
-cracked_high : (c : After-crack_between_three-learned) → Cracks c.args.arena.now.cells c.args.high.0 c.args.from c.args.to (handles_in c.self.inside.generations.items c.self.inside.tags.items c.self.inside.len) (remembered_in c.self.inside.tags.items c.self.inside.len) (handles_in c.self.inside.generations.items c.crack_between_three-learned.new.tags.items c.self.inside.len) (remembered_in c.crack_between_three-learned.new.tags.items c.self.inside.len) c.crack_between_three-learned.result.0.1
+cracked_high : (c : After-crack_between_three-learned) → Cracks c.args.arena.now.cells c.args.high.0 c.args.from c.args.to (handles_in c.self.inside.generations.items c.self.inside.tags.items c.self.inside.len) (remembered_in c.self.inside.tags.items c.self.inside.len) (handles_in c.self.inside.generations.items c.crack_between_three-learned.new.self.items c.self.inside.len) (remembered_in c.crack_between_three-learned.new.self.items c.self.inside.len) c.crack_between_three-learned.result.0.1
 cracked_high c =
-    Cracks-Turns c.args.arena.now.cells c.self.inside.generations.items c.args.high.0 c.args.from c.args.to c.self.inside.tags.items c.crack_between_three-learned.new.tags.items c.crack_between_three-learned.result.0.1 c.crack_between_three-learned.result.1 c.self.inside.len c.self.invariant.are c.requires.order (end_len c.before) (turned_high c)
+    Cracks-Turns c.args.arena.now.cells c.self.inside.generations.items c.args.high.0 c.args.from c.args.to c.self.inside.tags.items c.crack_between_three-learned.new.self.items c.crack_between_three-learned.result.0.1 c.crack_between_three-learned.result.1 c.self.inside.len c.self.invariant.are c.requires.order (end_len c.before) (turned_high c)
 
 -- what became known was unknown
-learned : (c : After-crack_between_three-learned) → unread_in (take c.self.inside.len c.crack_between_three-learned.new.tags.items) + c.crack_between_three-learned.result.1 ≡ c.self.inside.unread
+learned : (c : After-crack_between_three-learned) → unread_in (take c.self.inside.len c.crack_between_three-learned.new.self.items) + c.crack_between_three-learned.result.1 ≡ c.self.inside.unread
 learned c =
-    let same = unread-Turns c.args.arena.now.cells c.self.inside.generations.items c.args.low.0 c.args.from c.args.to c.self.inside.tags.items c.crack_between_three-learned.new.tags.items c.crack_between_three-learned.result.0.0 c.crack_between_three-learned.result.1 c.self.inside.len c.self.invariant.are c.requires.order (end_len c.before) (turned c) in
+    let same = unread-Turns c.args.arena.now.cells c.self.inside.generations.items c.args.low.0 c.args.from c.args.to c.self.inside.tags.items c.crack_between_three-learned.new.self.items c.crack_between_three-learned.result.0.0 c.crack_between_three-learned.result.1 c.self.inside.len c.self.invariant.are c.requires.order (end_len c.before) (turned c) in
     omega (arith, same, c.self.invariant.counted)
 
-drawn : (c : After-crack_between_three-learned) → AreDrawn c.self.inside.generations.items c.crack_between_three-learned.new.tags.items c.self.inside.len
+drawn : (c : After-crack_between_three-learned) → AreDrawn c.self.inside.generations.items c.crack_between_three-learned.new.self.items c.self.inside.len
 drawn c =
-    AreDrawn-Turns c.args.arena.now.cells c.self.inside.generations.items c.args.low.0 c.args.from c.args.to c.self.inside.tags.items c.crack_between_three-learned.new.tags.items c.crack_between_three-learned.result.0.0 c.crack_between_three-learned.result.1 c.self.inside.len c.self.invariant.are c.requires.order (end_len c.before) (turned c)
+    AreDrawn-Turns c.args.arena.now.cells c.self.inside.generations.items c.args.low.0 c.args.from c.args.to c.self.inside.tags.items c.crack_between_three-learned.new.self.items c.crack_between_three-learned.result.0.0 c.crack_between_three-learned.result.1 c.self.inside.len c.self.invariant.are c.requires.order (end_len c.before) (turned c)
 
-long : (c : After-crack_between_three-learned) → length c.crack_between_three-learned.new.tags.items ≡ length c.self.inside.tags.items
+long : (c : After-crack_between_three-learned) → length c.crack_between_three-learned.new.self.items ≡ length c.self.inside.tags.items
 long c =
-    length-Turns c.args.arena.now.cells c.self.inside.generations.items c.args.low.0 c.args.from c.args.to c.self.inside.tags.items c.crack_between_three-learned.new.tags.items c.crack_between_three-learned.result.0.0 c.crack_between_three-learned.result.1 c.self.inside.len c.self.invariant.are c.requires.order (end_len c.before) (turned c)
+    length-Turns c.args.arena.now.cells c.self.inside.generations.items c.args.low.0 c.args.from c.args.to c.self.inside.tags.items c.crack_between_three-learned.new.self.items c.crack_between_three-learned.result.0.0 c.crack_between_three-learned.result.1 c.self.inside.len c.self.invariant.are c.requires.order (end_len c.before) (turned c)
 
 pub crack_between_three-learned-requires-clause-known : goal.crack_between_three-learned-requires-clause-known
 crack_between_three-learned-requires-clause-known c =
@@ -73,7 +73,7 @@ returns-clause-room c = rw (← c.self.view_is, long c.before.before, c.crack_be
 
 pub returns-clause-aside : goal.returns-clause-aside
 returns-clause-aside c =
-    rw (← c.self.view_is) (aside-Turns c.args.arena.now.cells c.self.inside.generations.items c.args.low.0 c.args.from c.args.to c.self.inside.tags.items c.crack_between_three-learned.new.tags.items c.crack_between_three-learned.result.0.0 c.crack_between_three-learned.result.1 c.self.inside.len c.self.invariant.are c.requires.order (end_len c.before.before.before) (turned c.before.before))
+    rw (← c.self.view_is) (aside-Turns c.args.arena.now.cells c.self.inside.generations.items c.args.low.0 c.args.from c.args.to c.self.inside.tags.items c.crack_between_three-learned.new.self.items c.crack_between_three-learned.result.0.0 c.crack_between_three-learned.result.1 c.self.inside.len c.self.invariant.are c.requires.order (end_len c.before.before.before) (turned c.before.before))
 
 pub returns-clause-remembered : goal.returns-clause-remembered
 returns-clause-remembered c =

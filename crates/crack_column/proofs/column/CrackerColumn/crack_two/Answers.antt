@@ -15,26 +15,26 @@ end_len c =
 remembers : (c : After-deref) → Remembers c.args.arena.now.cells (handles_in c.self.inside.generations.items c.self.inside.tags.items c.self.inside.len) (remembered_in c.self.inside.tags.items c.self.inside.len)
 remembers c = rw (← c.self.view_is) at c.requires.remembered
 
-turned : (c : After-crack_between-place) → Turns c.args.arena.now.cells c.self.inside.generations.items c.args.bound.0 c.args.from c.args.to c.self.inside.tags.items c.crack_between-place.new.tags.items c.crack_between-place.result.0 c.crack_between-place.result.1
+turned : (c : After-crack_between-place) → Turns c.args.arena.now.cells c.self.inside.generations.items c.args.bound.0 c.args.from c.args.to c.self.inside.tags.items c.crack_between-place.new.self.items c.crack_between-place.result.0 c.crack_between-place.result.1
 turned c = rw (c.deref.ensures.value) at c.crack_between-place.ensures.turned
 
-cracked : (c : After-crack_between-place) → Cracks c.args.arena.now.cells c.args.bound.0 c.args.from c.args.to (handles_in c.self.inside.generations.items c.self.inside.tags.items c.self.inside.len) (remembered_in c.self.inside.tags.items c.self.inside.len) (handles_in c.self.inside.generations.items c.crack_between-place.new.tags.items c.self.inside.len) (remembered_in c.crack_between-place.new.tags.items c.self.inside.len) c.crack_between-place.result.0
+cracked : (c : After-crack_between-place) → Cracks c.args.arena.now.cells c.args.bound.0 c.args.from c.args.to (handles_in c.self.inside.generations.items c.self.inside.tags.items c.self.inside.len) (remembered_in c.self.inside.tags.items c.self.inside.len) (handles_in c.self.inside.generations.items c.crack_between-place.new.self.items c.self.inside.len) (remembered_in c.crack_between-place.new.self.items c.self.inside.len) c.crack_between-place.result.0
 cracked c =
-    Cracks-Turns c.args.arena.now.cells c.self.inside.generations.items c.args.bound.0 c.args.from c.args.to c.self.inside.tags.items c.crack_between-place.new.tags.items c.crack_between-place.result.0 c.crack_between-place.result.1 c.self.inside.len c.self.invariant.are c.requires.order (end_len c.before) (turned c)
+    Cracks-Turns c.args.arena.now.cells c.self.inside.generations.items c.args.bound.0 c.args.from c.args.to c.self.inside.tags.items c.crack_between-place.new.self.items c.crack_between-place.result.0 c.crack_between-place.result.1 c.self.inside.len c.self.invariant.are c.requires.order (end_len c.before) (turned c)
 
 -- what became known was unknown
-learned : (c : After-crack_between-place) → unread_in (take c.self.inside.len c.crack_between-place.new.tags.items) + c.crack_between-place.result.1 ≡ c.self.inside.unread
+learned : (c : After-crack_between-place) → unread_in (take c.self.inside.len c.crack_between-place.new.self.items) + c.crack_between-place.result.1 ≡ c.self.inside.unread
 learned c =
-    let same = unread-Turns c.args.arena.now.cells c.self.inside.generations.items c.args.bound.0 c.args.from c.args.to c.self.inside.tags.items c.crack_between-place.new.tags.items c.crack_between-place.result.0 c.crack_between-place.result.1 c.self.inside.len c.self.invariant.are c.requires.order (end_len c.before) (turned c) in
+    let same = unread-Turns c.args.arena.now.cells c.self.inside.generations.items c.args.bound.0 c.args.from c.args.to c.self.inside.tags.items c.crack_between-place.new.self.items c.crack_between-place.result.0 c.crack_between-place.result.1 c.self.inside.len c.self.invariant.are c.requires.order (end_len c.before) (turned c) in
     omega (arith, same, c.self.invariant.counted)
 
-drawn : (c : After-crack_between-place) → AreDrawn c.self.inside.generations.items c.crack_between-place.new.tags.items c.self.inside.len
+drawn : (c : After-crack_between-place) → AreDrawn c.self.inside.generations.items c.crack_between-place.new.self.items c.self.inside.len
 drawn c =
-    AreDrawn-Turns c.args.arena.now.cells c.self.inside.generations.items c.args.bound.0 c.args.from c.args.to c.self.inside.tags.items c.crack_between-place.new.tags.items c.crack_between-place.result.0 c.crack_between-place.result.1 c.self.inside.len c.self.invariant.are c.requires.order (end_len c.before) (turned c)
+    AreDrawn-Turns c.args.arena.now.cells c.self.inside.generations.items c.args.bound.0 c.args.from c.args.to c.self.inside.tags.items c.crack_between-place.new.self.items c.crack_between-place.result.0 c.crack_between-place.result.1 c.self.inside.len c.self.invariant.are c.requires.order (end_len c.before) (turned c)
 
-long : (c : After-crack_between-place) → length c.crack_between-place.new.tags.items ≡ length c.self.inside.tags.items
+long : (c : After-crack_between-place) → length c.crack_between-place.new.self.items ≡ length c.self.inside.tags.items
 long c =
-    length-Turns c.args.arena.now.cells c.self.inside.generations.items c.args.bound.0 c.args.from c.args.to c.self.inside.tags.items c.crack_between-place.new.tags.items c.crack_between-place.result.0 c.crack_between-place.result.1 c.self.inside.len c.self.invariant.are c.requires.order (end_len c.before) (turned c)
+    length-Turns c.args.arena.now.cells c.self.inside.generations.items c.args.bound.0 c.args.from c.args.to c.self.inside.tags.items c.crack_between-place.new.self.items c.crack_between-place.result.0 c.crack_between-place.result.1 c.self.inside.len c.self.invariant.are c.requires.order (end_len c.before) (turned c)
 
 pub crack_between-place-requires-clause-known : goal.crack_between-place-requires-clause-known
 crack_between-place-requires-clause-known c =
@@ -63,7 +63,7 @@ returns-clause-room c = rw (← c.self.view_is, long c.before, c.crack_between-p
 
 pub returns-clause-aside : goal.returns-clause-aside
 returns-clause-aside c =
-    rw (← c.self.view_is) (aside-Turns c.args.arena.now.cells c.self.inside.generations.items c.args.bound.0 c.args.from c.args.to c.self.inside.tags.items c.crack_between-place.new.tags.items c.crack_between-place.result.0 c.crack_between-place.result.1 c.self.inside.len c.self.invariant.are c.requires.order (end_len c.before.before) (turned c.before))
+    rw (← c.self.view_is) (aside-Turns c.args.arena.now.cells c.self.inside.generations.items c.args.bound.0 c.args.from c.args.to c.self.inside.tags.items c.crack_between-place.new.self.items c.crack_between-place.result.0 c.crack_between-place.result.1 c.self.inside.len c.self.invariant.are c.requires.order (end_len c.before.before) (turned c.before))
 
 pub returns-clause-remembered : goal.returns-clause-remembered
 returns-clause-remembered c =

@@ -1,12 +1,12 @@
 use Rattle.std.proofs.Common.{◌≡◌, ◌<◌, ◌+◌, List, length, take, get_or, set, ◌∷◌, [], arith, refl, ap, ◌∙◌}
-use Rattle.std.proofs.lemmas.List.{get_or_default}
 use Rattle.crack_arena.specs.Arena.{times, no_handle}
 use Rattle.crack_arena.proofs.Times.{times-le-length}
 use Rattle.crack_arena.specs.Rows.{unknown}
 use Rattle.crack_column.specs.declared.tag.Tag.{Tag}
 use Rattle.crack_column.specs.Column.{Agrees, nothing}
-use Rattle.crack_column.specs.Tickets.{remembered_key, tag_handle, memory_of, handles_in, remembered_in, unread_in}
+use Rattle.crack_column.specs.Tickets.{tag_handle, memory_of, handles_in, remembered_in, unread_in}
 use Rattle.crack_column.specs.Inside.{no_tag}
+use Rattle.crack_column.specs.Labels.{TagVector}
 use Rattle.crack_column.proofs.Remembering.{Remembers-set}
 use Rattle.crack_column.proofs.TicketLaws.{length-in, length-aside, first-aside, handle_in, memory_in, unread-le, AreDrawn-exchange, length-exchange, handles-exchange, remembered-exchange, unread-exchange, aside-exchange}
 use Rattle.crack_column.proofs.column.CrackerColumn.exchange.Goals as goal
@@ -22,21 +22,21 @@ some c =
     let there : 0 < length c.args.self.now.aside = c.requires.aside in
     omega (arith, rw (← c.self.view_is) at there, length-aside c.self.inside.generations.items c.self.inside.tags.items c.self.inside.len)
 
-aside_is : (c : After-unread-2) → c.index.result.now ≡ get_or c.self.inside.tags.items c.self.inside.len no_tag
-aside_is c = c.index.ensures ∙ get_or_default c.self.inside.tags.items c.self.inside.len c.index.result.now no_tag (some c)
+aside_is : (c : After-unread-2) → c.get-aside.result ≡ get_or c.self.inside.tags.items c.self.inside.len no_tag
+aside_is c = c.get-aside.ensures
 
-there_is : (c : After-unread-2) → c.index-2.result.now ≡ get_or c.self.inside.tags.items c.args.place no_tag
-there_is c = c.index-2.ensures ∙ get_or_default c.self.inside.tags.items c.args.place c.index-2.result.now no_tag (omega (arith, first c, some c))
+there_is : (c : After-unread-2) → c.get-there.result ≡ get_or c.self.inside.tags.items c.args.place no_tag
+there_is c = c.get-there.ensures
 
 -- the tags afterwards
 abbrev now : (c : After-unread-2) → List Tag
-now c = set (set c.self.inside.tags.items c.args.place c.index.result.now) c.self.inside.len c.index-2.result.now
+now c = c.set-2.new.self.items
 
 swapped : (c : After-unread-2) → now c ≡ set (set c.self.inside.tags.items c.args.place (get_or c.self.inside.tags.items c.self.inside.len no_tag)) c.self.inside.len (get_or c.self.inside.tags.items c.args.place no_tag)
 swapped c =
     let ts = c.self.inside.tags.items in
     let n = c.self.inside.len in
-    ap (λ t. set (set ts c.args.place t) n c.index-2.result.now) (aside_is c) ∙ ap (λ t. set (set ts c.args.place (get_or ts n no_tag)) n t) (there_is c)
+    ap (λ (v : TagVector). v.items) c.set-2.ensures ∙ ap (λ (v : TagVector). set v.items n c.get-there.result) c.set.ensures ∙ ap (λ t. set (set ts c.args.place t) n c.get-there.result) (aside_is c) ∙ ap (λ t. set (set ts c.args.place (get_or ts n no_tag)) n t) (there_is c)
 
 counted : (c : After-unread-2) → unread_in (take c.self.inside.len (now c)) + c.unread-2.result ≡ c.self.inside.unread + c.unread.result
 counted c =
@@ -48,7 +48,7 @@ counted c =
 
 pub overflow_add-self : goal.overflow_add-self
 overflow_add-self c =
-    omega (arith, unread-le c.self.inside.tags.items c.self.inside.len c.self.invariant.are.within, c.self.invariant.counted, c.self.invariant.are.within, c.self.invariant.are.few, c.unread.ensures, times-le-length unknown (c.index.result.now.key ∷ []))
+    omega (arith, unread-le c.self.inside.tags.items c.self.inside.len c.self.invariant.are.within, c.self.invariant.counted, c.self.invariant.are.within, c.self.invariant.are.few, c.unread.ensures, times-le-length unknown (c.get-aside.result.key ∷ []))
 
 pub overflow_sub-self : goal.overflow_sub-self
 overflow_sub-self c = omega (arith, counted c)
@@ -71,6 +71,8 @@ returns-clause-after c =
       handles-exchange gs ts (now c.before) n place are (first c.before) (some c.before) (swapped c.before),
       remembered-exchange gs ts (now c.before) n place are (first c.before) (some c.before) (swapped c.before),
       aside-exchange gs ts (now c.before) n place are (first c.before) (some c.before) (swapped c.before),
+      ap (λ (v : TagVector). v.capacity) c.set-2.ensures,
+      ap (λ (v : TagVector). v.capacity) c.set.ensures,
       length-exchange gs ts (now c.before) n place are (first c.before) (some c.before) (swapped c.before),
       first-aside gs ts n (some c.before),
       handle_in gs ts n place no_handle are.within (first c.before),

@@ -8,4 +8,4 @@ pub overflow_add-result : goal.overflow_add-result
 overflow_add-result c =
     let column = c.generations.inside in
     let are = c.generations.invariant.are in
-    omega (arith, unread-le column.tags.items column.len are.within, c.generations.invariant.counted, are.within, are.few, c.unread.ensures, times-le-length unknown (c.index.result.now.key ∷ []))
+    omega (arith, unread-le column.tags.items column.len are.within, c.generations.invariant.counted, are.within, are.few, c.unread.ensures, times-le-length unknown (c.get-hand.result.key ∷ []))

@@ -1,5 +1,4 @@
 use Rattle.std.proofs.Common.{◌≡◌, ◌<◌, ◌+◌, ◌-◌, length, take, get_or, ◌∷◌, [], arith, ap, ◌∙◌}
-use Rattle.std.proofs.lemmas.List.{get_or_default}
 use Rattle.crack_arena.specs.Arena.{times}
 use Rattle.crack_arena.specs.Rows.{unknown}
 use Rattle.crack_column.specs.Tickets.{remembered_key, unread_in}
@@ -21,7 +20,7 @@ counted c =
     let more : c.self.inside.len ≡ n + 1 = omega (arith, some c) in
     let inside : n < length ts = omega (arith, some c, c.self.invariant.are.within) in
     let all : unread_in (take (n + 1) ts) ≡ c.self.inside.unread = rw more at c.self.invariant.counted in
-    let key : c.index.result.now.key ≡ (get_or ts n no_tag).key = ap remembered_key (c.index.ensures ∙ get_or_default ts n c.index.result.now no_tag inside) in
+    let key : c.get.result.key ≡ (get_or ts n no_tag).key = ap remembered_key c.get.ensures in
     let one : c.unread.result ≡ times unknown ((get_or ts n no_tag).key ∷ []) = c.unread.ensures ∙ ap (λ k. times unknown (k ∷ [])) key in
     omega (arith, all, one, unread-last ts n inside)
 

@@ -1,5 +1,6 @@
 use Rattle.std.proofs.Common.{◌≡◌, ◌+◌, ◌-◌, ◌∷◌, [], ◌++◌, length, nat_eq, vec_capacity, ap, inl, inr, ◌∙◌, arith, length-append, length-set}
 use Rattle.crack_arena.proofs.Remembering.{RemembersKeys-append}
+use Rattle.crack_arena.specs.Rows.{unknown}
 use Rattle.crack_pending.specs.Spots.{kept, spot_room}
 use Rattle.crack_pending.proofs.Kept.{kept-push, place_at-few}
 use Rattle.crack_pending.proofs.Views.{kept_more, view_after, room-less, room-some}
@@ -15,7 +16,7 @@ pub overflow_add-self-2 : goal.overflow_add-self-2
 overflow_add-self-2 c =
     let a = c.self.invariant.0 in
     let i = c.self.inside in
-    omega (arith, c.self.invariant.1, counted_few i.keys.items i.stands.items (omega (arith, a.stands_beside, a.keys_beside)), a.few, a.keys_beside, byte_few (nat_eq c.args.key 4294967295))
+    omega (arith, c.self.invariant.1, counted_few i.keys.items i.stands.items (omega (arith, a.stands_beside, a.keys_beside)), a.few, a.keys_beside, byte_few (nat_eq c.args.key unknown))
 
 pub invariant_of-self : goal.invariant_of-self
 invariant_of-self c =

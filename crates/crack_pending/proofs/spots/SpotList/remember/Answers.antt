@@ -1,4 +1,5 @@
 use Rattle.std.proofs.Common.{refl, nat_eq, arith}
+use Rattle.crack_arena.specs.Rows.{unknown}
 use Rattle.crack_pending.proofs.Views.{other_key, anew, same_view, nowhere-times, kept_key}
 use Rattle.crack_pending.proofs.Unknown.{counted_one, counted_set, counted_some, counted_few, byte_few}
 use Rattle.crack_pending.proofs.spots.SpotList.remember.Goals as goal
@@ -15,7 +16,7 @@ overflow_add-self c =
     let a = c.self.invariant.0 in
     let i = c.self.inside in
     let less = rw (c.deref-in-Some.ensures.value) at c.unknowns_without.ensures in
-    omega (arith, c.self.invariant.1, less, counted_few i.keys.items i.stands.items (omega (arith, a.stands_beside, a.keys_beside)), a.few, a.keys_beside, byte_few (nat_eq c.args.key 4294967295))
+    omega (arith, c.self.invariant.1, less, counted_few i.keys.items i.stands.items (omega (arith, a.stands_beside, a.keys_beside)), a.few, a.keys_beside, byte_few (nat_eq c.args.key unknown))
 
 pub invariant_of-self : goal.invariant_of-self
 invariant_of-self c =

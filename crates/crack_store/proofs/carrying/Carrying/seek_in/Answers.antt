@@ -23,4 +23,5 @@ Finds-here s hand r from low high there intact =
 
 pub returns-then-from-len-clause-finds : goal.returns-then-from-len-clause-finds
 returns-then-from-len-clause-finds c =
-    rw (← c.self.view_is) (Finds-here (lists_of c.self.inside.inside) (hand_of c.self.inside.inside ∷ []) c.args.range c.args.from (omega (arith, c.if-low.true, c.low.ensures.value, c.low-2.ensures.value)) (omega (arith, c.if-high.true, c.high.ensures.value, c.high-then-low.ensures.value)) (omega (arith, c.if-from-len.true, c.len.ensures)) c.self.invariant.has.kept.intact)
+    let held = c.holds_all.ensures.0 c.if-holds_all.true in
+    rw (← c.self.view_is) (Finds-here (lists_of c.self.inside.inside) (hand_of c.self.inside.inside ∷ []) c.args.range c.args.from held.0 held.1 (omega (arith, c.if-from-len.true, c.len.ensures)) c.self.invariant.has.kept.intact)

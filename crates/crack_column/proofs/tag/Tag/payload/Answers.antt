@@ -1,5 +1,0 @@
-use Rattle.std.proofs.Common.{rules}
-use Rattle.crack_column.proofs.tag.Tag.payload.Goals as goal
-
-pub returns : goal.returns
-returns c = search rules

@@ -1,0 +1,219 @@
+//! The tags of a cracker column, kept as labels and payloads side by side.
+ghost use Rattle.std.specs.Prelude.{◌≡◌, ◌+◌, ◌-◌, ◌<◌, ◌≤◌, ◌^◌, ◌*◌, ◌++◌, ◌∷◌, [], All, MatchOption, OnOk, OnErr, IfErr, length, map, pos, neg_ℤ, ◌≤ℤ◌, slice_index_or, slice_set};
+ghost use Rattle.std.specs.List.{between};
+ghost use Rattle.crack_arena.specs.Arena.{IsAbsent, IsFirstAt};
+ghost use Rattle.crack_arena.specs.Rows.{amount_at};
+ghost use Rattle.crack_row.specs.Rows.{total_by, farthest_amount};
+ghost use Rattle.crack_column.specs.declared.TheConstants.{MOST_PLACES};
+ghost use Rattle.crack_column.specs.Tickets.{tag_handle, unread_in};
+ghost use Rattle.crack_column.specs.Inside.{no_tag, label_of, Knows, Turns};
+
+use crate::tag::{self, Label, Tag};
+use crack_arena::{Arena, Handle};
+use crack_row::{InnerBound, Payload, Refusal, Row};
+use std::alloc::Global;
+use std::marker::Model;
+
+/// Tags in two vectors, so that a sum reads payloads alone. Contracts see the tags.
+#[derive(Drop)]
+pub(crate) struct Tags {
+    labels: Vec<Label>,
+    payloads: Vec<Payload>,
+}
+
+impl Model for Tags {
+    ghost use Rattle.std.specs.Prelude.{◌≡◌, length, min, vec_capacity};
+    ghost use Rattle.crack_column.specs.Labels.{TagVector, tags_of};
+
+    ghost Value = { TagVector };
+
+    ghost view = { λ t. record {
+      items = tags_of t.labels.items t.payloads.items;
+      capacity = min (vec_capacity t.labels) (vec_capacity t.payloads);
+    } };
+
+    ghost invariant = { λ t. length t.payloads.items ≡ length t.labels.items };
+}
+
+impl Tags {
+    /// None yet. Takes no memory.
+    pub(crate) fn new(alloc: Global) -> Tags
+        ensures items { result.items ≡ [] }
+        ensures capacity { result.capacity ≡ 0 }
+    {
+        Tags {
+            labels: Vec::new(alloc),
+            payloads: Vec::new(alloc),
+        }
+    }
+
+    #[inline(always)]
+    pub(crate) fn len(&self) -> usize
+        ensures value { result ≡ length self.now.items }
+        ensures room { length self.now.items ≤ self.now.capacity }
+    {
+        self.labels.len()
+    }
+
+    /// The tag at the place.
+    #[inline(always)]
+    pub(crate) fn get(&self, place: usize) -> Tag
+        requires { place < length self.now.items }
+        ensures { result ≡ slice_index_or self.now.items place no_tag }
+    {
+        self.labels[place].with_payload(self.payloads[place])
+    }
+
+    /// The label at the place.
+    #[inline(always)]
+    pub(crate) fn label(&self, place: usize) -> Label
+        requires { place < length self.now.items }
+        ensures { result ≡ label_of (slice_index_or self.now.items place no_tag) }
+    {
+        self.labels[place]
+    }
+
+    /// Puts the tag at the place.
+    #[inline(always)]
+    pub(crate) fn set(&mut self, place: usize, tag: Tag)
+        requires { place < length self.old.items }
+        ensures { self.new ≡ record self.old { items = slice_set self.old.items place tag } }
+    {
+        self.labels[place] = tag.label();
+        self.payloads[place] = tag.payload;
+    }
+
+    /// Makes room for so many more.
+    pub(crate) fn reserve(&mut self, additional: usize) -> Result<(), Refusal>
+        ensures items { self.new.items ≡ self.old.items }
+        ensures ok { OnOk result (length self.new.items + additional ≤ self.new.capacity) }
+        ensures kept { self.old.capacity ≤ self.new.capacity }
+        ensures full { OnErr result (self.old.capacity < length self.old.items + additional) }
+        ensures err { IfErr result (λ e. e ≡ Refusal.OutOfMemory) }
+    {
+        self.labels.reserve(additional)?;
+        self.payloads.reserve(additional)?;
+        Ok(())
+    }
+
+    /// Puts the tag behind all others, into room that was reserved.
+    pub(crate) fn push_reserved(&mut self, tag: Tag)
+        requires { length self.old.items < self.old.capacity }
+        ensures { self.new ≡ record self.old { items = self.old.items ++ tag ∷ [] } }
+    {
+        self.labels.push_reserved(tag.label());
+        self.payloads.push_reserved(tag.payload);
+    }
+
+    /// Cracks the tags from the place `from` up to and without `to`, of which at most so many rows are unread.
+    /// The place between, and how many rows are known now that weren't.
+    pub(crate) fn crack_between(
+        &mut self,
+        from: usize,
+        to: usize,
+        unread: usize,
+        generations: &[u64],
+        bound: InnerBound,
+        arena: &Arena<Row>,
+    ) -> (usize, usize)
+        requires order { from ≤ to }
+        requires within { to ≤ length self.old.items }
+        requires drawn { All (λ t. t.ticket < length generations.now) self.old.items }
+        requires known { All (Knows arena.now.cells generations.now) (between from to self.old.items) }
+        requires unread { unread_in (between from to self.old.items) ≤ unread }
+        ensures turned { Turns arena.now.cells generations.now bound.0 from to self.old.items self.new.items result.0 result.1 }
+        ensures capacity { self.new.capacity ≡ self.old.capacity }
+    {
+        let (place, learned) = tag::crack(
+            &mut self.labels[from..to],
+            &mut self.payloads[from..to],
+            unread,
+            generations,
+            bound,
+            arena,
+        );
+        (from + place, learned)
+    }
+
+    /// Cracks the tags from the place `from` up to and without `to` in three, of which at most so many rows are unread.
+    /// The two places between, and how many rows are known now that weren't.
+    pub(crate) fn crack_between_three(
+        &mut self,
+        from: usize,
+        to: usize,
+        unread: usize,
+        generations: &[u64],
+        low: InnerBound,
+        high: InnerBound,
+        arena: &Arena<Row>,
+    ) -> ((usize, usize), usize)
+        requires order { from ≤ to }
+        requires within { to ≤ length self.old.items }
+        requires bounds { low.0 ≤ high.0 }
+        requires drawn { All (λ t. t.ticket < length generations.now) self.old.items }
+        requires known { All (Knows arena.now.cells generations.now) (between from to self.old.items) }
+        requires unread { unread_in (between from to self.old.items) ≤ unread }
+        ensures low { Turns arena.now.cells generations.now low.0 from to self.old.items self.new.items result.0.0 result.1 }
+        ensures high { Turns arena.now.cells generations.now high.0 from to self.old.items self.new.items result.0.1 result.1 }
+        ensures order { result.0.0 ≤ result.0.1 }
+        ensures capacity { self.new.capacity ≡ self.old.capacity }
+    {
+        let (middle, upper, learned) = tag::crack_three(
+            &mut self.labels[from..to],
+            &mut self.payloads[from..to],
+            unread,
+            generations,
+            low,
+            high,
+            arena,
+        );
+        ((from + middle, from + upper), learned)
+    }
+
+    /// The sum of the payloads of the rows from the place `from` up to and without `to`, of which at most so many are unread.
+    pub(crate) fn sum_between(
+        &self,
+        from: usize,
+        to: usize,
+        unread: usize,
+        generations: &[u64],
+        arena: &Arena<Row>,
+    ) -> i128
+        requires order { from ≤ to }
+        requires within { to ≤ length self.now.items }
+        requires few { to - from ≤ MOST_PLACES }
+        requires drawn { All (λ t. t.ticket < length generations.now) self.now.items }
+        requires known { All (Knows arena.now.cells generations.now) (between from to self.now.items) }
+        requires unread { unread_in (between from to self.now.items) ≤ unread }
+        ensures value { result ≡ total_by (λ t. amount_at arena.now.cells (tag_handle generations.now t)) (between from to self.now.items) }
+        ensures least { neg_ℤ (pos ((to - from) * farthest_amount)) ≤ℤ result }
+        ensures most { result ≤ℤ pos ((to - from) * farthest_amount) }
+        ensures small { (neg_ℤ (pos (2 ^ 95)) ≤ℤ result) × (result ≤ℤ pos (2 ^ 95)) }
+    {
+        tag::sum(
+            &self.labels[from..to],
+            &self.payloads[from..to],
+            unread,
+            generations,
+            arena,
+        )
+    }
+
+    /// The first place from `from` up to and without `to` where the handle stands, counted from `from`.
+    pub(crate) fn find_between(
+        &self,
+        from: usize,
+        to: usize,
+        generations: &[u64],
+        handle: Handle<Row>,
+    ) -> Option<usize>
+        requires order { from ≤ to }
+        requires within { to ≤ length self.now.items }
+        requires drawn { All (λ t. t.ticket < length generations.now) self.now.items }
+        ensures { MatchOption result
+            (IsAbsent (map (tag_handle generations.now) (between from to self.now.items)) handle)
+            (IsFirstAt (map (tag_handle generations.now) (between from to self.now.items)) handle) }
+    {
+        tag::find(&self.labels[from..to], generations, handle)
+    }
+}

@@ -1,8 +1,0 @@
-use Rattle.std.proofs.Common.{rules}
-use Rattle.crack_index.proofs.index.CrackerIndex.next_after.Goals as goal
-
-pub returns-clause-value : goal.returns-clause-value
-returns-clause-value c = search rules
-
-pub returns-clause-rising : goal.returns-clause-rising
-returns-clause-rising c = search rules

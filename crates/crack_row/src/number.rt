@@ -1,0 +1,159 @@
+//! How wide the numbers of keys, payloads and bounds are, which stands here alone, and how they are compared.
+ghost use Rattle.std.specs.Prelude.{pos, neg_ℤ, ◌≤ℤ◌, ◌≡◌, ◌<◌, ◌≤◌, ◌+◌, ◌↔◌, IsTrue, IsSome, IfSome, MatchOption};
+ghost use Rattle.crack_row.specs.Rows.{amount, farthest_amount};
+ghost use Rattle.crack_row.specs.declared.TheConstants.{GREATEST_KEY};
+
+use crate::{Bound, GREATEST_KEY, InnerBound, Key, Payload};
+
+/// The number of a key.
+pub type KeyNumber = u64;
+
+/// The number of a payload.
+pub type PayloadNumber = i64;
+
+/// The number of a bound, which has one value more than that of a key.
+pub type BoundNumber = u128;
+
+impl Key {
+    /// The key of this number.
+    #[inline]
+    pub fn from_number(number: KeyNumber) -> Key
+        ensures { result.0 ≡ number }
+    {
+        Key(number)
+    }
+
+    /// Its number.
+    #[inline]
+    pub fn number(self) -> KeyNumber
+        ensures { result ≡ self.0 }
+    {
+        self.0
+    }
+
+    /// The greatest bound that isn't above the key.
+    #[inline]
+    pub fn bound(self) -> Bound
+        ensures { result.0 ≡ self.0 }
+    {
+        Bound(self.0 as BoundNumber)
+    }
+}
+
+impl Payload {
+    /// The payload of this number.
+    #[inline]
+    pub fn from_number(number: PayloadNumber) -> Payload
+        ensures { result.0 ≡ number }
+    {
+        Payload(number)
+    }
+
+    /// Its number.
+    #[inline]
+    pub fn number(self) -> PayloadNumber
+        ensures { result ≡ self.0 }
+    {
+        self.0
+    }
+
+    /// What it adds to a sum.
+    #[inline]
+    pub fn amount(self) -> i128
+        ensures value { result ≡ amount self }
+        ensures least { neg_ℤ (pos farthest_amount) ≤ℤ result }
+        ensures most { result ≤ℤ pos farthest_amount }
+    {
+        i128::from(self.0)
+    }
+}
+
+impl Bound {
+    /// The bound of this number.
+    #[inline]
+    pub fn from_number(number: BoundNumber) -> Bound
+        ensures { result.0 ≡ number }
+    {
+        Bound(number)
+    }
+
+    /// Its number.
+    #[inline]
+    pub fn number(self) -> BoundNumber
+        ensures { result ≡ self.0 }
+    {
+        self.0
+    }
+
+    /// Whether the key is below it.
+    #[inline]
+    pub fn is_above(self, key: Key) -> bool
+        ensures { IsTrue result ↔ (key.0 < self.0) }
+    {
+        (key.0 as BoundNumber) < self.0
+    }
+
+    /// The least key that isn't below it, if there is one.
+    #[inline]
+    pub fn least_key(self) -> Option<Key>
+        ensures { MatchOption result (GREATEST_KEY < self.0) (λ key. key.0 ≡ self.0) }
+    {
+        if self.0 > GREATEST_KEY as BoundNumber {
+            return None;
+        }
+        Some(Key(self.0 as KeyNumber))
+    }
+
+    /// The bound, if it stands between two keys.
+    #[inline]
+    pub fn inner(self) -> Option<InnerBound>
+        ensures value { IfSome result (λ inner. inner.0 ≡ self.0) }
+        ensures between { IsSome result ↔ ((0 < self.0) × (self.0 ≤ GREATEST_KEY)) }
+    {
+        if self.0 == 0 || self.0 > GREATEST_KEY as BoundNumber {
+            return None;
+        }
+        Some(InnerBound(self.0 as KeyNumber))
+    }
+}
+
+impl InnerBound {
+    /// The least bound that stands between two keys.
+    pub fn least() -> InnerBound
+        ensures { result.0 ≡ 1 }
+    {
+        InnerBound(1)
+    }
+
+    /// Its number.
+    #[inline]
+    pub fn number(self) -> KeyNumber
+        ensures { result ≡ self.0 }
+    {
+        self.0
+    }
+
+    /// The same bound, as the end of a range.
+    #[inline]
+    pub fn bound(self) -> Bound
+        ensures { result.0 ≡ self.0 }
+    {
+        Bound(self.0 as BoundNumber)
+    }
+
+    /// The least key that isn't below it.
+    #[inline]
+    pub fn key(self) -> Key
+        ensures { result.0 ≡ self.0 }
+    {
+        Key(self.0)
+    }
+
+    /// Whether the key is below it.
+    #[inline]
+    pub fn is_above(self, key: Key) -> bool
+        ensures { IsTrue result ↔ (key.0 < self.0) }
+    {
+        key.0 < self.0
+    }
+}
