@@ -37,7 +37,7 @@ const FIRST_ENTRIES: usize = 2048;
 /// For how many entries a history that was folded keeps its room.
 const KEPT_ENTRIES: usize = 4096;
 
-/// What commands that are kept no more left: the rows, in rising serial (16 bytes each), how many commands these were, and how many
+/// What commands that are kept no more left: the rows, in rising serial (24 bytes each), how many commands these were, and how many
 /// rows they placed and took out.
 #[derive(Drop)]
 struct Base {

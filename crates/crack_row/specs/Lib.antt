@@ -1,5 +1,6 @@
 pub mod Commands
 pub mod Devices
+pub mod Ends
 pub mod Layouts
 pub mod Limits
 pub mod Ranges

@@ -1,16 +1,18 @@
 //! Ranges of keys.
-ghost use Rattle.std.specs.Prelude.{◌≡◌, ◌+◌, MatchOption, IfSome, ℕ, ◌<◌, ◌≤◌, ◌↔◌, IsTrue, IfOk, IfErr};
+ghost use Rattle.std.specs.Prelude.{◌≡◌, ◌+◌, MatchOption, IfSome, ℕ, nat_eq, ◌<◌, ◌≤◌, ◌↔◌, IsTrue, IfOk, IfErr};
+ghost use Rattle.std.specs.Cmp.Rules.{comparing};
+ghost use Rattle.std.proofs.Common.{rules};
 ghost use Rattle.crack_row.specs.Ranges.{IsIn, clipped};
 
-use crate::{Bound, BoundNumber, GREATEST_BOUND, Key, KeyNumber, Refusal};
+use crate::{Bound, BoundNumber, GREATEST_BOUND, GREATEST_KEY, Key, KeyNumber, Refusal};
 use std::marker::Model;
 
 /// A half open range of keys: from its low end on, up to and without its high end.
 /// Its ends are in order and at most `GREATEST_BOUND`.
 #[derive(Clone, Copy, PartialEq, Eq, Debug)]
 pub struct KeyRange {
-    low: Bound,
-    high: Bound,
+    low: End,
+    high: End,
 }
 
 impl Model for KeyRange {
@@ -20,11 +22,11 @@ impl Model for KeyRange {
 
     ghost Value = { Range };
 
-    ghost view = { λ r. record { low = r.low.0; high = r.high.0 } };
+    ghost view = { λ r. record { low = r.low; high = r.high } };
 
-    ghost invariant = { λ r. (r.low.0 ≤ r.high.0) × (r.high.0 ≤ GREATEST_BOUND) };
+    ghost invariant = { λ r. (r.low ≤ r.high) × (r.high ≤ GREATEST_BOUND) };
 
-    ghost inverse = { λ v. record { low = record { 0 = v.low }; high = record { 0 = v.high } } };
+    ghost inverse = { λ v. record { low = v.low; high = v.high } };
 }
 
 impl Default for KeyRange {
@@ -34,7 +36,7 @@ impl Default for KeyRange {
 
     /// The empty range at 0.
     fn default() -> KeyRange {
-        let least = Bound(0);
+        let least = End::of(Bound(0));
         KeyRange {
             low: least,
             high: least,
@@ -49,10 +51,7 @@ impl KeyRange {
         ensures err { IfErr result (λ e. (e ≡ Refusal.BadRange) × ((low ≤ high) × (high ≤ GREATEST_BOUND) → ⊥)) }
     {
         if low <= high && high <= GREATEST_BOUND {
-            Ok(KeyRange {
-                low: Bound(low),
-                high: Bound(high),
-            })
+            Ok(KeyRange::of(Bound(low), Bound(high)))
         } else {
             Err(Refusal::BadRange)
         }
@@ -71,10 +70,7 @@ impl KeyRange {
         ensures low { result.low ≡ 0 }
         ensures high { result.high ≡ GREATEST_BOUND }
     {
-        KeyRange {
-            low: Bound(0),
-            high: Bound(GREATEST_BOUND),
-        }
+        KeyRange::of(Bound(0), Bound(GREATEST_BOUND))
     }
 
     /// The low end.
@@ -82,7 +78,7 @@ impl KeyRange {
         ensures value { result.0 ≡ self.now.low }
         ensures ordered { self.now.low ≤ self.now.high }
     {
-        self.low
+        self.low.bound()
     }
 
     /// The high end.
@@ -90,14 +86,14 @@ impl KeyRange {
         ensures value { result.0 ≡ self.now.high }
         ensures bounded { self.now.high ≤ GREATEST_BOUND }
     {
-        self.high
+        self.high.bound()
     }
 
     /// Whether no key is in the range.
     pub fn is_empty(&self) -> bool
         ensures { IsTrue result ↔ (self.now.high ≤ self.now.low) }
     {
-        self.high <= self.low
+        self.high() <= self.low()
     }
 
     /// The least key in the range and the greatest; none where it has no key.
@@ -109,16 +105,14 @@ impl KeyRange {
         if self.is_empty() {
             return None;
         }
-        let first = Key(self.low.0 as KeyNumber);
-        let last = Key((self.high.0 - 1) as KeyNumber);
-        Some((first, last))
+        Some((Key(self.low.number), Key(self.high.number_below())))
     }
 
     /// Whether the key is in the range.
     pub fn contains(&self, key: Key) -> bool
         ensures { IsTrue result ↔ IsIn self.now key.0 }
     {
-        !self.low.is_above(key) && self.high.is_above(key)
+        !self.low().is_above(key) && self.high().is_above(key)
     }
 
     /// The common part of two ranges; where there is none, the empty range at the low end of `other`.
@@ -127,18 +121,108 @@ impl KeyRange {
         ensures keys { (k : ℕ) → IsIn result k ↔ (IsIn self.now k × IsIn other k) }
         ensures none { result.high ≤ result.low → (result.low ≡ other.low) × (result.high ≡ other.low) }
     {
-        let low = self.low.0.max(other.low.0);
-        let high = self.high.0.min(other.high.0);
+        let low = self.low().max(other.low());
+        let high = self.high().min(other.high());
         if low < high {
-            KeyRange {
-                low: Bound(low),
-                high: Bound(high),
-            }
+            KeyRange::of(low, high)
         } else {
-            KeyRange {
-                low: other.low,
-                high: other.low,
-            }
+            KeyRange::of(other.low(), other.low())
+        }
+    }
+
+    /// The range between two ends.
+    fn of(low: Bound, high: Bound) -> KeyRange
+        requires ordered { low.0 ≤ high.0 }
+        requires bounded { high.0 ≤ GREATEST_BOUND }
+        ensures { result ≡ record { low = low.0; high = high.0 } }
+    {
+        KeyRange {
+            low: End::of(low),
+            high: End::of(high),
+        }
+    }
+}
+
+/// An end of a range: its number, or 0 where it is the one past all keys, and whether it is. Unlike a number of 128 bits it may stand where one of
+/// 64 may, so that what holds ranges is smaller.
+#[derive(Clone, Copy, Debug)]
+struct End {
+    number: KeyNumber,
+    is_past: bool,
+}
+
+impl Model for End {
+    ghost use Rattle.std.specs.Prelude.{ℕ, ◌≡◌, ◌<◌, cond};
+    ghost use Rattle.crack_row.specs.Ends.{end_number, number_back, past_all, past_back};
+    ghost use Rattle.crack_row.specs.declared.TheConstants.{GREATEST_BOUND};
+
+    ghost Value = { ℕ };
+
+    ghost view = { λ e. cond e.is_past GREATEST_BOUND e.number };
+
+    ghost invariant = { λ e. cond e.is_past (e.number ≡ 0) (e.number < GREATEST_BOUND) };
+
+    ghost inverse = { λ end. record { number = end_number end; is_past = past_all end } };
+
+    ghost inverse_ok = { λ e is i. record { number = number_back e.is_past e.number is i; is_past = past_back e.is_past e.number is i } };
+}
+
+impl PartialEq for End {
+    ghost eq = { nat_eq };
+
+    ghost laws = { Prim.search (comparing, rules) };
+
+    fn eq(&self, other: &End) -> bool {
+        self.bound() == other.bound()
+    }
+}
+
+impl Eq for End {
+    ghost laws = { Prim.search (comparing, rules) };
+}
+
+impl End {
+    /// The end at this bound.
+    #[inline]
+    fn of(bound: Bound) -> End
+        requires { bound.0 ≤ GREATEST_BOUND }
+        ensures { result ≡ bound.0 }
+    {
+        match bound.least_key() {
+            Some(key) => End {
+                number: key.number(),
+                is_past: false,
+            },
+            None => End {
+                number: 0,
+                is_past: true,
+            },
+        }
+    }
+
+    /// Where it is.
+    #[inline]
+    fn bound(self) -> Bound
+        ensures value { result.0 ≡ self }
+        ensures bounded { self ≤ GREATEST_BOUND }
+    {
+        if self.is_past {
+            Bound(GREATEST_BOUND)
+        } else {
+            Bound(self.number as BoundNumber)
+        }
+    }
+
+    /// The number of the greatest key below it.
+    #[inline]
+    fn number_below(self) -> KeyNumber
+        requires { 0 < self }
+        ensures { result + 1 ≡ self }
+    {
+        if self.is_past {
+            GREATEST_KEY
+        } else {
+            self.number - 1
         }
     }
 }

@@ -1,0 +1,22 @@
+-- What private clauses alone cite.
+use Rattle.std.specs.Prelude.{◌≡◌, ℕ, ◌<◌, Bool, true, false, cond, nat_le}
+use Rattle.std.proofs.Common.{refl, ap, sym}
+use Rattle.std.proofs.lemmas.Bool.{lt-leb}
+use Rattle.crack_row.specs.declared.TheConstants.{GREATEST_BOUND}
+
+-- whether an end of a range is the one past all keys
+abbrev pub past_all : ℕ → Bool
+past_all end = nat_le GREATEST_BOUND end
+
+-- the number that is kept of an end
+abbrev pub end_number : ℕ → ℕ
+end_number end = cond (past_all end) 0 end
+
+-- both are read off an end that is kept so
+pub past_back : (past : Bool) (number : ℕ) → cond past (number ≡ 0) (number < GREATEST_BOUND) → past_all (cond past GREATEST_BOUND number) ≡ past
+past_back true number is = refl
+past_back false number is = lt-leb GREATEST_BOUND number is
+
+pub number_back : (past : Bool) (number : ℕ) → cond past (number ≡ 0) (number < GREATEST_BOUND) → end_number (cond past GREATEST_BOUND number) ≡ number
+number_back true number is = sym is
+number_back false number is = ap (λ past. cond past 0 number) (past_back false number is)
