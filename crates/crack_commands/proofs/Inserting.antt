@@ -45,7 +45,7 @@ two_parts rest m n within space =
     ap (λ k. take k rest) same ∙ take-add m (suc n) rest ∙ ap (λ r. take m rest ++ take (suc n) r) behind
 
 pub begins_with : (bytes rest : List ℕ) (m n v : ℕ) (z : ℤ) (key : Key) (payload : Payload) → bytes ≡ codes "insert " ++ rest
-    → (0 < m) × (m ≤ 19) × (m < length rest) → get_or rest m 0 ≡ 32 → list_all is_digit (take m rest) ≡ true → v ≡ value_on 0 (take m rest)
+    → (0 < m) × (m ≤ 20) × (m < length rest) → get_or rest m 0 ≡ 32 → list_all is_digit (take m rest) ≡ true → v ≡ value_on 0 (take m rest)
     → BeginsWithWhole (drop (m + 1) rest) 10 z n
     → option_zip (key_from v) (payload_from z) ≡ Some (key, payload)
     → BeginsWithInsert bytes (7 + m + 1 + n) key payload

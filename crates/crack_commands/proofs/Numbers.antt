@@ -1,7 +1,7 @@
 -- Numbers among the words.
 use Rattle.std.proofs.Common.{◌≡◌, ℕ, zero, suc, ◌+◌, ◌-◌, ◌*◌, ◌^◌, ◌%◌, ◌<◌, ◌≤◌, Bool, true, false, cond, eqb, ltb, leb, Some, List, [], ◌∷◌, ◌++◌, length, take, drop, get_or, refl, sym, ap, ◌∙◌, arith, ⊎_elim, length-take, length-drop, add-one}
 use Rattle.std.proofs.lemmas.Bool.{and_parts, cases_Bool, le-leb, leb-true, lt-ltb, ltb-true, eqb-true}
-use Rattle.std.proofs.lemmas.List.{take_more, take-take, take_all}
+use Rattle.std.proofs.lemmas.List.{take_more, take_all}
 use Rattle.std.proofs.Math.Nat.{pow-suc, pow-le-pow_right}
 use Rattle.std.specs.List.{list_all}
 use Rattle.crack_commands.specs.Grammar.{words, is_word, is_digit, number_of, whole_number_of, has_sign, unsigned, signed}
@@ -69,23 +69,21 @@ first_number bytes xs n same front some within short digits space =
     (take n xs, first_word bytes xs n same front within (digits_no_space (take n xs) digits) space, rw (word, fits, digits) refl)
 
 -- digits, few of them, are a number
-pub number_of_digits : (xs : List ℕ) → 0 < length xs → length xs ≤ 19 → list_all is_digit xs ≡ true → number_of xs ≡ Some (value_on 0 xs)
+pub number_of_digits : (xs : List ℕ) → 0 < length xs → length xs ≤ 20 → list_all is_digit xs ≡ true → number_of xs ≡ Some (value_on 0 xs)
 number_of_digits xs some few digits =
     let word : is_word xs ≡ true = is_word_some xs some in
     let fits : leb (length xs) 20 ≡ true = le-leb _ _ (omega (arith, few)) in
     rw (word, fits, digits) refl
 
--- digits among the first m bytes
-pub begins_with_digits : (xs : List ℕ) (m n value : ℕ) → m ≤ 19 → 0 < n → n ≤ length (take m xs) → list_all is_digit (take n (take m xs)) ≡ true → value ≡ value_on 0 (take n (take m xs)) → (n < length xs → get_or xs n 0 ≡ 32) → BeginsWithDigits xs value (take (length xs - n) (drop n xs))
-begins_with_digits xs m n value few some within digits is space =
-    let long = length-take m xs in
+-- digits up to a space or the end
+pub begins_with_digits : (xs : List ℕ) (n value : ℕ) → 0 < n → (n ≤ length xs) × (n ≤ 20) → list_all is_digit (take n xs) ≡ true → value ≡ value_on 0 (take n xs) → (n < length xs → get_or xs n 0 ≡ 32) → BeginsWithDigits xs value (take (length xs - n) (drop n xs))
+begins_with_digits xs n value some within digits is space =
     let rest = length-drop n xs in
-    let cut : take n (take m xs) ≡ take n xs = take-take n m xs (omega (arith, long, within)) in
     record {
       count = n;
-      few = (some, omega (arith, long, within, few), omega (arith, long, within));
-      digits = ap (list_all is_digit) (sym cut) ∙ digits;
-      value = is ∙ ap (value_on 0) cut;
+      few = (some, within.1, within.0);
+      digits = digits;
+      value = is;
       ends = space;
       behind = take_all (length xs - n) (drop n xs) (omega (arith, rest));
     }
@@ -149,7 +147,7 @@ sign_printed b xs sign digits =
     rw (is, digits_printed xs digits) refl
 
 whole_before_by : (b : ℕ) (bs : List ℕ) (stop value n : ℕ) (is_negative : Bool) → eqb b 45 ≡ is_negative → (let digits = cond is_negative bs (b ∷ bs) in
-    (0 < n) × (n ≤ 19) × (n < length digits) → get_or digits n 0 ≡ stop → list_all is_digit (take n digits) ≡ true → value ≡ value_on 0 (take n digits)
+    (0 < n) × (n ≤ 20) × (n < length digits) → get_or digits n 0 ≡ stop → list_all is_digit (take n digits) ≡ true → value ≡ value_on 0 (take n digits)
     → BeginsWithWhole (b ∷ bs) stop (signed is_negative value) (length (b ∷ bs) - length digits + n))
 whole_before_by b bs stop value n true sign few stops digits is =
     let long = length-take n bs in
@@ -174,7 +172,7 @@ whole_before_by b bs stop value n false sign few stops digits is =
     }
 
 -- digits up to a byte, behind a minus sign or none, are a whole number
-pub whole_before : (xs : List ℕ) (stop value n : ℕ) → (0 < n) × (n ≤ 19) × (n < length (unsigned xs)) → get_or (unsigned xs) n 0 ≡ stop → list_all is_digit (take n (unsigned xs)) ≡ true → value ≡ value_on 0 (take n (unsigned xs))
+pub whole_before : (xs : List ℕ) (stop value n : ℕ) → (0 < n) × (n ≤ 20) × (n < length (unsigned xs)) → get_or (unsigned xs) n 0 ≡ stop → list_all is_digit (take n (unsigned xs)) ≡ true → value ≡ value_on 0 (take n (unsigned xs))
     → BeginsWithWhole xs stop (signed (has_sign xs) value) (length xs - length (unsigned xs) + n)
 whole_before [] stop value n few stops digits is = absurd (omega (arith, few))
 whole_before (b ∷ bs) stop value n few stops digits is = whole_before_by b bs stop value n (eqb b 45) refl few stops digits is

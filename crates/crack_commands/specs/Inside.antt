@@ -43,7 +43,7 @@ value_on n word = fold (λ n b. n * 10 + (b - 48)) n word
 -- Bytes begin with digits, few of them, which end at a space or with the bytes: the number that they spell, and what stands behind them.
 pub record BeginsWithDigits (bytes : List ℕ) (number : ℕ) (rest : List ℕ) : Type 0 where
   pub count : ℕ
-  pub few : (0 < count) × (count ≤ 19) × (count ≤ length bytes)
+  pub few : (0 < count) × (count ≤ 20) × (count ≤ length bytes)
   pub digits : list_all is_digit (take count bytes) ≡ true
   pub value : number ≡ value_on 0 (take count bytes)
   pub ends : count < length bytes → slice_index bytes count ≡ 32
@@ -51,7 +51,7 @@ pub record BeginsWithDigits (bytes : List ℕ) (number : ℕ) (rest : List ℕ) 
 
 -- Bytes begin with a whole number of so many bytes, few of them, behind which this byte stands.
 pub record BeginsWithWhole (bytes : List ℕ) (stop : ℕ) (number : ℤ) (count : ℕ) : Type 0 where
-  pub few : (0 < count) × (count ≤ 20) × (count < length bytes)
+  pub few : (0 < count) × (count ≤ 21) × (count < length bytes)
   pub stops : slice_index bytes count ≡ stop
   pub printed : list_all (nat_lt 32) (take count bytes) ≡ true
   pub says : whole_number_of (take count bytes) ≡ Some number

@@ -13,5 +13,5 @@ pub record BeginsWithInsert (bytes : List ℕ) (len : ℕ) (key : Key) (payload 
   pub feed : slice_index bytes len ≡ 10
   pub printed : list_all (nat_le 32) (take len bytes) ≡ true
   pub some : list_all (λ b. b == 32) (take len bytes) ≡ false
-  pub short : len ≤ 47
+  pub short : len ≤ 49
   pub says : statement_of (take len bytes) ≡ Ok (Insert key payload)

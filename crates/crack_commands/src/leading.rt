@@ -5,7 +5,7 @@ ghost use Rattle.crack_commands.specs.Grammar.{is_digit};
 ghost use Rattle.crack_commands.specs.Inside.{BeginsWithWhole, value_on};
 ghost use Rattle.crack_commands.specs.LeadingInsert.{BeginsWithInsert};
 
-use crate::words::{SHORT_DIGITS, has_sign, leading_digits, row_from, signed, unsigned};
+use crate::words::{MOST_DIGITS, has_sign, leading_number, row_from, signed, unsigned};
 use crack_row::{Key, Payload};
 
 /// The name of the statement with the space behind it.
@@ -51,12 +51,12 @@ fn whole_number_before(bytes: &[u8], stop: u8) -> Option<(i128, usize)>
 /// The number that bytes begin with, and how many digits it has, where this byte stands behind them.
 #[inline(always)]
 fn number_before(bytes: &[u8], stop: u8) -> Option<(u64, usize)>
-    ensures within { IfSome result (λ n. (0 < n.1) × (n.1 ≤ SHORT_DIGITS) × (n.1 < length bytes.now)) }
+    ensures within { IfSome result (λ n. (0 < n.1) × (n.1 ≤ MOST_DIGITS) × (n.1 < length bytes.now)) }
     ensures stop { IfSome result (λ n. slice_index bytes.now n.1 ≡ stop) }
     ensures digits { IfSome result (λ n. list_all is_digit (take n.1 bytes.now) ≡ true) }
     ensures value { IfSome result (λ n. n.0 ≡ value_on 0 (take n.1 bytes.now)) }
 {
-    let (value, end) = leading_digits(&bytes[..bytes.len().min(SHORT_DIGITS)]);
+    let (value, end) = leading_number(bytes);
     if end > 0 && end < bytes.len() && bytes[end] == stop {
         Some((value, end))
     } else {

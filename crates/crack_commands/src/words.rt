@@ -1,5 +1,5 @@
 //! Words and numbers among bytes.
-ghost use Rattle.std.specs.Prelude.{int_le, ◌&&◌, ◌≡◌, ◌+◌, ◌^◌, ◌<◌, ◌≤◌, ◌≢◌, ◌↔◌, true, false, length, IsTrue, Some, take, ◌==◌, IfSome, slice_index};
+ghost use Rattle.std.specs.Prelude.{int_le, ◌&&◌, ◌≡◌, ◌+◌, ◌-◌, ◌*◌, ◌^◌, ◌<◌, ◌≤◌, ◌≢◌, ◌↔◌, true, false, length, IsTrue, Some, take, ◌==◌, IfSome, slice_index};
 ghost use Rattle.std.specs.List.{list_all, position_or_len};
 ghost use Rattle.std.specs.Option.{option_zip};
 ghost use Rattle.crack_commands.specs.Grammar.{words, number_of, whole_number_of, has_sign, unsigned, signed, number_up_to, two_numbers, key_from, payload_from, key_of, payload_of, key_and_payload, only_word, row_number_of, is_digit};
@@ -38,7 +38,7 @@ pub fn key_and_payload(bytes: &[u8]) -> Option<(Key, Payload)>
     any_key_and_payload(bytes)
 }
 
-/// A number and a whole number, where there are just two words, these, each has at most `SHORT_DIGITS` digits, and no space stands behind them.
+/// A number and a whole number, where there are just two words, these, 64 bits are enough for each, and no space stands behind them.
 #[inline(always)]
 fn two_short_words(bytes: &[u8]) -> Option<(u64, i128)>
     ensures { IfSome result (λ pair. key_and_payload (words bytes.now) ≡ option_zip (key_from pair.0) (payload_from pair.1)) }
@@ -52,7 +52,7 @@ fn two_short_words(bytes: &[u8]) -> Option<(u64, i128)>
     }
 }
 
-/// The same for numbers of any length, with any spaces.
+/// The same for all numbers, with any spaces.
 #[cold]
 #[inline(never)]
 fn any_key_and_payload(bytes: &[u8]) -> Option<(Key, Payload)>
@@ -128,7 +128,7 @@ pub fn two_numbers(bytes: &[u8]) -> Option<(u128, u128)>
     }
 }
 
-/// The two numbers, where there are just two words, both are numbers of at most `SHORT_DIGITS` digits, and no space stands behind them.
+/// The two numbers, where there are just two words, both are numbers of 64 bits, and no space stands behind them.
 #[inline(always)]
 fn two_short_numbers(bytes: &[u8]) -> Option<(u64, u64)>
     ensures { IfSome result (λ pair. two_numbers (words bytes.now) ≡ Some (pair.0, pair.1)) }
@@ -142,7 +142,7 @@ fn two_short_numbers(bytes: &[u8]) -> Option<(u64, u64)>
     }
 }
 
-/// The same for numbers of any length, with any spaces.
+/// The same for all numbers, with any spaces.
 #[cold]
 #[inline(never)]
 fn any_two_numbers(bytes: &[u8]) -> Option<(u128, u128)>
@@ -224,8 +224,7 @@ fn stop_at(word: &[u8]) -> usize
     word.len()
 }
 
-/// The number that the first word is, if it is one of at most `SHORT_DIGITS` digits,
-/// and what stands behind the word.
+/// The number that the first word is, if it is one of 64 bits, and what stands behind the word.
 #[inline(always)]
 fn short_number(bytes: &[u8]) -> Option<(u64, &[u8])>
     ensures { IfSome result (λ pair. IsFirstNumber bytes.now (Some pair.0) pair.1.now) }
@@ -233,8 +232,7 @@ fn short_number(bytes: &[u8]) -> Option<(u64, &[u8])>
     short_digits(without_spaces(bytes))
 }
 
-/// The whole number that the first word is, if it is one of at most `SHORT_DIGITS` digits,
-/// and what stands behind the word.
+/// The whole number that the first word is, if 64 bits are enough for its digits, and what stands behind the word.
 #[inline(always)]
 fn short_whole_number(bytes: &[u8]) -> Option<(i128, &[u8])>
     ensures { IfSome result (λ pair. IsFirstWholeNumber bytes.now (Some pair.0) pair.1.now) }
@@ -244,13 +242,12 @@ fn short_whole_number(bytes: &[u8]) -> Option<(i128, &[u8])>
     Some((signed(has_sign(word), value as u128), rest))
 }
 
-/// The number of at most `SHORT_DIGITS` digits that bytes begin with, where a space stands behind it or nothing,
-/// and what stands behind it.
+/// The number of 64 bits that bytes begin with, where a space stands behind it or nothing, and what stands behind it.
 #[inline(always)]
 fn short_digits(bytes: &[u8]) -> Option<(u64, &[u8])>
     ensures { IfSome result (λ pair. BeginsWithDigits bytes.now pair.0 pair.1.now) }
 {
-    let (value, end) = leading_digits(&bytes[..bytes.len().min(SHORT_DIGITS)]);
+    let (value, end) = leading_number(bytes);
     if end > 0 && ends_at(bytes, end) {
         Some((value, &bytes[end..]))
     } else {
@@ -293,6 +290,33 @@ fn ends_at(bytes: &[u8], end: usize) -> bool
     ensures { IsTrue result ↔ (end < length bytes.now → slice_index bytes.now end ≡ 32) }
 {
     end == bytes.len() || bytes[end] == b' '
+}
+
+/// The digits at the front, `MOST_DIGITS` at the most, and no more than fit 64 bits: their value, and how many they are.
+#[inline(always)]
+pub(crate) fn leading_number(bytes: &[u8]) -> (u64, usize)
+    ensures within { (result.1 ≤ length bytes.now) × (result.1 ≤ MOST_DIGITS) }
+    ensures digits { list_all is_digit (take result.1 bytes.now) ≡ true }
+    ensures value { result.0 ≡ value_on 0 (take result.1 bytes.now) }
+{
+    let (value, end) = leading_digits(&bytes[..bytes.len().min(SHORT_DIGITS)]);
+    if end < SHORT_DIGITS || end == bytes.len() {
+        return (value, end);
+    }
+    match with_digit(value, bytes[SHORT_DIGITS]) {
+        Some(value) => (value, MOST_DIGITS),
+        None => (value, end),
+    }
+}
+
+/// The number with a digit more behind it, if the byte is one, and the number fits.
+fn with_digit(value: u64, byte: u8) -> Option<u64>
+    ensures { IfSome result (λ n. (is_digit byte ≡ true) × (n ≡ value * 10 + (byte - 48))) }
+{
+    if !is_digit(byte) {
+        return None;
+    }
+    value.checked_mul(10)?.checked_add((byte - b'0') as u64)
 }
 
 /// The digits at the front: their value, and how many there are.
