@@ -9,7 +9,7 @@ RIGHT = """\
 worker 0
 0 insert 5 50
 row 0.0
-1 insert 1500 -7
+1 insert 9223372036854776308 -7
 row 1.0
 0 count 0 10
 count 2
@@ -17,11 +17,11 @@ count 2
 gone 6 60
 1 select 0 18446744073709551616
 rows 1
-1.0 1500 -7
+1.0 9223372036854776308 -7
 receipts 0
 0 0 0 insert 5 50
 row 0.0
-1 0 0 insert 1500 -7
+1 0 0 insert 9223372036854776308 -7
 row 1.0
 0 3 0 count 0 10
 count 2
@@ -29,7 +29,7 @@ count 2
 gone 6 60
 1 1 0 select 0 18446744073709551616
 rows 1
-1.0 1500 -7
+1.0 9223372036854776308 -7
 worker 1
 0 insert 6 60
 row 0.1
@@ -37,7 +37,7 @@ row 0.1
 changed
 0 sum 0 10
 refused 6 5
-0 insert 1500 1
+0 insert 9223372036854776308 1
 refused 4
 3 delete 3.0
 refused 5
@@ -58,11 +58,11 @@ count 2
 0 delete 0.1
 gone 6 60
 partition 1
-0 insert 1500 -7
+0 insert 9223372036854776308 -7
 row 1.0
 0 select 0 18446744073709551616
 rows 1
-1.0 1500 -7
+1.0 9223372036854776308 -7
 partition 2
 accepted 7 inserted 3 deleted 1 held 2
 """
@@ -70,7 +70,7 @@ UPDATED = "0 2 1 update 0.0 8 -80\nchanged\n"
 # what is wrong, and each text with what stands in its place
 WRONG = {
     "a reply that no list gives": [("count 2\n", "count 3\n")],
-    "a row that isn't there": [("1.0 1500 -7\n", "1.0 1500 7\n")],
+    "a row that isn't there": [("1.0 9223372036854776308 -7\n", "1.0 9223372036854776308 7\n")],
     "an answer that is no receipt's": [("worker 0\n0 insert 5 50\nrow 0.0", "worker 0\n0 insert 5 50\nrow 0.1")],
     "a receipt that is lost": [(UPDATED, "")],
     "a receipt that comes twice": [(UPDATED, UPDATED * 2)],
@@ -81,7 +81,7 @@ WRONG = {
     "an entry of another worker": [("1 update 0.0 8 -80\nchanged\n0 count", "0 update 0.0 8 -80\nchanged\n0 count")],
     "an entry that no receipt has": [("partition 2\n", "partition 2\n0 count 0 1\ncount 0\n")],
     "a history that isn't full": [("refused 6 5", "refused 6 4")],
-    "a key that is the partition's": [("0 insert 1500 1\n", "0 insert 150 1\n")],
+    "a key that is the partition's": [("0 insert 9223372036854776308 1\n", "0 insert 150 1\n")],
     "a gate that gave up": [("refused 4\n", "refused 7\n")],
     "no memory": [("refused 5\n", "refused 8\n")],
     "another number of insertions": [("inserted 3", "inserted 4")],
@@ -93,20 +93,20 @@ NO_ORDER = """\
 worker 0
 0 insert 1 0
 row 0.1
-1 insert 1001 0
+1 insert 9223372036854775809 0
 row 1.0
 receipts 0
 0 1 0 insert 1 0
 row 0.1
-1 0 0 insert 1001 0
+1 0 0 insert 9223372036854775809 0
 row 1.0
 worker 1
-1 insert 1002 0
+1 insert 9223372036854775810 0
 row 1.1
 0 insert 2 0
 row 0.0
 receipts 1
-1 1 1 insert 1002 0
+1 1 1 insert 9223372036854775810 0
 row 1.1
 0 0 1 insert 2 0
 row 0.0
@@ -116,9 +116,9 @@ row 0.0
 0 insert 1 0
 row 0.1
 partition 1
-0 insert 1001 0
+0 insert 9223372036854775809 0
 row 1.0
-1 insert 1002 0
+1 insert 9223372036854775810 0
 row 1.1
 partition 2
 accepted 4 inserted 4 deleted 0 held 4
@@ -162,14 +162,14 @@ none
 folded 0
 0 sum 0 10
 refused 10
-1 insert 1500 -7
+1 insert 9223372036854776308 -7
 row 1.0
 receipts 1
 0 1 1 insert 6 60
 row 0.1
 0 3 1 delete 0.7
 none
-1 0 1 insert 1500 -7
+1 0 1 insert 9223372036854776308 -7
 row 1.0
 partition 0 folded 3 inserted 2 deleted 0 rows 2
 0.0 8 -80
@@ -179,7 +179,7 @@ none
 0 count 0 10
 count 2
 partition 1
-1 insert 1500 -7
+1 insert 9223372036854776308 -7
 row 1.0
 partition 2
 accepted 6 inserted 3 deleted 0 held 3

@@ -21,7 +21,7 @@ import sys
 import typing
 
 MOST = 2**64
-SPLITS = [1000, 2000]
+SPLITS = [2**63, 2**64 - 1000]
 ENDS = [0, *SPLITS, MOST]
 PARTS = range(len(ENDS) - 1)
 POLICIES = ["complete", "gradual", "ripple"]

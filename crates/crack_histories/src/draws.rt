@@ -1,20 +1,30 @@
 //! What a worker asks next, drawn from a seed.
 
 use crack_row::{
-    Bound, BoundNumber, Command, Key, KeyNumber, KeyRange, Payload, PayloadNumber, Refusal, Reply,
-    Serial,
+    Bound, BoundNumber, Command, GREATEST_BOUND, GREATEST_PAYLOAD, Key, KeyNumber, KeyRange,
+    LEAST_PAYLOAD, Payload, PayloadNumber, Refusal, Reply, Serial,
 };
-
-/// How many keys a partition has, but for the last one, which has all that are above.
-const PART_WIDTH: u32 = 1000;
-
-/// Where the three partitions meet.
-pub fn splits() -> [Bound; 2] {
-    [Bound::from_number(1000), Bound::from_number(2000)]
-}
 
 /// How many partitions there are.
 pub const PARTS: usize = 3;
+
+/// The least key of each partition. The last one has the greatest keys that there are.
+const FIRST_KEYS: [KeyNumber; PARTS] = [0, 9223372036854775808, 18446744073709550616];
+
+/// How many keys of a partition are drawn, from its least one on.
+const DRAWN_KEYS: u32 = 1000;
+
+/// Where the partitions meet.
+pub fn splits() -> [Bound; 2] {
+    let [_, second, third] = FIRST_KEYS;
+    [
+        Key::from_number(second).bound(),
+        Key::from_number(third).bound(),
+    ]
+}
+
+/// How far from the least or the greatest payload one is drawn that is next to it.
+const NEAR: u32 = 3;
 
 /// How wide the range of a query is, at most, where it isn't of all keys.
 const WIDEST: u32 = 64;
@@ -41,11 +51,6 @@ impl Numbers {
     fn below(&mut self, most: u32) -> u32 {
         ((self.next() >> 32) as u32) % most.max(1)
     }
-}
-
-/// The key of this number.
-fn key_at(number: u32) -> Key {
-    Key::from_number(KeyNumber::from(number))
 }
 
 /// What a partition is asked.
@@ -139,17 +144,29 @@ impl Draws {
     }
 
     fn key(&mut self, part: u32) -> Key {
-        match self.numbers.below(32) {
-            0 => key_at(self.numbers.below(PART_WIDTH * 3)),
-            _ => key_at(
-                part.wrapping_mul(PART_WIDTH)
-                    .wrapping_add(self.numbers.below(PART_WIDTH)),
-            ),
-        }
+        let part = match self.numbers.below(32) {
+            0 => self.numbers.below(PARTS as u32),
+            _ => part,
+        };
+        Key::from_number(self.key_of(part))
     }
 
+    /// The number of a key of a partition; of one that isn't there, of a key of the first.
+    fn key_of(&mut self, part: u32) -> KeyNumber {
+        let first = FIRST_KEYS.get(part as usize).copied().unwrap_or(0);
+        first.saturating_add(KeyNumber::from(self.numbers.below(DRAWN_KEYS)))
+    }
+
+    /// A payload: of four one next to the least or the greatest that there is, and of the others each second below 0.
     fn payload(&mut self) -> Payload {
-        Payload::from_number(PayloadNumber::from(self.numbers.below(u32::MAX)))
+        let near = PayloadNumber::from(self.numbers.below(NEAR));
+        let number = PayloadNumber::from(self.numbers.below(u32::MAX));
+        Payload::from_number(match self.numbers.below(8) {
+            0 => LEAST_PAYLOAD + near,
+            1 => GREATEST_PAYLOAD - near,
+            2..5 => -number,
+            _ => number,
+        })
     }
 
     /// The serial of a row that may be there: one of the last that were placed.
@@ -160,13 +177,11 @@ impl Draws {
 
     /// A narrow range that begins in the partition; one of 32 is that of all keys.
     fn range(&mut self, part: u32) -> KeyRange {
-        let low = part
-            .wrapping_mul(PART_WIDTH)
-            .wrapping_add(self.numbers.below(PART_WIDTH));
-        let (low, wide) = (BoundNumber::from(low), self.numbers.below(WIDEST));
+        let low = BoundNumber::from(self.key_of(part));
+        let wide = BoundNumber::from(self.numbers.below(WIDEST));
         let range = match self.numbers.below(32) {
             0 => Ok(KeyRange::all()),
-            _ => KeyRange::new(low, low + BoundNumber::from(wide)),
+            _ => KeyRange::new(low, (low + wide).min(GREATEST_BOUND)),
         };
         range.unwrap_or_default()
     }
