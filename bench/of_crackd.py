@@ -151,9 +151,9 @@ def measure_splits(table, _runs):
 
 # the lines behind the inserts, by where the rows then are, what of the memory is read, and how many bytes a row may take
 HELD = {
-    "pending": ([], "VmHWM", 170),
-    "in the column": ([f"count {sizes.EVERYTHING}"], "VmHWM", 200),
-    "pending, after a checkpoint": (["checkpoint 0"], "VmRSS", 130),
+    "pending": ([], "VmHWM", 210),
+    "in the column": ([f"count {sizes.EVERYTHING}"], "VmHWM", 240),
+    "pending, after a checkpoint": (["checkpoint 0"], "VmRSS", 140),
 }
 
 
