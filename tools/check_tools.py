@@ -97,6 +97,10 @@ impl Model for Shelf {
     ghost Value = { List ℕ };
 
     ghost view = { λ s. s.things.items };
+
+    ghost use Rattle.a.specs.Keeps.{AreLight};
+
+    ghost invariant = { λ s. AreLight s.things.items };
 }
 
 struct Thing(u64);
@@ -132,6 +136,12 @@ use Rattle.a.specs.Sizes.{count}
 
 abbrev pub size : List ℕ → ℕ
 size xs = count xs
+""",
+    "specs/Keeps.antt": """-- What private clauses alone cite.
+use Rattle.a.specs.Sizes.{count}
+
+abbrev pub AreLight : List ℕ → Type 0
+AreLight xs = count xs ≤ 8
 """,
 }
 
@@ -236,6 +246,15 @@ class Reading(unittest.TestCase):
         path = self.shelf.items["a.Other.size"].path
         path.write_text(path.read_text().replace(trust.PRIVATE, "-- Other sizes."))
         self.assertEqual([it.name for it in list(trust.misplaced(self.shelf).values())[1]], ["a.Other.size"])
+
+    def test_what_a_type_keeps_of_its_own_fields_is_private(self):
+        path = self.shelf.items["a.Keeps.AreLight"].path
+        path.write_text(path.read_text().replace(trust.PRIVATE, "-- Weights."))
+        self.assertEqual([it.name for it in list(trust.misplaced(self.shelf).values())[1]], ["a.Keeps.AreLight"])
+
+    def test_types_are_counted_beside(self):
+        items = self.shelf.read_for({"a::put": frozenset()})
+        self.assertEqual((trust.count(items), trust.count(items, trust.BESIDE)), (sum(len(it.lines) for it in items if it.kind not in trust.BESIDE), 6))
 
     def test_each_promise_names_its_calls(self):
         promises = reading.roots_in((crates.TOP / "docs" / "PROOFS.md").read_text())

@@ -12,8 +12,9 @@ import definitions
 import functions
 import sources
 
-# the members of a model that are read with its type: the others say that values can be told from one another, and which fields make a value
-READ = ("Value", "view", "invariant")
+# the members of a model that are read with its type: the others say that values can be told from one another, and which fields make a value. What a
+# type keeps of its own fields, its invariant, is a private clause: no value breaks it, and where a promise rests on it a call says so by a clause.
+READ = ("Value", "view")
 CLAUSE = re.compile(r"^\s*(requires|ensures)\s+(\w*)")
 VARIANT = re.compile(r"(?m)^    \w+")
 PARAMETER = re.compile(r"\b(\w+): ")
@@ -94,7 +95,11 @@ def ghost_items(source, block, names):
         found = [(source.named(block.title), *(sum(these, ()) for these in list(zip(*found))[1:]))]
     kind = "trait" if block.is_trait else "model" if is_model else "ghost"
     is_public = is_owner_public(source, block, names)
-    return [definitions.Item(it, kind, source.crate, source.path, lines, beside, frozenset(cites), is_public) for it, lines, beside, cites in found]
+    private = source.named(block.title) + "::invariant"
+    return [
+        definitions.Item(it, kind, source.crate, source.path, lines, beside, frozenset(cites), is_public and it != private)
+        for it, lines, beside, cites in found
+    ]
 
 
 def clause_at(source, at, scope, bound):

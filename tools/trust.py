@@ -2,13 +2,15 @@
 """Prints and counts what a reader has to read to know what is promised: trust.py [--count] [--each] [--all] [PROMISE ..]
 
 For the promises of docs/PROOFS.md and the sentence above them (PROMISE: their names, or `headline`; else all) it prints the clauses of their calls
-and the definitions, types and ghost members that these cite, in turn, each behind what it cites, with its file and line. The lines of all these are
-counted. Comments and the first lines of functions are printed and not counted; the names that a file brings from others, and what stands in a
-library, are neither. --count leaves the text out, --each adds the numbers of each crate, and --all those of all that stands in specs/, comments and
-`use` lines too, and in public clauses, with the ghost members of public types.
+and the definitions, types and ghost members that these cite, in turn, each behind what it cites, with its file and line. Counted are the lines of
+clauses, definitions and ghost members; those of types and constants, which are code, are counted apart, beside them. Comments and the first lines of
+functions are printed and not counted; the names that a file brings from others, and what stands in a library, are neither. --count leaves the text
+out, --each adds the numbers of each crate, and --all those of all that stands in specs/, comments and `use` lines too, and in public clauses, with the
+ghost members of public types.
 
 The status is 1 where a definition of specs/ is reached by no clause of any crate; where private clauses alone reach it, of functions that a crate
-keeps to itself or of tests, and its module doesn't say so in its first line; or where its module says so and public clauses reach it.
+keeps to itself, of tests, or what a type keeps of its own fields, and its module doesn't say so in its first line; or where its module says so and
+public clauses reach it.
 """
 
 import signal
@@ -19,12 +21,14 @@ import reading
 
 OPTIONS = ("--count", "--each", "--all")
 PRIVATE = "-- What private clauses alone cite."
-KINDS = {"definitions": ("definition",), "types": ("type", "constant"), "ghost members": ("model", "trait", "ghost"), "clauses": ("call",)}
+KINDS = {"definitions": ("definition",), "ghost members": ("model", "trait", "ghost"), "clauses": ("call",)}
+COUNTED = sum(KINDS.values(), ())
+BESIDE = ("type", "constant")
 
 
-def count(items, kinds=None):
-    """How many lines of items are counted, or of those of some kinds."""
-    return sum(len(it.lines) for it in items if kinds is None or it.kind in kinds)
+def count(items, kinds=COUNTED):
+    """How many lines items of these kinds have."""
+    return sum(len(it.lines) for it in items if it.kind in kinds)
 
 
 def text_of(items):
@@ -45,14 +49,14 @@ def place_of(item):
 
 
 def row(name, items):
-    """A line of a table: how many lines of items are counted, and of each kind."""
-    return "".join([f"{name:20}", f"{count(items):8}", *(f"{count(items, kinds):15}" for kinds in KINDS.values())])
+    """A line of a table: how many lines of items are counted, of each kind, and how many lines of types stand beside them."""
+    return "".join([f"{name:20}", f"{count(items):8}", *(f"{count(items, kinds):15}" for kinds in (*KINDS.values(), BESIDE))])
 
 
 def table(whole, promises, chosen, with_crates):
     """How many lines are to be read for each of these promises, for all of them, and of these in each crate."""
     items = whole.read_for(reading.joined([promises[name] for name in chosen]))
-    said = ["".join([f"{'to read for':20}", f"{'lines':>8}", *(f"{name:>15}" for name in KINDS)])]
+    said = ["".join([f"{'to read for':20}", f"{'lines':>8}", *(f"{name:>15}" for name in (*KINDS, "types beside"))])]
     said += [row(name, whole.read_for(promises[name])) for name in chosen]
     said += [row("all of these", items)] if len(chosen) > 1 else []
     for crate in dict.fromkeys(it.crate for it in items) if with_crates else ():
@@ -70,7 +74,7 @@ def all_lines(whole):
     files = sorted(crates.TOP.glob("crates/*/specs/**/*.antt"))
     lines = {path: sum(1 for line in path.read_text().splitlines() if line.strip()) for path in files}
     private = sum(number for path, number in lines.items() if is_for_private(path))
-    specs, clauses = sum(lines.values()), count(it for it in whole.items.values() if is_public(it) and it.kind not in ("type", "constant"))
+    specs, clauses = sum(lines.values()), count(it for it in whole.items.values() if is_public(it))
     return f"all there is: {specs + clauses} lines, {specs} of specs/ ({private} in modules for private clauses) and {clauses} of public clauses"
 
 

@@ -9,7 +9,8 @@ use Rattle.crack_arena.proofs.Times.{times-nil, times-cons, times_one, times_oth
 use Rattle.crack_arena.specs.declared.cells.Cell.{Cell as Stored}
 use Rattle.crack_arena.specs.declared.cells.Content.{Content}
 use Rattle.crack_arena.specs.declared.cells.Content.TheVariants.{Free, Full}
-use Rattle.crack_arena.specs.Links.{content_value, content_link, cell_of, cells_of, empty_stored, link_at, chain, IsChain, is_free, is_vacant, vacancy, vacant_at, IsLinked}
+use Rattle.crack_arena.specs.Links.{content_value, content_link, cell_of, cells_of, empty_stored, link_at, chain}
+use Rattle.crack_arena.specs.Keeps.{IsChain, is_free, is_vacant, vacancy, vacant_at, IsLinked}
 
 module _ {T : Type 0} where
   pub link_at-set_other : (stored : List (Stored T)) (k m : ℕ) (s : Stored T) → m ≢ k → link_at (set stored k s) m ≡ link_at stored m

@@ -4,7 +4,8 @@ use Rattle.std.specs.Prelude.{min, replicate, if◌then◌else◌, OnOk, OnErr}
 use Rattle.std.proofs.lemmas.List.{length-append, length-replicate, append_assoc, append-nil, get_or_append_left, get_or-append_right, set-append_left, set-append_right, nil_from_length, length_push, drop-append-le, take-append-le, replicate_more, same_from_push}
 use Rattle.std.proofs.Math.Seq.{take-append_seam, drop-append-add}
 use Rattle.std.proofs.lemmas.Bool.{cases_lt}
-use Rattle.crack_arena.specs.Pages.{joined, IsPaged}
+use Rattle.crack_arena.specs.Pages.{joined}
+use Rattle.crack_arena.specs.Keeps.{IsPaged}
 
 -- the page and the place of a number, a page further on
 record Further (n : ℕ) : Type 0 where

@@ -4,3 +4,4 @@ pub mod Links
 pub mod Listed
 pub mod Pages
 pub mod Rows
+pub mod Keeps

@@ -53,7 +53,7 @@ impl<T> Model for Arena<T> {
       room = a.free + a.cells.room;
     } };
 
-    ghost use Rattle.crack_arena.specs.Links.{IsLinked};
+    ghost use Rattle.crack_arena.specs.Keeps.{IsLinked};
 
     ghost invariant = { λ a. IsLinked a.cells.items a.head a.free a.freed };
 }

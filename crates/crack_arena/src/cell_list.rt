@@ -21,7 +21,8 @@ impl<C> Model for CellList<C> {
     ghost use Rattle.std.specs.Prelude.{◌-◌, ◌*◌, length};
     ghost use Rattle.crack_arena.specs.Listed.{Listed};
     ghost use Rattle.crack_arena.specs.Codes.{listed_code};
-    ghost use Rattle.crack_arena.specs.Pages.{joined, IsPaged};
+    ghost use Rattle.crack_arena.specs.Keeps.{IsPaged};
+    ghost use Rattle.crack_arena.specs.Pages.{joined};
 
     ghost Value = { Listed C };
 

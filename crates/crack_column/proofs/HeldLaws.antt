@@ -3,7 +3,8 @@ use Rattle.std.proofs.Common.{◌≡◌, ℕ, ◌<◌, List, length, get_or, set
 use Rattle.std.proofs.lemmas.List.{get_or-set_same, get_or-set_other, set-set, set_comm, take-set-le}
 use Rattle.crack_column.specs.declared.tag.Tag.{Tag}
 use Rattle.crack_column.specs.Inside.{no_tag}
-use Rattle.crack_column.specs.Held.{tags_with, IsHeld}
+use Rattle.crack_column.specs.Held.{tags_with}
+use Rattle.crack_column.specs.Keeps.{IsHeld}
 use Rattle.crack_column.proofs.TicketLaws.{AreDrawn-exchange, unread-exchange}
 
 module _ (ts : List Tag) (len place : ℕ) (hand there : Tag) (first : place < len) (some : len < length ts) (is : there ≡ get_or ts place no_tag) where

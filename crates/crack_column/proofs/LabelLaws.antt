@@ -13,7 +13,8 @@ use Rattle.crack_row.proofs.Totals.{total_by-map}
 use Rattle.crack_column.specs.declared.tag.Label.{Label}
 use Rattle.crack_column.specs.declared.tag.Tag.{Tag}
 use Rattle.crack_column.specs.Column.{IsDividedAt}
-use Rattle.crack_column.specs.Tickets.{remembered_key, tag_handle, unread_in}
+use Rattle.crack_column.specs.Tickets.{tag_handle}
+use Rattle.crack_column.specs.Keeps.{remembered_key, unread_in}
 use Rattle.crack_column.specs.Inside.{no_tag, label_of, label_handle, shifted, turned, forgotten, Read, Turns}
 use Rattle.crack_column.specs.Labels.{tag_of, tags_of}
 use Rattle.crack_column.proofs.Passes.{amount_borne}

@@ -8,7 +8,7 @@ use Rattle.std.proofs.lemmas.List.{set-set, set_comm, length-map, get_or-map, ge
 use Rattle.std.proofs.lemmas.Bool.{cases_eq, cases_lt, lt-ltb, le-ltb}
 use Rattle.crack_column.specs.declared.tag.Tag.{Tag}
 use Rattle.crack_column.specs.Column.{IsDividedAt}
-use Rattle.crack_column.specs.Tickets.{remembered_key}
+use Rattle.crack_column.specs.Keeps.{remembered_key}
 use Rattle.crack_column.specs.Inside.{no_tag, shifted, turned}
 use Rattle.crack_column.proofs.Passes.{shifted-permutes, IsSplit, IsSplit-start, IsPartway-start, Falls}
 

@@ -17,7 +17,8 @@ use Rattle.crack_column.specs.declared.tag.Tag.{Tag}
 use Rattle.crack_arena.specs.Rows.{key_at, unknown}
 use Rattle.crack_column.specs.Column.{Memory, Aside, no_aside, nothing, memory_at, Remembers, Cracks}
 use Rattle.crack_column.proofs.Cracking.{Replaced, replaced}
-use Rattle.crack_column.specs.Tickets.{ticket_of, remembered_key, memory_of, tag_handle, handles_in, remembered_in, aside_of, aside_in, unread_in, AreDrawn}
+use Rattle.crack_column.specs.Tickets.{memory_of, tag_handle, handles_in, remembered_in, aside_of, aside_in}
+use Rattle.crack_column.specs.Keeps.{ticket_of, remembered_key, unread_in, AreDrawn}
 use Rattle.crack_column.specs.Inside.{no_tag, tag_for, Knows, Kept, Turns, forgotten}
 
 -- two tags don't bear one ticket

@@ -8,7 +8,8 @@ use Rattle.crack_row.specs.declared.Row.{Row}
 use Rattle.crack_column.specs.declared.tag.Label.{Label}
 use Rattle.crack_column.specs.declared.tag.Tag.{Tag}
 use Rattle.crack_column.specs.Column.{Memory, memory_at, Agrees, IsDividedAt}
-use Rattle.crack_column.specs.Tickets.{remembered_key, memory_of, tag_handle, unread_in}
+use Rattle.crack_column.specs.Tickets.{memory_of, tag_handle}
+use Rattle.crack_column.specs.Keeps.{remembered_key, unread_in}
 
 -- what the tag remembers is right of its handle's row
 abbrev pub Knows : List (Cell Row) → List ℕ → Tag → Type 0

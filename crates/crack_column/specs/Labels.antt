@@ -10,9 +10,8 @@ tag_of l payload = record { key = l.key; ticket = l.ticket; payload = payload; s
 
 -- the tags of labels and payloads side by side
 abbrev pub tags_of : List Label → List Payload → List Tag
-tags_of [] payloads = []
-tags_of (l ∷ labels) [] = []
 tags_of (l ∷ labels) (payload ∷ payloads) = tag_of l payload ∷ tags_of labels payloads
+tags_of _ _ = []
 
 -- tags, and how many of them fit in without more memory
 pub record TagVector : Type 0 where

@@ -3,3 +3,4 @@ pub mod Held
 pub mod Inside
 pub mod Labels
 pub mod Tickets
+pub mod Keeps

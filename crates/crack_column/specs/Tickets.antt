@@ -1,16 +1,8 @@
 -- How a column keeps its handles: the slot of each in the tag at its place, its generation under the ticket that the tag bears.
-use Rattle.std.specs.Prelude.{◌≡◌, ℕ, ◌+◌, ◌-◌, ◌<◌, ◌≤◌, ◌^◌, List, length, map, take, drop, All, slice_index, min}
-use Rattle.crack_arena.specs.Arena.{Handle, times}
-use Rattle.crack_arena.specs.Rows.{unknown}
+use Rattle.std.specs.Prelude.{ℕ, ◌+◌, ◌-◌, ◌^◌, List, map, take, drop, slice_index, min}
+use Rattle.crack_arena.specs.Arena.{Handle}
 use Rattle.crack_column.specs.declared.tag.Tag.{Tag}
 use Rattle.crack_column.specs.Column.{Memory, Aside}
-
-abbrev pub ticket_of : Tag → ℕ
-ticket_of t = t.ticket
-
--- the key that a tag remembers
-abbrev pub remembered_key : Tag → ℕ
-remembered_key t = t.key
 
 -- what a tag remembers
 abbrev pub memory_of : Tag → Memory
@@ -36,23 +28,6 @@ aside_of generations t = record { handle = tag_handle generations t; memory = me
 abbrev pub aside_in : List ℕ → List Tag → ℕ → List Aside
 aside_in generations tags len = map (aside_of generations) (drop len tags)
 
--- how many of the tags don't know their rows
-abbrev pub unread_in : List Tag → ℕ
-unread_in tags = times unknown (map remembered_key tags)
-
 -- how many more handles fit in without memory, where as many tickets were drawn
 abbrev pub room_in : ℕ → ℕ → ℕ → ℕ → ℕ
 room_in tickets generation_capacity tag_capacity len = tickets - len + min (2 ^ 32 - tickets) (min (generation_capacity - tickets) (tag_capacity - tickets))
-
--- each ticket is drawn by one tag; those behind the column's end keep theirs for a later row
-pub record AreDrawn (generations : List ℕ) (tags : List Tag) (len : ℕ) : Type 0 where
-  pub beside : length tags ≡ length generations
-  pub within : len ≤ length tags
-  pub few : length tags ≤ 2 ^ 32
-  pub drawn : All (λ t. t.ticket < length generations) tags
-  pub once : (ticket : ℕ) → times ticket (map ticket_of tags) ≤ 1
-
--- and so many tags of the column don't know their rows
-pub record IsKept (generations : List ℕ) (tags : List Tag) (len unread : ℕ) : Type 0 where
-  pub are : AreDrawn generations tags len
-  pub counted : unread_in (take len tags) ≡ unread

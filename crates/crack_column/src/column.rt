@@ -5,7 +5,8 @@ ghost use Rattle.crack_arena.specs.Arena.{Cell, StandsAt, IsFirstAt, IsAbsent, n
 ghost use Rattle.crack_arena.specs.Rows.{amount_at, key_at};
 ghost use Rattle.crack_row.specs.Rows.{total_by, farthest_amount};
 ghost use Rattle.crack_column.specs.Column.{nothing, Remembers, StillRemembers, StillRemembersWith, Cracks, Agrees, first_aside, with_aside, exchanged_aside, appended_aside, popped_aside};
-ghost use Rattle.crack_column.specs.Tickets.{AreDrawn, handles_in, unread_in, room_in, aside_in};
+ghost use Rattle.crack_column.specs.Keeps.{AreDrawn, unread_in};
+ghost use Rattle.crack_column.specs.Tickets.{handles_in, room_in, aside_in};
 ghost use Rattle.crack_column.specs.Inside.{Knows, Turns, Kept, tag_for};
 
 use crate::remembered::Remembered;
@@ -36,7 +37,8 @@ pub struct CrackerColumn {
 impl Model for CrackerColumn {
     ghost use Rattle.std.specs.Prelude.{length, vec_capacity};
     ghost use Rattle.crack_column.specs.Column.{Column};
-    ghost use Rattle.crack_column.specs.Tickets.{IsKept, handles_in, remembered_in, room_in, aside_in};
+    ghost use Rattle.crack_column.specs.Keeps.{IsKept};
+    ghost use Rattle.crack_column.specs.Tickets.{handles_in, remembered_in, room_in, aside_in};
 
     ghost Value = { Column };
 

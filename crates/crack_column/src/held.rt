@@ -25,7 +25,8 @@ impl Model for HeldColumn {
     ghost use Rattle.std.specs.Prelude.{length, vec_capacity};
     ghost use Rattle.crack_column.specs.Column.{Column};
     ghost use Rattle.crack_column.specs.Tickets.{handles_in, remembered_in, room_in, aside_in};
-    ghost use Rattle.crack_column.specs.Held.{tags_with, IsHeld};
+    ghost use Rattle.crack_column.specs.Keeps.{IsHeld};
+    ghost use Rattle.crack_column.specs.Held.{tags_with};
 
     ghost Value = { Column };
 

@@ -7,7 +7,8 @@ ghost use Rattle.crack_arena.specs.Rows.{amount_at, key_at, unknown};
 ghost use Rattle.crack_row.specs.Rows.{amount, total_by, farthest_amount};
 ghost use Rattle.crack_column.specs.declared.TheConstants.{MOST_PLACES};
 ghost use Rattle.crack_column.specs.Column.{IsDividedAt};
-ghost use Rattle.crack_column.specs.Tickets.{remembered_key, memory_of, tag_handle, unread_in};
+ghost use Rattle.crack_column.specs.Keeps.{remembered_key, unread_in};
+ghost use Rattle.crack_column.specs.Tickets.{memory_of, tag_handle};
 ghost use Rattle.crack_column.specs.Labels.{tag_of, tags_of};
 ghost use Rattle.crack_column.specs.Inside.{tag_for, label_of, label_handle, forgotten, shifted, turned, Knows, Read};
 

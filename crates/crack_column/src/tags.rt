@@ -5,7 +5,8 @@ ghost use Rattle.crack_arena.specs.Arena.{IsAbsent, IsFirstAt};
 ghost use Rattle.crack_arena.specs.Rows.{amount_at};
 ghost use Rattle.crack_row.specs.Rows.{total_by, farthest_amount};
 ghost use Rattle.crack_column.specs.declared.TheConstants.{MOST_PLACES};
-ghost use Rattle.crack_column.specs.Tickets.{tag_handle, unread_in};
+ghost use Rattle.crack_column.specs.Keeps.{unread_in};
+ghost use Rattle.crack_column.specs.Tickets.{tag_handle};
 ghost use Rattle.crack_column.specs.Inside.{no_tag, label_of, Knows, Turns};
 
 use crate::tag::{self, Label, Tag};

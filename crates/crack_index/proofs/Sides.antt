@@ -13,7 +13,8 @@ use Rattle.crack_index.specs.Marks.{pieces_from, size_between, InOrder, Rising, 
 use Rattle.std.specs.declared.alloc.Global.{Global}
 use Rattle.std.proofs.Common.{Box}
 use Rattle.crack_index.specs.Heights.{least, most}
-use Rattle.crack_index.specs.Trees.{Grown, marks_of, height_of, IsTall, DifferByAtMost, IsBalanced, IsKept}
+use Rattle.crack_index.specs.Trees.{Grown, marks_of}
+use Rattle.crack_index.specs.Keeps.{height_of, IsTall, DifferByAtMost, IsBalanced, IsKept}
 use Rattle.crack_index.proofs.MarkLaws.{Rising-tail, Rising-cons, Rising-head}
 use Rattle.crack_index.proofs.MarkLemmas.{map_same, raised_below, raised_apart, lowered_above, lowered_apart, lowered_at_apart, lowered_at_same}
 

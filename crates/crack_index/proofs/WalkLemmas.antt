@@ -10,7 +10,8 @@ use Rattle.crack_index.specs.declared.mark.Mark.{Mark}
 use Rattle.crack_index.specs.declared.walk.Way.{Way}
 use Rattle.crack_index.specs.Marks.{InOrder, Rising}
 use Rattle.crack_index.specs.Steps.{StepsUp, StepsDown, Goes, one_up, one_down}
-use Rattle.crack_index.specs.Trees.{Grown, marks_of, height_of, IsBalanced}
+use Rattle.crack_index.specs.Trees.{Grown, marks_of}
+use Rattle.crack_index.specs.Keeps.{height_of, IsBalanced}
 use Rattle.crack_index.proofs.Sides.{Rising-before, Rising-behind}
 
 -- Steps over a list

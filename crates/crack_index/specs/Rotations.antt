@@ -1,7 +1,7 @@
 -- What private clauses alone cite.
 -- What becomes of the height where two sides are joined.
 use Rattle.std.specs.Prelude.{◌≡◌, ℕ, ◌+◌, ◌≤◌, max}
-use Rattle.crack_index.specs.Trees.{DifferByAtMost}
+use Rattle.crack_index.specs.Keeps.{DifferByAtMost}
 
 -- what sides of these heights grow to: at most one level above the higher, and exactly that where they differ by at most one
 pub record Settles (l r height : ℕ) : Type 0 where

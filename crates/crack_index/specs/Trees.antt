@@ -1,10 +1,8 @@
--- The tree of an index: what a subtree holds, and how it is balanced.
-use Rattle.std.specs.Prelude.{◌≡◌, ℕ, ◌+◌, ◌-◌, ◌^◌, ◌<◌, ◌≤◌, max, length, List, [], ◌∷◌, ◌++◌, Option, Some, None}
+-- What contracts see of a tree of marks.
+use Rattle.std.specs.Prelude.{ℕ, List, [], Option, Some, None}
 use Rattle.std.specs.declared.alloc.Global.{Global}
 use Rattle.std.proofs.Common.{Box}
 use Rattle.crack_index.specs.declared.mark.Mark.{Mark}
-use Rattle.crack_index.specs.Marks.{Rising}
-use Rattle.crack_index.specs.Heights.{least, most}
 
 -- what contracts see of a tree: its marks in order, and its height
 pub record Grown : Type 0 where
@@ -15,31 +13,3 @@ pub record Grown : Type 0 where
 abbrev pub marks_of : Option (Box Grown Global) → List Mark
 marks_of None = []
 marks_of (Some n) = n.value.marks
-
--- its height: 0 where it is empty
-abbrev pub height_of : Option (Box Grown Global) → ℕ
-height_of None = 0
-height_of (Some n) = n.value.height
-
--- so many marks fit the height
-pub record IsTall (marks height : ℕ) : Type 0 where
-  pub least : least height ≤ marks
-  pub most : marks < most height
-
--- neither height is more than so many above the other
-pub record DifferByAtMost (by l r : ℕ) : Type 0 where
-  pub left : l ≤ r + by
-  pub right : r ≤ l + by
-
--- the marks rise, the height that is kept is right, and the sides differ by at most one
-pub record IsBalanced (left : Option (Box Grown Global)) (mark : Mark) (right : Option (Box Grown Global)) (height : ℕ) : Type 0 where
-  pub rising : Rising (marks_of left ++ mark ∷ marks_of right)
-  pub high : height ≡ max (height_of left) (height_of right) + 1
-  pub even : DifferByAtMost 1 (height_of left) (height_of right)
-  pub tall : IsTall (length (marks_of left ++ mark ∷ marks_of right)) height
-
--- what an index keeps: its marks rise, so many are counted, and they and the spare nodes are fewer than the greatest number
-pub record IsKept (marks : List Mark) (spare len : ℕ) : Type 0 where
-  pub rising : Rising marks
-  pub counted : length marks ≡ len
-  pub few : len + spare < 2 ^ 64 - 1

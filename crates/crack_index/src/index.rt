@@ -37,7 +37,8 @@ pub struct CrackerIndex {
 impl Model for CrackerIndex {
     ghost use Rattle.std.specs.Prelude.{vec_len};
     ghost use Rattle.crack_index.specs.Marks.{Index};
-    ghost use Rattle.crack_index.specs.Trees.{marks_of, IsKept};
+    ghost use Rattle.crack_index.specs.Keeps.{IsKept};
+    ghost use Rattle.crack_index.specs.Trees.{marks_of};
 
     ghost Value = { Index };
 

@@ -2,7 +2,8 @@
 //! ("An algorithm for the organization of information", 1962).
 ghost use Rattle.std.specs.Prelude.{◌≡◌, ◌+◌, ◌-◌, ◌^◌, ◌<◌, ◌≤◌, max, length, [], ◌∷◌, ◌++◌, map, List, ℕ, vec_len, vec_capacity, OnOk, IfOk, IfErr};
 ghost use Rattle.crack_index.specs.Marks.{Rising, added, last_mark, next_mark, first_behind, last_before, raised, lowered, lowered_at, size_between, pieces_from};
-ghost use Rattle.crack_index.specs.Trees.{Grown, marks_of, height_of, IsBalanced, IsTall, DifferByAtMost};
+ghost use Rattle.crack_index.specs.Keeps.{height_of, IsBalanced, IsTall, DifferByAtMost};
+ghost use Rattle.crack_index.specs.Trees.{Grown, marks_of};
 ghost use Rattle.crack_index.specs.Rotations.{Settles};
 ghost use Rattle.crack_index.specs.declared.mark.Mark.{Mark};
 ghost use Rattle.crack_row.specs.declared.Bound.{Bound};
@@ -27,7 +28,8 @@ pub(crate) struct Node {
 
 impl Model for Node {
     ghost use Rattle.std.specs.Prelude.{◌∷◌, ◌++◌, length};
-    ghost use Rattle.crack_index.specs.Trees.{Grown, marks_of, IsBalanced};
+    ghost use Rattle.crack_index.specs.Keeps.{IsBalanced};
+    ghost use Rattle.crack_index.specs.Trees.{Grown, marks_of};
     ghost use Rattle.std.proofs.Common.{arith, length-append};
 
     ghost Value = { Grown };

@@ -18,8 +18,8 @@ use Rattle.crack_row.specs.declared.command.Policy.{Policy}
 use Rattle.crack_arena.specs.Arena.{Cell, cell_at, slots, cells_with}
 use Rattle.crack_state.specs.State.{State, live_at, live_rows}
 use Rattle.crack_state.specs.Steps.{SameButRoom, admitted}
-use Rattle.crack_state.specs.Points.{pending_by, handle_by, Removes}
-use Rattle.crack_part.specs.Parts.{TakesCell, LacksCell, Performs, Replaces, Serves, placed}
+use Rattle.crack_state.specs.Points.{pending_by, handle_by, Removes, Rewrites}
+use Rattle.crack_part.specs.Parts.{TakesCell, LacksCell, Performs, Serves, placed}
 use Rattle.crack_part.proofs.KeepLemmas.{Keeps-prepared}
 
 length-cons_option : (o : Option Row) (rows : List Row) → length (cons_option o rows) ≤ length rows + 1
@@ -59,7 +59,7 @@ fits-removed most serial s t (Some true) few cancels =
     omega (arith, ap (λ (u : State). length u.cells) cancels.after.same, length-set s.cells h.slot c)
 fits-removed most serial s t (Some false) few dooms = omega (arith, ap (λ (u : State). length u.cells) dooms.after.same)
 
-fits-replaced : (most : ℕ) (row : Row) (s t : State) (o : Option Bool) → length s.cells ≤ most → (o ≡ Some false → length s.free ≡ 0 → length s.cells < most) → Replaces o row s t → length t.cells ≤ most
+fits-replaced : (most : ℕ) (row : Row) (s t : State) (o : Option Bool) → length s.cells ≤ most → (o ≡ Some false → length s.free ≡ 0 → length s.cells < most) → Rewrites o row s t → length t.cells ≤ most
 fits-replaced most row s t None few free same = omega (arith, ap (λ (u : State). length u.cells) same)
 fits-replaced most row s t (Some true) few free rewrites =
     let h = handle_by s row.serial.0 in

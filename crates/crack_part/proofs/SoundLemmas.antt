@@ -29,14 +29,14 @@ use Rattle.crack_plain.proofs.PastLaws.{IsLegal-no_past, IsLegal-push, IsLegal-f
 use Rattle.crack_plain.proofs.TotalLaws.{inserted-push, deleted-push, updated-push}
 use Rattle.crack_state.specs.State.{State, live_rows, freed_of, IsIntact}
 use Rattle.crack_state.specs.Steps.{IsAdmissible, SameButRoom, admitted}
-use Rattle.crack_state.specs.Points.{pending_by, MayFree, IsRenewable, IsRewritable, Removes}
+use Rattle.crack_state.specs.Points.{pending_by, MayFree, IsRenewable, IsRewritable, Removes, Rewrites}
 use Rattle.crack_state.proofs.KeyedLaws.{handle_of-fresh}
 use Rattle.crack_state.proofs.LiveLaws.{live_rows-within}
 use Rattle.crack_state.proofs.AdmitLaws.{live_rows-admitted, freed-admitted, cells-admitted}
 use Rattle.crack_state.proofs.PointLaws.{Spends, Spends-cancels, Spends-dooms, Spends-rewrites, found_by}
 use Rattle.crack_state.proofs.LookUpLaws.{row_by-find, row_by-pending}
 use Rattle.crack_store.specs.Inside.{no_cells}
-use Rattle.crack_part.specs.Parts.{Part, IsLimit, IsSound, folded_part, IsFaithful, Serves, Prepares, Performs, Replaces, state_of, placed}
+use Rattle.crack_part.specs.Parts.{Part, IsLimit, IsSound, folded_part, IsFaithful, Serves, Prepares, Performs, state_of, placed}
 use Rattle.crack_part.specs.Inside.{MayPerform}
 use Rattle.crack_part.proofs.CellLemmas.{rows-le-cells}
 use Rattle.crack_part.proofs.KeepLemmas.{Keeps, Keeps-room, Keeps-prepared, IsIntact-prepared}
@@ -163,7 +163,7 @@ Spends-removed s t plain serial (Some pending) is intact faithful removes = by_r
 pub IsRewritable-found : (s : State) (row : Row) (pending : Bool) → pending_by s row.serial.0 ≡ Some pending → IsIn s.keys row.key.0 → IsRenewable s → IsRewritable row s
 IsRewritable-found s row pending is within renewable = record { there = rw (found_by s row.serial.0 pending is).leads refl; within = within; anew = λ stands. renewable }
 
-Spends-replaced : (s t : State) (plain : List Row) (row : Row) (o : Option Bool) → pending_by s row.serial.0 ≡ o → IsIntact s [] → IsPermutation (live_rows s) plain → IsIn s.keys row.key.0 → IsRenewable s → Replaces o row s t → Spends (made (rewritten (row_in plain row.serial))) (spent (rewritten (row_in plain row.serial))) s t
+Spends-replaced : (s t : State) (plain : List Row) (row : Row) (o : Option Bool) → pending_by s row.serial.0 ≡ o → IsIntact s [] → IsPermutation (live_rows s) plain → IsIn s.keys row.key.0 → IsRenewable s → Rewrites o row s t → Spends (made (rewritten (row_in plain row.serial))) (spent (rewritten (row_in plain row.serial))) s t
 Spends-replaced s t plain row None is intact faithful within renewable same = Spends-same _ _ s t same
 Spends-replaced s t plain row (Some pending) is intact faithful within renewable rewrites =
     let may = IsRewritable-found s row pending is within renewable in

@@ -81,9 +81,8 @@ placed serial key payload = row_with (record { 0 = serial }) key payload
 
 -- where a merge of this policy leaves rows: ripple near the range
 abbrev pub LeavesNear : Policy → State → State → Range → Type 0
-LeavesNear Complete s t r = Unit {0}
-LeavesNear Gradual s t r = Unit {0}
 LeavesNear Ripple s t r = MergesNear s t r
+LeavesNear _ s t r = Unit {0}
 
 -- a store is cracked at the ends of a range, where it is intact, and then merged
 pub record CracksAndMerges (policy : Policy) (s t : State) (r : Range) : Type 0 where
@@ -122,17 +121,12 @@ abbrev pub Spares : Policy → Range → Option Range → State → State → Ty
 Spares policy keys None s t = SameButRoom s t
 Spares policy keys (Some range) s t = StopsRead policy s t (clipped range keys)
 
--- what an update does to a store, by whether the row of its serial is a pending insertion; nothing where there is no such row
-abbrev pub Replaces : Option Bool → Row → State → State → Type 0
-Replaces None row s t = t ≡ s
-Replaces (Some pending) row s t = Rewrites (Some pending) row s t
-
 -- what is done to a store once a command is replied: the change that it makes, if any, is made
 abbrev pub Performs : ℕ → Option Change → State → State → Type 0
 Performs next None s t = t ≡ s
 Performs next (Some (Place key payload)) s t = SameButRoom (admitted (placed next key payload) s) t
 Performs next (Some (Remove serial)) s t = Removes (pending_by s serial.0) serial.0 s t
-Performs next (Some (Rewrite serial key payload)) s t = Replaces (pending_by s serial.0) (row_with serial key payload) s t
+Performs next (Some (Rewrite serial key payload)) s t = Rewrites (pending_by s serial.0) (row_with serial key payload) s t
 
 -- what an answered command does to a store of these keys: the store is prepared, and then the change is made
 pub record Serves (policy : Policy) (keys : Range) (next : ℕ) (command : Command) (s t : State) : Type 0 where

@@ -12,11 +12,11 @@ ghost use Rattle.crack_plain.specs.Past.{no_past, with_entry, accepted_in, IsLeg
 ghost use Rattle.crack_plain.specs.Inside.{gone, rewritten};
 ghost use Rattle.crack_state.specs.State.{State, IsIntact, live_rows};
 ghost use Rattle.crack_state.specs.Steps.{SameButRoom, admitted, IsAdmissible};
-ghost use Rattle.crack_state.specs.Points.{pending_by, MayFree, IsRenewable, Removes};
+ghost use Rattle.crack_state.specs.Points.{pending_by, MayFree, IsRenewable, Removes, Rewrites};
 ghost use Rattle.crack_state.specs.Merge.{IsCracked, IsSettled, Merges, Tallies};
 ghost use Rattle.crack_merge.specs.Merges.{Stops};
 ghost use Rattle.crack_store.specs.Inside.{no_cells, IsLayoutOf};
-ghost use Rattle.crack_part.specs.Parts.{state_of, folded_part, IsLimit, TakesCell, LacksCell, IsSound, IsFaithful, LeavesNear, CracksAndMerges, StopsRead, Serves, Spares, Prepares, Performs, Replaces, placed};
+ghost use Rattle.crack_part.specs.Parts.{state_of, folded_part, IsLimit, TakesCell, LacksCell, IsSound, IsFaithful, LeavesNear, CracksAndMerges, StopsRead, Serves, Spares, Prepares, Performs, placed};
 ghost use Rattle.crack_part.specs.Inside.{IsCommon, AreCommon, MayPerform};
 
 use crack_merge::{merge_complete, merge_gradual};
@@ -653,7 +653,7 @@ fn rewrite(store: &mut Store, row: Row) -> Result<Reply, Refusal>
     ensures reply { IfOk result (λ reply. (plain : List Row) → IsPermutation (live_rows store.old) plain → reply ≡ rewritten (row_in plain row.serial)) }
     ensures flat { IfOk result (λ reply. IsFlat reply) }
     ensures small { IfOk result (λ reply. IsSmall reply) }
-    ensures replaced { OnOk result (Replaces (pending_by store.old row.serial.0) row store.old store.new) }
+    ensures replaced { OnOk result (Rewrites (pending_by store.old row.serial.0) row store.old store.new) }
     ensures live { OnOk result ((plain : List Row) → IsPermutation (live_rows store.old) plain → IsPermutation (live_rows store.new) (map (replaced row) plain)) }
     ensures intact { OnOk result (IsIntact store.new []) }
     ensures same { OnErr result (SameButRoom store.old store.new) }

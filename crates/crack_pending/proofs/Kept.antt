@@ -4,7 +4,8 @@ use Rattle.std.specs.List.{remove}
 use Rattle.std.proofs.lemmas.List.{length-take-le}
 use mir.Val.{bool_byte}
 use Rattle.std.proofs.lemmas.Bool.{true≢false, cases_lt}
-use Rattle.crack_pending.specs.Spots.{kept, place_at, HasRow}
+use Rattle.crack_pending.specs.Spots.{kept}
+use Rattle.crack_pending.specs.Keeps.{place_at, HasRow}
 
 -- one spot more: a row there is one place more
 pub place_at-more : (bs : List Bool) (spot : ℕ) → spot < length bs → place_at bs (spot + 1) ≡ place_at bs spot + cond (get_or bs spot false) 1 0

@@ -8,7 +8,7 @@ use Rattle.std.proofs.lemmas.List.{get_or-set_same, get_or-set_other, get_or_pas
 use Rattle.std.proofs.lemmas.Nat.Bits.{bit_at-zero, shr_and_one, bit_at_set_same, bit_at_set_other, bit_at_clear_same, bit_at_clear_other}
 use Rattle.crack_arena.specs.Arena.{Handle, times, slots, no_handle}
 use Rattle.crack_arena.proofs.Times.{times-nil, times_head, times_other, times-map-append, times-map-remove}
-use Rattle.crack_pending.specs.Bits.{Has, AreMarked}
+use Rattle.crack_pending.specs.Keeps.{Has, AreMarked}
 
 -- what the test of a bit tells
 pub tested : (words : List ℕ) (number : ℕ) → (eqb (bit_and (get_or words (number / 64) 0 / 2 ^ (number % 64)) 1) 1 ≡ true) ↔ Has words number

@@ -4,7 +4,8 @@ use Rattle.std.proofs.Common.{◌≡◌, ℕ, ◌+◌, ◌<◌, ◌≤◌, Bool,
 use Rattle.std.proofs.lemmas.Bool.{cases_eq}
 use Rattle.std.proofs.lemmas.List.{get_or-set_same, get_or-set_other, get_or_default, get_or-take, length-take-le, ext_get_or}
 use Rattle.crack_arena.specs.Arena.{Handle, no_handle}
-use Rattle.crack_pending.specs.Spots.{kept, place_at, HasRow, LeadBack}
+use Rattle.crack_pending.specs.Spots.{kept}
+use Rattle.crack_pending.specs.Keeps.{place_at, HasRow, LeadBack}
 use Rattle.crack_pending.specs.Inside.{AreLed, AreApart}
 use Rattle.crack_pending.proofs.Kept.{place_at-more, place_at-few, length-kept, kept-at, kept-at_place, spot_of, Stands-within}
 

@@ -5,7 +5,8 @@ use mir.Val.{bool_byte}
 use Rattle.crack_arena.specs.Arena.{times}
 use Rattle.crack_arena.specs.Rows.{unknown}
 use Rattle.crack_arena.proofs.Times.{times-nil, times_one, times_head, times-append, times-set, times-map-remove, times-le-length}
-use Rattle.crack_pending.specs.Spots.{kept, place_at, HasRow}
+use Rattle.crack_pending.specs.Spots.{kept}
+use Rattle.crack_pending.specs.Keeps.{place_at, HasRow}
 use Rattle.crack_pending.specs.Inside.{AreKnown}
 use Rattle.crack_pending.proofs.Kept.{length-kept, kept-at, kept-hole, kept-set, kept-push, place_at-few, place_at-before, Stands-within}
 

@@ -12,7 +12,8 @@ use Rattle.crack_arena.proofs.Remembering.{RemembersKeys-anew}
 use Rattle.crack_arena.proofs.Places.{place_in-within, place_in-slot, place_in-is, times_apart_once}
 use Rattle.std.specs.Prelude.{Result, Ok, Err, OnOk}
 use Rattle.crack_pending.specs.Pending.{Pending, NoneIn, IsFirstIn}
-use Rattle.crack_pending.specs.Spots.{kept, place_at, HasRow, LeadBack, spot_room, AreKept}
+use Rattle.crack_pending.specs.Spots.{kept, spot_room}
+use Rattle.crack_pending.specs.Keeps.{place_at, HasRow, LeadBack, AreKept}
 use Rattle.crack_pending.specs.Inside.{KnowKeys, IsMissed, IsHit, IsSpotWith, IsNowhere}
 use Rattle.crack_pending.proofs.Kept.{place_at-le, place_at-more, place_at-before, place_at-hole_before, place_at-push, place_at-few, kept-full, Stands-within, length-kept, kept-at, kept-hole, kept-set, kept-at_place, spot_of}
 use Rattle.crack_pending.proofs.Moves.{kept-apart}

@@ -1,4 +1,4 @@
-pub mod Bits
 pub mod Inside
 pub mod Pending
 pub mod Spots
+pub mod Keeps

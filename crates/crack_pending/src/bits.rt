@@ -1,6 +1,6 @@
 //! A set of numbers, a bit for each: that of half a million cells stays in the first caches.
 ghost use Rattle.std.specs.Prelude.{◌≡◌, ◌≢◌, ◌*◌, ◌<◌, ◌≤◌, ◌↔◌, [], ℕ, length, vec_len, slice_index, IsTrue, IfErr, OnOk};
-ghost use Rattle.crack_pending.specs.Bits.{Has};
+ghost use Rattle.crack_pending.specs.Keeps.{Has};
 
 use crack_row::Refusal;
 use std::alloc::Global;

@@ -1,7 +1,8 @@
 //! How holes are closed up.
 ghost use Rattle.std.specs.Prelude.{◌≡◌, ◌+◌, ◌<◌, ◌≤◌, ◌^◌, ℕ, length, vec_len, vec_capacity, All};
 ghost use Rattle.crack_arena.specs.Arena.{Handle as Name};
-ghost use Rattle.crack_pending.specs.Spots.{kept, place_at, LeadBack};
+ghost use Rattle.crack_pending.specs.Keeps.{place_at, LeadBack};
+ghost use Rattle.crack_pending.specs.Spots.{kept};
 ghost use Rattle.crack_pending.specs.Inside.{AreLed, AreApart};
 
 use crate::spots::StoredKey;

@@ -40,7 +40,7 @@ pub struct PendingList<Kind> {
 
 impl<Kind> Model for PendingList<Kind> {
     ghost use Rattle.crack_pending.specs.Pending.{Pending};
-    ghost use Rattle.crack_pending.specs.Bits.{AreMarked};
+    ghost use Rattle.crack_pending.specs.Keeps.{AreMarked};
 
     ghost Value = { Pending };
 

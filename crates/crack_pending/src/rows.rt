@@ -1,6 +1,6 @@
 //! Spots at which a row stands, counted: the place of a row is how many stand before it.
 ghost use Rattle.std.specs.Prelude.{◌≡◌, ◌+◌, ◌<◌, ◌≤◌, length};
-ghost use Rattle.crack_pending.specs.Spots.{place_at, HasRow};
+ghost use Rattle.crack_pending.specs.Keeps.{place_at, HasRow};
 
 /// Counted at once, in 8 bits.
 const BLOCK: usize = 64;

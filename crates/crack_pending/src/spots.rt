@@ -4,9 +4,8 @@ ghost use Rattle.std.specs.List.{remove};
 ghost use Rattle.crack_arena.specs.Rows.{keys_at, unknown, RemembersKeys};
 ghost use Rattle.crack_arena.specs.Arena.{StandsAt, IsFirstAt, IsAbsent, times, slots, place_in, no_handle};
 ghost use Rattle.crack_pending.specs.Pending.{Finds, StillRemembersKeys, RemembersOneMore, RemembersAnew};
-ghost use Rattle.crack_pending.specs.Spots.{place_at, HasRow, LeadBack};
+ghost use Rattle.crack_pending.specs.Keeps.{place_at, HasRow, LeadBack, Has};
 ghost use Rattle.crack_pending.specs.Inside.{IsNowhere, IsSpotWith};
-ghost use Rattle.crack_pending.specs.Bits.{Has};
 
 use crate::bits::BitSet;
 use crate::closing::close_up;
@@ -57,7 +56,8 @@ impl Model for SpotList {
     ghost use Rattle.crack_arena.specs.Arena.{times};
     ghost use Rattle.crack_arena.specs.Rows.{unknown};
     ghost use Rattle.crack_pending.specs.Pending.{Pending};
-    ghost use Rattle.crack_pending.specs.Spots.{kept, spot_room, AreKept};
+    ghost use Rattle.crack_pending.specs.Keeps.{AreKept};
+    ghost use Rattle.crack_pending.specs.Spots.{kept, spot_room};
 
     ghost Value = { Pending };
 

@@ -51,11 +51,7 @@ tallies_evicted s i c inside intact now pushes =
     let counts : IsExact (returned c).tally → Counts s (appended c) (length s.marks + 1) = λ exact.
     ended.counts (record { put_in = exact.put_in; taken_out = exact.taken_out; evicted = omega (arith, exact.evicted, counter.rises now.counted.evicted); moved = exact.moved; pulled = exact.pulled }) in
     record {
-      put_in_rises = ended.put_in_rises;
-      taken_out_rises = ended.taken_out_rises;
-      evicted_rises = omega (arith, evicted, counter.rises now.counted.evicted);
-      moved_rises = ended.moved_rises;
-      pulled_rises = ended.pulled_rises;
+      rises = record { put_in = ended.rises.put_in; taken_out = ended.rises.taken_out; evicted = omega (arith, evicted, counter.rises now.counted.evicted); moved = ended.rises.moved; pulled = ended.rises.pulled };
       counts = λ exact. let was = counts exact in record { put_in = omega (arith, was.put_in, counter.exact exact.evicted, more); taken_out = was.taken_out; moved = was.moved; pulled = was.pulled };
       evicts = λ exact. omega (arith, (counts exact).put_in, counter.exact exact.evicted, evicted, gone, left);
     }

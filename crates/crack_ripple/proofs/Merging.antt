@@ -102,7 +102,7 @@ TakenOut-pulled s t r of intact all =
         behind = λ each. StaysBehind-PullsOut s r of intact all.from all.seen t all.pulls (HadEach-pulled s r of intact all.from all.seen t was out each);
       };
       tallies = was.advances.tallies;
-      moves = λ exact. moves_none t.tally.moved s.tally.moved s.tally.put_in t.tally.put_in (pieces_of s r) was.moved was.advances.tallies.put_in_rises;
+      moves = λ exact. moves_none t.tally.moved s.tally.moved s.tally.put_in t.tally.put_in (pieces_of s r) was.moved was.advances.tallies.rises.put_in;
     }
 
 -- room was made before

@@ -12,18 +12,14 @@ abbrev pub change_of : Command → Option Change
 change_of (Insert key payload) = Some (Place key payload)
 change_of (Delete serial) = Some (Remove serial)
 change_of (Update serial key payload) = Some (Rewrite serial key payload)
-change_of (Count range) = None
-change_of (Sum range) = None
-change_of (Select range) = None
+change_of _ = None
 
 -- the range that a command reads, if any
 abbrev pub range_of : Command → Option Range
-range_of (Insert key payload) = None
-range_of (Delete serial) = None
-range_of (Update serial key payload) = None
 range_of (Count range) = Some range
 range_of (Sum range) = Some range
 range_of (Select range) = Some range
+range_of _ = None
 
 -- the key that a change brings, if any
 abbrev pub brought_key : Change → Option Key

@@ -62,11 +62,11 @@ MayEvict-none Ripple s t rises same = λ _. omega (arith, rises, same)
 -- no counter is at its greatest number, if none is later on
 pub IsExact-before : (policy : Policy) (s t : State) → Tallies policy s t → IsExact t.tally → IsExact s.tally
 IsExact-before policy s t tallies exact = record {
-  put_in = omega (arith, tallies.put_in_rises, exact.put_in);
-  taken_out = omega (arith, tallies.taken_out_rises, exact.taken_out);
-  evicted = omega (arith, tallies.evicted_rises, exact.evicted);
-  moved = omega (arith, tallies.moved_rises, exact.moved);
-  pulled = omega (arith, tallies.pulled_rises, exact.pulled);
+  put_in = omega (arith, tallies.rises.put_in, exact.put_in);
+  taken_out = omega (arith, tallies.rises.taken_out, exact.taken_out);
+  evicted = omega (arith, tallies.rises.evicted, exact.evicted);
+  moved = omega (arith, tallies.rises.moved, exact.moved);
+  pulled = omega (arith, tallies.rises.pulled, exact.pulled);
 }
 
 Counts-trans : (s t u : State) (q : ℕ) → Counts s t q → Counts t u q → Counts s u q
@@ -79,11 +79,13 @@ Counts-trans s t u q a b = record {
 
 pub Tallies-trans : (policy : Policy) (s t u : State) → length t.marks ≡ length s.marks → Tallies policy s t → Tallies policy t u → Tallies policy s u
 Tallies-trans policy s t u same a b = record {
-  put_in_rises = omega (arith, a.put_in_rises, b.put_in_rises);
-  taken_out_rises = omega (arith, a.taken_out_rises, b.taken_out_rises);
-  evicted_rises = omega (arith, a.evicted_rises, b.evicted_rises);
-  moved_rises = omega (arith, a.moved_rises, b.moved_rises);
-  pulled_rises = omega (arith, a.pulled_rises, b.pulled_rises);
+  rises = record {
+    put_in = omega (arith, a.rises.put_in, b.rises.put_in);
+    taken_out = omega (arith, a.rises.taken_out, b.rises.taken_out);
+    evicted = omega (arith, a.rises.evicted, b.rises.evicted);
+    moved = omega (arith, a.rises.moved, b.rises.moved);
+    pulled = omega (arith, a.rises.pulled, b.rises.pulled);
+  };
   counts = λ exact. Counts-trans s t u (length s.marks + 1) (a.counts (IsExact-before policy t u b exact)) (rw same at (b.counts exact));
   evicts = MayEvict-trans policy s t u (IsExact-before policy t u b) a.evicts b.evicts;
 }
@@ -91,11 +93,7 @@ Tallies-trans policy s t u same a b = record {
 -- what a step counts that puts in and takes out so many rows, and evicts none
 pub Tallies-step : (policy : Policy) (s t : State) (put out : ℕ) → Rises put s.tally.put_in t.tally.put_in → Rises out s.tally.taken_out t.tally.taken_out → t.tally.evicted ≡ s.tally.evicted → s.tally.moved ≤ t.tally.moved → t.tally.moved ≤ s.tally.moved + put * (length s.marks + 1) → s.tally.pulled ≤ t.tally.pulled → t.tally.pulled ≤ s.tally.pulled + out * (length s.marks + 1) → length t.pending_in + put ≡ length s.pending_in → length t.pending_out + out ≡ length s.pending_out → Tallies policy s t
 Tallies-step policy s t put out in_rose out_rose evicted moved_rises moved pulled_rises pulled fewer_in fewer_out = record {
-  put_in_rises = in_rose.rises;
-  taken_out_rises = out_rose.rises;
-  evicted_rises = omega (arith, evicted);
-  moved_rises = moved_rises;
-  pulled_rises = pulled_rises;
+  rises = record { put_in = in_rose.rises; taken_out = out_rose.rises; evicted = omega (arith, evicted); moved = moved_rises; pulled = pulled_rises };
   counts = λ exact. record {
     put_in = omega (arith, in_rose.exact exact.put_in, fewer_in, evicted);
     taken_out = omega (arith, out_rose.exact exact.taken_out, fewer_out);

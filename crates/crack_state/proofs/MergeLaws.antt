@@ -1,5 +1,5 @@
 -- When a merge has given what its policy promises.
-use Rattle.std.proofs.Common.{◌≡◌, ℕ, ◌≤◌, true, false, List, [], ◌∷◌, refl, ap, inl, inr, arith}
+use Rattle.std.proofs.Common.{◌≡◌, ◌⊎◌, ℕ, ◌<◌, ◌≤◌, true, false, List, [], ◌∷◌, refl, ap, inl, inr, arith}
 use Rattle.std.specs.List.{All, list_any}
 use Rattle.std.proofs.lemmas.Bool.{cases_lt, lt-ltb, le-leb, true≢false, or_parts}
 use Rattle.std.proofs.lemmas.List.Elements.{All-nil, All-cons}
@@ -9,7 +9,7 @@ use Rattle.crack_row.specs.declared.command.Policy.TheVariants.{Complete}
 use Rattle.crack_arena.specs.Arena.{Cell, Handle}
 use Rattle.crack_arena.specs.Rows.{key_at}
 use Rattle.crack_state.specs.State.{State, IsIntact}
-use Rattle.crack_state.specs.Merge.{IsOutside, ReadsOutside, Stands, IsCracked, Follows, Merges, is_touched}
+use Rattle.crack_state.specs.Merge.{ReadsOutside, Stands, IsCracked, Follows, Merges, is_touched}
 use Rattle.crack_state.proofs.FollowLaws.{Follows-refl}
 use Rattle.crack_state.proofs.SettledLaws.{IsSettled-of}
 
@@ -23,7 +23,7 @@ pub IsCracked-follows : (s t : State) (r : Range) → Follows s t → IsCracked 
 IsCracked-follows s t r follows cracked = (Stands-follows s t r.low follows cracked.0, Stands-follows s t r.high follows cracked.1)
 
 -- a key that isn't in the range is outside it
-pub outside_of_not_in : (r : Range) (key : ℕ) → is_in r key ≡ false → IsOutside r key
+pub outside_of_not_in : (r : Range) (key : ℕ) → is_in r key ≡ false → (key < r.low) ⊎ (r.high ≤ key)
 outside_of_not_in r key none = elim (cases_lt key r.low) [
   | inl l ↦ inl l
   | inr l ↦ elim (cases_lt key r.high) [

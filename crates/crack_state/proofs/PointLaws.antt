@@ -1,9 +1,10 @@
 -- What the commands on one row do to a store: it stays intact, one live row goes or is replaced, and no other changes.
 use Rattle.std.proofs.Common.{◌≡◌, ◌≢◌, ℕ, ◌+◌, ◌<◌, ◌≤◌, Bool, true, false, ltb, List, [], ◌∷◌, map, length, get_or, set, Option, Some, None, refl, sym, ap, ◌∙◌, inl, inr, arith, length-set}
-use Rattle.std.specs.Prelude.{IfSome, unwrap_or, is_some}
+use Rattle.std.specs.Prelude.{IfSome, IsSome, unwrap_or, is_some}
 use Rattle.std.specs.List.{All, Contains, filter_map, range_with_len}
 use Rattle.std.specs.List.Sorted.{IsPermutation}
 use Rattle.std.specs.Option.{option_map}
+use Rattle.std.proofs.lemmas.Option.{none-some}
 use Rattle.std.proofs.lemmas.List.{get_or-set_same, length_push}
 use Rattle.std.proofs.lemmas.List.Elements.{All-nil, All-push, All-set, All-contains, Contains-append_right}
 use Rattle.std.proofs.lemmas.List.Sorted.{IsPermutation-sym, IsPermutation-trans, IsPermutation-map}
@@ -316,7 +317,11 @@ Spends-renews row s t column few intact renews =
     })
 
 pub Spends-rewrites : (o : Option Bool) (row : Row) (s t : State) → pending_by s row.serial.0 ≡ o → IsRewritable row s → IsIntact s [] → Rewrites o row s t → Spends 1 1 s t
-Spends-rewrites None row s t is may intact rewrites = absurd rewrites
+Spends-rewrites None row s t is may intact rewrites = absurd (by_handle (handle_of s.serials row.serial.0) may.there is)
+  where
+    by_handle : (o : Option Handle) → IsSome o → option_map (λ (h : Handle). ltb 0 (times h.slot (slots s.pending_in))) o ≡ None → ⊥
+    by_handle None there is = true≢false (sym there)
+    by_handle (Some h) there is = none-some _ (sym is)
 Spends-rewrites (Some false) row s t is may intact rewrites = Spends-renews row s t is (may.anew is).few intact rewrites
 Spends-rewrites (Some true) row s t is may intact rewrites =
     let h = handle_by s row.serial.0 in

@@ -1,5 +1,5 @@
 -- When a range is settled, and what its stretch of the column then answers.
-use Rattle.std.proofs.Common.{◌≡◌, ℕ, suc, ◌+◌, ◌-◌, ◌<◌, ◌≤◌, Bool, false, leb, ltb, List, [], ◌∷◌, ◌++◌, length, get_or, take, drop, cond, Option, None, refl, sym, ap, subst, ◌∙◌, inl, inr, arith}
+use Rattle.std.proofs.Common.{◌≡◌, ◌⊎◌, ℕ, suc, ◌+◌, ◌-◌, ◌<◌, ◌≤◌, Bool, false, leb, ltb, List, [], ◌∷◌, ◌++◌, length, get_or, take, drop, cond, Option, None, refl, sym, ap, subst, ◌∙◌, inl, inr, arith}
 use Rattle.std.specs.Prelude.{◌==◌}
 use Rattle.std.specs.List.{All, filter_map, filter, between, count_by, range_with_len}
 use Rattle.std.specs.List.Sorted.{IsPermutation}
@@ -20,7 +20,7 @@ use Rattle.crack_column.specs.Column.{IsDividedAt}
 use Rattle.crack_column.proofs.Divisions.{IsDividedAt-end, IsDividedAt-order}
 use Rattle.crack_state.specs.State.{State, Reads, IsOwned, IsIntact, column_keys, live_at, live_rows}
 use Rattle.crack_state.proofs.OwnedLaws.{places_of}
-use Rattle.crack_state.specs.Merge.{IsOutside, ReadsOutside, Stands, IsCracked, edge, stretch, IsSettled}
+use Rattle.crack_state.specs.Merge.{ReadsOutside, Stands, IsCracked, edge, stretch, IsSettled}
 use Rattle.crack_state.proofs.CellLaws.{row_read, read-value, stands_there}
 use Rattle.crack_state.proofs.LiveLaws.{none_either, IsPermutation-places}
 use Rattle.crack_state.proofs.CrackLaws.{column_keys-within}
@@ -52,7 +52,7 @@ all_kept : (g : ℕ → Option Row) (cells : List (Cell Row)) (hs : List Handle)
 all_kept g cells hs same = filter_map-map g (λ (h : Handle). h.slot) hs ∙ filter_map_agree (λ (h : Handle). g h.slot) (read cells) hs same
 
 -- a row outside the range isn't let by
-pub outside_false : (r : Range) (row : Row) → IsOutside r row.key.0 → in_range r row ≡ false
+pub outside_false : (r : Range) (row : Row) → (row.key.0 < r.low) ⊎ (r.high ≤ row.key.0) → in_range r row ≡ false
 outside_false r row out = elim out [
   | inl l ↦ and_left (leb r.low row.key.0) (ltb row.key.0 r.high) (lt-leb r.low row.key.0 l)
   | inr l ↦ and_right (leb r.low row.key.0) (ltb row.key.0 r.high) (le-ltb row.key.0 r.high l)

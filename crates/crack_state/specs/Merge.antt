@@ -11,15 +11,11 @@ use Rattle.crack_index.specs.declared.mark.Mark.{Mark}
 use Rattle.crack_index.specs.Marks.{HasBound, bounds_of, position_of, next_mark}
 use Rattle.crack_arena.specs.Rows.{key_at}
 use Rattle.crack_state.specs.declared.MergeReport.{MergeReport}
-use Rattle.crack_state.specs.State.{State, Reads, IsIntact, live_rows, freed_of, greatest}
-
--- the key is outside the range
-abbrev pub IsOutside : Range → ℕ → Type 0
-IsOutside r key = (key < r.low) ⊎ (r.high ≤ key)
+use Rattle.crack_state.specs.State.{State, Reads, IsIntact, EachCounter, live_rows, freed_of, greatest}
 
 -- what the handle reads has its key outside the range
 abbrev pub ReadsOutside : List (Cell Row) → Range → Handle → Type 0
-ReadsOutside cells r h = IsOutside r (key_at cells h)
+ReadsOutside cells r h = (key_at cells h < r.low) ⊎ (r.high ≤ key_at cells h)
 
 -- those of the handles whose key is outside the range, in their order
 abbrev pub outside_of : List (Cell Row) → Range → List Handle → List Handle
@@ -173,12 +169,8 @@ counted_between before after = record {
 }
 
 -- no counter has reached its greatest number
-pub record IsExact (tally : MergeReport) : Type 0 where
-  pub put_in : tally.put_in < greatest
-  pub taken_out : tally.taken_out < greatest
-  pub evicted : tally.evicted < greatest
-  pub moved : tally.moved < greatest
-  pub pulled : tally.pulled < greatest
+abbrev pub IsExact : MergeReport → Type 0
+IsExact tally = EachCounter (λ n same. n < greatest) tally tally
 
 -- what the report from s to t says, where every counter is exact: with q pieces, what was put in and not evicted is gone from
 -- the pending insertions, what was taken out is gone from the pending deletions, each row put in moved at most q rows, and
@@ -191,16 +183,11 @@ pub record Counts (s t : State) (q : ℕ) : Type 0 where
 
 -- what a policy may have evicted: complete and gradual nothing, ripple at most as many rows as it put in, where every counter is exact
 abbrev pub MayEvict : Policy → State → State → Type 0
-MayEvict Complete s t = t.tally.evicted ≡ s.tally.evicted
-MayEvict Gradual s t = t.tally.evicted ≡ s.tally.evicted
 MayEvict Ripple s t = IsExact t.tally → t.tally.evicted + s.tally.put_in ≤ s.tally.evicted + t.tally.put_in
+MayEvict _ s t = t.tally.evicted ≡ s.tally.evicted
 
 -- what a merge of this policy counts: no counter falls, and the report is right unless one is at its greatest number
 pub record Tallies (policy : Policy) (s t : State) : Type 0 where
-  pub put_in_rises : s.tally.put_in ≤ t.tally.put_in
-  pub taken_out_rises : s.tally.taken_out ≤ t.tally.taken_out
-  pub evicted_rises : s.tally.evicted ≤ t.tally.evicted
-  pub moved_rises : s.tally.moved ≤ t.tally.moved
-  pub pulled_rises : s.tally.pulled ≤ t.tally.pulled
+  pub rises : EachCounter (λ n m. n ≤ m) s.tally t.tally
   pub counts : IsExact t.tally → Counts s t (length s.marks + 1)
   pub evicts : MayEvict policy s t

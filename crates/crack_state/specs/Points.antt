@@ -76,9 +76,9 @@ pub record Renews (row : Row) (s t : State) : Type 0 where
   pub after : SameButRoom (record (renewed row (handle_by s row.serial.0) s) { serials = t.serials }) t
   pub map : Maps row.serial.0 (Some (next_handle s)) s.serials t.serials
 
--- rewrite, by whether the row is a pending insertion: it is written in place, or renewed
+-- rewrite, by whether the row of a serial is a pending insertion: it is written in place, or renewed; where there is none nothing changes
 abbrev pub Rewrites : Option Bool → Row → State → State → Type 0
-Rewrites None row s t = ⊥
+Rewrites None row s t = t ≡ s
 Rewrites (Some true) row s t = t ≡ overwritten row (handle_by s row.serial.0) s
 Rewrites (Some false) row s t = Renews row s t
 

@@ -105,13 +105,17 @@ freed_of cells = sum_by (λ (c : Cell Row). c.generation) cells
 abbrev pub greatest : ℕ
 greatest = 2 ^ 64 - 1
 
+-- each counter of a report stands so to that of another
+pub record EachCounter (R : ℕ → ℕ → Type 0) (before after : MergeReport) : Type 0 where
+  pub put_in : R before.put_in after.put_in
+  pub taken_out : R before.taken_out after.taken_out
+  pub evicted : R before.evicted after.evicted
+  pub moved : R before.moved after.moved
+  pub pulled : R before.pulled after.pulled
+
 -- every counter fits
-pub record IsCounted (tally : MergeReport) : Type 0 where
-  pub put_in : tally.put_in ≤ greatest
-  pub taken_out : tally.taken_out ≤ greatest
-  pub evicted : tally.evicted ≤ greatest
-  pub moved : tally.moved ≤ greatest
-  pub pulled : tally.pulled ≤ greatest
+abbrev pub IsCounted : MergeReport → Type 0
+IsCounted tally = EachCounter (λ n same. n ≤ greatest) tally tally
 
 -- what the type of a store keeps, with no hand or one
 pub record IsIntact (s : State) (hand : List Handle) : Type 0 where

@@ -19,7 +19,8 @@ use Rattle.crack_state.proofs.OwnedLaws.{times-places, times-taken, once-most, a
 use Rattle.crack_store.specs.declared.inside.Inside.{Inside}
 use Rattle.crack_store.specs.declared.notes.Notes.{Notes}
 use Rattle.crack_store.specs.declared.carrying.Near.{Near}
-use Rattle.crack_store.specs.Hand.{hand_of, carried_of, IsNear, HasHand, KeepsHand}
+use Rattle.crack_store.specs.Hand.{hand_of, carried_of}
+use Rattle.crack_store.specs.Keeps.{IsNear, HasHand, KeepsHand}
 use Rattle.crack_store.proofs.RememberLemmas.{KeepsIntact-column}
 
 -- what a step makes is this store with a cell in hand, and keeps what belongs to it

@@ -14,7 +14,7 @@ use Rattle.crack_state.proofs.PullLaws.{IsIntact-pulled_back, bounds_up_to-pulle
 use Rattle.crack_state.proofs.NearLaws.{next-pushed_on, last-pulled_back}
 use Rattle.crack_store.specs.declared.carrying.Near.{Near}
 use Rattle.crack_store.specs.declared.carrying.Near.TheVariants.{Unsought, Above, Below}
-use Rattle.crack_store.specs.Hand.{IsNear}
+use Rattle.crack_store.specs.Keeps.{IsNear}
 use Rattle.crack_store.proofs.EdgeLemmas.{positions_small}
 
 -- the bound where the own piece of the hand ends, before the column does, and what becomes of a hand that is put there

@@ -13,7 +13,8 @@ use Rattle.crack_state.proofs.CellLaws.{AgreeOff, read-off, key_at-off}
 use Rattle.crack_state.proofs.AdmitLaws.{filled, unused, read-new}
 use Rattle.crack_store.specs.declared.inside.Inside.{Inside}
 use Rattle.crack_store.specs.declared.notes.Notes.{Notes}
-use Rattle.crack_store.specs.Inside.{lists_of, KeepsIntact}
+use Rattle.crack_store.specs.Inside.{lists_of}
+use Rattle.crack_store.specs.Keeps.{KeepsIntact}
 
 pub Remembers-off : (n : ℕ) (cells after : List (Cell Row)) (hs : List Handle) (remembered : List Memory) → AgreeOff n cells after → times n (slots hs) ≡ 0 → Remembers cells hs remembered → Remembers after hs remembered
 Remembers-off n cells after hs remembered agree none remembers = record {

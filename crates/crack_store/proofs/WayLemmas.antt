@@ -15,7 +15,8 @@ use Rattle.crack_store.specs.declared.ascent.Ascent.{Ascent}
 use Rattle.crack_store.specs.declared.ascent.Descent.{Descent}
 use Rattle.crack_store.specs.declared.carrying.Near.TheVariants.{Above, Below}
 use Rattle.crack_store.specs.Inside.{lists_of}
-use Rattle.crack_store.specs.Hand.{hand_of, carried_of, HasHand, KeepsHand}
+use Rattle.crack_store.specs.Hand.{hand_of, carried_of}
+use Rattle.crack_store.specs.Keeps.{HasHand, KeepsHand}
 use Rattle.crack_store.specs.Ways.{IsKnownBelow, TakesUp, Ascends, TakesDown, Draws}
 use Rattle.crack_store.proofs.HandLemmas.{IsMade, exchanged_to}
 use Rattle.crack_store.proofs.NextLemmas.{is_up, is_down}

@@ -1,13 +1,10 @@
 -- What a contract sees of the inside of a store.
-use Rattle.std.specs.Prelude.{◌≡◌, ◌≤◌, ◌+◌, ◌-◌, ℕ, List, [], length}
+use Rattle.std.specs.Prelude.{◌≡◌, ◌+◌, ◌-◌, ℕ, [], length}
 use Rattle.crack_row.specs.Ranges.{Range}
 use Rattle.crack_row.specs.declared.layout.Layout.{Layout}
 use Rattle.crack_index.specs.Marks.{pieces_from}
-use Rattle.crack_arena.specs.Arena.{Handle}
-use Rattle.crack_arena.specs.Rows.{RemembersKeys}
-use Rattle.crack_column.specs.Column.{Remembers}
 use Rattle.crack_state.specs.declared.MergeReport.{MergeReport}
-use Rattle.crack_state.specs.State.{State, IsIntact}
+use Rattle.crack_state.specs.State.{State}
 use Rattle.crack_store.specs.declared.inside.Inside.{Inside}
 
 -- the inside as lists
@@ -25,16 +22,6 @@ lists_of p = record {
   column_room = p.column.room;
   in_room = p.in_room;
 }
-
--- what the inside keeps, with no hand or one: what the column and the pending lists remember is right, there is room for as many
--- pending insertions as are said to be sure to fit, and any cell may become one
-pub record KeepsIntact (p : Inside) (hand : List Handle) : Type 0 where
-  pub intact : IsIntact (lists_of p) hand
-  pub remembers : Remembers p.arena.cells p.column.handles p.column.remembered
-  pub keys_in : RemembersKeys p.arena.cells p.pending_in.handles p.pending_in.keys
-  pub keys_out : RemembersKeys p.arena.cells p.pending_out.handles p.pending_out.keys
-  pub room : p.in_room ≤ p.pending_in.room
-  pub covered : length p.arena.cells ≤ p.pending_in.covered
 
 -- nothing was counted
 abbrev pub no_report : MergeReport

@@ -3,7 +3,8 @@ ghost use Rattle.std.specs.Prelude.{◌≤◌, IsTrue};
 ghost use Rattle.crack_column.specs.Column.{first_aside};
 ghost use Rattle.crack_state.specs.Steps.{ceiling_of, hand_key, piece_start, PushesOn, PullsBack};
 ghost use Rattle.crack_store.specs.Inside.{lists_of};
-ghost use Rattle.crack_store.specs.Hand.{carried_of, HasHand, KeepsHand};
+ghost use Rattle.crack_store.specs.Keeps.{HasHand, KeepsHand};
+ghost use Rattle.crack_store.specs.Hand.{carried_of};
 ghost use Rattle.crack_store.specs.Ways.{IsKnownBelow};
 
 use crate::carrying::Near;

@@ -35,7 +35,8 @@ pub struct Carrying {
 
 impl Model for Carrying {
     ghost use Rattle.crack_state.specs.State.{Carried};
-    ghost use Rattle.crack_store.specs.Hand.{carried_of, KeepsHand};
+    ghost use Rattle.crack_store.specs.Keeps.{KeepsHand};
+    ghost use Rattle.crack_store.specs.Hand.{carried_of};
 
     ghost Value = { Carried };
 

@@ -3,7 +3,8 @@ ghost use Rattle.std.specs.Prelude.{◌≡◌, ◌+◌, ◌≤◌, [], length, I
 ghost use Rattle.crack_index.specs.Marks.{added, piece_at};
 ghost use Rattle.crack_state.specs.Merge.{Refines, Stands};
 ghost use Rattle.crack_state.specs.Inside.{RefinesAt};
-ghost use Rattle.crack_store.specs.Inside.{lists_of, KeepsIntact};
+ghost use Rattle.crack_store.specs.Keeps.{KeepsIntact};
+ghost use Rattle.crack_store.specs.Inside.{lists_of};
 ghost use Rattle.crack_store.specs.Gaps.{MissesIn, FallTogether, Misses, bounds_in, above_or};
 
 use crate::inside::Inside;

@@ -4,8 +4,9 @@ ghost use Rattle.crack_arena.specs.Arena.{times, slots};
 ghost use Rattle.crack_index.specs.Marks.{next_mark};
 ghost use Rattle.crack_state.specs.State.{live_rows};
 ghost use Rattle.crack_state.specs.Steps.{hand_key, piece_end, IsDoomed, lifted, lifted_last, appended, buried, raise_next as next_raised, returned};
-ghost use Rattle.crack_store.specs.Inside.{lists_of, KeepsIntact};
-ghost use Rattle.crack_store.specs.Hand.{hand_of, carried_of, HasHand, KeepsHand};
+ghost use Rattle.crack_store.specs.Keeps.{KeepsIntact, HasHand, KeepsHand};
+ghost use Rattle.crack_store.specs.Inside.{lists_of};
+ghost use Rattle.crack_store.specs.Hand.{hand_of, carried_of};
 
 use crate::carrying::Near;
 use crate::inside::Inside;

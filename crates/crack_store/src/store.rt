@@ -40,7 +40,8 @@ pub struct Store {
 impl Model for Store {
     ghost use Rattle.std.specs.Prelude.{[]};
     ghost use Rattle.crack_state.specs.State.{State};
-    ghost use Rattle.crack_store.specs.Inside.{lists_of, KeepsIntact};
+    ghost use Rattle.crack_store.specs.Keeps.{KeepsIntact};
+    ghost use Rattle.crack_store.specs.Inside.{lists_of};
 
     ghost Value = { State };
 

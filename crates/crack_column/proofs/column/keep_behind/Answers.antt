@@ -1,5 +1,5 @@
 use Rattle.std.proofs.Common.{◌≡◌, ◌<◌, ◌^◌, length, arith, refl}
-use Rattle.crack_column.specs.Tickets.{AreDrawn}
+use Rattle.crack_column.specs.Keeps.{AreDrawn}
 use Rattle.crack_column.proofs.TicketLaws.{AreDrawn-Kept, handles-before, tags-before, aside-kept, AreDrawn-draw, handles-draw, tags-draw, aside-draw}
 use Rattle.crack_column.proofs.column.keep_behind.Goals as goal
 

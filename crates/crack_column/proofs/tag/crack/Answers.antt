@@ -3,7 +3,7 @@ use Rattle.std.proofs.lemmas.List.Sorted.{IsPermutation-map, All-permutation}
 use Rattle.crack_arena.specs.Arena.{times}
 use Rattle.crack_arena.proofs.Times.{times-map-IsPermutation}
 use Rattle.crack_arena.specs.Rows.{unknown}
-use Rattle.crack_column.specs.Tickets.{remembered_key}
+use Rattle.crack_column.specs.Keeps.{remembered_key}
 use Rattle.crack_column.specs.Inside.{forgotten, Read}
 use Rattle.crack_column.specs.Labels.{tags_of}
 use Rattle.crack_column.proofs.Passes.{all_read}

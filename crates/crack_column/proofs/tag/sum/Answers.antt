@@ -3,7 +3,7 @@ use Rattle.std.specs.Int.{w128}
 use Rattle.std.proofs.lemmas.Int.{ints, to_z-of_z, fits_signed_from_abs}
 use Rattle.crack_arena.specs.Arena.{times}
 use Rattle.crack_arena.specs.Rows.{unknown}
-use Rattle.crack_column.specs.Tickets.{remembered_key}
+use Rattle.crack_column.specs.Keeps.{remembered_key}
 use Rattle.crack_column.specs.Labels.{tags_of}
 use Rattle.crack_column.proofs.LabelLaws.{total-tags_of}
 use Rattle.crack_column.proofs.Passes.{all_read, sum_all}

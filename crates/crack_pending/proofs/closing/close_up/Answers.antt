@@ -1,5 +1,6 @@
 use Rattle.std.proofs.Common.{◌≡◌, length, vec_len, refl, sym, ◌∙◌, arith}
-use Rattle.crack_pending.specs.Spots.{kept, place_at}
+use Rattle.crack_pending.specs.Spots.{kept}
+use Rattle.crack_pending.specs.Keeps.{place_at}
 use Rattle.crack_pending.proofs.Kept.{place_at-few, length-kept, kept-full}
 use Rattle.crack_pending.proofs.Moves.{kept-apart, kept-covered, led_all}
 use Rattle.crack_pending.proofs.closing.close_up.Goals as goal

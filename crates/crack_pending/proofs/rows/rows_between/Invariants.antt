@@ -1,5 +1,5 @@
 use Rattle.std.proofs.Common.{◌≡◌, ◌+◌, ◌-◌, ◌≤◌}
-use Rattle.crack_pending.specs.Spots.{place_at}
+use Rattle.crack_pending.specs.Keeps.{place_at}
 use Rattle.crack_pending.proofs.rows.rows_between.Given as goal
 
 abbrev pub invariant-far : goal.invariant-far

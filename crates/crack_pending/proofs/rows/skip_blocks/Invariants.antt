@@ -1,5 +1,5 @@
 use Rattle.std.proofs.Common.{◌≡◌, ◌-◌, ◌≤◌, length}
-use Rattle.crack_pending.specs.Spots.{place_at}
+use Rattle.crack_pending.specs.Keeps.{place_at}
 use Rattle.crack_pending.proofs.rows.skip_blocks.Given as goal
 
 abbrev pub invariant-far : goal.invariant-far

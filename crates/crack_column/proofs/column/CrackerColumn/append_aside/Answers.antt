@@ -3,7 +3,8 @@ use Rattle.crack_arena.specs.Arena.{times}
 use Rattle.crack_arena.proofs.Times.{times-le-length}
 use Rattle.crack_arena.specs.Rows.{unknown}
 use Rattle.crack_column.specs.Column.{Agrees}
-use Rattle.crack_column.specs.Tickets.{remembered_key, tag_handle, memory_of, handles_in, remembered_in, unread_in}
+use Rattle.crack_column.specs.Tickets.{tag_handle, memory_of, handles_in, remembered_in}
+use Rattle.crack_column.specs.Keeps.{remembered_key, unread_in}
 use Rattle.crack_column.specs.Inside.{no_tag}
 use Rattle.crack_column.proofs.Remembering.{Remembers-append}
 use Rattle.crack_column.proofs.TicketLaws.{length-aside, first-aside, unread-le, unread-last, handles-last, remembered-last}

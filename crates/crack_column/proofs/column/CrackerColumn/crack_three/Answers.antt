@@ -1,7 +1,8 @@
 use Rattle.std.proofs.Common.{◌≡◌, ◌≤◌, ◌+◌, length, take, arith, refl}
 use Rattle.crack_column.specs.Column.{Remembers, Cracks}
 use Rattle.crack_column.proofs.Cracking.{Cracks-remembers, length-Cracks}
-use Rattle.crack_column.specs.Tickets.{AreDrawn, handles_in, remembered_in, unread_in}
+use Rattle.crack_column.specs.Tickets.{handles_in, remembered_in}
+use Rattle.crack_column.specs.Keeps.{AreDrawn, unread_in}
 use Rattle.crack_column.specs.Inside.{Turns}
 use Rattle.crack_column.proofs.TicketLaws.{length-in, Knows-Remembers, AreDrawn-Turns, Cracks-Turns, length-Turns, aside-Turns, unread-Turns, unread-between}
 use Rattle.crack_column.proofs.column.CrackerColumn.crack_three.Goals as goal

@@ -4,7 +4,8 @@ use Rattle.crack_arena.proofs.Times.{times-le-length}
 use Rattle.crack_arena.specs.Rows.{unknown}
 use Rattle.crack_column.specs.declared.tag.Tag.{Tag}
 use Rattle.crack_column.specs.Column.{Agrees, nothing}
-use Rattle.crack_column.specs.Tickets.{tag_handle, memory_of, handles_in, remembered_in, unread_in}
+use Rattle.crack_column.specs.Tickets.{tag_handle, memory_of, handles_in, remembered_in}
+use Rattle.crack_column.specs.Keeps.{unread_in}
 use Rattle.crack_column.specs.Inside.{no_tag}
 use Rattle.crack_column.specs.Labels.{TagVector}
 use Rattle.crack_column.proofs.Remembering.{Remembers-set}

@@ -1,7 +1,7 @@
 use Rattle.std.proofs.Common.{◌≡◌, ◌<◌, ◌+◌, ◌-◌, length, take, get_or, ◌∷◌, [], arith, ap, ◌∙◌}
 use Rattle.crack_arena.specs.Arena.{times}
 use Rattle.crack_arena.specs.Rows.{unknown}
-use Rattle.crack_column.specs.Tickets.{remembered_key, unread_in}
+use Rattle.crack_column.specs.Keeps.{remembered_key, unread_in}
 use Rattle.crack_column.specs.Inside.{no_tag}
 use Rattle.crack_column.proofs.TicketLaws.{length-in, unread-last}
 use Rattle.crack_column.proofs.column.CrackerColumn.pop_aside.Goals as goal

@@ -3,7 +3,7 @@ use Rattle.crack_arena.specs.Arena.{Handle, times}
 use Rattle.crack_arena.proofs.Times.{times-le-length}
 use Rattle.crack_arena.specs.Rows.{unknown}
 use Rattle.crack_column.specs.Column.{Memory}
-use Rattle.crack_column.specs.Tickets.{unread_in}
+use Rattle.crack_column.specs.Keeps.{unread_in}
 use Rattle.crack_column.proofs.Remembering.{Remembers-set}
 use Rattle.crack_column.proofs.TicketLaws.{length-in, unread-le, AreDrawn-Kept, length-Kept, handles-swapped, remembered-swapped, unread-swapped, aside-behind, stands_at, remembered_at}
 use Rattle.crack_column.proofs.column.CrackerColumn.swap_in_remembered.Goals as goal

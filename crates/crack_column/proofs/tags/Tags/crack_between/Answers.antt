@@ -2,7 +2,7 @@ use Rattle.std.proofs.Common.{◌≡◌, ◌≤◌, ◌<◌, length, All, refl, 
 use Rattle.std.specs.List.{between}
 use Rattle.std.proofs.lemmas.List.{length-map}
 use Rattle.std.proofs.lemmas.List.Edits.{length-between}
-use Rattle.crack_column.specs.Tickets.{remembered_key, unread_in}
+use Rattle.crack_column.specs.Keeps.{remembered_key, unread_in}
 use Rattle.crack_column.specs.Inside.{Knows}
 use Rattle.crack_column.specs.Labels.{tags_of}
 use Rattle.crack_column.proofs.LabelLaws.{length-tags_of, between-tags_of, Turns-parts}

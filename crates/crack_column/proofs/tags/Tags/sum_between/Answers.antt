@@ -1,6 +1,6 @@
 use Rattle.std.proofs.Common.{◌≤◌, ◌<◌, length, All, ◌∙◌, arith}
 use Rattle.std.specs.List.{between}
-use Rattle.crack_column.specs.Tickets.{unread_in}
+use Rattle.crack_column.specs.Keeps.{unread_in}
 use Rattle.crack_column.specs.Inside.{Knows}
 use Rattle.crack_column.specs.Labels.{tags_of}
 use Rattle.crack_column.proofs.LabelLaws.{length-tags_of, between-tags_of}

@@ -1,7 +1,7 @@
 use Rattle.std.proofs.Common.{◌≡◌, sym, ap, ◌∙◌, arith}
 use Rattle.std.proofs.lemmas.List.{get_or_default}
 use Rattle.crack_arena.specs.Arena.{Handle, no_handle}
-use Rattle.crack_pending.specs.Spots.{place_at}
+use Rattle.crack_pending.specs.Keeps.{place_at}
 use Rattle.crack_pending.proofs.Kept.{Stands-within}
 use Rattle.crack_pending.proofs.Views.{handle-is, other-absent, handle-first, nowhere-absent}
 use Rattle.crack_pending.proofs.spots.SpotList.place_of.Goals as goal

@@ -1,0 +1,44 @@
+-- What private clauses alone cite.
+-- What a pending list keeps of its spots, and a set of its bits.
+use Rattle.std.specs.Prelude.{◌≡◌, ℕ, ◌/◌, ◌%◌, ◌*◌, ◌<◌, ◌≤◌, ◌↔◌, List, length, slice_index, zero, suc, ◌+◌, ◌^◌, Bool, true, false, cond, [], ◌∷◌, slice_index_or}
+use Rattle.std.specs.Int.{bit_at}
+use Rattle.crack_arena.specs.Arena.{Handle, times, slots, no_handle}
+
+-- the bit of the number is set
+unfoldable pub Has : List ℕ → ℕ → Type 0
+Has words number = bit_at (slice_index words (number / 64)) (number % 64) ≡ 1
+
+-- there is a bit for each of so many cells, and set are those of the cells that have a handle in the list
+pub record AreMarked (words : List ℕ) (handles : List Handle) (covered : ℕ) : Type 0 where
+  pub within : covered ≤ 64 * length words
+  pub right : (slot : ℕ) → Has words slot ↔ (0 < times slot (slots handles))
+
+-- how many of the first spots are no holes: the place of what stands at the next
+abbrev pub place_at : List Bool → ℕ → ℕ
+place_at bs zero = 0
+place_at [] (suc n) = 0
+place_at (b ∷ bs) (suc n) = cond b 1 0 + place_at bs n
+
+-- a row stands at the spot
+abbrev pub HasRow : List Bool → ℕ → Type 0
+HasRow stands spot = slice_index_or stands spot false ≡ true
+
+-- the spot of the cell of this slot is known to be this one
+pub record LeadsTo (spots : List ℕ) (slot spot : ℕ) : Type 0 where
+  pub covered : slot < length spots
+  pub is : slice_index_or spots slot 0 ≡ spot
+
+-- each row's cell leads to its spot
+abbrev pub LeadBack : List Handle → List Bool → List ℕ → Type 0
+LeadBack handles stands spots = (spot : ℕ) → HasRow stands spot → LeadsTo spots (slice_index_or handles spot no_handle).slot spot
+
+-- a key and a mark stand beside each handle, the rows are counted, each row's cell leads to its spot, and so many rows stand before
+-- the spot at which the last row was taken
+pub record AreKept (handles : List Handle) (keys : List ℕ) (stands : List Bool) (spots : List ℕ) (rows hint_place hint_spot : ℕ) : Type 0 where
+  pub keys_beside : length keys ≡ length handles
+  pub stands_beside : length stands ≡ length handles
+  pub counted : rows ≡ place_at stands (length stands)
+  pub few : length handles ≤ 2 ^ 32
+  pub led : LeadBack handles stands spots
+  pub near : hint_spot ≤ length handles
+  pub hinted : hint_place ≡ place_at stands hint_spot
