@@ -8,21 +8,18 @@ use Rattle.std.proofs.lemmas.List.{map-set, set-get_or, get_or-map, length-map, 
 use Rattle.std.proofs.lemmas.List.Sums.{sum_by-set}
 use Rattle.crack_row.specs.declared.Bound.{Bound}
 use Rattle.crack_row.specs.declared.limit.Limits.{Limits}
-use Rattle.crack_row.specs.declared.command.Entry.{Entry}
-use Rattle.crack_row.specs.declared.command.Reply.{Reply}
 use Rattle.crack_row.specs.declared.refusal.Refusal.{Refusal}
 use Rattle.crack_row.specs.declared.refusal.Refusal.TheVariants.{NoSuchPartition, OutOfMemory}
-use Rattle.crack_plain.specs.Past.{Past, with_entry, folded, accepted_in}
+use Rattle.crack_plain.specs.Past.{Past, folded, accepted_in}
 use Rattle.crack_plain.specs.Plain.{PlainView, checkpointed}
 use Rattle.crack_part.specs.Parts.{Part, folded_part}
-use Rattle.crack_core.specs.declared.step.Step.{Step}
 use Rattle.crack_core.specs.declared.step.Job.{Job}
 use Rattle.crack_core.specs.declared.step.Job.TheVariants.{Perform, Fold}
 use Rattle.crack_core.specs.declared.step.Done.{Done}
-use Rattle.crack_core.specs.declared.step.Done.TheVariants.{Replied, Folded}
-use Rattle.crack_core.specs.Steps.{Bounds, fresh_table, table_after, table_of, tables_of, pasts_of, accepted_by, entries_at, with_entries, KeepsEntries, IsFoldOutcome, tables_folded}
-use Rattle.crack_core.specs.Jobs.{part_of, performed, folding, past_after, past_at, KeepsJobs, table_done, table_through, IsJobOutcome, AreExpectedOutcomes, FoldsAt, Does, DoesAll}
-use Rattle.crack_core.proofs.StepLaws.{table_of-push, tables-pasts, with-nil, get-last, get-front, get-set_same, get-set_other}
+use Rattle.crack_core.specs.declared.step.Done.TheVariants.{Folded}
+use Rattle.crack_core.specs.Steps.{Bounds, fresh_table, table_of, tables_of, pasts_of, accepted_by, IsFoldOutcome, tables_folded}
+use Rattle.crack_core.specs.Jobs.{part_of, folding, past_after, past_at, KeepsJobs, IsJobOutcome, AreExpectedOutcomes, FoldsAt, Does, DoesAll}
+use Rattle.crack_core.proofs.StepLaws.{tables-pasts, get-last, get-front, get-set_same, get-set_other}
 
 -- one job more
 past_at-push : (part : ℕ) (jobs : List Job) (results : List (Result Done Refusal)) (job : Job) (result : Result Done Refusal) (past : Past) → length results ≡ length jobs → past_at part (jobs ++ job ∷ []) (results ++ result ∷ []) past ≡ past_after part job result (past_at part jobs results past)
@@ -58,25 +55,6 @@ KeepsJobs-refused pasts job e = λ part. by_past part (slice_get pasts part)
     by_past : (part : ℕ) (o : Option Past) → o ≡ option_map (past_at part (job ∷ []) (Err e ∷ [])) o
     by_past part None = refl
     by_past part (Some past) = ap Some (sym (refused-past part job e past))
-
--- a step: its partition keeps its entry, if it was answered
-step-past : (part : ℕ) (s : Step) (r : Result Reply Refusal) (past : Past) → with_entries past (entries_at part (s ∷ []) (r ∷ [])) ≡ past_after part (Perform s) (performed r) past
-step-past part s (Err e) past = with-nil past
-step-past part s (Ok reply) past = by_test (s.part == part)
-  where
-    entry : Entry
-    entry = record { worker = s.worker; command = s.command; reply = reply }
-
-    by_test : (b : Bool) → with_entries past (cond b (entry ∷ []) []) ≡ cond b (with_entry past entry) past
-    by_test true = refl
-    by_test false = with-nil past
-
-pub KeepsJobs-step : (old new : List Past) (s : Step) (r : Result Reply Refusal) → KeepsEntries old (s ∷ []) (r ∷ []) new → KeepsJobs old (Perform s ∷ []) (performed r ∷ []) new
-KeepsJobs-step old new s r kept = λ part. kept part ∙ by_past part (slice_get old part)
-  where
-    by_past : (part : ℕ) (o : Option Past) → option_map (λ (past : Past). with_entries past (entries_at part (s ∷ []) (r ∷ []))) o ≡ option_map (past_at part (Perform s ∷ []) (performed r ∷ [])) o
-    by_past part None = refl
-    by_past part (Some past) = ap Some (step-past part s r past)
 
 -- a checkpoint: its partition is folded
 pub KeepsJobs-fold : (old new : List Part) (number count : ℕ) → FoldsAt number old new → KeepsJobs (pasts_of old) (Fold number ∷ []) (Ok (Folded count) ∷ []) (pasts_of new)
@@ -161,46 +139,21 @@ pub opened-fold : (parts : List Part) (i : ℕ) (q d : Part) (r : Result ℕ Ref
 opened-fold parts i q d (Ok count) is = (ap (λ (p : Part). p.keys) is.0, ap (λ (p : Part). p.limits) is.0)
 opened-fold parts i q d (Err e) is = (ap (λ (p : Part). p.keys) is.1, ap (λ (p : Part). p.limits) is.1)
 
--- what a partition's past is, its plain rows are
-table_of-done : (part : ℕ) (job : Job) (result : Result Done Refusal) (past : Past) → table_of (past_after part job result past) ≡ table_done part job result (table_of past)
-table_of-done part (Perform s) (Ok (Replied reply)) past = by_test (s.part == part)
+-- the plain rows of the partitions after jobs, by what they lived through before
+pub tables-kept : (old now : List Part) (part : ℕ) (jobs : List Job) (results : List (Result Done Refusal)) → KeepsJobs (pasts_of old) jobs results (pasts_of now) → slice_get (tables_of now) part ≡ option_map (λ (past : Past). table_of (past_at part jobs results past)) (slice_get (pasts_of old) part)
+tables-kept old now part jobs results kept = tables-pasts now part ∙ ap (option_map table_of) (kept part) ∙ by_past (slice_get (pasts_of old) part)
   where
-    entry : Entry
-    entry = record { worker = s.worker; command = s.command; reply = reply }
-
-    by_test : (b : Bool) → table_of (cond b (with_entry past entry) past) ≡ cond b (table_after (table_of past) s.command) (table_of past)
-    by_test true = table_of-push past entry
-    by_test false = refl
-table_of-done part (Perform s) (Ok (Folded count)) past = refl
-table_of-done part (Perform s) (Err e) past = refl
-table_of-done part (Fold number) (Ok (Replied reply)) past = refl
-table_of-done part (Fold number) (Ok (Folded count)) past = by_test (number == part)
-  where
-    by_test : (b : Bool) → table_of (cond b (folded past) past) ≡ cond b (checkpointed (table_of past)) (table_of past)
-    by_test true = refl
-    by_test false = refl
-table_of-done part (Fold number) (Err e) past = refl
-
-table_of-through : (part : ℕ) (jobs : List Job) (results : List (Result Done Refusal)) (past : Past) → table_of (past_at part jobs results past) ≡ table_through part jobs results (table_of past)
-table_of-through part [] results past = refl
-table_of-through part (job ∷ jobs) [] past = refl
-table_of-through part (job ∷ jobs) (result ∷ results) past = table_of-through part jobs results (past_after part job result past) ∙ ap (table_through part jobs results) (table_of-done part job result past)
-
-pub table_through-kept : (old now : List Part) (part : ℕ) (jobs : List Job) (results : List (Result Done Refusal)) → KeepsJobs (pasts_of old) jobs results (pasts_of now) → slice_get (tables_of now) part ≡ option_map (table_through part jobs results) (slice_get (tables_of old) part)
-table_through-kept old now part jobs results kept =
-    tables-pasts now part ∙ ap (option_map table_of) (kept part) ∙ by_past (slice_get (pasts_of old) part) ∙ ap (option_map (table_through part jobs results)) (sym (tables-pasts old part))
-  where
-    by_past : (o : Option Past) → option_map table_of (option_map (past_at part jobs results) o) ≡ option_map (table_through part jobs results) (option_map table_of o)
+    by_past : (o : Option Past) → option_map table_of (option_map (past_at part jobs results) o) ≡ option_map (λ (past : Past). table_of (past_at part jobs results past)) o
     by_past None = refl
-    by_past (Some past) = ap Some (table_of-through part jobs results past)
+    by_past (Some past) = refl
 
 -- no job
-pub AreExpectedOutcomes-nil : (bounds : Bounds) (splits : List Bound) (tables : List PlainView) → AreExpectedOutcomes bounds splits tables [] []
-AreExpectedOutcomes-nil bounds splits tables = record { each = refl; outcomes = λ k j r at. absurd (omega (arith, slice_get_within {A = Job} [] k j at)) }
+pub AreExpectedOutcomes-nil : (bounds : Bounds) (splits : List Bound) (pasts : List Past) → AreExpectedOutcomes bounds splits pasts [] []
+AreExpectedOutcomes-nil bounds splits pasts = record { each = refl; outcomes = λ k j r at. absurd (omega (arith, slice_get_within {A = Job} [] k j at)) }
 
 -- one job more
-pub AreExpectedOutcomes-push : (bounds : Bounds) (splits : List Bound) (tables : List PlainView) (jobs : List Job) (results : List (Result Done Refusal)) (j : Job) (r : Result Done Refusal) → AreExpectedOutcomes bounds splits tables jobs results → IsJobOutcome bounds splits (option_map (table_through (part_of j) jobs results) (slice_get tables (part_of j))) j r → AreExpectedOutcomes bounds splits tables (jobs ++ j ∷ []) (results ++ r ∷ [])
-AreExpectedOutcomes-push bounds splits tables jobs results j r before now = record {
+pub AreExpectedOutcomes-push : (bounds : Bounds) (splits : List Bound) (pasts : List Past) (jobs : List Job) (results : List (Result Done Refusal)) (j : Job) (r : Result Done Refusal) → AreExpectedOutcomes bounds splits pasts jobs results → IsJobOutcome bounds splits (option_map (λ (past : Past). table_of (past_at (part_of j) jobs results past)) (slice_get pasts (part_of j))) j r → AreExpectedOutcomes bounds splits pasts (jobs ++ j ∷ []) (results ++ r ∷ [])
+AreExpectedOutcomes-push bounds splits pasts jobs results j r before now = record {
   each = omega (arith, before.each, length-append jobs (j ∷ []), length-append results (r ∷ []));
   outcomes = λ k j' r' at_job at_result. ⊎_elim
       (λ (front : k < length jobs).

@@ -1,7 +1,7 @@
--- What follows of steps, of the entries that they leave, and of partitions of which one is replaced.
-use Rattle.std.specs.Prelude.{◌≡◌, ◌≢◌, ℕ, ◌+◌, ◌<◌, ◌≤◌, ◌==◌, Bool, true, false, cond, fold, List, [], ◌∷◌, ◌++◌, length, map, take, drop, Option, None, Some, Result, Ok, Err, is_ok, slice_get, IfSome, IfOk, IfErr, OnOk, OnErr, IsOk, ◌⊎◌, nat_le, nat_lt, if◌then◌else◌}
+-- What follows of a step, of the entry that it leaves, and of partitions of which one is replaced.
+use Rattle.std.specs.Prelude.{◌≡◌, ◌≢◌, ℕ, ◌+◌, ◌<◌, ◌≤◌, Bool, true, false, cond, List, [], ◌∷◌, ◌++◌, length, take, drop, Option, None, Some, Result, Ok, Err, is_ok, slice_get, IfSome, IfOk, IfErr, OnOk, OnErr, IsOk, ◌⊎◌, nat_le, nat_lt, if◌then◌else◌}
 use Rattle.std.specs.Option.{option_map}
-use Rattle.std.proofs.Common.{zero, suc, get_or, set, arith, ap, refl, sym, subst, ◌∙◌, ⊎_elim, inl, inr, append-nil, append_assoc, length-append, length-set}
+use Rattle.std.proofs.Common.{zero, suc, get_or, set, arith, ap, refl, sym, subst, ◌∙◌, ⊎_elim, inl, inr, length-append, length-set}
 use Rattle.std.proofs.lemmas.Bool.{true≢false, both_ways, and_parts, and_from, leb-true, leb-false, le-leb, ltb-true, lt-ltb, eq-eqb, ne_eqb, cases_eq, cases_lt}
 use Rattle.std.proofs.lemmas.Option.{slice_get-map, slice_get-get_or, slice_get_past, slice_get_within}
 use Rattle.std.proofs.lemmas.List.{map-set, get_or-map, get_or-set_same, get_or-set_other, length-map, take-append-le, take_all}
@@ -23,10 +23,12 @@ use Rattle.crack_plain.specs.Plain.{PlainView, IsWithin, IsSmall, reply_to}
 use Rattle.crack_plain.proofs.PastLaws.{state_after-push, accepted_in-push}
 use Rattle.crack_part.specs.Parts.{Part, IsSound}
 use Rattle.crack_core.specs.declared.step.Step.{Step}
+use Rattle.crack_core.specs.declared.step.Job.TheVariants.{Perform}
+use Rattle.crack_core.specs.declared.step.Done.TheVariants.{Replied}
 use Rattle.crack_core.specs.Routes.{keys_of_part}
 use Rattle.crack_core.specs.Opening.{AreParts}
-use Rattle.crack_core.specs.Steps.{is_key_in, Bounds, bounds_of, reply_unless, MayLackCell, IsOutcome, IsOutcomeAt, fresh_table, table_after, tables_after, table_of, tables_of, pasts_of, accepted_by, entries_at, with_entries, KeepsEntries, answered_at, table_at, AreExpectedReplies}
-use Rattle.crack_core.specs.Cores.{Makes, MakesAll}
+use Rattle.crack_core.specs.Steps.{is_key_in, Bounds, bounds_of, reply_unless, MayLackCell, IsOutcome, IsOutcomeAt, fresh_table, table_after, tables_after, table_of, tables_of, pasts_of, accepted_by}
+use Rattle.crack_core.specs.Jobs.{performed, past_after, past_at, KeepsJobs}
 
 -- whether a command brings a key of others, by the test
 pub within-true : (keys : Range) (key : Option Key) → is_key_in keys key ≡ true → IfSome key (λ (k : Key). IsIn keys k.0)
@@ -116,20 +118,6 @@ table_of-push past e =
     let long : length (past.tail ++ e ∷ []) ≡ length past.tail + 1 = omega (arith, length-append past.tail (e ∷ [])) in
     rw (state_after-push past e, long) refl
 
--- no entry more
-pub with-nil : (past : Past) → with_entries past [] ≡ past
-with-nil past = ap (λ (es : List Entry). record past { tail = es }) (append-nil past.tail)
-
--- several entries more, and more behind them
-with-append : (past : Past) (es fs : List Entry) → with_entries (with_entries past es) fs ≡ with_entries past (es ++ fs)
-with-append past es fs = ap (λ (xs : List Entry). record past { tail = xs }) (append_assoc past.tail es fs)
-
--- several entries more
-pub table_of-append : (past : Past) (es : List Entry) → fold table_after (table_of past) (map (λ (e : Entry). e.command) es) ≡ table_of (with_entries past es)
-table_of-append past [] = ap table_of (sym (with-nil past))
-table_of-append past (e ∷ es) =
-    ap (λ (t : PlainView). fold table_after t (map (λ (x : Entry). x.command) es)) (sym (table_of-push past e)) ∙ table_of-append (with_entry past e) es ∙ ap table_of (with-append past (e ∷ []) es)
-
 -- the tables are those of the pasts
 pub tables-pasts : (parts : List Part) (part : ℕ) → slice_get (tables_of parts) part ≡ option_map table_of (slice_get (pasts_of parts) part)
 tables-pasts parts part =
@@ -139,69 +127,18 @@ tables-pasts parts part =
     both None = refl
     both (Some p) = refl
 
--- the entries of one step: of an answered one at its own partition alone
-entries-own : (s : Step) (reply : Reply) → entries_at s.part (s ∷ []) (Ok reply ∷ []) ≡ record { worker = s.worker; command = s.command; reply = reply } ∷ []
-entries-own s reply = ap (λ (b : Bool). cond b (record { worker = s.worker; command = s.command; reply = reply } ∷ []) []) (eq-eqb s.part s.part refl)
+-- a partition's past after a step: an answered one adds its entry at its own partition alone
+past-own : (s : Step) (reply : Reply) (past : Past) → past_after s.part (Perform s) (Ok (Replied reply)) past ≡ with_entry past (record { worker = s.worker; command = s.command; reply = reply })
+past-own s reply past = ap (λ (b : Bool). cond b (with_entry past (record { worker = s.worker; command = s.command; reply = reply })) past) (eq-eqb s.part s.part refl)
 
-entries-other : (part : ℕ) (s : Step) (r : Result Reply Refusal) → s.part ≢ part → entries_at part (s ∷ []) (r ∷ []) ≡ []
-entries-other part s (Ok reply) differs = ap (λ (b : Bool). cond b (record { worker = s.worker; command = s.command; reply = reply } ∷ []) []) (ne_eqb s.part part differs)
-entries-other part s (Err e) differs = refl
+past-other : (part : ℕ) (s : Step) (r : Result Reply Refusal) (past : Past) → s.part ≢ part → past_after part (Perform s) (performed r) past ≡ past
+past-other part s (Ok reply) past differs = ap (λ (b : Bool). cond b (with_entry past (record { worker = s.worker; command = s.command; reply = reply })) past) (ne_eqb s.part part differs)
+past-other part s (Err e) past differs = refl
 
 -- the past has the entry of a step that was answered
-pub kept-given : (past new : Past) (s : Step) (a : Result (Reply × Reply) Refusal) (r : Result Reply Refusal) → Gives a r → IfOk a (λ (replies : Reply × Reply). new ≡ with_entry past (record { worker = s.worker; command = s.command; reply = replies.0 })) → OnErr a (new ≡ past) → new ≡ with_entries past (entries_at s.part (s ∷ []) (r ∷ []))
-kept-given past new s (Ok replies) r gives kept same = rw gives.ok (kept ∙ ap (with_entries past) (sym (entries-own s replies.0)))
-kept-given past new s (Err e) r gives kept same = rw gives.err (same ∙ sym (with-nil past))
-
--- one step more
-pub entries_at-push : (part : ℕ) (steps : List Step) (results : List (Result Reply Refusal)) (s : Step) (r : Result Reply Refusal) → length results ≡ length steps → entries_at part (steps ++ s ∷ []) (results ++ r ∷ []) ≡ entries_at part steps results ++ entries_at part (s ∷ []) (r ∷ [])
-entries_at-push part [] [] s r same = refl
-entries_at-push part [] (x ∷ results) s r same = absurd (omega (arith, same))
-entries_at-push part (y ∷ steps) [] s r same = absurd (omega (arith, same))
-entries_at-push part (y ∷ steps) (Ok reply ∷ results) s r same = by_test (y.part == part) (entries_at-push part steps results s r (omega (arith, same)))
-  where
-    entry : Entry
-    entry = record { worker = y.worker; command = y.command; reply = reply }
-
-    by_test : (b : Bool) → entries_at part (steps ++ s ∷ []) (results ++ r ∷ []) ≡ entries_at part steps results ++ entries_at part (s ∷ []) (r ∷ []) → cond b (entry ∷ entries_at part (steps ++ s ∷ []) (results ++ r ∷ [])) (entries_at part (steps ++ s ∷ []) (results ++ r ∷ [])) ≡ cond b (entry ∷ entries_at part steps results) (entries_at part steps results) ++ entries_at part (s ∷ []) (r ∷ [])
-    by_test true later = ap (λ (es : List Entry). entry ∷ es) later
-    by_test false later = later
-entries_at-push part (y ∷ steps) (Err e ∷ results) s r same = entries_at-push part steps results s r (omega (arith, same))
-
--- nothing is added to a past that may not be there
-option-same : (o : Option Past) (none : List Entry) → none ≡ [] → option_map (λ (past : Past). with_entries past none) o ≡ o
-option-same None none is = refl
-option-same (Some past) none is = ap Some (ap (with_entries past) is ∙ with-nil past)
-
--- no step
-pub Keeps-nil : (pasts : List Past) → KeepsEntries pasts [] [] pasts
-Keeps-nil pasts = λ part. sym (option-same (slice_get pasts part) [] refl)
-
--- a step that was refused
-pub Keeps-refused : (pasts : List Past) (s : Step) (e : Refusal) → KeepsEntries pasts (s ∷ []) (Err e ∷ []) pasts
-Keeps-refused pasts s e = λ part. sym (option-same (slice_get pasts part) [] refl)
-
--- one step more
-pub Keeps-push : (old now new : List Past) (steps : List Step) (results : List (Result Reply Refusal)) (s : Step) (r : Result Reply Refusal) → length results ≡ length steps → KeepsEntries old steps results now → KeepsEntries now (s ∷ []) (r ∷ []) new → KeepsEntries old (steps ++ s ∷ []) (results ++ r ∷ []) new
-Keeps-push old now new steps results s r same before step = λ part.
-    let more = entries_at part (s ∷ []) (r ∷ []) in
-    step part ∙ ap (option_map (λ (past : Past). with_entries past more)) (before part) ∙ joined (slice_get old part) (entries_at part steps results) more (entries_at part (steps ++ s ∷ []) (results ++ r ∷ [])) (entries_at-push part steps results s r same)
-  where
-    joined : (o : Option Past) (es more all : List Entry) → all ≡ es ++ more → option_map (λ (past : Past). with_entries past more) (option_map (λ (past : Past). with_entries past es) o) ≡ option_map (λ (past : Past). with_entries past all) o
-    joined None es more all is = refl
-    joined (Some past) es more all is = ap Some (with-append past es more ∙ ap (with_entries past) (sym is))
-
--- what one partition is after its answered steps, by what its past is
-pub table_at-kept : (old now : List Part) (part : ℕ) (steps : List Step) (results : List (Result Reply Refusal)) → KeepsEntries (pasts_of old) steps results (pasts_of now) → slice_get (tables_of now) part ≡ table_at (tables_of old) part steps results
-table_at-kept old now part steps results kept =
-    tables-pasts now part ∙ ap (option_map table_of) (kept part) ∙ by_past (slice_get (pasts_of old) part) ∙ ap (option_map (λ (t : PlainView). fold table_after t (answered_at part steps results))) (sym (tables-pasts old part))
-  where
-    by_past : (o : Option Past) → option_map table_of (option_map (λ (past : Past). with_entries past (entries_at part steps results)) o) ≡ option_map (λ (t : PlainView). fold table_after t (answered_at part steps results)) (option_map table_of o)
-    by_past None = refl
-    by_past (Some past) = ap Some (sym (table_of-append past (entries_at part steps results)))
-
--- no step
-pub AreExpectedReplies-nil : (bounds : Bounds) (splits : List Bound) (tables : List PlainView) → AreExpectedReplies bounds splits tables [] []
-AreExpectedReplies-nil bounds splits tables = record { each = refl; outcomes = λ k s r at. absurd (omega (arith, slice_get_within {A = Step} [] k s at)) }
+pub kept-given : (past new : Past) (s : Step) (a : Result (Reply × Reply) Refusal) (r : Result Reply Refusal) → Gives a r → IfOk a (λ (replies : Reply × Reply). new ≡ with_entry past (record { worker = s.worker; command = s.command; reply = replies.0 })) → OnErr a (new ≡ past) → new ≡ past_after s.part (Perform s) (performed r) past
+kept-given past new s (Ok replies) r gives kept same = rw gives.ok (kept ∙ sym (past-own s replies.0 past))
+kept-given past new s (Err e) r gives kept same = rw gives.err same
 
 -- the last of a list
 pub get-last : {X : Type 0} (xs : List X) (x : X) → slice_get (xs ++ x ∷ []) (length xs) ≡ Some x
@@ -212,43 +149,6 @@ pub get-front : {X : Type 0} (xs : List X) (x : X) (k : ℕ) → k < length xs �
 get-front [] x k within = absurd (omega (arith, within))
 get-front (y ∷ xs) x zero within = refl
 get-front (y ∷ xs) x (suc k) within = get-front xs x k (omega (arith, within))
-
--- one step more
-pub AreExpectedReplies-push : (bounds : Bounds) (splits : List Bound) (tables : List PlainView) (steps : List Step) (results : List (Result Reply Refusal)) (s : Step) (r : Result Reply Refusal) → AreExpectedReplies bounds splits tables steps results → IsOutcome bounds (keys_of_part splits s.part) (table_at tables s.part steps results) s.command r → AreExpectedReplies bounds splits tables (steps ++ s ∷ []) (results ++ r ∷ [])
-AreExpectedReplies-push bounds splits tables steps results s r before now = record {
-  each = omega (arith, before.each, length-append steps (s ∷ []), length-append results (r ∷ []));
-  outcomes = λ k s' r' at_step at_result. ⊎_elim
-      (λ (front : k < length steps).
-      let step = sym (get-front steps s k front) ∙ at_step in
-      let result = sym (get-front results r k (omega (arith, front, before.each))) ∙ at_result in
-      let same_steps = take-append-le k steps (s ∷ []) (omega (arith, front)) in
-      let same_results = take-append-le k results (r ∷ []) (omega (arith, front, before.each)) in
-      rw (same_steps, same_results) (before.outcomes k s' r' step result))
-      (λ (back : length steps ≤ k).
-      let within = slice_get_within (steps ++ s ∷ []) k s' at_step in
-      let last : k ≡ length steps = omega (arith, back, within, length-append steps (s ∷ [])) in
-      let step : s ≡ s' = some_same (sym (get-last steps s) ∙ ap (slice_get (steps ++ s ∷ [])) (sym last) ∙ at_step) in
-      let end : k ≡ length results = omega (arith, last, before.each) in
-      let result : r ≡ r' = some_same (sym (get-last results r) ∙ ap (slice_get (results ++ r ∷ [])) (sym end) ∙ at_result) in
-      let same_steps : take k (steps ++ s ∷ []) ≡ steps = take-append-le k steps (s ∷ []) (omega (arith, last)) ∙ take_all k steps (omega (arith, last)) in
-      let same_results : take k (results ++ r ∷ []) ≡ results = take-append-le k results (r ∷ []) (omega (arith, end)) ∙ take_all k results (omega (arith, end)) in
-      rw (same_steps, same_results, ← step, ← result) now)
-      (cases_lt k (length steps));
-}
-  where
-    some_same : {X : Type 0} {x y : X} → Some x ≡ Some y → x ≡ y
-    some_same e = cc
-
--- no step
-pub MakesAll-nil : (splits : List Bound) (limits : Limits) (parts : List Part) → MakesAll splits limits [] [] parts parts
-MakesAll-nil splits limits parts = refl
-
--- one step more
-pub MakesAll-push : (splits : List Bound) (limits : Limits) (steps : List Step) (results : List (Result Reply Refusal)) (s : Step) (r : Result Reply Refusal) (old now new : List Part) → MakesAll splits limits steps results old now → Makes splits limits s r now new → MakesAll splits limits (steps ++ s ∷ []) (results ++ r ∷ []) old new
-MakesAll-push splits limits [] [] s r old now new before makes = (new, rw before at makes, refl)
-MakesAll-push splits limits [] (y ∷ results) s r old now new before makes = absurd before
-MakesAll-push splits limits (x ∷ steps) [] s r old now new before makes = absurd before
-MakesAll-push splits limits (x ∷ steps) (y ∷ results) s r old now new before makes = (before.0, before.1, MakesAll-push splits limits steps results s r before.0 now new before.2 makes)
 
 -- what stands in a list of which one element was replaced
 pub get-set_same : {X : Type 0} (xs : List X) (i : ℕ) (y : X) → i < length xs → slice_get (set xs i y) i ≡ Some y
@@ -264,46 +164,50 @@ get-set_other (x ∷ xs) (suc i) zero y differs = refl
 get-set_other (x ∷ xs) (suc i) (suc k) y differs = get-set_other xs i k y (λ e. differs (ap suc e))
 
 -- the partition of a step is replaced by one that keeps its entry
-pub Keeps-set : (parts : List Part) (q d : Part) (s : Step) (r : Result Reply Refusal) → s.part < length parts → q.past ≡ with_entries (get_or parts s.part d).past (entries_at s.part (s ∷ []) (r ∷ [])) → KeepsEntries (pasts_of parts) (s ∷ []) (r ∷ []) (pasts_of (set parts s.part q))
+pub Keeps-set : (parts : List Part) (q d : Part) (s : Step) (r : Result Reply Refusal) → s.part < length parts → q.past ≡ past_after s.part (Perform s) (performed r) (get_or parts s.part d).past → KeepsJobs (pasts_of parts) (Perform s ∷ []) (performed r ∷ []) (pasts_of (set parts s.part q))
 Keeps-set parts q d s r within kept = λ k. ⊎_elim
-    (λ (same : k ≡ s.part). subst (λ (n : ℕ). slice_get (pasts_of (set parts s.part q)) n ≡ option_map (λ (past : Past). with_entries past (entries_at n (s ∷ []) (r ∷ []))) (slice_get (pasts_of parts) n)) (sym same) own)
+    (λ (same : k ≡ s.part). subst (λ (n : ℕ). slice_get (pasts_of (set parts s.part q)) n ≡ option_map (past_at n (Perform s ∷ []) (performed r ∷ [])) (slice_get (pasts_of parts) n)) (sym same) own)
     (λ (other : k ≢ s.part).
     slice_get-map (λ (p : Part). p.past) (set parts s.part q) k
     ∙ ap (option_map (λ (p : Part). p.past)) (get-set_other parts s.part k q other)
     ∙ sym (slice_get-map (λ (p : Part). p.past) parts k)
-    ∙ sym (option-same (slice_get (pasts_of parts) k) (entries_at k (s ∷ []) (r ∷ [])) (entries-other k s r (λ e. other (sym e)))))
+    ∙ same_past k (slice_get (pasts_of parts) k) (λ e. other (sym e)))
     (cases_eq k s.part)
   where
-    own : slice_get (pasts_of (set parts s.part q)) s.part ≡ option_map (λ (past : Past). with_entries past (entries_at s.part (s ∷ []) (r ∷ []))) (slice_get (pasts_of parts) s.part)
+    same_past : (k : ℕ) (o : Option Past) → s.part ≢ k → o ≡ option_map (past_at k (Perform s ∷ []) (performed r ∷ [])) o
+    same_past k None differs = refl
+    same_past k (Some past) differs = ap Some (sym (past-other k s r past differs))
+
+    own : slice_get (pasts_of (set parts s.part q)) s.part ≡ option_map (past_at s.part (Perform s ∷ []) (performed r ∷ [])) (slice_get (pasts_of parts) s.part)
     own =
         slice_get-map (λ (p : Part). p.past) (set parts s.part q) s.part
         ∙ ap (option_map (λ (p : Part). p.past)) (get-set_same parts s.part q within)
         ∙ ap Some kept
-        ∙ ap (λ (o : Option Part). option_map (λ (past : Past). with_entries past (entries_at s.part (s ∷ []) (r ∷ []))) (option_map (λ (p : Part). p.past) o)) (sym (slice_get-get_or parts s.part d within))
-        ∙ ap (option_map (λ (past : Past). with_entries past (entries_at s.part (s ∷ []) (r ∷ [])))) (sym (slice_get-map (λ (p : Part). p.past) parts s.part))
+        ∙ ap (λ (o : Option Part). option_map (past_at s.part (Perform s ∷ []) (performed r ∷ [])) (option_map (λ (p : Part). p.past) o)) (sym (slice_get-get_or parts s.part d within))
+        ∙ ap (option_map (past_at s.part (Perform s ∷ []) (performed r ∷ []))) (sym (slice_get-map (λ (p : Part). p.past) parts s.part))
 
-pub tables-set : (parts : List Part) (q d : Part) (s : Step) (r : Result Reply Refusal) → s.part < length parts → q.past ≡ with_entries (get_or parts s.part d).past (entries_at s.part (s ∷ []) (r ∷ [])) → tables_of (set parts s.part q) ≡ tables_after (tables_of parts) s.part s.command r
+pub tables-set : (parts : List Part) (q d : Part) (s : Step) (r : Result Reply Refusal) → s.part < length parts → q.past ≡ past_after s.part (Perform s) (performed r) (get_or parts s.part d).past → tables_of (set parts s.part q) ≡ tables_after (tables_of parts) s.part s.command r
 tables-set parts q d s (Ok reply) within kept =
     let table = λ (p : Part). table_of p.past in
     let entry : Entry = record { worker = s.worker; command = s.command; reply = reply } in
     let old = get_or parts s.part d in
-    let grown = kept ∙ ap (with_entries old.past) (entries-own s reply) in
+    let grown = kept ∙ past-own s reply old.past in
     map-set table parts s.part q ∙ ap (set (tables_of parts) s.part) (ap table_of grown ∙ table_of-push old.past entry ∙ ap (λ (t : PlainView). table_after t s.command) (sym (get_or-map table parts s.part d fresh_table within)))
 tables-set parts q d s (Err e) within kept =
-    map-set_same (λ (p : Part). table_of p.past) parts s.part q d (ap table_of (kept ∙ with-nil (get_or parts s.part d).past))
+    map-set_same (λ (p : Part). table_of p.past) parts s.part q d (ap table_of kept)
 
-pub accepted-set : (parts : List Part) (q d : Part) (s : Step) (r : Result Reply Refusal) → s.part < length parts → q.past ≡ with_entries (get_or parts s.part d).past (entries_at s.part (s ∷ []) (r ∷ [])) → accepted_by (set parts s.part q) ≡ (if is_ok r then accepted_by parts + 1 else accepted_by parts)
+pub accepted-set : (parts : List Part) (q d : Part) (s : Step) (r : Result Reply Refusal) → s.part < length parts → q.past ≡ past_after s.part (Perform s) (performed r) (get_or parts s.part d).past → accepted_by (set parts s.part q) ≡ (if is_ok r then accepted_by parts + 1 else accepted_by parts)
 accepted-set parts q d s (Ok reply) within kept =
     let old = get_or parts s.part d in
     let entry : Entry = record { worker = s.worker; command = s.command; reply = reply } in
     let sum = sum_by-set (λ (p : Part). accepted_in p.past) parts s.part q d within in
-    let grown = ap accepted_in (kept ∙ ap (with_entries old.past) (entries-own s reply)) in
+    let grown = ap accepted_in (kept ∙ past-own s reply old.past) in
     let long = accepted_in-push old.past entry in
     omega (arith, sum, grown, long)
 accepted-set parts q d s (Err e) within kept =
     let old = get_or parts s.part d in
     let sum = sum_by-set (λ (p : Part). accepted_in p.past) parts s.part q d within in
-    let same = ap accepted_in (kept ∙ with-nil old.past) in
+    let same = ap accepted_in kept in
     omega (arith, sum, same)
 
 pub AreParts-set : (splits : List Bound) (limits : Limits) (parts : List Part) (i : ℕ) (q d : Part) → i < length parts → AreParts splits limits parts → q.keys ≡ (get_or parts i d).keys → q.limits ≡ (get_or parts i d).limits → IsSound q → AreParts splits limits (set parts i q)

@@ -1,17 +1,19 @@
 -- What steps and checkpoints, one after the other, are to be answered, and what they leave.
-use Rattle.std.specs.Prelude.{◌≡◌, ℕ, ◌==◌, List, [], ◌∷◌, length, take, Option, Some, Result, Ok, Err, OnOk, OnErr, slice_get, if◌then◌else◌}
+use Rattle.std.specs.Prelude.{◌≡◌, ◌≢◌, ℕ, ◌==◌, List, [], ◌∷◌, length, take, Option, Some, Result, Ok, Err, OnOk, OnErr, IfErr, slice_get, if◌then◌else◌}
 use Rattle.std.specs.Option.{option_map}
+use Rattle.crack_row.specs.Commands.{range_of}
 use Rattle.crack_row.specs.declared.Bound.{Bound}
 use Rattle.crack_row.specs.declared.limit.Limits.{Limits}
 use Rattle.crack_row.specs.declared.command.Reply.{Reply}
 use Rattle.crack_row.specs.declared.refusal.Refusal.{Refusal}
-use Rattle.crack_plain.specs.Plain.{PlainView, checkpointed}
+use Rattle.crack_row.specs.declared.refusal.Refusal.TheVariants.{OutOfMemory}
+use Rattle.crack_plain.specs.Plain.{PlainView}
 use Rattle.crack_plain.specs.Past.{Past, with_entry, folded}
-use Rattle.crack_part.specs.Parts.{Part, folded_part}
+use Rattle.crack_part.specs.Parts.{Part, Serves, Spares, folded_part}
 use Rattle.crack_core.specs.Routes.{keys_of_part}
 use Rattle.crack_core.specs.Opening.{AreParts}
-use Rattle.crack_core.specs.Steps.{Bounds, IsOutcome, table_after, IsFoldOutcome}
-use Rattle.crack_core.specs.Cores.{Makes}
+use Rattle.crack_core.specs.Steps.{Bounds, IsOutcome, IsFoldOutcome, table_of, pasts_of}
+use Rattle.crack_core.specs.declared.step.Step.{Step}
 use Rattle.crack_core.specs.declared.step.Job.{Job}
 use Rattle.crack_core.specs.declared.step.Job.TheVariants.{Perform, Fold}
 use Rattle.crack_core.specs.declared.step.Done.{Done}
@@ -41,25 +43,26 @@ past_after part job result past = past
 
 -- the same after these jobs, one after the other
 abbrev pub past_at : ℕ → List Job → List (Result Done Refusal) → Past → Past
-past_at part [] results past = past
-past_at part (job ∷ jobs) [] past = past
 past_at part (job ∷ jobs) (result ∷ results) past = past_at part jobs results (past_after part job result past)
+past_at part _ _ past = past
 
 -- each partition lived through what it had, and then through its own jobs
 abbrev pub KeepsJobs : List Past → List Job → List (Result Done Refusal) → List Past → Type 0
 KeepsJobs old jobs results new = (part : ℕ) → slice_get new part ≡ option_map (past_at part jobs results) (slice_get old part)
 
--- one partition as plain rows, after a job
-abbrev pub table_done : ℕ → Job → Result Done Refusal → PlainView → PlainView
-table_done part (Perform step) (Ok (Replied reply)) table = if step.part == part then table_after table step.command else table
-table_done part (Fold number) (Ok (Folded count)) table = if number == part then checkpointed table else table
-table_done part job result table = table
+-- what holds of the partition of this number, if there is one, and of the one that takes its place
+abbrev pub AtPart : ℕ → (Part → Part → Type 0) → List Part → List Part → Type 0
+AtPart part Holds old new = (p q : Part) → slice_get old part ≡ Some p → slice_get new part ≡ Some q → Holds p q
 
--- the same after these jobs, one after the other
-abbrev pub table_through : ℕ → List Job → List (Result Done Refusal) → PlainView → PlainView
-table_through part [] results table = table
-table_through part (job ∷ jobs) [] table = table
-table_through part (job ∷ jobs) (result ∷ results) table = table_through part jobs results (table_done part job result table)
+-- what a step does to the partitions of these splits: each stays one, the step's own keeps its entry and is served or spared by the
+-- step's policy, the others are as they were, and so are all after any refusal but 8
+pub record Makes (splits : List Bound) (limits : Limits) (step : Step) (result : Result Reply Refusal) (old new : List Part) : Type 0 where
+  pub parts : AreParts splits limits new
+  pub kept : KeepsJobs (pasts_of old) (Perform step ∷ []) (performed result ∷ []) (pasts_of new)
+  pub others : (k : ℕ) → k ≢ step.part → slice_get new k ≡ slice_get old k
+  pub store : OnOk result (AtPart step.part (λ p q. Serves step.policy p.keys p.next step.command p.store q.store) old new)
+  pub spared : OnErr result (AtPart step.part (λ p q. Spares step.policy p.keys (range_of step.command) p.store q.store) old new)
+  pub same : IfErr result (λ e. e ≢ OutOfMemory → new ≡ old)
 
 -- what comes of a job whose partition is this: a step comes out as its partition is to answer, and a checkpoint tells how many commands it
 -- accepted since the last one
@@ -67,12 +70,12 @@ abbrev pub IsJobOutcome : Bounds → List Bound → Option PlainView → Job →
 IsJobOutcome bounds splits table (Perform step) result = (outcome : Result Reply Refusal) × (result ≡ performed outcome) × IsOutcome bounds (keys_of_part splits step.part) table step.command outcome
 IsJobOutcome bounds splits table (Fold part) result = (outcome : Result ℕ Refusal) × (result ≡ folding outcome) × IsFoldOutcome table outcome
 
--- the expected replies over jobs: each comes out as its partition is to answer after those of its own jobs that were done before; neither
--- workers nor policies nor other partitions' jobs matter
-pub record AreExpectedOutcomes (bounds : Bounds) (splits : List Bound) (tables : List PlainView) (jobs : List Job) (results : List (Result Done Refusal)) : Type 0 where
+-- the expected replies over jobs: each comes out as its partition is to answer from what it lived through before the first job and its own
+-- jobs done before; neither workers nor policies nor other partitions' jobs matter
+pub record AreExpectedOutcomes (bounds : Bounds) (splits : List Bound) (pasts : List Past) (jobs : List Job) (results : List (Result Done Refusal)) : Type 0 where
   pub each : length results ≡ length jobs
   pub outcomes : (k : ℕ) (job : Job) (result : Result Done Refusal) → slice_get jobs k ≡ Some job → slice_get results k ≡ Some result →
-      IsJobOutcome bounds splits (option_map (table_through (part_of job) (take k jobs) (take k results)) (slice_get tables (part_of job))) job result
+      IsJobOutcome bounds splits (option_map (λ (past : Past). table_of (past_at (part_of job) (take k jobs) (take k results) past)) (slice_get pasts (part_of job))) job result
 
 -- the partition of this number is folded, and the others are as they were
 abbrev pub FoldsAt : ℕ → List Part → List Part → Type 0

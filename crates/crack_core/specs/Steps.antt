@@ -1,6 +1,5 @@
--- What the steps of many workers are to be answered, and what they leave; what a checkpoint between them does.
-use Rattle.std.specs.Prelude.{◌≡◌, ◌⊎◌, ℕ, ◌+◌, ◌≤◌, ◌==◌, Bool, true, List, [], ◌∷◌, ◌++◌, length, map, take, Option, None, Some, Result, Ok, Err, IsOk, is_some, nat_le, slice_get, slice_set, slice_index_or, fold, sum_by, if◌then◌else◌}
-use Rattle.std.specs.Option.{option_map}
+-- What a step and a checkpoint are to be answered, and what they leave of the plain rows.
+use Rattle.std.specs.Prelude.{◌≡◌, ◌⊎◌, ℕ, ◌+◌, ◌≤◌, Bool, true, List, length, map, Option, None, Some, Result, Ok, Err, IsOk, is_some, nat_le, slice_get, slice_set, slice_index_or, sum_by, if◌then◌else◌}
 use Rattle.crack_row.specs.Ranges.{Range, is_in}
 use Rattle.crack_row.specs.Commands.{key_of}
 use Rattle.crack_row.specs.Layouts.{IsLayout}
@@ -8,7 +7,6 @@ use Rattle.crack_row.specs.declared.Bound.{Bound}
 use Rattle.crack_row.specs.declared.limit.Limits.{Limits}
 use Rattle.crack_row.specs.declared.Key.{Key}
 use Rattle.crack_row.specs.declared.command.Command.{Command}
-use Rattle.crack_row.specs.declared.command.Entry.{Entry}
 use Rattle.crack_row.specs.declared.command.Reply.{Reply}
 use Rattle.crack_row.specs.declared.layout.Layout.{Layout}
 use Rattle.crack_row.specs.declared.refusal.Refusal.{Refusal}
@@ -17,7 +15,6 @@ use Rattle.crack_plain.specs.Plain.{PlainView, accepted_of, checkpointed, no_row
 use Rattle.crack_plain.specs.Past.{Past, state_after, accepted_in}
 use Rattle.crack_part.specs.Parts.{Part}
 use Rattle.crack_core.specs.Routes.{keys_of_part}
-use Rattle.crack_core.specs.declared.step.Step.{Step}
 
 -- whether a key, if there is one, is one of these
 abbrev pub is_key_in : Range → Option Key → Bool
@@ -107,33 +104,3 @@ pasts_of parts = map (λ (part : Part). part.past) parts
 -- how many commands partitions have accepted together, since they were opened
 abbrev pub accepted_by : List Part → ℕ
 accepted_by parts = sum_by (λ (part : Part). accepted_in part.past) parts
-
--- the entries that one partition keeps of these steps: of each of its own that was answered, in order
-abbrev pub entries_at : ℕ → List Step → List (Result Reply Refusal) → List Entry
-entries_at part [] results = []
-entries_at part (step ∷ steps) [] = []
-entries_at part (step ∷ steps) (Ok reply ∷ results) = if step.part == part then record { worker = step.worker; command = step.command; reply = reply } ∷ entries_at part steps results else entries_at part steps results
-entries_at part (step ∷ steps) (Err e ∷ results) = entries_at part steps results
-
--- a past with these entries more
-abbrev pub with_entries : Past → List Entry → Past
-with_entries past entries = record past { tail = past.tail ++ entries }
-
--- each past is the old one, and then the entries of its answered steps
-abbrev pub KeepsEntries : List Past → List Step → List (Result Reply Refusal) → List Past → Type 0
-KeepsEntries old steps results new = (part : ℕ) → slice_get new part ≡ option_map (λ past. with_entries past (entries_at part steps results)) (slice_get old part)
-
--- the commands that one partition answered of these steps, in order
-abbrev pub answered_at : ℕ → List Step → List (Result Reply Refusal) → List Command
-answered_at part steps results = map (λ (entry : Entry). entry.command) (entries_at part steps results)
-
--- one partition after its answered steps, if there is such a partition
-abbrev pub table_at : List PlainView → ℕ → List Step → List (Result Reply Refusal) → Option PlainView
-table_at tables part steps results = option_map (λ table. fold table_after table (answered_at part steps results)) (slice_get tables part)
-
--- the expected replies: each step comes out as its partition is to answer after those of its own steps that it answered before; neither
--- workers nor policies nor other partitions' steps matter
-pub record AreExpectedReplies (bounds : Bounds) (splits : List Bound) (tables : List PlainView) (steps : List Step) (results : List (Result Reply Refusal)) : Type 0 where
-  pub each : length results ≡ length steps
-  pub outcomes : (k : ℕ) (step : Step) (result : Result Reply Refusal) → slice_get steps k ≡ Some step → slice_get results k ≡ Some result →
-      IsOutcome bounds (keys_of_part splits step.part) (table_at tables step.part (take k steps) (take k results)) step.command result

@@ -1,17 +1,18 @@
 //! Partitions that one thread asks.
-ghost use Rattle.std.specs.Prelude.{◌≡◌, ◌≢◌, ℕ, ◌+◌, ◌≤◌, vec_capacity, List, [], ◌∷◌, length, All, is_ok, IsOk, None, Some, IfOk, IfErr, OnErr, OnOk, Ok, Err, slice_get, if◌then◌else◌};
+ghost use Rattle.std.specs.Prelude.{◌≡◌, ◌≢◌, ℕ, ◌+◌, ◌≤◌, vec_capacity, List, [], ◌∷◌, length, map, All, is_ok, IsOk, None, Some, IfOk, IfErr, OnErr, OnOk, Ok, Err, slice_get, if◌then◌else◌};
+ghost use Rattle.crack_row.specs.Commands.{range_of};
 ghost use Rattle.crack_row.specs.Limits.{of_history};
 ghost use Rattle.crack_row.specs.declared.Bound.{Bound};
 ghost use Rattle.crack_row.specs.declared.limit.Limits.{Limits};
 ghost use Rattle.crack_plain.specs.Past.{no_past};
 ghost use Rattle.crack_plain.specs.Plain.{PlainView, IsNumbered, IsSmall};
-ghost use Rattle.crack_part.specs.Parts.{Part};
+ghost use Rattle.crack_part.specs.Parts.{Part, Serves, Spares};
 ghost use Rattle.crack_core.specs.Routes.{AreSplits, keys_of_part, route, parts_of};
 ghost use Rattle.crack_core.specs.Opening.{opening_fault, MayFault, AreParts};
-ghost use Rattle.crack_core.specs.Steps.{bounds_of, IsOutcomeAt, IsLayoutOutcome, IsFoldOutcome, tables_of, tables_after, tables_folded, pasts_of, accepted_by, KeepsEntries, AreExpectedReplies};
+ghost use Rattle.crack_core.specs.Steps.{bounds_of, IsOutcomeAt, IsLayoutOutcome, IsFoldOutcome, tables_of, tables_after, tables_folded, pasts_of, accepted_by};
 ghost use Rattle.crack_store.specs.Inside.{no_cells, IsLayoutOf};
-ghost use Rattle.crack_core.specs.Cores.{IsCore, ServesAt, SparesAt, MakesAll};
-ghost use Rattle.crack_core.specs.Jobs.{performed, folding, KeepsJobs, AreExpectedOutcomes, IsJobOutcome, part_of, FoldsAt, Does, DoesAll};
+ghost use Rattle.crack_core.specs.Cores.{IsCore};
+ghost use Rattle.crack_core.specs.Jobs.{performed, folding, KeepsJobs, AtPart, AreExpectedOutcomes, IsJobOutcome, part_of, FoldsAt, Does, DoesAll};
 
 use crate::opening::{limits_fault, open_partitions, splits_fault};
 use crate::routes;
@@ -134,14 +135,14 @@ impl Core {
         ensures outcome { IsOutcomeAt (bounds_of self.old.limits) self.old.splits (tables_of self.old.parts) step.part step.command result }
         // The plain rows change as the reply says, and a refusal leaves them.
         ensures after { tables_of self.new.parts ≡ tables_after (tables_of self.old.parts) step.part step.command result }
-        ensures kept { KeepsEntries (pasts_of self.old.parts) (step ∷ []) (result ∷ []) (pasts_of self.new.parts) }
+        ensures kept { KeepsJobs (pasts_of self.old.parts) (Job.Perform step ∷ []) (performed result ∷ []) (pasts_of self.new.parts) }
         ensures accepted { accepted_by self.new.parts ≡ (if is_ok result then accepted_by self.old.parts + 1 else accepted_by self.old.parts) }
         ensures small { IfOk result IsSmall }
         ensures opened { (self.new.splits ≡ self.old.splits) × (self.new.limits ≡ self.old.limits) }
 
         ensures others { (k : ℕ) → k ≢ step.part → slice_get self.new.parts k ≡ slice_get self.old.parts k }
-        ensures store { OnOk result (ServesAt step self.old.parts self.new.parts) }
-        ensures spared { OnErr result (SparesAt step self.old.parts self.new.parts) }
+        ensures store { OnOk result (AtPart step.part (λ (p q : Part). Serves step.policy p.keys p.next step.command p.store q.store) self.old.parts self.new.parts) }
+        ensures spared { OnErr result (AtPart step.part (λ (p q : Part). Spares step.policy p.keys (range_of step.command) p.store q.store) self.old.parts self.new.parts) }
         ensures same { IfErr result (λ e. e ≢ Refusal.OutOfMemory → self.new ≡ self.old) }
     {
         ask_at(&mut self.partitions, step)
@@ -150,10 +151,10 @@ impl Core {
     /// Makes these steps one after the other, and answers what comes out of each. A step that is refused leaves what `step` says, and the
     /// next one is made. Refused with 8, before the first step, where the list of the answers finds no memory.
     pub fn run_steps(&mut self, steps: &[Step]) -> Result<Vec<Result<Reply, Refusal>>, Refusal>
-        ensures replies { IfOk result (λ results. AreExpectedReplies (bounds_of self.old.limits) self.old.splits (tables_of self.old.parts) steps.now results.items) }
-        ensures kept { IfOk result (λ results. KeepsEntries (pasts_of self.old.parts) steps.now results.items (pasts_of self.new.parts)) }
+        ensures replies { IfOk result (λ results. AreExpectedOutcomes (bounds_of self.old.limits) self.old.splits (pasts_of self.old.parts) (map Job.Perform steps.now) (map performed results.items)) }
+        ensures kept { IfOk result (λ results. KeepsJobs (pasts_of self.old.parts) (map Job.Perform steps.now) (map performed results.items) (pasts_of self.new.parts)) }
         // Each store is served by the policy of its own steps, in their order, and by nothing else.
-        ensures stores { IfOk result (λ results. MakesAll self.old.splits self.old.limits steps.now results.items self.old.parts self.new.parts) }
+        ensures stores { IfOk result (λ results. DoesAll self.old.splits self.old.limits (map Job.Perform steps.now) (map performed results.items) self.old.parts self.new.parts) }
         ensures opened { (self.new.splits ≡ self.old.splits) × (self.new.limits ≡ self.old.limits) }
         ensures same { OnErr result (self.new ≡ self.old) }
         ensures err { IfErr result (λ e. e ≡ Refusal.OutOfMemory) }
@@ -181,7 +182,7 @@ impl Core {
     /// Does these jobs one after the other, and answers what comes out of each. A job that is refused leaves what `step` and `checkpoint` say,
     /// and the next one is done. Refused with 8, before the first job, where the list of the answers finds no memory.
     pub fn run_jobs(&mut self, jobs: &[Job]) -> Result<Vec<Result<Done, Refusal>>, Refusal>
-        ensures replies { IfOk result (λ results. AreExpectedOutcomes (bounds_of self.old.limits) self.old.splits (tables_of self.old.parts) jobs.now results.items) }
+        ensures replies { IfOk result (λ results. AreExpectedOutcomes (bounds_of self.old.limits) self.old.splits (pasts_of self.old.parts) jobs.now results.items) }
         ensures kept { IfOk result (λ results. KeepsJobs (pasts_of self.old.parts) jobs.now results.items (pasts_of self.new.parts)) }
         // Each store is served by the policy of its own steps, in their order, and by nothing else; a checkpoint leaves it as it is.
         ensures stores { IfOk result (λ results. DoesAll self.old.splits self.old.limits jobs.now results.items self.old.parts self.new.parts) }
@@ -212,13 +213,13 @@ impl Core {
 fn ask_at(partitions: &mut [Partition], step: Step) -> Result<Reply, Refusal>
     ensures outcome { (splits : List Bound) (limits : Limits) → AreParts splits limits partitions.old → IsOutcomeAt (bounds_of limits) splits (tables_of partitions.old) step.part step.command result }
     ensures after { tables_of partitions.new ≡ tables_after (tables_of partitions.old) step.part step.command result }
-    ensures kept { KeepsEntries (pasts_of partitions.old) (step ∷ []) (result ∷ []) (pasts_of partitions.new) }
+    ensures kept { KeepsJobs (pasts_of partitions.old) (Job.Perform step ∷ []) (performed result ∷ []) (pasts_of partitions.new) }
     ensures accepted { accepted_by partitions.new ≡ (if is_ok result then accepted_by partitions.old + 1 else accepted_by partitions.old) }
     ensures parts { (splits : List Bound) (limits : Limits) → AreParts splits limits partitions.old → AreParts splits limits partitions.new }
     ensures small { IfOk result IsSmall }
     ensures others { (k : ℕ) → k ≢ step.part → slice_get partitions.new k ≡ slice_get partitions.old k }
-    ensures store { OnOk result (ServesAt step partitions.old partitions.new) }
-    ensures spared { OnErr result (SparesAt step partitions.old partitions.new) }
+    ensures store { OnOk result (AtPart step.part (λ (p q : Part). Serves step.policy p.keys p.next step.command p.store q.store) partitions.old partitions.new) }
+    ensures spared { OnErr result (AtPart step.part (λ (p q : Part). Spares step.policy p.keys (range_of step.command) p.store q.store) partitions.old partitions.new) }
     ensures same { IfErr result (λ e. e ≢ Refusal.OutOfMemory → partitions.new ≡ partitions.old) }
 {
     let part = step.part as usize;
@@ -247,9 +248,9 @@ fn without_receipt(answered: Result<(Reply, Reply), Refusal>) -> Result<Reply, R
 fn run_all(partitions: &mut [Partition], steps: &[Step], results: &mut Vec<Result<Reply, Refusal>>)
     requires empty { results.old.items ≡ [] }
     requires room { length steps.now ≤ vec_capacity results.old }
-    ensures replies { (splits : List Bound) (limits : Limits) → AreParts splits limits partitions.old → AreExpectedReplies (bounds_of limits) splits (tables_of partitions.old) steps.now results.new.items }
-    ensures kept { KeepsEntries (pasts_of partitions.old) steps.now results.new.items (pasts_of partitions.new) }
-    ensures stores { (splits : List Bound) (limits : Limits) → AreParts splits limits partitions.old → MakesAll splits limits steps.now results.new.items partitions.old partitions.new }
+    ensures replies { (splits : List Bound) (limits : Limits) → AreParts splits limits partitions.old → AreExpectedOutcomes (bounds_of limits) splits (pasts_of partitions.old) (map Job.Perform steps.now) (map performed results.new.items) }
+    ensures kept { KeepsJobs (pasts_of partitions.old) (map Job.Perform steps.now) (map performed results.new.items) (pasts_of partitions.new) }
+    ensures stores { (splits : List Bound) (limits : Limits) → AreParts splits limits partitions.old → DoesAll splits limits (map Job.Perform steps.now) (map performed results.new.items) partitions.old partitions.new }
     ensures parts { (splits : List Bound) (limits : Limits) → AreParts splits limits partitions.old → AreParts splits limits partitions.new }
 {
     'steps: for step in steps {
@@ -315,7 +316,7 @@ fn folding(folded: Result<u64, Refusal>) -> Result<Done, Refusal>
 fn do_all(partitions: &mut [Partition], jobs: &[Job], results: &mut Vec<Result<Done, Refusal>>)
     requires empty { results.old.items ≡ [] }
     requires room { length jobs.now ≤ vec_capacity results.old }
-    ensures replies { (splits : List Bound) (limits : Limits) → AreParts splits limits partitions.old → AreExpectedOutcomes (bounds_of limits) splits (tables_of partitions.old) jobs.now results.new.items }
+    ensures replies { (splits : List Bound) (limits : Limits) → AreParts splits limits partitions.old → AreExpectedOutcomes (bounds_of limits) splits (pasts_of partitions.old) jobs.now results.new.items }
     ensures kept { KeepsJobs (pasts_of partitions.old) jobs.now results.new.items (pasts_of partitions.new) }
     ensures stores { (splits : List Bound) (limits : Limits) → AreParts splits limits partitions.old → DoesAll splits limits jobs.now results.new.items partitions.old partitions.new }
     ensures parts { (splits : List Bound) (limits : Limits) → AreParts splits limits partitions.old → AreParts splits limits partitions.new }

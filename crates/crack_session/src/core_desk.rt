@@ -1,8 +1,9 @@
 //! A core as a desk, asked by worker 0.
 ghost use Rattle.std.specs.Prelude.{◌≡◌, ◌+◌, [], ◌∷◌, is_ok, IfOk, OnOk, slice_get, if◌then◌else◌};
 ghost use Rattle.crack_plain.specs.Plain.{IsSmall};
-ghost use Rattle.crack_core.specs.Steps.{bounds_of, IsOutcomeAt, IsFoldOutcome, tables_of, tables_after, tables_folded, pasts_of, accepted_by, KeepsEntries};
-ghost use Rattle.crack_core.specs.Jobs.{FoldsAt};
+ghost use Rattle.crack_core.specs.Steps.{bounds_of, IsOutcomeAt, IsFoldOutcome, tables_of, tables_after, tables_folded, pasts_of, accepted_by};
+ghost use Rattle.crack_core.specs.Jobs.{performed, KeepsJobs, FoldsAt};
+ghost use Rattle.crack_core.specs.declared.step.Job.TheVariants.{Perform};
 
 use crate::desk::Desk;
 use crack_core::{Core, Step};
@@ -23,7 +24,7 @@ impl Desk for Core {
     #[inline(always)]
     fn ask(&mut self, part: u32, command: Command, policy: Policy) -> Result<Reply, Refusal>
         // It is one step of worker 0, whose entry the partition keeps.
-        ensures kept { KeepsEntries (pasts_of self.old.parts) (record { worker = 0; part = part; command = command; policy = policy } ∷ []) (result ∷ []) (pasts_of self.new.parts) }
+        ensures kept { KeepsJobs (pasts_of self.old.parts) (Perform (record { worker = 0; part = part; command = command; policy = policy }) ∷ []) (performed result ∷ []) (pasts_of self.new.parts) }
         ensures outcome { IsOutcomeAt (bounds_of self.old.limits) self.old.splits (tables_of self.old.parts) part command result }
         ensures after { tables_of self.new.parts ≡ tables_after (tables_of self.old.parts) part command result }
         ensures small { IfOk result IsSmall }

@@ -1,11 +1,12 @@
-use Rattle.std.proofs.Common.{◌≡◌, ◌≢◌, ◌<◌, ◌∷◌, [], length, get_or, set, arith, ap, ◌∙◌, inl, inr, Result, Ok, Err, IfErr}
+use Rattle.std.proofs.Common.{◌≡◌, ◌≢◌, ◌<◌, length, get_or, set, arith, ap, ◌∙◌, inl, inr, Result, Ok, Err, IfErr}
 use Rattle.std.proofs.lemmas.List.{set-get_or}
 use Rattle.crack_row.specs.Commands.{range_of}
 use Rattle.crack_row.specs.declared.command.Reply.{Reply}
 use Rattle.crack_row.specs.declared.refusal.Refusal.{Refusal}
 use Rattle.crack_row.specs.declared.refusal.Refusal.TheVariants.{OutOfMemory}
 use Rattle.crack_part.specs.Parts.{Part, IsSound, Serves, Spares}
-use Rattle.crack_core.specs.Steps.{entries_at, with_entries}
+use Rattle.crack_core.specs.Jobs.{performed, past_after}
+use Rattle.crack_core.specs.declared.step.Job.TheVariants.{Perform}
 use Rattle.crack_core.proofs.StepLaws.{Gives, outcome-given, kept-given, small-given, same-given, ok_given, err_given, outcome-at, Keeps-set, tables-set, accepted-set, AreParts-set, get-set_other, replaced-at}
 use Rattle.crack_core.proofs.ShortLaws.{short-given, same-short}
 use Rattle.crack_core.proofs.cores.ask_at.Goals as goal
@@ -19,7 +20,7 @@ abbrev asked : (c : goal.After-without_receipt) → Part
 asked c = get_or c.args.partitions.now c.args.step.part c.index-partitions-part.result
 
 -- its past has the step's entry, if it was answered
-kept : (c : goal.After-without_receipt) → c.apply-answered.new.self.past ≡ with_entries (asked c).past (entries_at c.args.step.part (c.args.step ∷ []) (c.without_receipt.result ∷ []))
+kept : (c : goal.After-without_receipt) → c.apply-answered.new.self.past ≡ past_after c.args.step.part (Perform c.args.step) (performed c.without_receipt.result) (asked c).past
 kept c = kept-given (asked c).past c.apply-answered.new.self.past c.args.step c.apply-answered.result c.without_receipt.result (gives c) c.apply-answered.ensures.kept c.apply-answered.ensures.err
 
 if_err : (r : Result Reply Refusal) (P Q : Refusal → Type 0) → ((e : Refusal) → P e → Q e) → IfErr r P → IfErr r Q

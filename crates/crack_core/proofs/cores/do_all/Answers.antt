@@ -2,9 +2,9 @@ use Rattle.std.proofs.Common.{◌≡◌, ◌+◌, ◌<◌, ◌++◌, [], ◌∷�
 use Rattle.std.proofs.lemmas.List.{take_more}
 use Rattle.crack_plain.specs.Plain.{PlainView}
 use Rattle.crack_core.specs.declared.step.Job.{Job}
-use Rattle.crack_core.specs.Steps.{bounds_of, tables_of, pasts_of}
+use Rattle.crack_core.specs.Steps.{bounds_of, pasts_of}
 use Rattle.crack_core.specs.Jobs.{part_of, IsJobOutcome}
-use Rattle.crack_core.proofs.JobLaws.{KeepsJobs-push, AreExpectedOutcomes-push, DoesAll-push, table_through-kept}
+use Rattle.crack_core.proofs.JobLaws.{KeepsJobs-push, AreExpectedOutcomes-push, DoesAll-push, tables-kept}
 use Rattle.crack_core.proofs.cores.do_all.Goals as goal
 
 pub jobs-preserved : goal.jobs-preserved
@@ -24,8 +24,8 @@ jobs-preserved c =
     record {
       room = omega (arith, before.room, c.push_reserved.ensures.capacity);
       count = omega (arith, before.count, ap length c.push_reserved.ensures.items, length-append results (r ∷ []));
-      replies = λ splits limits are. rw (grown, c.push_reserved.ensures.items) (AreExpectedOutcomes-push (bounds_of limits) splits (tables_of old) front results j r (before.replies splits limits are)
-          (subst (λ (t : Option PlainView). IsJobOutcome (bounds_of limits) splits t j r) (table_through-kept old now (part_of j) front results before.kept) (c.do_job-result.ensures.outcome splits limits (before.parts splits limits are))));
+      replies = λ splits limits are. rw (grown, c.push_reserved.ensures.items) (AreExpectedOutcomes-push (bounds_of limits) splits (pasts_of old) front results j r (before.replies splits limits are)
+          (subst (λ (t : Option PlainView). IsJobOutcome (bounds_of limits) splits t j r) (tables-kept old now (part_of j) front results before.kept) (c.do_job-result.ensures.outcome splits limits (before.parts splits limits are))));
       kept = rw (grown, c.push_reserved.ensures.items) (KeepsJobs-push (pasts_of old) (pasts_of now) (pasts_of c.do_job-result.new.partitions) front results j r long before.kept c.do_job-result.ensures.kept);
       stores = λ splits limits are. rw (grown, c.push_reserved.ensures.items) (DoesAll-push splits limits front results j r old now c.do_job-result.new.partitions (before.stores splits limits are) (c.do_job-result.ensures.does splits limits (before.parts splits limits are)));
       parts = λ splits limits are. c.do_job-result.ensures.parts splits limits (before.parts splits limits are);

@@ -1,10 +1,11 @@
-use Rattle.std.proofs.Common.{◌≡◌, ◌+◌, ◌<◌, ◌++◌, [], ◌∷◌, length, take, Option, arith, ap, sym, subst, ◌∙◌, length-append, length-take-le, take_all}
-use Rattle.std.proofs.lemmas.List.{take_more}
+use Rattle.std.proofs.Common.{◌≡◌, ◌+◌, ◌<◌, ◌++◌, [], ◌∷◌, length, map, take, Option, arith, ap, refl, sym, subst, ◌∙◌, length-append, length-take-le, take_all}
+use Rattle.std.proofs.lemmas.List.{length-map, map-append, take_more}
 use Rattle.crack_plain.specs.Plain.{PlainView}
 use Rattle.crack_core.specs.declared.step.Step.{Step}
-use Rattle.crack_core.specs.Routes.{keys_of_part}
-use Rattle.crack_core.specs.Steps.{bounds_of, IsOutcome, tables_of, pasts_of}
-use Rattle.crack_core.proofs.StepLaws.{Keeps-push, AreExpectedReplies-push, MakesAll-push, table_at-kept}
+use Rattle.crack_core.specs.declared.step.Job.TheVariants.{Perform}
+use Rattle.crack_core.specs.Steps.{bounds_of, pasts_of}
+use Rattle.crack_core.specs.Jobs.{performed, IsJobOutcome}
+use Rattle.crack_core.proofs.JobLaws.{KeepsJobs-push, AreExpectedOutcomes-push, DoesAll-push, tables-kept}
 use Rattle.crack_core.proofs.cores.run_all.Goals as goal
 
 pub steps-preserved : goal.steps-preserved
@@ -19,22 +20,30 @@ steps-preserved c =
     let before = c.steps.invariant in
     let within : i < length steps = omega arith in
     let front = take i steps in
-    let grown : take (i + 1) steps ≡ front ++ s ∷ [] = take_more steps i s within ∙ ap (λ (x : Step). front ++ x ∷ []) (sym c.step-item.is) in
-    let long : length results ≡ length front = before.count ∙ sym (length-take-le i steps (omega (arith, within))) in
+    let after = c.ask_at-result.new.partitions in
+    let jobs = map Perform front in
+    let done = map performed results in
+    let grown : map Perform (take (i + 1) steps) ≡ jobs ++ Perform s ∷ [] = ap (map Perform) (take_more steps i s within ∙ ap (λ (x : Step). front ++ x ∷ []) (sym c.step-item.is)) ∙ map-append Perform front (s ∷ []) in
+    let more : map performed c.push_reserved.new.self.items ≡ done ++ performed r ∷ [] = ap (map performed) c.push_reserved.ensures.items ∙ map-append performed results (r ∷ []) in
+    let long : length done ≡ length jobs = omega (arith, length-map results performed, length-map front Perform, before.count, length-take-le i steps (omega (arith, within))) in
     record {
       room = omega (arith, before.room, c.push_reserved.ensures.capacity);
       count = omega (arith, before.count, ap length c.push_reserved.ensures.items, length-append results (r ∷ []));
-      replies = λ splits limits are. rw (grown, c.push_reserved.ensures.items) (AreExpectedReplies-push (bounds_of limits) splits (tables_of old) front results s r (before.replies splits limits are)
-          (subst (λ (t : Option PlainView). IsOutcome (bounds_of limits) (keys_of_part splits s.part) t s.command r) (table_at-kept old now s.part front results before.kept) (c.ask_at-result.ensures.outcome splits limits (before.parts splits limits are))));
-      kept = rw (grown, c.push_reserved.ensures.items) (Keeps-push (pasts_of old) (pasts_of now) (pasts_of c.ask_at-result.new.partitions) front results s r long before.kept c.ask_at-result.ensures.kept);
-      stores = λ splits limits are. rw (grown, c.push_reserved.ensures.items) (MakesAll-push splits limits front results s r old now c.ask_at-result.new.partitions (before.stores splits limits are) (record {
-        parts = c.ask_at-result.ensures.parts splits limits (before.parts splits limits are);
-        kept = c.ask_at-result.ensures.kept;
-        others = c.ask_at-result.ensures.others;
-        store = c.ask_at-result.ensures.store;
-        spared = c.ask_at-result.ensures.spared;
-        same = c.ask_at-result.ensures.same;
-      }));
+      replies = λ splits limits are. rw (grown, more) (AreExpectedOutcomes-push (bounds_of limits) splits (pasts_of old) jobs done (Perform s) (performed r) (before.replies splits limits are)
+          (subst (λ (t : Option PlainView). IsJobOutcome (bounds_of limits) splits t (Perform s) (performed r)) (tables-kept old now s.part jobs done before.kept) (r, refl, c.ask_at-result.ensures.outcome splits limits (before.parts splits limits are))));
+      kept = rw (grown, more) (KeepsJobs-push (pasts_of old) (pasts_of now) (pasts_of after) jobs done (Perform s) (performed r) long before.kept c.ask_at-result.ensures.kept);
+      stores = λ splits limits are. rw (grown, more) (DoesAll-push splits limits jobs done (Perform s) (performed r) old now after (before.stores splits limits are) (
+        r,
+        refl,
+        record {
+          parts = c.ask_at-result.ensures.parts splits limits (before.parts splits limits are);
+          kept = c.ask_at-result.ensures.kept;
+          others = c.ask_at-result.ensures.others;
+          store = c.ask_at-result.ensures.store;
+          spared = c.ask_at-result.ensures.spared;
+          same = c.ask_at-result.ensures.same;
+        },
+      ));
       parts = λ splits limits are. c.ask_at-result.ensures.parts splits limits (before.parts splits limits are);
     }
 
