@@ -5,11 +5,10 @@ use Rattle.std.proofs.lemmas.List.{drop_more, length-append, get_or-append-add, 
 use Rattle.std.proofs.lemmas.List.Folds.{list_all-append}
 use Rattle.std.proofs.Math.Seq.{take-append-add, take-add}
 use Rattle.std.specs.List.{list_all}
-use Rattle.std.specs.Option.{option_zip}
 use Rattle.crack_row.specs.declared.Key.{Key}
 use Rattle.crack_row.specs.declared.Payload.{Payload}
-use Rattle.crack_commands.specs.Grammar.{words, is_digit, number_of, whole_number_of, key_from, payload_from, statement_of}
-use Rattle.crack_commands.specs.Inside.{value_on, has_space, BeginsWithWhole}
+use Rattle.crack_commands.specs.Grammar.{words, is_digit, number_of, whole_number_of, statement_of}
+use Rattle.crack_commands.specs.Inside.{value_on, has_space, row_from, BeginsWithWhole}
 use Rattle.crack_commands.specs.LeadingInsert.{BeginsWithInsert}
 use Rattle.crack_commands.specs.declared.statement.Statement.TheVariants.{Insert}
 use Rattle.crack_commands.proofs.Numbers.{digits_printed, number_of_digits}
@@ -28,7 +27,7 @@ printed_no_space (b ∷ bs) h =
 
 -- a number and a whole number behind the name of an insert, a space between them
 says_insert : (xs ys : List ℕ) (v : ℕ) (z : ℤ) (key : Key) (payload : Payload) → 0 < length xs → has_space xs ≡ false → number_of xs ≡ Some v → 0 < length ys → has_space ys ≡ false → whole_number_of ys ≡ Some z
-    → option_zip (key_from v) (payload_from z) ≡ Some (key, payload)
+    → row_from v z ≡ Some (key, payload)
     → statement_of (codes "insert " ++ (xs ++ 32 ∷ ys)) ≡ Ok (Insert key payload)
 says_insert xs ys v z key payload some alone is some' alone' is' row =
     let first : words (xs ++ 32 ∷ ys) ≡ xs ∷ words (32 ∷ ys) = words_front xs ys alone (is_word_some xs some) in
@@ -47,7 +46,7 @@ two_parts rest m n within space =
 pub begins_with : (bytes rest : List ℕ) (m n v : ℕ) (z : ℤ) (key : Key) (payload : Payload) → bytes ≡ codes "insert " ++ rest
     → (0 < m) × (m ≤ 20) × (m < length rest) → get_or rest m 0 ≡ 32 → list_all is_digit (take m rest) ≡ true → v ≡ value_on 0 (take m rest)
     → BeginsWithWhole (drop (m + 1) rest) 10 z n
-    → option_zip (key_from v) (payload_from z) ≡ Some (key, payload)
+    → row_from v z ≡ Some (key, payload)
     → BeginsWithInsert bytes (7 + m + 1 + n) key payload
 begins_with bytes rest m n v z key payload whole first space digits is second row =
     let more = drop (m + 1) rest in

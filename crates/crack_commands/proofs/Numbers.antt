@@ -1,10 +1,11 @@
 -- Numbers among the words.
-use Rattle.std.proofs.Common.{◌≡◌, ℕ, zero, suc, ◌+◌, ◌-◌, ◌*◌, ◌^◌, ◌%◌, ◌<◌, ◌≤◌, Bool, true, false, cond, eqb, ltb, leb, Some, List, [], ◌∷◌, ◌++◌, length, take, drop, get_or, refl, sym, ap, ◌∙◌, arith, ⊎_elim, length-take, length-drop, add-one}
+use Rattle.std.proofs.Common.{◌≡◌, ℕ, ℤ, pos, neg_ℤ, zero, suc, ◌+◌, ◌-◌, ◌*◌, ◌^◌, ◌%◌, ◌<◌, ◌≤◌, Bool, true, false, cond, eqb, ltb, leb, Some, List, [], ◌∷◌, ◌++◌, length, take, drop, get_or, refl, sym, ap, ◌∙◌, arith, ⊎_elim, length-take, length-drop, add-one}
 use Rattle.std.proofs.lemmas.Bool.{and_parts, cases_Bool, le-leb, leb-true, lt-ltb, ltb-true, eqb-true}
 use Rattle.std.proofs.lemmas.List.{take_more, take_all}
 use Rattle.std.proofs.Math.Nat.{pow-suc, pow-le-pow_right}
 use Rattle.std.specs.List.{list_all}
-use Rattle.crack_commands.specs.Grammar.{words, is_word, is_digit, number_of, whole_number_of, has_sign, unsigned, signed}
+use Rattle.std.specs.Option.{option_map}
+use Rattle.crack_commands.specs.Grammar.{words, is_word, is_digit, number_of, whole_number_of, has_sign}
 use Rattle.crack_commands.specs.Inside.{value_on, has_space, IsFirstWord, IsFirstNumber, IsFirstWholeNumber, BeginsWithDigits, BeginsWithWhole}
 use Rattle.crack_commands.proofs.Splitting.{is_word_some, first_word}
 
@@ -99,9 +100,22 @@ sign_kept zero xs some = absurd (omega (arith, some))
 sign_kept (suc n) [] some = refl
 sign_kept (suc n) (x ∷ xs) some = refl
 
+-- what stands behind a minus sign at the front, if there is one
+abbrev pub unsigned : List ℕ → List ℕ
+unsigned word = cond (has_sign word) (drop 1 word) word
+
+-- a number, or its opposite
+abbrev pub signed : Bool → ℕ → ℤ
+signed is_negative n = cond is_negative (neg_ℤ (pos n)) (pos n)
+
+-- a whole number by its sign, and the number behind it
+whole_by : (word : List ℕ) (is_negative : Bool) → has_sign word ≡ is_negative → whole_number_of word ≡ option_map (signed is_negative) (number_of (cond is_negative (drop 1 word) word))
+whole_by word true sign = rw sign refl
+whole_by word false sign = rw sign refl
+
 -- a word that is a number but for its sign
 whole_is : (word : List ℕ) (is_negative : Bool) (n : ℕ) → has_sign word ≡ is_negative → number_of (cond is_negative (drop 1 word) word) ≡ Some n → whole_number_of word ≡ Some (signed is_negative n)
-whole_is word is_negative n sign is = rw (sign, is) refl
+whole_is word is_negative n sign is = whole_by word is_negative sign ∙ ap (option_map (signed is_negative)) is
 
 -- a minus sign and digits are no space
 sign_no_space : (b : ℕ) (xs : List ℕ) → eqb b 45 ≡ true → list_all is_digit xs ≡ true → has_space (b ∷ xs) ≡ false

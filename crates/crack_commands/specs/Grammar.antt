@@ -42,47 +42,31 @@ abbrev pub has_sign : List ℕ → Bool
 has_sign [] = false
 has_sign (b ∷ bs) = b == 45
 
--- what stands behind a minus sign at the front, if there is one
-abbrev pub unsigned : List ℕ → List ℕ
-unsigned word = if has_sign word then drop 1 word else word
-
--- a number, or its opposite
-abbrev pub signed : Bool → ℕ → ℤ
-signed is_negative n = if is_negative then neg_ℤ (pos n) else pos n
-
 -- a whole number: a NUMBER, and right before it a minus sign or none
 abbrev pub whole_number_of : List ℕ → Option ℤ
-whole_number_of word = option_map (signed (has_sign word)) (number_of (unsigned word))
+whole_number_of word = if has_sign word then option_map (λ n. neg_ℤ (pos n)) (number_of (drop 1 word)) else option_map pos (number_of word)
 
 -- the two NUMBERs that these words are, if they are that and no more
 abbrev pub two_numbers : List (List ℕ) → Option (ℕ × ℕ)
 two_numbers (first ∷ second ∷ []) = option_zip (number_of first) (number_of second)
 two_numbers _ = None
 
--- the key of this number, if it is at most the greatest
-abbrev pub key_from : ℕ → Option Key
-key_from n = if nat_le n GREATEST_KEY then Some (record { 0 = n }) else None
-
--- the payload of this whole number, if it is neither below the least nor above the greatest
-abbrev pub payload_from : ℤ → Option Payload
-payload_from z = if int_le LEAST_PAYLOAD z && int_le z GREATEST_PAYLOAD then Some (record { 0 = z }) else None
+-- a NUMBER that is at most the greatest
+abbrev pub number_up_to : ℕ → List ℕ → Option ℕ
+number_up_to greatest word = option_and_then (λ n. if nat_le n greatest then Some n else None) (number_of word)
 
 -- a key: a NUMBER that is at most the greatest
 abbrev pub key_of : List ℕ → Option Key
-key_of word = option_and_then key_from (number_of word)
+key_of word = option_map (λ n. record { 0 = n }) (number_up_to GREATEST_KEY word)
 
 -- a payload: a whole number that is neither below the least nor above the greatest
 abbrev pub payload_of : List ℕ → Option Payload
-payload_of word = option_and_then payload_from (whole_number_of word)
+payload_of word = option_and_then (λ z. if int_le LEAST_PAYLOAD z && int_le z GREATEST_PAYLOAD then Some (record { 0 = z }) else None) (whole_number_of word)
 
 -- the key and the payload that these words are, if they are that and no more
 abbrev pub key_and_payload : List (List ℕ) → Option (Key × Payload)
 key_and_payload (key ∷ payload ∷ []) = option_zip (key_of key) (payload_of payload)
 key_and_payload _ = None
-
--- a NUMBER that is at most the greatest
-abbrev pub number_up_to : ℕ → List ℕ → Option ℕ
-number_up_to greatest word = option_and_then (λ n. if nat_le n greatest then Some n else None) (number_of word)
 
 -- a row number: a NUMBER, a full stop and a NUMBER, each at most the greatest of its kind
 abbrev pub row_number_of : List ℕ → Option RowNo

@@ -1,6 +1,6 @@
 -- What private clauses alone cite.
-use Rattle.std.specs.Prelude.{◌≡◌, ℕ, ◌+◌, ◌-◌, ◌*◌, ◌<◌, ◌≤◌, ℤ, fold, Bool, true, false, List, [], ◌∷◌, ◌++◌, length, take, drop, Option, Some, None, Result, Ok, Err, nat_le, nat_lt, slice_index, ◌==◌, ◌||◌, ◌&&◌, slice_index_or, codes, decimal, if◌then◌else◌}
-use Rattle.std.specs.Option.{option_zip}
+use Rattle.std.specs.Prelude.{◌≡◌, ℕ, ◌+◌, ◌-◌, ◌*◌, ◌<◌, ◌≤◌, ℤ, int_le, fold, Bool, true, false, List, [], ◌∷◌, ◌++◌, length, take, drop, Option, Some, None, Result, Ok, Err, nat_le, nat_lt, slice_index, ◌==◌, ◌||◌, ◌&&◌, slice_index_or, codes, decimal, if◌then◌else◌}
+use Rattle.std.specs.Option.{option_map, option_zip}
 use Rattle.std.specs.List.{flat_map, list_all}
 use Rattle.std.specs.Int.{bit_at}
 use Rattle.crack_row.specs.declared.Key.{Key}
@@ -9,7 +9,7 @@ use Rattle.crack_row.specs.declared.Row.{Row}
 use Rattle.crack_row.specs.declared.Serial.{Serial}
 use Rattle.crack_row.specs.declared.layout.Layout.{Layout}
 use Rattle.crack_row.specs.Ranges.{Range}
-use Rattle.crack_row.specs.declared.TheConstants.{GREATEST_BOUND}
+use Rattle.crack_row.specs.declared.TheConstants.{GREATEST_KEY, LEAST_PAYLOAD, GREATEST_PAYLOAD, GREATEST_BOUND}
 use Rattle.crack_row.specs.declared.RowNo.{RowNo}
 use Rattle.crack_row.specs.declared.refusal.Refusal.{Refusal}
 use Rattle.crack_row.specs.declared.refusal.Refusal.TheVariants.{BadStatement, BadRange}
@@ -35,6 +35,10 @@ IsFirstNumber bytes number rest = (word : List ℕ) × IsFirstWord bytes word re
 -- the whole number that the first of the words is, if it is one, and what stands behind that word
 abbrev pub IsFirstWholeNumber : List ℕ → Option ℤ → List ℕ → Type 0
 IsFirstWholeNumber bytes number rest = (word : List ℕ) × IsFirstWord bytes word rest × (number ≡ whole_number_of word)
+
+-- the key and the payload that two numbers are, if they are such
+abbrev pub row_from : ℕ → ℤ → Option (Key × Payload)
+row_from key payload = option_zip (option_map (λ n. record { 0 = n }) (if nat_le key GREATEST_KEY then Some key else None)) (if int_le LEAST_PAYLOAD payload && int_le payload GREATEST_PAYLOAD then Some (record { 0 = payload }) else None)
 
 -- the number that digits spell, behind others
 abbrev pub value_on : ℕ → List ℕ → ℕ

@@ -19,17 +19,13 @@ use Rattle.crack_row.specs.declared.refusal.Refusal.TheVariants.{HistoryFull, Wo
 use Rattle.crack_row.specs.Refusals.{code_of}
 use Rattle.crack_row.specs.Rows.{amount}
 
--- a whole number: its digits, and a minus sign before them where it is below 0
-abbrev pub whole_text : ℤ → List ℕ
-whole_text number = signed_decimal number
-
 -- a key
 abbrev pub key_text : Key → List ℕ
 key_text key = decimal key.0
 
--- a payload
+-- a payload: its digits, and a minus sign before them where it is below 0
 abbrev pub payload_text : Payload → List ℕ
-payload_text payload = whole_text (amount payload)
+payload_text payload = signed_decimal (amount payload)
 
 -- an end of a range
 abbrev pub bound_text : Bound → List ℕ
@@ -41,7 +37,7 @@ count_text count = codes "count " ++ decimal count ++ codes "\n"
 
 -- a sum of payloads
 abbrev pub sum_text : ℤ → List ℕ
-sum_text sum = codes "sum " ++ whole_text sum ++ codes "\n"
+sum_text sum = codes "sum " ++ signed_decimal sum ++ codes "\n"
 
 -- the line above rows: how many there are
 abbrev pub head_text : ℕ → List ℕ

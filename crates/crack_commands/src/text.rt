@@ -3,7 +3,8 @@ ghost use Rattle.std.specs.Prelude.{◌≡◌, ◌+◌, ◌<◌, ◌≤◌, ◌+
 ghost use Rattle.std.specs.Io.KnownBytes.{Appends};
 ghost use Rattle.crack_row.specs.Devices.{device, has_failed};
 ghost use Rattle.std.specs.List.{flat_map};
-ghost use Rattle.crack_commands.specs.Texts.{whole_text, key_text, payload_text, bound_text, reply_text, count_text, sum_text, head_text, row_text, layout_text, piece_text, folded_text, policy_text, refusal_text, field_text, bits_text, AppendsFront};
+ghost use Rattle.std.specs.Fmt.{signed_decimal};
+ghost use Rattle.crack_commands.specs.Texts.{key_text, payload_text, bound_text, reply_text, count_text, sum_text, head_text, row_text, layout_text, piece_text, folded_text, policy_text, refusal_text, field_text, bits_text, AppendsFront};
 ghost use Rattle.crack_commands.specs.Inside.{placed_text, gone_text, rows_text, layout_head, two_fields, refused_text, has_bit, bit_text};
 
 use crate::output::send;
@@ -472,7 +473,7 @@ fn push_bound(text: &mut Text, bound: Bound)
 #[inline(always)]
 fn push_whole(text: &mut Text, number: i128)
     requires { length text.old.items + 40 ≤ TEXT_BYTES }
-    ensures digits { text.new.items ≡ text.old.items ++ whole_text number }
+    ensures digits { text.new.items ≡ text.old.items ++ signed_decimal number }
     ensures few { length text.new.items ≤ length text.old.items + 40 }
 {
     match u64::try_from(number) {

@@ -1,9 +1,8 @@
 //! Words and numbers among bytes.
-ghost use Rattle.std.specs.Prelude.{int_le, ◌&&◌, ◌≡◌, ◌+◌, ◌-◌, ◌*◌, ◌^◌, ◌<◌, ◌≤◌, ◌≢◌, ◌↔◌, true, false, length, IsTrue, Some, take, ◌==◌, IfSome, slice_index};
+ghost use Rattle.std.specs.Prelude.{pos, neg_ℤ, int_le, ◌&&◌, ◌≡◌, ◌+◌, ◌-◌, ◌*◌, ◌^◌, ◌<◌, ◌≤◌, ◌≢◌, ◌↔◌, true, false, length, IsTrue, Some, take, drop, ◌==◌, if◌then◌else◌, IfSome, slice_index};
 ghost use Rattle.std.specs.List.{list_all, position_or_len};
-ghost use Rattle.std.specs.Option.{option_zip};
-ghost use Rattle.crack_commands.specs.Grammar.{words, number_of, whole_number_of, has_sign, unsigned, signed, number_up_to, two_numbers, key_from, payload_from, key_of, payload_of, key_and_payload, only_word, row_number_of, is_digit};
-ghost use Rattle.crack_commands.specs.Inside.{value_on, has_space, IsFirstWord, IsFirstNumber, IsFirstWholeNumber, BeginsWithDigits};
+ghost use Rattle.crack_commands.specs.Grammar.{words, number_of, whole_number_of, has_sign, number_up_to, two_numbers, key_of, payload_of, key_and_payload, only_word, row_number_of, is_digit};
+ghost use Rattle.crack_commands.specs.Inside.{value_on, has_space, row_from, IsFirstWord, IsFirstNumber, IsFirstWholeNumber, BeginsWithDigits};
 
 use crack_row::{
     GREATEST_KEY, GREATEST_PAYLOAD, Key, KeyNumber, LEAST_PAYLOAD, Payload, PayloadNumber, RowNo,
@@ -41,7 +40,7 @@ pub fn key_and_payload(bytes: &[u8]) -> Option<(Key, Payload)>
 /// A number and a whole number, where there are just two words, these, 64 bits are enough for each, and no space stands behind them.
 #[inline(always)]
 fn two_short_words(bytes: &[u8]) -> Option<(u64, i128)>
-    ensures { IfSome result (λ pair. key_and_payload (words bytes.now) ≡ option_zip (key_from pair.0) (payload_from pair.1)) }
+    ensures { IfSome result (λ pair. key_and_payload (words bytes.now) ≡ row_from pair.0 pair.1) }
 {
     let (key, rest) = short_number(bytes)?;
     let (payload, rest) = short_whole_number(rest)?;
@@ -71,7 +70,7 @@ fn any_key_and_payload(bytes: &[u8]) -> Option<(Key, Payload)>
 /// The key and the payload of two numbers, if they are such. Both are looked at, side by side.
 #[inline(always)]
 pub(crate) fn row_from(key: u128, payload: i128) -> Option<(Key, Payload)>
-    ensures { result ≡ option_zip (key_from key) (payload_from payload) }
+    ensures { result ≡ row_from key payload }
 {
     if is_key(key) & is_payload(payload) {
         Some((
@@ -266,7 +265,7 @@ pub(crate) fn has_sign(bytes: &[u8]) -> bool
 /// What stands behind a minus sign at the front, if there is one.
 #[inline(always)]
 pub(crate) fn unsigned(bytes: &[u8]) -> &[u8]
-    ensures { result.now ≡ unsigned bytes.now }
+    ensures { result.now ≡ (if has_sign bytes.now then drop 1 bytes.now else bytes.now) }
 {
     if has_sign(bytes) { &bytes[1..] } else { bytes }
 }
@@ -275,7 +274,7 @@ pub(crate) fn unsigned(bytes: &[u8]) -> &[u8]
 #[inline(always)]
 pub(crate) fn signed(is_negative: bool, number: u128) -> i128
     requires { number < 2 ^ 127 }
-    ensures { result ≡ signed is_negative number }
+    ensures { result ≡ (if is_negative then neg_ℤ (pos number) else pos number) }
 {
     if is_negative {
         -(number as i128)

@@ -19,8 +19,8 @@ use Rattle.crack_core.specs.Steps.{Bounds, IsOutcome, IsOutcomeAt, tables_after,
 use Rattle.crack_session.specs.Queries.{listed}
 use Rattle.crack_commands.specs.Texts.{AppendsFront}
 use Rattle.crack_commands.proofs.Sending.{Appends-then, front_first, front_then}
-use Rattle.crack_csv.specs.Exports.{header_text, record_text, rows_at, rows_from, asked, lines_of, AreUnsent, IsExportCut}
-use Rattle.crack_csv.specs.Inside.{RefusesList, IsUnsent, IsUnlisted, IsUnwritten, IsPartCut}
+use Rattle.crack_csv.specs.Exports.{header_text, record_text, rows_from, asked, lines_of, AreUnsent, IsExportCut}
+use Rattle.crack_csv.specs.Inside.{rows_at, IsUnsent, IsUnlisted, IsUnwritten, IsPartCut}
 use Rattle.crack_csv.proofs.Exporting.{Exporting, batch_more, keeps_appends, kept_written, replied_rows, index_there, next_is, next_is_there, next_asked, next_rows}
 
 concat_map : {X : Type 0} (f : X → List ℕ) (xs : List X) → concat (map f xs) ≡ flat_map f xs
@@ -62,7 +62,7 @@ get_there (x ∷ xs) zero below = (x, refl)
 get_there (x ∷ xs) (suc i) below = get_there xs i (omega (arith, below))
 
 refuses_list : (bounds : Bounds) (splits : List Bound) (part : ℕ) (keys : Range) (there : Option PlainView) (table : PlainView) (e : Refusal) → keys ≡ keys_of_part splits part → there ≡ Some table
-    → IsOutcome bounds (keys_of_part splits part) there (Select keys) (Err e) → RefusesList bounds splits part (table ∷ []) e
+    → IsOutcome bounds (keys_of_part splits part) there (Select keys) (Err e) → IsOutcome bounds (keys_of_part splits part) (Some table) (Select (keys_of_part splits part)) (Err e)
 refuses_list bounds splits part keys there table e all is outcome =
     subst (λ (k : Range). IsOutcome bounds (keys_of_part splits part) (Some table) (Select k) (Err e)) all
     (subst (λ (o : Option PlainView). IsOutcome bounds (keys_of_part splits part) o (Select keys) (Err e)) is outcome)
@@ -117,7 +117,7 @@ unlisted_next : (bounds : Bounds) (splits : List Bound) (tables : List PlainView
 unlisted_next bounds splits tables part table e receipts now receipts' failed failed' left out out' out'' done [] split reached so_far written there next = absurd (next_is_there done part table reached there)
 unlisted_next bounds splits tables part table e receipts now receipts' failed failed' left out out' out'' done (t ∷ rest) split reached so_far written there next =
     let same : table ≡ t = next_is done t rest part table reached there in
-    let here : RefusesList bounds splits part (t ∷ rest) e = subst (λ (x : PlainView). RefusesList bounds splits part (x ∷ rest) e) same next.cause in
+    let here : IsOutcome bounds (keys_of_part splits part) (Some t) (Select (keys_of_part splits part)) (Err e) = subst (λ (x : PlainView). IsOutcome bounds (keys_of_part splits part) (Some x) (Select (keys_of_part splits part)) (Err e)) same next.cause in
     record {
       done = done;
       rest = t ∷ rest;
@@ -127,7 +127,7 @@ unlisted_next bounds splits tables part table e receipts now receipts' failed fa
       cause = inr (inl (
         t,
         refl,
-        subst (λ n. RefusesList bounds splits n (t ∷ rest) e) (sym reached) here,
+        subst (λ n. IsOutcome bounds (keys_of_part splits n) (Some t) (Select (keys_of_part splits n)) (Err e)) (sym reached) here,
         next.unfailed,
         lines_text splits done out out'' (kept_written out out' out'' _ written (keeps_appends out' out'' next.unwritten)),
       ));

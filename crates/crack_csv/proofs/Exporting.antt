@@ -17,8 +17,8 @@ use Rattle.crack_core.specs.Routes.{keys_of_part}
 use Rattle.crack_core.specs.Steps.{Bounds, reply_unless, MayLackCell, IsOutcome, IsOutcomeAt, tables_after, table_after, fresh_table}
 use Rattle.crack_session.specs.Queries.{listed}
 use Rattle.crack_commands.proofs.Sending.{Appends-then}
-use Rattle.crack_csv.specs.Exports.{header_text, record_text, rows_at, rows_from, asked, IsExported}
-use Rattle.crack_csv.specs.Inside.{IsPartExported}
+use Rattle.crack_csv.specs.Exports.{header_text, record_text, rows_from, asked, IsExported}
+use Rattle.crack_csv.specs.Inside.{rows_at, IsPartExported}
 
 -- the place behind a list is the first of what follows
 get_behind : {X : Type 0} (xs ys : List X) → slice_get (xs ++ ys) (length xs) ≡ slice_get ys 0

@@ -2,7 +2,7 @@
 use Rattle.std.proofs.Common.{◌≡◌, ℕ, ◌+◌, ◌<◌, ◌==◌, ◌&&◌, ◌⊎◌, Bool, true, false, cond, fold, Option, Some, List, [], ◌∷◌, ◌++◌, length, map, refl, sym, ap, ◌∙◌, inl, inr, arith, length-append}
 use Rattle.std.proofs.lemmas.List.{map-append}
 use Rattle.std.proofs.lemmas.Bool.{ne_eqb}
-use Rattle.csv.specs.Reading.{Reached, source_of, strip_bom, reader_state}
+use Rattle.csv.specs.Reading.{AreRecords, default_config, Reached, source_of, strip_bom, reader_state}
 use Rattle.csv.specs.declared.parser.State.TheVariants as st
 use Rattle.csv.specs.declared.reader.Reader.{Reader}
 use Rattle.crack_row.specs.declared.Bound.{Bound}
@@ -10,7 +10,7 @@ use Rattle.crack_row.specs.declared.refusal.Refusal.{Refusal}
 use Rattle.crack_row.specs.declared.refusal.Refusal.TheVariants.{ReadFault, OutOfMemory}
 use Rattle.crack_plain.specs.Plain.{PlainView}
 use Rattle.crack_csv.specs.declared.record.NewRow.{NewRow}
-use Rattle.crack_csv.specs.Inside.{Fields, AreAllOf, IsBehind, BringsRow}
+use Rattle.crack_csv.specs.Inside.{Fields, IsBehind, BringsRow}
 use Rattle.crack_csv.specs.Records.{is_header, without_header, new_row_of}
 use Rattle.crack_csv.specs.Loads.{with_row, Refuses, AreInserted, IsLoaded, IsCutShort}
 use Rattle.crack_csv.specs.declared.TheConstants.{MOST_RECORDS}
@@ -95,7 +95,7 @@ Going-row new fields left' g reads plain brings = record {
   count = let l = length-append g.records (fields ∷ []) in let c = g.count in omega (arith, l, c);
 }
 
-pub Going-end : {R : Type 0} {remaining : R → Option (List ℕ)} {old : Reader R} {splits : List Bound} {tables : List PlainView} {bytes : List ℕ} {number loaded : ℕ} {left : Option (List PlainView)} → Going remaining old splits tables bytes number loaded left → ((text : List ℕ) (records : List Fields) → IsBehind remaining old text records → AreAllOf text records) → IsLoaded splits tables bytes loaded left
+pub Going-end : {R : Type 0} {remaining : R → Option (List ℕ)} {old : Reader R} {splits : List Bound} {tables : List PlainView} {bytes : List ℕ} {number loaded : ℕ} {left : Option (List PlainView)} → Going remaining old splits tables bytes number loaded left → ((text : List ℕ) (records : List Fields) → IsBehind remaining old text records → AreRecords default_config st.StartRecord text records) → IsLoaded splits tables bytes loaded left
 Going-end g ends = record { records = g.records; all = ends _ g.records g.behind; inserted = g.inserted }
 
 -- why a record isn't inserted behind so many others: they are as many as may be, or it is refused

@@ -21,14 +21,10 @@ header_text = row_text default_writer (codes "key" ∷ codes "payload" ∷ [])
 abbrev pub record_text : Row → List ℕ
 record_text row = row_text default_writer (key_text row.key ∷ payload_text row.payload ∷ [])
 
--- the rows of a partition, in rising serial
-abbrev pub rows_at : List Bound → ℕ → PlainView → List Row
-rows_at splits part table = rows_in (keys_of_part splits part) table.state.rows
-
--- the rows of these partitions, whose numbers rise from this one on: those of each in turn
+-- the rows of these partitions, whose numbers rise from this one on: those of each in turn, in rising serial
 abbrev pub rows_from : List Bound → ℕ → List PlainView → List Row
 rows_from splits part [] = []
-rows_from splits part (table ∷ tables) = rows_at splits part table ++ rows_from splits (part + 1) tables
+rows_from splits part (table ∷ tables) = rows_in (keys_of_part splits part) table.state.rows ++ rows_from splits (part + 1) tables
 
 -- a partition that was asked for its rows: these are as they were, and its history has one entry more
 abbrev pub asked : PlainView → PlainView

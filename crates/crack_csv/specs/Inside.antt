@@ -1,25 +1,25 @@
 -- What private clauses alone cite.
-use Rattle.std.specs.Prelude.{Err, ◌≡◌, ℕ, ◌+◌, ◌⊎◌, List, [], ◌∷◌, length, map, Option, Some, Bool, true, false, slice_get, slice_set}
+use Rattle.std.specs.Prelude.{Err, ◌≡◌, ℕ, ◌+◌, ◌⊎◌, List, length, map, Option, Some, Bool, true, false, slice_get, slice_set}
 use Rattle.std.specs.List.{flat_map}
 use Rattle.std.specs.Io.KnownBytes.{Appends, Keeps}
 use Rattle.csv.specs.Writing.{default_writer, fields_written, has_written, writer_setup}
 use Rattle.csv.specs.declared.writer.Writer.{Writer}
 use Rattle.crack_row.specs.declared.Bound.{Bound}
+use Rattle.crack_row.specs.declared.Row.{Row}
 use Rattle.crack_row.specs.declared.refusal.Refusal.{Refusal}
 use Rattle.crack_row.specs.declared.refusal.Refusal.TheVariants.{OutOfMemory, WriteFault, ReadFault}
-use Rattle.crack_plain.specs.Plain.{PlainView}
+use Rattle.crack_plain.specs.Plain.{PlainView, rows_in}
 use Rattle.crack_commands.specs.Texts.{AppendsFront}
-use Rattle.crack_csv.specs.Exports.{record_text, rows_at, asked, AreUnsent}
+use Rattle.crack_csv.specs.Exports.{record_text, asked, AreUnsent}
 use Rattle.crack_csv.specs.Records.{new_row_of}
 use Rattle.crack_csv.specs.Loads.{with_row}
-use Rattle.crack_row.specs.declared.command.Command.{Command}
-use Rattle.crack_row.specs.declared.command.Command.TheVariants.{Insert, Select}
+use Rattle.crack_row.specs.declared.command.Command.TheVariants.{Select}
 use Rattle.crack_core.specs.Routes.{keys_of_part}
 use Rattle.crack_core.specs.Steps.{Bounds, IsOutcome}
 use Rattle.crack_csv.specs.declared.record.NewRow.{NewRow}
 use Rattle.csv.specs.declared.error.ErrorKind.{ErrorKind}
 use Rattle.csv.specs.declared.error.ErrorKind.TheVariants as kind
-use Rattle.csv.specs.Reading.{AreRecords, default_config, Ready, Reached, reader_config, reader_trim, reader_state, is_flexible, source_of}
+use Rattle.csv.specs.Reading.{default_config, Ready, Reached, reader_config, reader_trim, reader_state, is_flexible, source_of}
 use Rattle.csv.specs.declared.parser.State.TheVariants as st
 use Rattle.csv.specs.declared.reader.Reader.{Reader}
 use Rattle.csv.specs.declared.reader.Trim.TheVariants as trim
@@ -28,24 +28,15 @@ use Rattle.csv.specs.declared.reader.Trim.TheVariants as trim
 abbrev pub Fields : Type 0
 Fields = List (List ℕ)
 
--- these are all records of a text
-abbrev pub AreAllOf : List ℕ → List Fields → Type 0
-AreAllOf text records = AreRecords default_config st.StartRecord text records
-
--- the command that inserts a row
-abbrev pub insertion : NewRow → Command
-insertion row = Insert row.key row.payload
-
--- why the partition of this number, if it is there, doesn't list its rows: as it is to answer
-abbrev pub RefusesList : Bounds → List Bound → ℕ → List PlainView → Refusal → Type 0
-RefusesList bounds splits part [] e = ⊥
-RefusesList bounds splits part (table ∷ rest) e = IsOutcome bounds (keys_of_part splits part) (Some table) (Select (keys_of_part splits part)) (Err e)
-
 -- a writer of CSV writes by default, and stands before a record
 pub record IsFresh {W : Type 0} (writer : Writer W) : Type 0 where
   pub setup : writer_setup writer ≡ default_writer
   pub none : fields_written writer ≡ 0
   pub empty : has_written writer ≡ false
+
+-- the rows of a partition, in rising serial
+abbrev pub rows_at : List Bound → ℕ → PlainView → List Row
+rows_at splits part table = rows_in (keys_of_part splits part) table.state.rows
 
 -- A partition is asked for its rows, and a record for each is written.
 pub record IsPartExported (splits : List Bound) (tables : List PlainView) (part count : ℕ) (left : Option (List PlainView)) (out out' : Option (List ℕ)) : Type 0 where
@@ -62,7 +53,7 @@ IsUnsent text e failed failed' out out' = ((e ≡ OutOfMemory) × (failed' ≡ f
 
 -- A partition refuses the list of its rows: all is as it was.
 pub record IsUnlisted (bounds : Bounds) (splits : List Bound) (tables : List PlainView) (part : ℕ) (table : PlainView) (e : Refusal) (receipts receipts' : ℕ) (failed failed' : Bool) (left : Option (List PlainView)) (out out' : Option (List ℕ)) : Type 0 where
-  pub cause : RefusesList bounds splits part (table ∷ []) e
+  pub cause : IsOutcome bounds (keys_of_part splits part) (Some table) (Select (keys_of_part splits part)) (Err e)
   pub left_is : left ≡ Some tables
   pub receipts_are : receipts' ≡ receipts
   pub unfailed : failed' ≡ failed

@@ -1,11 +1,12 @@
 //! The insertion of a record's row.
 ghost use Rattle.std.specs.Prelude.{◌≡◌, ◌+◌, List, Some, Err, is_ok, IfErr, OnOk, if◌then◌else◌};
 ghost use Rattle.csv.specs.Records.{fields_of};
+ghost use Rattle.crack_row.specs.declared.command.Command.TheVariants.{Insert};
 ghost use Rattle.crack_plain.specs.Plain.{PlainView};
 ghost use Rattle.crack_core.specs.Routes.{route};
 ghost use Rattle.crack_core.specs.Steps.{IsOutcomeAt};
 ghost use Rattle.crack_csv.specs.Records.{new_row_of};
-ghost use Rattle.crack_csv.specs.Inside.{insertion, BringsRow};
+ghost use Rattle.crack_csv.specs.Inside.{BringsRow};
 ghost use Rattle.crack_csv.specs.Loads.{with_row, Refuses};
 
 use crate::record::{NewRow, new_row};
@@ -42,7 +43,7 @@ fn insert_row<D: Desk>(desk: &mut D, policy: Policy, row: NewRow) -> Result<(), 
         D.tables desk.new ≡ Some (with_row (D.splits desk.old) tables row)) }
     ensures kept { IfErr result (λ _. (tables : List PlainView) → D.tables desk.old ≡ Some tables → D.tables desk.new ≡ Some tables) }
     ensures refused { IfErr result (λ e. (tables : List PlainView) → D.tables desk.old ≡ Some tables →
-        IsOutcomeAt (D.bounds desk.old) (D.splits desk.old) tables (route (D.splits desk.old) row.key.0) (insertion row) (Err e)) }
+        IsOutcomeAt (D.bounds desk.old) (D.splits desk.old) tables (route (D.splits desk.old) row.key.0) (Insert row.key row.payload) (Err e)) }
     ensures splits { D.splits desk.new ≡ D.splits desk.old }
     ensures bounds { D.bounds desk.new ≡ D.bounds desk.old }
     ensures receipts { D.receipts desk.new ≡ (if is_ok result then D.receipts desk.old + 1 else D.receipts desk.old) }

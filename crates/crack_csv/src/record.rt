@@ -1,9 +1,9 @@
 //! Records of CSV: what they say, and how they are read.
 ghost use Rattle.std.specs.Prelude.{◌≡◌, ◌≢◌, ◌⊎◌, ◌++◌, ◌∷◌, ◌==◌, ◌&&◌, [], ℕ, List, true, false, length, IfOk, IfErr, IfSome, IfNone};
-ghost use Rattle.csv.specs.Reading.{AreRecords};
+ghost use Rattle.csv.specs.Reading.{AreRecords, default_config};
 ghost use Rattle.csv.specs.Records.{fields_of};
 ghost use Rattle.csv.specs.declared.parser.State.TheVariants as st;
-ghost use Rattle.crack_csv.specs.Inside.{Fields, AreAllOf, unread_by, IsReady, IsBehind};
+ghost use Rattle.crack_csv.specs.Inside.{Fields, unread_by, IsReady, IsBehind};
 ghost use Rattle.crack_csv.specs.Records.{is_header, new_row_of};
 
 use crack_commands::{read_key, read_payload};
@@ -70,7 +70,7 @@ pub fn read_next<R: Read>(reader: &mut Reader<R>, fields: &mut ByteRecord) -> Re
     ensures more { IfOk result (λ found. found ≡ true → (text : List ℕ) (records : List Fields) →
         IsBehind R.remaining reader.old text records → IsBehind R.remaining reader.new text (records ++ fields_of fields.new ∷ [])) }
     ensures end { IfOk result (λ found. found ≡ false → (text : List ℕ) (records : List Fields) →
-        IsBehind R.remaining reader.old text records → AreAllOf text records) }
+        IsBehind R.remaining reader.old text records → AreRecords default_config st.StartRecord text records) }
     ensures err { IfErr result (λ e. (e ≡ Refusal.ReadFault) ⊎ (e ≡ Refusal.OutOfMemory)) }
 {
     match reader.read_byte_record(fields) {

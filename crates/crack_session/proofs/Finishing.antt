@@ -9,7 +9,7 @@ use Rattle.crack_session.specs.declared.session.Fault.{Fault}
 use Rattle.crack_session.specs.declared.session.How.{How}
 use Rattle.crack_session.specs.declared.session.Progress.{Progress}
 use Rattle.crack_session.specs.Readings.{statements}
-use Rattle.crack_session.specs.Served.{CountsStatements, IsServed, IsDone, IsCutOff}
+use Rattle.crack_session.specs.Served.{AreTold, CountsStatements, IsDone, IsCutOff}
 use Rattle.crack_session.proofs.Going.{Going, Going-counted, Going-served, Going-done, Going-cut}
 use Rattle.crack_core.specs.Steps.{Bounds}
 
@@ -27,7 +27,7 @@ pub finish-counted : (r : Result End Fault) {bounds : Bounds} {splits : List Bou
 finish-counted (Ok end) p how is over = λ bytes e. Going-counted bytes end (over bytes e) (ap (λ (x : End). x.statements) is) (ap (λ (x : End). x.how) is)
 finish-counted (Err fault) p how is over = tt
 
-pub finish-served : (r : Result End Fault) {bounds : Bounds} {splits : List Bound} {known : Option (List ℕ)} (p : Progress) (how : How) {s0 s : Option (List PlainView)} {out0 out : Option (List ℕ)} → IfOk r (λ end. end ≡ end_of p how) → IsOver bounds splits known p how s0 s out0 out → IfOk r (λ end. (bytes o : List ℕ) (x : List PlainView) → known ≡ Some bytes → out0 ≡ Some o → s0 ≡ Some x → IsServed bounds splits x bytes o end s out)
+pub finish-served : (r : Result End Fault) {bounds : Bounds} {splits : List Bound} {known : Option (List ℕ)} (p : Progress) (how : How) {s0 s : Option (List PlainView)} {out0 out : Option (List ℕ)} → IfOk r (λ end. end ≡ end_of p how) → IsOver bounds splits known p how s0 s out0 out → IfOk r (λ end. (bytes o : List ℕ) (x : List PlainView) → known ≡ Some bytes → out0 ≡ Some o → s0 ≡ Some x → AreTold bounds splits x (statements bytes) o end.first_short s out)
 finish-served (Ok end) p how is over = λ bytes o x e f h. Going-served bytes o x end (over bytes e) (ap (λ (x : End). x.first_short) is) h f
 finish-served (Err fault) p how is over = tt
 

@@ -22,7 +22,7 @@ use Rattle.crack_session.specs.Input.{first_line, after_line, kept_of}
 use Rattle.crack_session.specs.Answers.{IsAnswer, is_short_answer, answer_text}
 use Rattle.crack_session.specs.Telling.{Tells, marked}
 use Rattle.crack_session.specs.Sessions.{AreAnswers, first_short, ending}
-use Rattle.crack_session.specs.Served.{AreAnswered, AreTold, CountsStatements, IsServed, IsDone, IsCutOff}
+use Rattle.crack_session.specs.Served.{AreAnswered, AreTold, CountsStatements, IsDone, IsCutOff}
 use Rattle.crack_session.proofs.Following.{next_some}
 use Rattle.crack_core.specs.Steps.{Bounds}
 
@@ -159,7 +159,7 @@ Going-counted bytes end g e f =
     let all : statements bytes ≡ g.done = g.split ∙ append-nil g.done in
     record { statements_are = e ∙ sym g.count ∙ ap length (sym all); how_is = f ∙ sym g.ends ∙ ap ending (sym all) }
 
-pub Going-served : (bytes o : List ℕ) (x : List PlainView) (end : End) {bounds : Bounds} {splits : List Bound} {k : ℕ} {short : Option ℕ} {how : How} {s0 s : Option (List PlainView)} {out0 out : Option (List ℕ)} → Going bounds splits (statements bytes) [] k short how s0 s out0 out → end.first_short ≡ short → s0 ≡ Some x → out0 ≡ Some o → IsServed bounds splits x bytes o end s out
+pub Going-served : (bytes o : List ℕ) (x : List PlainView) (end : End) {bounds : Bounds} {splits : List Bound} {k : ℕ} {short : Option ℕ} {how : How} {s0 s : Option (List PlainView)} {out0 out : Option (List ℕ)} → Going bounds splits (statements bytes) [] k short how s0 s out0 out → end.first_short ≡ short → s0 ≡ Some x → out0 ≡ Some o → AreTold bounds splits x (statements bytes) o end.first_short s out
 Going-served bytes o x end {bounds} {splits} {k} {short} {how} {s0} {s} {out0} {out} g fs e f =
     rw (g.split ∙ append-nil g.done, fs) (g.told x o e f)
 

@@ -3,7 +3,8 @@ ghost use Rattle.std.specs.Prelude.{◌≡◌, ℕ, ◌+◌, ◌<◌, ◌≤◌,
 ghost use Rattle.std.specs.Io.KnownBytes.{Keeps};
 ghost use Rattle.crack_row.specs.Devices.{device, has_failed, reads_of};
 ghost use Rattle.crack_plain.specs.Plain.{PlainView};
-ghost use Rattle.crack_session.specs.Served.{CountsStatements, IsServed, IsDone, IsCutOff};
+ghost use Rattle.crack_session.specs.Served.{CountsStatements, AreTold, IsDone, IsCutOff};
+ghost use Rattle.crack_session.specs.Readings.{statements};
 ghost use Rattle.crack_session.specs.Answers.{is_short_answer};
 ghost use Rattle.crack_session.specs.Telling.{Responds, Tells, marked, policy_after};
 
@@ -250,7 +251,8 @@ pub fn serve<D: Desk, R: Read, W: Write>(
     ensures served { IfOk result (λ end. (bytes out : List ℕ) (tables : List PlainView) →
         R.remaining (device reader.old) ≡ Some bytes → W.contents (device writer.old) ≡ Some out →
         D.tables desk.old ≡ Some tables →
-        IsServed (D.bounds desk.old) (D.splits desk.old) tables bytes out end (D.tables desk.new) (W.contents (device writer.new))) }
+        AreTold (D.bounds desk.old) (D.splits desk.old) tables (statements bytes) out end.first_short
+        (D.tables desk.new) (W.contents (device writer.new))) }
     // How many statements are done where the session was cut off.
     ensures done { IfErr result (λ fault. (bytes : List ℕ) → R.remaining (device reader.old) ≡ Some bytes →
         IsDone bytes fault (R.remaining (device reader.new))) }

@@ -10,7 +10,8 @@ use Rattle.crack_row.specs.declared.command.Entry.{Entry}
 use Rattle.crack_core.specs.declared.receipt.Receipt.{Receipt}
 use Rattle.crack_core.specs.Receipts.{entry_of}
 use Rattle.crack_plain.specs.Totals.{is_placed, is_gone, inserted, deleted}
-use Rattle.crack_table.specs.Cover.{KeptState, Place, Folded, Standing, place_at, place_in, names, has_place, IsSole, IsMetBy, folded_entries, AllSettled, Covers}
+use Rattle.crack_table.specs.Cover.{KeptState, Place, Folded, Standing, place_at, place_in, names, has_place, IsMetBy, folded_entries, AllSettled, Covers}
+use Rattle.crack_table.specs.Marks.{IsSole}
 use Rattle.crack_table.proofs.Places.{part_of, places}
 
 -- g 0 + .. + g (n - 1)

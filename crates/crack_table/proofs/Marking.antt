@@ -16,8 +16,8 @@ use Rattle.crack_core.specs.declared.receipt.Receipt.{Receipt}
 use Rattle.crack_core.specs.Receipts.{entry_of}
 use Rattle.crack_table.specs.declared.marks.Naming.{Naming}
 use Rattle.crack_table.specs.declared.marks.Naming.TheVariants.{Unnamed, Met, Failed}
-use Rattle.crack_table.specs.Cover.{KeptState, Place, Standing, IsRight, IsSole, place_at, place_in, names, first_stranger}
-use Rattle.crack_table.specs.Marks.{at, named_place, mark_after, MarkIs, MarkIsAt, Marked}
+use Rattle.crack_table.specs.Cover.{KeptState, Place, Standing, IsRight, place_at, place_in, names, first_stranger}
+use Rattle.crack_table.specs.Marks.{at, named_place, mark_after, IsSole, MarkIs, MarkIsAt, Marked}
 use Rattle.crack_table.proofs.Places.{at_set_same, at_set_other, row_of}
 
 two_long : (x r : Receipt) (xs : List Receipt) (place : Place) → IsSole place ((x ∷ xs) ++ r ∷ []) → ⊥

@@ -11,8 +11,8 @@ use Rattle.crack_table.specs.declared.kept.Kept.{Kept}
 use Rattle.crack_table.specs.declared.kinds.KindsLeft.{KindsLeft}
 use Rattle.crack_table.specs.declared.marks.Naming.{Naming}
 use Rattle.crack_table.specs.declared.marks.Naming.TheVariants.{Unnamed, Met, Failed}
-use Rattle.crack_table.specs.Cover.{KeptState, told, IsKept, Place, place_at, names, IsSole, IsMetBy, IsCounted, IsSettled, SettledBelow, AllSettled, IsLeastUnmet, IsGap}
-use Rattle.crack_table.specs.Marks.{MarkIs, MarkIsAt, Marked, IsOpenIn, is_below, RowNoted, AreNoted}
+use Rattle.crack_table.specs.Cover.{KeptState, told, IsKept, Place, place_at, names, IsMetBy, IsCounted, IsSettled, SettledBelow, AllSettled, IsLeastUnmet, IsGap}
+use Rattle.crack_table.specs.Marks.{IsSole, MarkIs, MarkIsAt, Marked, IsOpenIn, is_below, RowNoted, AreNoted}
 use Rattle.crack_table.proofs.Places.{places, read_told}
 use Rattle.crack_table.proofs.Tallies.{counted_now, counted_all, counted_unfolded}
 

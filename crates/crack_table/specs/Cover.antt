@@ -53,13 +53,9 @@ abbrev pub IsRight : Place → Entry → Type 0
 IsRight Folded entry = Unit {0}
 IsRight (Standing own) entry = entry ≡ own
 
--- there is just one receipt, and its entry is right for the place
-abbrev pub IsSole : Place → List Receipt → Type 0
-IsSole place named = (r : Receipt) × (named ≡ r ∷ []) × IsRight place (entry_of r)
-
 -- just one receipt names the place, and its entry is right there
 abbrev pub IsMetBy : List Receipt → ℕ → ℕ → Place → Type 0
-IsMetBy receipts part position place = IsSole place (filter (names part position) receipts)
+IsMetBy receipts part position place = (r : Receipt) × (filter (names part position) receipts ≡ r ∷ []) × IsRight place (entry_of r)
 
 -- each place below a bound is met
 abbrev pub MetBelow : List Receipt → ℕ → KeptState → ℕ → Type 0
@@ -107,13 +103,11 @@ IsLeastUnmet receipts part kept position =
     (place : Place) × (place_at kept position ≡ Some place) × (¬ IsMetBy receipts part position place)
     × MetBelow receipts part kept position × (kept.folded ≤ position → IsCounted receipts part kept)
 
--- the last folded place of a partition, where all of these are met and not counted
-abbrev pub IsMiscount : List Receipt → ℕ → KeptState → ℕ → Type 0
-IsMiscount receipts part kept position = (position + 1 ≡ kept.folded) × (¬ IsCounted receipts part kept) × MetBelow receipts part kept kept.folded
-
--- what keeps a partition from being settled first
+-- what keeps a partition from being settled first: its least place that isn't met; or the last folded one, where all of these are met and
+-- not counted
 abbrev pub IsGap : List Receipt → ℕ → KeptState → ℕ → Type 0
-IsGap receipts part kept position = IsLeastUnmet receipts part kept position ⊎ IsMiscount receipts part kept position
+IsGap receipts part kept position = IsLeastUnmet receipts part kept position
+    ⊎ ((position + 1 ≡ kept.folded) × (¬ IsCounted receipts part kept) × MetBelow receipts part kept kept.folded)
 
 -- the gap of the first partition that isn't settled
 abbrev pub IsFirstGap : List KeptState → List Receipt → ℕ → ℕ → Type 0

@@ -1,16 +1,17 @@
 -- What private clauses alone cite.
 -- What is noted of the receipts on the way to a cover.
-use Rattle.std.specs.Prelude.{ℕ, zero, suc, Bool, true, false, List, [], length, ◌≡◌, ◌≢◌, ◌+◌, ◌<◌, nat_lt, nat_le, Option, Some, None, filter, slice_get}
+use Rattle.std.specs.Prelude.{ℕ, zero, suc, Bool, true, false, List, [], ◌∷◌, length, ◌≡◌, ◌≢◌, ◌+◌, ◌<◌, nat_lt, nat_le, Option, Some, None, filter, slice_get}
 use Rattle.std.specs.List.{list_any}
 use Rattle.std.specs.Option.{option_and_then}
 use Rattle.std.specs.Ordering.{nat_cmp, ordering_then}
 use Rattle.std.specs.declared.cmp.Ordering.{Ordering}
 use Rattle.crack_plain.specs.Totals.{inserted, deleted}
 use Rattle.crack_core.specs.declared.receipt.Receipt.{Receipt}
+use Rattle.crack_core.specs.Receipts.{entry_of}
 use Rattle.crack_table.specs.declared.kinds.KindsLeft.{KindsLeft}
 use Rattle.crack_table.specs.declared.marks.Naming.{Naming}
 use Rattle.crack_table.specs.declared.marks.Naming.TheVariants.{Unnamed, Met, Failed}
-use Rattle.crack_table.specs.Cover.{KeptState, Place, IsSole, place_at, place_in, names, folded_entries, is_late}
+use Rattle.crack_table.specs.Cover.{KeptState, Place, IsRight, place_at, place_in, names, folded_entries, is_late}
 use Rattle.crack_row.specs.declared.refusal.Refusal.{Refusal}
 use Rattle.crack_row.specs.declared.refusal.Refusal.TheVariants.{HistoryFull}
 
@@ -21,9 +22,11 @@ at lists part position = option_and_then (λ list. slice_get list position) (sli
 -- the mark of a place after one more receipt that names it, by whether its entry is right there
 abbrev pub mark_after : Naming → Bool → Naming
 mark_after Unnamed true = Met
-mark_after Unnamed false = Failed
-mark_after Met right = Failed
-mark_after Failed right = Failed
+mark_after _ _ = Failed
+
+-- there is just one receipt, and its entry is right for the place
+abbrev pub IsSole : Place → List Receipt → Type 0
+IsSole place named = (r : Receipt) × (named ≡ r ∷ []) × IsRight place (entry_of r)
 
 -- what a mark says of the receipts that name its place
 abbrev pub MarkIs : Naming → Place → List Receipt → Type 0
@@ -35,8 +38,7 @@ MarkIs Failed place named = (named ≢ []) × (¬ IsSole place named)
 abbrev pub MarkIsAt : Option Place → Option Naming → List Receipt → Type 0
 MarkIsAt (Some place) (Some mark) named = MarkIs mark place named
 MarkIsAt None None named = Unit {0}
-MarkIsAt None (Some mark) named = ⊥
-MarkIsAt (Some place) None named = ⊥
+MarkIsAt _ _ named = ⊥
 
 -- the marks are those of these receipts
 abbrev pub Marked : List KeptState → List (List Naming) → List Receipt → Type 0

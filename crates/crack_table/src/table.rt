@@ -1,8 +1,8 @@
 //! Tables.
-ghost use Rattle.std.specs.Prelude.{◌≡◌, ◌+◌, ◌<◌, ◌≤◌, length, IfOk, IfErr, OnOk, vec_len, None, Some};
+ghost use Rattle.std.specs.Prelude.{◌≡◌, ◌+◌, ◌<◌, ◌≤◌, length, IfOk, IfErr, vec_len, None, Some};
 ghost use Rattle.crack_row.specs.Limits.{AreLimits, of_history};
 ghost use Rattle.crack_core.specs.Routes.{AreSplits};
-ghost use Rattle.crack_table.specs.Opening.{table_fault, MayNotOpen};
+ghost use Rattle.crack_table.specs.Opening.{table_fault, Opens};
 ghost use Rattle.crack_table.specs.Tables.{AreNew};
 
 use crate::MOST_WORKERS;
@@ -45,11 +45,7 @@ impl Table {
         limit: u64,
         workers: u64,
     ) -> Result<(Table, Vec<Worker>), Refusal>
-        ensures table { IfOk result (λ opened. opened.0 ≡ record { splits = splits.now; limits = of_history limit; workers = workers }) }
-        ensures count { IfOk result (λ opened. vec_len opened.1 ≡ workers) }
-        ensures workers { IfOk result (λ opened. AreNew opened.1.items) }
-        ensures none { OnOk result (table_fault splits.now (of_history limit) workers ≡ None) }
-        ensures fault { IfErr result (MayNotOpen splits.now (of_history limit) workers) }
+        ensures { Opens splits.now (of_history limit) workers result }
     {
         Table::open_with(alloc, splits, Limits::of_history(limit), workers)
     }
@@ -64,11 +60,7 @@ impl Table {
         limits: Limits,
         workers: u64,
     ) -> Result<(Table, Vec<Worker>), Refusal>
-        ensures table { IfOk result (λ opened. opened.0 ≡ record { splits = splits.now; limits = limits; workers = workers }) }
-        ensures count { IfOk result (λ opened. vec_len opened.1 ≡ workers) }
-        ensures workers { IfOk result (λ opened. AreNew opened.1.items) }
-        ensures none { OnOk result (table_fault splits.now limits workers ≡ None) }
-        ensures fault { IfErr result (MayNotOpen splits.now limits workers) }
+        ensures { Opens splits.now limits workers result }
     {
         if let Some(refusal) = fault(splits, limits, workers) {
             return Err(refusal);
