@@ -39,10 +39,6 @@ pub record IsDone (bytes : List ℕ) (fault : Fault) (remaining : Option (List �
   pub whole : fault.refusal ≡ ReadFault → (taken rest : List ℕ) → remaining ≡ Some rest → bytes ≡ taken ++ rest →
       fault.done ≡ length (statements (whole_lines taken))
 
--- on Ok all statements are answered
-abbrev pub IsServed : Bounds → List Bound → List PlainView → List ℕ → List ℕ → End → Option (List PlainView) → Option (List ℕ) → Type 0
-IsServed bounds splits tables bytes out end left written = AreTold bounds splits tables (statements bytes) out end.first_short left written
-
 -- where the writer failed in a text: one statement more is answered than is done, and a front of its text follows the others
 pub record IsCutWithin (bounds : Bounds) (splits : List Bound) (tables : List PlainView) (bytes out : List ℕ) (fault : Fault) (left : Option (List PlainView)) (written : Option (List ℕ)) : Type 0 where
   pub refusal_is : fault.refusal ≡ WriteFault

@@ -3,7 +3,8 @@ ghost use Rattle.std.specs.Prelude.{◌≡◌, ℕ, List, Some, IfOk};
 ghost use Rattle.crack_row.specs.Devices.{device};
 ghost use Rattle.crack_plain.specs.Plain.{PlainView};
 ghost use Rattle.crack_core.specs.Steps.{bounds_of, tables_of};
-ghost use Rattle.crack_session.specs.Served.{IsServed};
+ghost use Rattle.crack_session.specs.Readings.{statements};
+ghost use Rattle.crack_session.specs.Served.{AreTold};
 ghost use Rattle.crack_csv.specs.Exports.{IsExported};
 
 use crack_core::Core;
@@ -27,8 +28,8 @@ fn serve_both<R: Read, W: Write>(
     ensures { IfOk result (λ ends. (bytes more out : List ℕ) →
         R.remaining (device first.old) ≡ Some bytes → R.remaining (device second.old) ≡ Some more →
         W.contents (device writer.old) ≡ Some out → (between : List PlainView) × (written : List ℕ)
-        × IsServed (bounds_of core.old.limits) core.old.splits (tables_of core.old.parts) bytes out ends.0 (Some between) (Some written)
-        × IsServed (bounds_of core.old.limits) core.old.splits between more written ends.1 (Some (tables_of core.new.parts)) (W.contents (device writer.new))) }
+        × AreTold (bounds_of core.old.limits) core.old.splits (tables_of core.old.parts) (statements bytes) out ends.0.first_short (Some between) (Some written)
+        × AreTold (bounds_of core.old.limits) core.old.splits between (statements more) written ends.1.first_short (Some (tables_of core.new.parts)) (W.contents (device writer.new))) }
 {
     match serve(alloc, core, Policy::Ripple, first, writer) {
         Ok(one) => match serve(alloc, core, Policy::Ripple, second, writer) {
@@ -49,7 +50,7 @@ fn serve_and_export<R: Read, W: Write>(
     ensures { IfOk result (λ told. (bytes out : List ℕ) →
         R.remaining (device reader.old) ≡ Some bytes → W.contents (device writer.old) ≡ Some out →
         (between : List PlainView) × (written : List ℕ)
-        × IsServed (bounds_of core.old.limits) core.old.splits (tables_of core.old.parts) bytes out told.0 (Some between) (Some written)
+        × AreTold (bounds_of core.old.limits) core.old.splits (tables_of core.old.parts) (statements bytes) out told.0.first_short (Some between) (Some written)
         × IsExported core.old.splits between told.1 (Some (tables_of core.new.parts)) (Some written) (W.contents (device writer.new))) }
 {
     match serve(alloc, core, Policy::Ripple, reader, writer) {

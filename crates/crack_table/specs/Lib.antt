@@ -3,3 +3,4 @@ pub mod Opening
 pub mod Cover
 pub mod Marks
 pub mod Gather
+pub mod Keeps

@@ -2,7 +2,6 @@
 use Rattle.std.specs.Prelude.{ℕ, ◌≡◌, ◌+◌, ◌<◌, ◌≤◌, List, [], ◌∷◌, ◌++◌, length, Some, Result, Err, IsSome, IfOk, IfErr, OnErr, OnOk, slice_get}
 use Rattle.crack_row.specs.Commands.{key_of}
 use Rattle.crack_row.specs.Layouts.{IsLayout}
-use Rattle.crack_row.specs.Limits.{AreLimits}
 use Rattle.crack_row.specs.Ranges.{Range}
 use Rattle.crack_row.specs.declared.Bound.{Bound}
 use Rattle.crack_row.specs.declared.limit.Limits.{Limits}
@@ -13,21 +12,13 @@ use Rattle.crack_row.specs.declared.refusal.Refusal.{Refusal}
 use Rattle.crack_row.specs.declared.refusal.Refusal.TheVariants.{KeyOutside, NoSuchPartition, HistoryFull, GateGaveUp, OutOfMemory, NoCell, LifeOver}
 use Rattle.crack_plain.specs.Plain.{IsSmall}
 use Rattle.crack_core.specs.Receipts.{BookState}
-use Rattle.crack_core.specs.Routes.{AreSplits}
-use Rattle.crack_table.specs.declared.TheConstants.{MOST_WORKERS, GATE_TURNS}
+use Rattle.crack_table.specs.declared.TheConstants.{GATE_TURNS}
 
 -- where one partition ends and the next begins, the limits of each partition, and how many workers there are
 pub record TableState : Type 0 where
   pub splits : List Bound
   pub limits : Limits
   pub workers : ℕ
-
--- what holds of each table: there is a lock for each partition
-pub record IsTable (splits : List Bound) (limits : Limits) (workers locks : ℕ) : Type 0 where
-  pub rising : AreSplits splits
-  pub limited : AreLimits limits
-  pub few : workers ≤ MOST_WORKERS
-  pub all : locks ≡ length splits + 1
 
 -- the workers are numbered from 0 on, and have no receipts
 abbrev pub AreNew : List BookState → Type 0

@@ -27,7 +27,8 @@ pub struct Table {
 
 impl Model for Table {
     ghost use Rattle.std.specs.Prelude.{vec_len};
-    ghost use Rattle.crack_table.specs.Tables.{TableState, IsTable};
+    ghost use Rattle.crack_table.specs.Keeps.{IsTable};
+    ghost use Rattle.crack_table.specs.Tables.{TableState};
 
     ghost Value = { TableState };
 
