@@ -1,9 +1,9 @@
 -- The plain table: rows changed by commands and filtered by ranges, with no piece, handle, pending row, policy or lock.
-use Rattle.std.specs.Prelude.{◌≡◌, ℕ, ℤ, pos, neg_ℤ, ◌<ℤ◌, cond, ◌+◌, ◌<◌, ◌^◌, List, [], ◌∷◌, ◌++◌, length, map, filter, find, fold, count_by, unwrap_or, option_map, All, AllPairs, Option, Some, None, IfSome, Bool, true, false}
+use Rattle.std.specs.Prelude.{◌≡◌, ℕ, pos, neg_ℤ, ◌<ℤ◌, ◌+◌, ◌<◌, ◌^◌, List, [], ◌∷◌, ◌++◌, length, map, filter, find, fold, count_by, unwrap_or, option_map, All, AllPairs, Option, Some, None, IfSome, Bool, true, false}
 use Rattle.crack_row.specs.Ranges.{Range, IsIn, in_range}
 use Rattle.crack_row.specs.Commands.{change_of, key_of}
 use Rattle.crack_row.specs.Replies.{IsFlat}
-use Rattle.crack_row.specs.Rows.{row_with, has_serial, is_other, replaced, amount, sum_of}
+use Rattle.crack_row.specs.Rows.{row_with, has_serial, is_other, replaced, sum_of}
 use Rattle.crack_row.specs.declared.TheConstants.{GREATEST_BOUND}
 use Rattle.crack_row.specs.declared.layout.Layout.{Layout}
 use Rattle.crack_row.specs.declared.Key.{Key}

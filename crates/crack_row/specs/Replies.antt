@@ -1,6 +1,6 @@
 -- What replies are made of.
 use Rattle.crack_row.specs.declared.command.Reply.{Reply}
-use Rattle.crack_row.specs.declared.command.Reply.TheVariants.{Placed, Gone, Changed, NoRow, Counted, Summed, Rows}
+use Rattle.crack_row.specs.declared.command.Reply.TheVariants.{Rows}
 
 -- the reply has no list, so a copy of it takes no memory
 abbrev pub IsFlat : Reply → Type 0
