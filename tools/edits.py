@@ -331,6 +331,9 @@ def keep_commit():
 
 
 def main(names):
+    if "--help" in names:
+        print(__doc__.strip())
+        return 0
     unknown = [it for it in names if it not in crates.listed()]
     if unknown:
         print(f"no crate of crates.txt: {' '.join(unknown)}", file=sys.stderr)
