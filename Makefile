@@ -5,7 +5,7 @@ help:
 	@echo 'make run     proves what changed, builds, and answers the statements of standard input: 18 minutes from nothing on 4 processors, 28 on 2'
 	@echo 'make try     the same without a proof, in a minute; it reads all of its input before it answers'
 	@echo 'make test    proves everything from nothing, runs the tests, the programs and the acceptance cases: 26 to 30 minutes on 4'
-	@echo 'make edits   tries that the prover refuses the wrong bodies; OF="NAME .." those of these crates alone: behind .ci/run 26 minutes on 4'
+	@echo 'make edits   tries that the prover refuses the wrong bodies; OF="NAME .." those of these crates alone: behind make test 35 minutes on 4'
 	@echo 'make trust   prints what a reader has to read to know what is promised, and counts it; OF=--count: the numbers alone'
 
 run:
