@@ -369,7 +369,10 @@ def run(program, seeds=SEEDS, statements=STATEMENTS):
 
 
 if __name__ == "__main__":
-    if len(sys.argv) < 2 or "--help" in sys.argv:
+    if "--help" in sys.argv:
+        print(__doc__.strip())
+        sys.exit(0)
+    if len(sys.argv) < 2:
         sys.exit(__doc__)
     given = [int(it) for it in sys.argv[2:]]
     sys.exit(1 if run(sys.argv[1], given[1:] or SEEDS, given[0] if given else STATEMENTS)[1] else 0)

@@ -95,9 +95,9 @@ def ghost_items(source, block, names):
         found = [(source.named(block.title), *(sum(these, ()) for these in list(zip(*found))[1:]))]
     kind = "trait" if block.is_trait else "model" if is_model else "ghost"
     is_public = is_owner_public(source, block, names)
-    private = source.named(block.title) + "::invariant"
+    invariant = source.named(block.title) + "::invariant"
     return [
-        definitions.Item(it, kind, source.crate, source.path, lines, beside, frozenset(cites), is_public and it != private)
+        definitions.Item(it, kind, source.crate, source.path, lines, beside, frozenset(cites), is_public and it != invariant)
         for it, lines, beside, cites in found
     ]
 

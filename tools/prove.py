@@ -128,7 +128,8 @@ def main(words):
     cut = words.index("--") if "--" in words else len(words)
     names, arguments = words[:cut], words[cut + 1 :]
     if "--help" in names:
-        sys.exit(__doc__.strip())
+        print(__doc__.strip())
+        return 0
     unknown = [it for it in names if it not in crates.listed()]
     if unknown or not names or (cut < len(words) and len(names) > 1):
         sys.exit(f"no crate of crates.txt: {' '.join(unknown)}" if unknown else __doc__)
