@@ -165,8 +165,8 @@ module _ (range : Range) (cells : List (Cell Row)) (handles : List Handle) (stan
         before = missed-NoneIn start spot hit.before (omega (arith, within));
       }
 
-pub kept_none : AreKept [] [] [] [] 0 0 0
-kept_none = record {
+pub kept_none : (spots : List ℕ) → AreKept [] [] [] spots 0 0 0
+kept_none spots = record {
   keys_beside = refl;
   stands_beside = refl;
   counted = refl;

@@ -4,6 +4,7 @@ ghost use Rattle.std.specs.List.{remove};
 ghost use Rattle.crack_row.specs.declared.Row.{Row};
 ghost use Rattle.crack_arena.specs.Rows.{keys_at, unknown, RemembersKeys};
 ghost use Rattle.crack_arena.specs.Arena.{Cell, StandsAt, IsFirstAt, IsAbsent, times, slots, place_in};
+ghost use Rattle.crack_pending.specs.Keeps.{Has, AreMarked};
 ghost use Rattle.crack_pending.specs.Pending.{Finds, StillRemembersKeys, RemembersOneMore, RemembersAnew};
 
 use crate::bits::BitSet;
@@ -182,6 +183,27 @@ impl<Kind> PendingList<Kind> {
         handle
     }
 
+    /// Closes all holes up, so that `at` is O(1) at each place. O(rows and holes); O(1) where there is no hole.
+    pub fn close_up(&mut self)
+        ensures same { self.new ≡ record self.old { room = self.new.room } }
+        ensures kept { self.old.room ≤ self.new.room }
+        ensures remembered { StillRemembersKeys self.old self.new }
+    {
+        self.list.close_up();
+    }
+
+    /// Takes all handles out. It takes no memory; what room there was stays. O(rows and holes).
+    pub fn clear(&mut self)
+        ensures handles { self.new.handles ≡ [] }
+        ensures keys { self.new.keys ≡ [] }
+        ensures room { self.old.room ≤ self.new.room }
+        ensures covered { self.new.covered ≡ self.old.covered }
+    {
+        self.list.close_up();
+        strike_all(&mut self.marks, &self.list);
+        self.list.clear();
+    }
+
     /// Whether a handle of the cell of this number is in the list. O(1): it reads the cell's bit alone.
     #[inline]
     pub fn contains(&self, slot: u32) -> bool
@@ -264,5 +286,16 @@ impl<Kind> PendingList<Kind> {
         ensures { IsTrue result ↔ (length self.now.handles ≡ 0) }
     {
         self.len() == 0
+    }
+}
+
+/// Takes the cells of all handles out of the set. O(rows), where there are no holes.
+fn strike_all(marks: &mut BitSet, list: &SpotList)
+    requires { AreMarked marks.old list.now.handles list.now.covered }
+    ensures none { (slot : ℕ) → ¬ Has marks.new slot }
+    ensures long { length marks.new ≡ length marks.old }
+{
+    'rows: for place in 0..list.len() {
+        marks.strike(list.at(place).slot());
     }
 }

@@ -278,6 +278,14 @@ impl SpotList {
         if self.handles.len() - self.rows < self.rows {
             return;
         }
+        self.close_up();
+    }
+
+    /// Closes all holes up.
+    pub(crate) fn close_up(&mut self)
+        ensures same { self.new ≡ record self.old { room = self.new.room } }
+        ensures kept { self.old.room ≤ self.new.room }
+    {
         close_up(
             &mut self.handles,
             &mut self.keys,
@@ -285,6 +293,22 @@ impl SpotList {
             &mut self.spots,
             self.rows,
         );
+        self.hint_place = 0;
+        self.hint_spot = 0;
+    }
+
+    /// Takes all rows out.
+    pub(crate) fn clear(&mut self)
+        ensures handles { self.new.handles ≡ [] }
+        ensures keys { self.new.keys ≡ [] }
+        ensures room { self.old.room ≤ self.new.room }
+        ensures covered { self.new.covered ≡ self.old.covered }
+    {
+        self.handles.clear();
+        self.keys.clear();
+        self.stands.clear();
+        self.rows = 0;
+        self.unknowns = 0;
         self.hint_place = 0;
         self.hint_spot = 0;
     }
