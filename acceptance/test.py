@@ -1,6 +1,6 @@
 #!/usr/bin/env python3
 """Runs the gate without the must-fail edits, and then the acceptance cases, the random scripts, the cases of many clients, of bad ones and of hostile
-input on the program that it built, the examples, the cases of the tools, and the histories of threads.
+input on the program that it built, the examples, the tests of the Python package, the cases of the tools, and the histories of threads.
 
 The gate, `rt ci`, proves every crate from nothing, runs the tests, and runs each program as both compilers build it. It has no switch for the edits, so
 it runs on a copy of this checkout that has none, and what it built is brought back: `make run` and `make edits` prove nothing again that it has proved.
@@ -29,6 +29,7 @@ import crates
 import examples
 import histories
 import hostile
+import package
 import processor
 import prove
 import random_script
@@ -133,6 +134,7 @@ def test_all():
     if PROGRAM.exists():
         more = [check_tools.run_all(), check_hostile.run_all(), check_clients.run_all(), run.run_all(PROGRAM), random_script.run(PROGRAM)]
         more += [server.run(PROGRAM), server_limits.run(PROGRAM), clients.run(PROGRAM), hostile.run(PROGRAM), examples.run(PROGRAM)]
+        more += [package.run(PROGRAM)]
         more_passed, more_failed = (sum(it) for it in zip(*more))
     else:
         print("acceptance: the gate left no program, so no case was run")

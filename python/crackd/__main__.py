@@ -1,0 +1,53 @@
+"""python3 -m crackd shell ..: a shell over a server; python3 -m crackd splits FILE.csv N: where to cut keys, for `crackd serve`."""
+
+from __future__ import annotations
+
+import argparse
+import sys
+
+from .arrays import TOP
+from .base import MOST_PARTS
+from .csvfile import Column, CsvFile
+from .errors import Error
+from .keys import quantiles
+
+
+def splits(words: list[str]) -> int:
+    """Prints splits that cut the keys of a CSV file into about equal parts."""
+    about = "Prints splits that cut the keys of a CSV file into N about equal parts, for `crackd serve` and the other subcommands."
+    parser = argparse.ArgumentParser(prog="python3 -m crackd splits", description=about)
+    parser.add_argument("file", metavar="FILE.csv", help="its keys are whole numbers from 0 to 18446744073709551615")
+    parser.add_argument("parts", metavar="N", type=int, help=f"how many partitions, 1 to {MOST_PARTS}; there are fewer where keys are few")
+    parser.add_argument("--key", metavar="COLUMN", default="0", help="the column of the keys: a name of the header, or a number from 0 on [default: 0]")
+    parser.add_argument("--delimiter", metavar="CHARACTER", default=",", help="what stands between fields [default: ,]")
+    options = parser.parse_args(words)
+    if not 1 <= options.parts <= MOST_PARTS:
+        parser.error(f"N is 1 to {MOST_PARTS}")
+    if len(options.delimiter) != 1:
+        parser.error("a delimiter is one character")
+    key = int(options.key) if options.key.isdecimal() else options.key
+    file = CsvFile(options.file, options.delimiter, None, "utf-8-sig")
+    keys = [row[0] for row in file.rows([(key, Column(least=0, most=TOP - 1))])]
+    print(*quantiles(keys, options.parts, max(1, len(keys))))
+    return 0
+
+
+def main(words: list[str]) -> int:
+    if words[:1] == ["shell"]:
+        from .shell import main as shell
+
+        return shell(words[1:])
+    if words[:1] != ["splits"]:
+        print(__doc__, file=sys.stdout if words[:1] in (["--help"], ["-h"]) else sys.stderr)
+        return 0 if words[:1] in (["--help"], ["-h"]) else 2
+    try:
+        return splits(words[1:])
+    except (Error, UnicodeDecodeError) as error:
+        print(f"crackd: {error}", file=sys.stderr)
+    except OSError as error:
+        print(f"crackd: {error.filename}: {error.strerror}", file=sys.stderr)
+    return 1
+
+
+if __name__ == "__main__":
+    sys.exit(main(sys.argv[1:]))

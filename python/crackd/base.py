@@ -1,0 +1,140 @@
+"""What all ways to reach a table have in common: its methods, over keys that are numbered."""
+
+from __future__ import annotations
+
+import operator
+from typing import Any, NamedTuple, Optional, Sequence
+
+from .arrays import SIGN, flags, ints
+from .keys import Keys
+from .layout import Layout
+
+# a row's number is its partition, and its serial in that many bits
+SHIFT = 48
+SERIAL = (1 << SHIFT) - 1
+ROWS_A_PART = 4096
+MOST_PARTS = 64
+POLICIES = ("complete", "gradual", "ripple")
+
+
+class Rows(NamedTuple):
+    """What `select` answers: three arrays of one length, by partition and then by age."""
+
+    rows: Any
+    keys: Any
+    payloads: Any
+
+
+def parts_for(rows: int) -> int:
+    """How many partitions so many rows want."""
+    return min(MOST_PARTS, max(rows // ROWS_A_PART, 1))
+
+
+def payload_of(payload: Any) -> int:
+    """A payload that is given by itself."""
+    number = operator.index(payload)
+    if not -SIGN <= number < SIGN:
+        raise OverflowError(f"{payload} is no signed number of 64 bits")
+    return number
+
+
+class AnyTable:
+    """Rows of a key and a payload each, in the process or behind a server.
+
+    Ranges are half open, as in Python: from `low` up to and without `high`, where None stands for no end. Each row has a number, which is never given twice
+    and stays with it. Any thread may call any method; a table answers one call at a time. Close it, or use it in a `with`.
+    """
+
+    _keys: Keys
+
+    def insert(self, key: Any, payload: int) -> int:
+        """Places a row. Its number."""
+        return self._insert(self._keys.one(key), payload_of(payload))
+
+    def insert_many(self, keys: Any, payloads: Any) -> Any:
+        """Places a row for each key and payload. Their numbers, in an array. Where one is refused those before it are placed, `done` of the error."""
+        if len(keys) != len(payloads):
+            raise ValueError(f"{len(keys)} keys and {len(payloads)} payloads")
+        return self._insert_many(self._keys.many(keys), ints("q", payloads, "payloads"))
+
+    def delete(self, row: int) -> bool:
+        """Takes a row out. Whether it was there."""
+        return bool(self.delete_many([row])[0])
+
+    def delete_many(self, rows: Any) -> Any:
+        """Takes rows out. Of each whether it was there, in an array."""
+        return flags(self._delete_many(ints("Q", rows, "row numbers")))
+
+    def update(self, row: int, key: Any, payload: int) -> bool:
+        """Gives a row another key and payload. Whether it was there. A key of another partition is refused (`WrongPartition`)."""
+        return bool(self.update_many([row], [key], [payload])[0])
+
+    def update_many(self, rows: Any, keys: Any, payloads: Any) -> Any:
+        """`update` of each row, in order. Of each whether it was there, in an array. Where one is refused those before it are done, `done` of the error."""
+        if not len(rows) == len(keys) == len(payloads):
+            raise ValueError(f"{len(rows)} row numbers, {len(keys)} keys and {len(payloads)} payloads")
+        return flags(self._update_many(ints("Q", rows, "row numbers"), self._keys.many(keys), ints("q", payloads, "payloads")))
+
+    def count(self, low: Any = None, high: Any = None) -> int:
+        """How many rows have keys of the range."""
+        first, end = self._keys.ends(low, high)
+        return self._count(first, end - 1) if first < end else self._nothing(0)
+
+    def count_many(self, lows: Optional[Sequence[Any]], highs: Optional[Sequence[Any]]) -> Any:
+        """`count` of each pair of ends, in an array. None in place of a list, or in one, stands for no end."""
+        return self._count_many(*self._keys.ends_many(lows, highs))
+
+    def sum(self, low: Any = None, high: Any = None) -> int:
+        """The exact sum of the payloads of these rows."""
+        first, end = self._keys.ends(low, high)
+        return self._sum(first, end - 1) if first < end else self._nothing(0)
+
+    def sum_many(self, lows: Optional[Sequence[Any]], highs: Optional[Sequence[Any]]) -> list[int]:
+        """`sum` of each pair of ends, in a list, since a sum may be beyond 64 bits."""
+        return self._sum_many(*self._keys.ends_many(lows, highs))
+
+    def select(self, low: Any = None, high: Any = None) -> Rows:
+        """The rows whose keys are of the range, as arrays."""
+        first, end = self._keys.ends(low, high)
+        rows, keys, payloads = self._select(first, end - 1) if first < end else self._nothing(self._no_rows())
+        return Rows(rows, self._keys.back(keys), payloads)
+
+    def settle(self) -> None:
+        """Has all rows that wait merged, as after a load, so that each query after it is quick."""
+        self._settle()
+
+    def checkpoint(self) -> int:
+        """Folds the histories, which gives their memory back; rows and numbers stay. How many entries went."""
+        return self._checkpoint()
+
+    def layout(self) -> Layout:
+        """What stands where in each partition, with pictures."""
+        return Layout(tuple(self._layouts()))
+
+    def close(self) -> None:
+        """Gives back all that the table took here. A second call does nothing."""
+        raise NotImplementedError
+
+    def _nothing(self, answer: Any) -> Any:
+        """The answer to an empty range, of a table that is open."""
+        self._check_open()
+        return answer
+
+    @staticmethod
+    def _no_rows() -> tuple[Any, Any, Any]:
+        return ints("Q", [], ""), ints("Q", [], ""), ints("q", [], "")
+
+    def __reduce_ex__(self, _: Any) -> Any:
+        raise TypeError("a table can't be copied or pickled")
+
+    def __len__(self) -> int:
+        return self.count()
+
+    def __bool__(self) -> bool:
+        return True
+
+    def __enter__(self) -> Any:
+        return self
+
+    def __exit__(self, *_: Any) -> None:
+        self.close()

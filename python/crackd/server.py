@@ -1,0 +1,133 @@
+"""A server that is a child of this process."""
+
+from __future__ import annotations
+
+import os
+import pathlib
+import shutil
+import socket
+import subprocess
+from typing import Any, Optional, Sequence
+
+from .base import MOST_PARTS, POLICIES, parts_for
+from .client import Client, connect
+from .errors import Error, refused
+from .keys import Keys, kind_of, quantiles
+
+TRIES = 5
+SECONDS_OF_AN_END = 10
+MOST_SESSIONS = 2**32
+# where the program lies in a checkout of the repository whose python/ this package is
+BUILT = pathlib.Path(__file__).resolve().parent.parent.parent / "crates" / "crackd" / "out" / "crackd"
+
+
+class NoServer(Error):
+    """A server can't be started."""
+
+
+def find_program(path: Optional[str] = None) -> str:
+    """The program that is given, or that the variable CRACKD names, or that is built in the checkout of this package, or else that of PATH."""
+    found = path or os.environ.get("CRACKD") or (str(BUILT) if BUILT.exists() else shutil.which("crackd"))
+    if found is None:
+        raise NoServer(f"{BUILT} isn't built, and PATH has no crackd; `make run` builds it, or say `program=`")
+    return str(found)
+
+
+def free_port() -> int:
+    with socket.socket() as it:
+        it.bind(("127.0.0.1", 0))
+        return it.getsockname()[1]
+
+
+class Server:
+    """A server of this process on 127.0.0.1: see `serve`. `port` is its port."""
+
+    def __init__(self, command: Sequence[str], keys: Keys, policy: str):
+        self._keys, self._policy = keys, policy
+        for _ in range(TRIES):
+            self.port = free_port()
+            self._start(command)
+            if self._process.stdout.readline() == f"listening {self.port}\n".encode("ascii"):
+                return
+            complaint = self._process.communicate()[1].decode("utf-8", "replace").strip()
+            # (another program may have taken the port in the meantime)
+            if "refused 17" not in complaint:
+                self._complain(complaint)
+        raise NoServer("no port was free")
+
+    def _start(self, command: Sequence[str]) -> None:
+        words = [command[0], "serve", "--port", str(self.port), *command[1:]]
+        pipe = subprocess.PIPE
+        try:
+            self._process = subprocess.Popen(words, stdin=subprocess.DEVNULL, stdout=pipe, stderr=pipe, start_new_session=True)
+        except OSError as error:
+            raise NoServer(f"{command[0]}: {error.strerror}") from error
+
+    def _complain(self, complaint: str) -> None:
+        said = complaint.partition("refused ")[2].split()
+        if said and said[0].rstrip(":").isdigit():
+            raise refused(int(said[0].rstrip(":")))
+        raise NoServer(complaint or f"the program ended with status {self._process.returncode}")
+
+    def connect(self, **options: Any) -> Client:
+        """A connection of its own to the table, as `crackd.connect` gives it. A server has as many at a time as it has workers; a further one waits."""
+        return connect("127.0.0.1", self.port, **{"key_type": self._keys, "policy": self._policy, **options})
+
+    def close(self) -> None:
+        """Ends the server, and with it the table. A second call does nothing."""
+        if self._process.poll() is None:
+            self._process.terminate()
+            try:
+                self._process.wait(SECONDS_OF_AN_END)
+            except subprocess.TimeoutExpired:
+                self._process.kill()
+        self._process.communicate()
+
+    def __enter__(self) -> "Server":
+        return self
+
+    def __exit__(self, *_: Any) -> None:
+        self.close()
+
+    def __del__(self) -> None:
+        process = getattr(self, "_process", None)
+        if process is not None and process.poll() is None:
+            process.kill()
+            process.wait()
+
+
+def splits_of(keys: Keys, sample: Any, rows: int, partitions: Optional[int]) -> list[int]:
+    """Splits, as numbers, for so many rows whose keys look like those of a sample: by its quantiles, so that each partition gets about as many rows."""
+    if partitions is not None and not 1 <= partitions <= MOST_PARTS:
+        raise ValueError(f"partitions are 1 to {MOST_PARTS}, not {partitions}")
+    count = partitions or parts_for(rows)
+    return quantiles(keys.many(sample), count) if len(sample) and count > 1 else []
+
+
+def serve(
+    sample: Any = (),
+    rows: int = 0,
+    *,
+    key_type: Any = None,
+    partitions: Optional[int] = None,
+    splits: Optional[Sequence[Any]] = None,
+    workers: int = 8,
+    policy: str = "ripple",
+    history: Optional[int] = None,
+    cells: Optional[int] = None,
+    program: Optional[str] = None,
+) -> Server:
+    """Starts `crackd serve` as a child of this process, with an empty table for some `rows` rows whose keys look like those of `sample`.
+
+    Used in a `with`, the server ends with it. `key_type` says of which kind they are where there is no sample: "int64" (so where nothing is said), "uint64",
+    "float64", "datetime64[s]" .. `splits` cuts the keys in place of the sample's quantiles. `workers`, 1 to 64, is how many connections are served at a
+    time. `history` and `cells` are the limits of each partition, and `program` says where crackd is.
+    """
+    if policy not in POLICIES:
+        raise ValueError(f"a policy is one of {', '.join(POLICIES)}, not {policy}")
+    kind = kind_of(sample) if key_type is None else Keys.named(key_type)
+    cuts = splits_of(kind, sample, rows, partitions) if splits is None else [int(it) for it in kind.many(splits)]
+    limits = {"--limit": history, "--cells": cells}
+    words = [word for name, value in limits.items() if value is not None for word in (name, str(value))]
+    command = [find_program(program), "--workers", str(workers), "--sessions", str(MOST_SESSIONS), *words, *map(str, cuts)]
+    return Server(command, kind, policy)

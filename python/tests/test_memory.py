@@ -1,0 +1,47 @@
+"""Tables in the process where memory is refused."""
+
+import os
+import pathlib
+import shutil
+import subprocess
+import sys
+import tempfile
+import unittest
+
+from ways import wants_library
+
+HERE = pathlib.Path(__file__).resolve().parent
+REFUSING = HERE.parent.parent / "acceptance" / "refusing.c"
+STEPS, ONE_IN, STEPS_IN_TURN, SECONDS = 100_000, 25, 40, 600
+
+
+@wants_library
+@unittest.skipIf(shutil.which("gcc") is None, "gcc isn't installed")
+class Refusals(unittest.TestCase):
+    """What is refused for want of memory loses nothing, as held against a plain list."""
+
+    def run_refused(self, *words, **environment):
+        """Runs refusals.py with an allocator that refuses. The number that it prints."""
+        with tempfile.TemporaryDirectory() as room:
+            made, tells = f"{room}/refusing.so", f"{room}/tells"
+            subprocess.run(["gcc", "-shared", "-fPIC", "-O2", "-o", made, REFUSING, "-ldl"], check=True)
+            pathlib.Path(tells).write_bytes(bytes(16))
+            also = {"LD_PRELOAD": made, "REFUSE_TELLS": tells, "REFUSE_SWITCHED": "1", **environment}
+            command = [sys.executable, str(HERE / "refusals.py"), *words]
+            ran = subprocess.run(command, env={**os.environ, **also}, capture_output=True, text=True, timeout=SECONDS, check=False)
+        self.assertEqual((ran.returncode, ran.stderr), (0, ""))
+        return int(ran.stdout)
+
+    def test_random_calls_without_refusals(self):
+        self.assertEqual(self.run_refused(str(STEPS), "chance"), 0)
+
+    def test_random_calls_of_which_some_are_refused(self):
+        refused = self.run_refused(str(STEPS), "chance", REFUSE_ONE_IN=str(ONE_IN), REFUSE_SEED="7")
+        self.assertGreater(refused, 1000)
+
+    def test_each_allocation_refused_in_turn(self):
+        self.assertGreater(self.run_refused(str(STEPS_IN_TURN), "turn"), 50)
+
+
+if __name__ == "__main__":
+    unittest.main()

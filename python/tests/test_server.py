@@ -1,0 +1,124 @@
+"""Servers that are children of this process, and connections."""
+
+import contextlib
+import os
+import socket
+import subprocess
+import sys
+import threading
+import unittest
+
+from ways import crackd, wants_program
+
+from crackd import server
+
+
+@contextlib.contextmanager
+def answered(replies):
+    """The port of a server that answers, to whatever it is sent, these bytes, and then closes the connection."""
+    with socket.socket() as listening:
+        listening.bind(("127.0.0.1", 0))
+        listening.listen()
+
+        def answer():
+            with listening.accept()[0] as connection:
+                connection.recv(4096)
+                connection.sendall(b"policy ripple\n" + replies)
+                connection.recv(4096)
+
+        thread = threading.Thread(target=answer)
+        thread.start()
+        yield listening.getsockname()[1]
+        thread.join()
+
+
+class Connections(unittest.TestCase):
+    """What a connection does with a server that isn't as it should be."""
+
+    def test_no_server(self):
+        with self.assertRaises(crackd.Disconnected) as caught:
+            crackd.connect("127.0.0.1", server.free_port())
+        self.assertIn("Connection refused", str(caught.exception))
+        self.assertIsInstance(caught.exception, ConnectionError)
+
+    def test_a_server_that_goes(self):
+        with answered(b"") as port:
+            table = crackd.connect(port=port)
+            self.assertRaises(crackd.Disconnected, table.insert_many, [1, 2], [1, 2])
+            self.assertRaises(crackd.Closed, table.count)
+            table.close()
+
+    def test_a_server_that_goes_in_a_reply(self):
+        with answered(b"row 0.0\nrow 0") as port:
+            table = crackd.connect(port=port)
+            self.assertRaises(crackd.Disconnected, table.insert_many, [1, 2], [1, 2])
+
+    def test_no_program(self):
+        with self.assertRaises(crackd.NoServer) as caught:
+            crackd.serve(program="missing/crackd")
+        self.assertIn("No such file", str(caught.exception))
+        self.assertRaises(crackd.NoServer, crackd.serve, program="/dev/null")
+        self.assertRaises(crackd.NoServer, crackd.serve, program=sys.executable)
+
+    def test_wrong_words(self):
+        self.assertRaises(ValueError, crackd.connect, policy="none")
+        self.assertRaises(TypeError, crackd.connect, key_type="text")
+        self.assertRaises(ValueError, crackd.serve, policy="none")
+
+
+@wants_program
+class Servers(unittest.TestCase):
+    """Servers of this process."""
+
+    def test_clients_share_a_table(self):
+        with crackd.serve(workers=2) as served, served.connect() as one, served.connect(policy="complete") as two:
+            rows = one.insert_many([1, -2], [10, 20])
+            self.assertEqual((two.count(), two.sum(None, 0)), (2, 20))
+            self.assertEqual(list(two.delete_many(rows)), [True, True])
+            self.assertEqual(one.count(), 0)
+
+    def test_keys_are_those_of_the_sample(self):
+        with crackd.serve([0.5, 1.5], partitions=2) as served, served.connect() as table, served.connect(key_type="uint64") as plain:
+            table.insert_many([-1.0, 1.5], [1, 2])
+            self.assertEqual((table.sum(0.0), table.partitions, plain.count(2**63)), (2, 2, 1))
+
+    def test_it_ends_with_the_block(self):
+        with crackd.serve() as served:
+            table = served.connect()
+            table.insert(1, 1)
+            process = served._process
+            self.assertIsNone(process.poll())
+        self.assertIsNotNone(process.poll())
+        self.assertRaises(crackd.Disconnected, table.count)
+        self.assertRaises(crackd.Disconnected, served.connect)
+        served.close()
+
+    def test_it_ends_with_an_error(self):
+        with contextlib.suppress(KeyError), crackd.serve() as served:
+            process = served._process
+            raise KeyError
+        self.assertIsNotNone(process.poll())
+
+    def test_what_is_refused_and_what_comes_after_it(self):
+        with crackd.serve(splits=[100], cells=2) as served, served.connect() as table:
+            with self.assertRaises(crackd.Full) as caught:
+                table.insert_many([1, 2, 3, 200], [1, 2, 4, 8])
+            error = caught.exception
+            self.assertEqual((error.done, error.later, len(error.answers)), (2, 1, 3))
+            self.assertEqual(list(table.delete_many(error.answers)), [True] * 3)
+            self.assertIn("after 2 that were done, and 1 more after it", str(error))
+
+    def test_many_rows(self):
+        count = 250_000
+        with crackd.serve(range(count), partitions=4) as served, served.connect() as table:
+            rows = table.insert_many(range(count), range(-5, count - 5))
+            table.settle()
+            self.assertEqual((len(rows), len(set(rows)), table.count(), table.sum(0, 10)), (count, count, count, -5))
+            got = table.select(count // 4, count)
+            self.assertEqual(sorted(int(it) for it in got.payloads)[:2], [count // 4 - 5, count // 4 - 4])
+            self.assertEqual(len(got.rows), count - count // 4)
+            self.assertTrue(all(table.delete_many(rows)))
+
+
+if __name__ == "__main__":
+    unittest.main()

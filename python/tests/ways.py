@@ -1,0 +1,44 @@
+"""The ways to reach a table that the cases are run in, and why one can't be had here."""
+
+import contextlib
+import os
+import pathlib
+import sys
+import unittest
+
+sys.path.insert(0, str(pathlib.Path(__file__).resolve().parent.parent))
+
+import crackd
+from crackd import arrays, library, server
+
+np = arrays.np
+wants_numpy = unittest.skipIf(np is None, "numpy isn't installed")
+
+
+def has_program():
+    try:
+        return os.access(server.find_program(), os.X_OK)
+    except crackd.NoServer:
+        return False
+
+
+wants_library = unittest.skipIf(library.find_library() is None, "libcrackd.so isn't built")
+wants_program = unittest.skipUnless(has_program(), "the program crackd isn't built")
+
+
+class InProcess:
+    """Tables of this process."""
+
+    @contextlib.contextmanager
+    def table(self, sample=(), rows=0, **options):
+        with crackd.Table(sample, rows, **options) as table:
+            yield table
+
+
+class OverTcp:
+    """Tables behind a server that is started for each."""
+
+    @contextlib.contextmanager
+    def table(self, sample=(), rows=0, **options):
+        with crackd.serve(sample, rows, workers=1, **options) as server, server.connect() as table:
+            yield table
