@@ -1,12 +1,15 @@
-"""Cases of `examples/shell.py`, on a terminal and as a filter.
+"""Cases of `python3 -m crackd shell`, on a terminal and as a filter.
 
-What it must show is written here from docs/SPECIFICATION.md and from what shell.py says of itself. Times are matched by a pattern.
+What it must show is written here from docs/SPECIFICATION.md and from what the shell says of itself. Times are matched by a pattern.
 """
 
 import contextlib
+import importlib.util
+import json
 import os
 import pathlib
 import re
+import shutil
 import socket
 import subprocess
 import sys
@@ -17,7 +20,9 @@ import time
 import server
 import terminal
 
-SHELL = pathlib.Path(__file__).resolve().parent.parent / "examples" / "shell.py"
+PACKAGE = pathlib.Path(__file__).resolve().parent.parent / "python"
+SHELL = [sys.executable, "-m", "crackd", "shell"]
+ENVIRONMENT = {"PYTHONPATH": str(PACKAGE), "CRACKD_HISTORY": ""}
 PROMPT = "crackd> "
 HELLO = r"crackd on port \d+; .*\n"
 TIME = r"  \([0-9.]+ m?s\)\n"
@@ -29,20 +34,20 @@ EVERYTHING = f"0 {server.MOST}"
 
 
 @contextlib.contextmanager
-def on_terminal(*words, files=()):
-    """The shell on a terminal, and the folder that it runs in, with these files."""
+def on_terminal(*words, files=(), environment=()):
+    """The shell on a terminal, and the folder that it runs in, with these files; more of its environment may be given."""
     with tempfile.TemporaryDirectory() as room:
         folder = pathlib.Path(room)
         for name, text in dict(files).items():
             (folder / name).write_text(text)
-        with terminal.Terminal([sys.executable, str(SHELL), *words], folder) as shell:
+        with terminal.Terminal([*SHELL, *words], folder, {**ENVIRONMENT, **dict(environment)}) as shell:
             yield shell, folder
 
 
 @contextlib.contextmanager
-def talking(*words, files=()):
+def talking(*words, files=(), environment=()):
     """The same, once it has a server."""
-    with on_terminal(*words, files=files) as (shell, folder):
+    with on_terminal(*words, files=files, environment=environment) as (shell, folder):
         shell.wait_for(f"^{HELLO}")
         yield shell, folder
 
@@ -68,7 +73,7 @@ def filtered(program, text, *words, files=()):
         for name, it in dict(files).items():
             (pathlib.Path(room) / name).write_text(it)
         how = {"input": text, "capture_output": True, "text": True, "timeout": server.SECONDS, "check": False, "cwd": room}
-        ran = subprocess.run([sys.executable, str(SHELL), "--program", program, *words], **how)
+        ran = subprocess.run([*SHELL, "--program", program, *words], env={**os.environ, **ENVIRONMENT}, **how)
     return ran.returncode, ran.stdout, ran.stderr
 
 
@@ -182,7 +187,7 @@ def control_c_in_a_load(program):
         feeder.start()
         ask(shell, ".load endless", r"\r\d+ rows")
         shell.type(terminal.CONTROL_C)
-        rows = shell.wait_for(r"^.*shell: interrupted: (\d+) rows came in, and stay\n")[1]
+        rows = shell.wait_for(r"shell: interrupted: (\d+) rows came in, and stay\n")[1]
         shell.wait_for(f"^warm-up: count {rows}, .*\n")
         ask(shell, f"count {EVERYTHING}", f"count {rows}" + TIME)
         feeder.join(server.SECONDS)
@@ -338,11 +343,11 @@ def no_server(program):
 def no_program(_):
     """Where nothing is built, and PATH has no crackd, a line says how to get it."""
     with tempfile.TemporaryDirectory() as room:
-        (pathlib.Path(room) / "examples").mkdir()
-        for it in SHELL.parent.glob("shell*.py"):
-            (pathlib.Path(room) / "examples" / it.name).write_text(it.read_text())
-        command = [sys.executable, "examples/shell.py"]
-        ran = subprocess.run(command, cwd=room, env={"PATH": room}, input="", capture_output=True, text=True, timeout=server.SECONDS, check=False)
+        (pathlib.Path(room) / "crates" / "crackd").mkdir(parents=True)
+        package = pathlib.Path(room) / "python"
+        shutil.copytree(PACKAGE / "crackd", package / "crackd")
+        environment = {"PATH": room, "PYTHONPATH": str(package)}
+        ran = subprocess.run(SHELL, cwd=room, env=environment, input="", capture_output=True, text=True, timeout=server.SECONDS, check=False)
     wanted = r"shell: no server: .*/crates/crackd/out/crackd isn't built, and PATH has no crackd; .*\n"
     server.expect("status, and whether one line says so", (1, True), (ran.returncode, bool(re.fullmatch(wanted, ran.stderr))))
 
@@ -352,10 +357,97 @@ def as_a_filter(program):
     text = "insert 7 70\n\ncount 10 5\n.load rows.csv\r\nselect 0 10\nlayout 0\nquit\ncount 0 1\n"
     wanted = "row 0.0\nrefused 2\nloaded 2 rows\nrows 3\n0.0 7 70\n0.1 1 -2\n0.2 3 4\n"
     laid = "layout 0 rows 3 column 3 out 0 in 0 cells 3 free 0 pieces 2\npiece 0 10 3\npiece 10 18446744073709551616 0\nbye\n"
-    server.expect("all", (0, wanted + laid, ""), filtered(program, text, files={"rows.csv": "1,-2\n3,4"}))
+    server.expect("all", (1, wanted + laid, ""), filtered(program, text, files={"rows.csv": "1,-2\n3,4"}))
     server.expect("no quit", (0, "count 0\n", ""), filtered(program, "count 0 1"))
+    server.expect("a statement that is refused", (1, "refused 1\ncount 0\n", ""), filtered(program, "nonsense\ncount 0 1"))
     complaint = "shell: missing: No such file or directory\n"
     server.expect("a missing file", (1, "count 0\n", complaint), filtered(program, ".load missing\ncount 0 1\n"))
+
+
+def words_of_a_person(program):
+    """A ; at the end is left out, and `help` and `exit` are understood."""
+    with talking("--program", program) as (shell, _):
+        ask(shell, "insert 1 10;", "row 0.0" + TIME)
+        ask(shell, " count 0 10 ; ", "count 1" + TIME)
+        ask(shell, ";", "refused 1: .*" + TIME)
+        ask(shell, "count 0 10;;", "refused 1: .*" + TIME)
+        ask(shell, "help", r"insert K V(.|\n)*\n\.quit (.|\n)* stay\.\n")
+        ask(shell, "help;", r"insert K V(.|\n)*\n\.quit (.|\n)* stay\.\n")
+        ask(shell, "exit", "bye" + TIME, "accepted 2 inserted 1 deleted 0 held 1\n")
+        shell.expect_end(0)
+    server.expect("a filter", (0, "row 0.0\ncount 1\nbye\n", ""), filtered(program, "insert 1 10;\ncount 0 10;\r\nexit;\ncount 0 1\n"))
+
+
+def modes_and_limits(program):
+    """Replies are shown as CSV and as JSON, and a select shows at most as many rows as a limit says."""
+    rows = "insert 7 70\ninsert 8 -80\n"
+    csv = "row,0.0\nrow,0.1\ncount,2\nrow,key,payload\n0.0,7,70\n0.1,8,-80\ngone,7,70\nnone\nrefused,2\nlow,high,rows\n0,7,0\n7,9,2\n9,18446744073709551616,0\nbye\n"
+    asked = "count 7 9\nselect 7 9\ndelete 0.0\ndelete 0.0\ncount 2 1\nlayout 0\nquit\n"
+    server.expect("csv", (1, csv, ""), filtered(program, f".mode csv\n{rows}{asked}"))
+    wanted = [{"row": "0.0"}, {"row": "0.1"}, {"sum": -10}, [{"row": "0.0", "key": 7, "payload": 70}, {"row": "0.1", "key": 8, "payload": -80}]]
+    wanted += [{"gone": {"key": 7, "payload": 70}}, {"changed": True}, {"folded": 6}, {"policy": "complete"}, {"bye": True}]
+    more = "sum 7 9\nselect 7 9\ndelete 0.0\nupdate 0.1 8 80\ncheckpoint 0\npolicy complete\nquit\n"
+    status, wrote, complained = filtered(program, f".mode json\n{rows}{more}")
+    server.expect("json", (0, wanted, ""), (status, [json.loads(line) for line in wrote.splitlines()], complained))
+    refusal = json.loads(filtered(program, ".mode json\nlayout 9\n")[1])
+    server.expect("a refusal", (5, []), (refusal["refused"], refusal["numbers"]))
+    limited = "row 0.0\nrow 0.1\nrows 2\n0.0 7 70\nrows 2\nrows 2\n0.0 7 70\n0.1 8 -80\n"
+    lines = f"{rows}.limit 1\nselect 0 9\n.limit 0\nselect 0 9\n.limit off\nselect 0 9\n"
+    server.expect("limits", (0, limited, ""), filtered(program, lines))
+    for command, complaint in [(".mode", ".mode is one of lines, csv, json"), (".limit -1", ".limit needs a number of rows, or off"), (".bail", ".bail is on or off")]:
+        server.expect(command, (1, "", f"shell: {complaint}\n"), filtered(program, command + "\n"))
+    with talking("--program", program) as (shell, _):
+        ask(shell, ".limit 1")
+        ask(shell, "insert 1 10", "row 0.0" + TIME)
+        ask(shell, "insert 2 20", "row 0.1" + TIME)
+        ask(shell, "select 0 9", r"rows 2\n0.0 1 10\n\(1 row more; \.limit off shows all\)" + TIME)
+        end(shell, (3, 2, 0, 2))
+
+
+def bail(program):
+    """With .bail on, what reads a file or a pipe ends where a statement is refused or a command isn't done."""
+    server.expect("a pipe", (1, "count 0\nrefused 1\n", ""), filtered(program, ".bail on\ncount 0 1\nnonsense\ncount 0 1\n"))
+    complaint = "shell: missing: No such file or directory\n"
+    server.expect("a command", (1, "", complaint), filtered(program, ".bail on\n.load missing\ncount 0 1\n"))
+    server.expect("off again", (1, "refused 1\ncount 0\n", ""), filtered(program, ".bail on\n.bail off\nnonsense\ncount 0 1\n"))
+    files = {"lines": "count 0 1\nnonsense\ncount 0 1\n"}
+    told = "shell: lines was read up to its line 2, since .bail is on\n"
+    server.expect("a file", (1, "count 0\nrefused 1\n", told), filtered(program, ".bail on\n.read lines\ncount 0 1\n", files=files))
+    with talking("--program", program, files=files) as (shell, _):
+        ask(shell, ".bail on")
+        ask(shell, "nonsense", "refused 1: .*" + TIME)
+        ask(shell, ".read lines", "count 0" + TIME, "refused 1: .*" + TIME, told)
+        ask(shell, "count 0 1", "count 0" + TIME)
+        end(shell, (2, 0, 0, 0))
+
+
+def history_and_completion(program):
+    """What was typed is kept in a file, and comes back; words are completed by Tab."""
+    if importlib.util.find_spec("readline") is None:
+        print("examples: history_and_completion: this Python has no readline")
+        return
+    up = "\x10"
+    with tempfile.TemporaryDirectory() as room:
+        environment = {"CRACKD_HISTORY": f"{room}/history"}
+        with talking("--program", program, environment=environment, files={"rows.csv": "1,2\n"}) as (shell, _):
+            shell.wait_for(f"^{PROMPT}")
+            shell.type("cou\t0 10\n")
+            shell.wait_for(r"^count 0 10\ncount 0" + TIME)
+            shell.wait_for(f"^{PROMPT}")
+            shell.type("policy comp\t\n")
+            shell.wait_for("^policy complete ?\npolicy complete" + TIME)
+            shell.wait_for(f"^{PROMPT}")
+            shell.type(".load ro\t\n")
+            shell.wait_for(r"^\.load rows\.csv ?\n" + LOADED.format("1 row"))
+            shell.wait_for(PROMPT)
+            shell.type("exit\n")
+            shell.wait_for("held 1\n")
+            shell.expect_end(0)
+        with talking("--program", program, environment=environment) as (shell, _):
+            shell.wait_for(f"^{PROMPT}")
+            shell.type(up * 4 + "\n")
+            shell.wait_for(r"count 0 10[ \x08]*\ncount 0" + TIME)
+            end(shell, (1, 0, 0, 0))
 
 
 CASES = [
@@ -378,4 +470,8 @@ CASES = [
     no_server,
     no_program,
     as_a_filter,
+    words_of_a_person,
+    modes_and_limits,
+    bail,
+    history_and_completion,
 ]

@@ -22,13 +22,13 @@ def control():
 
 
 class Terminal:
-    """A pseudo-terminal, and a program that it controls, in a folder."""
+    """A pseudo-terminal, and a program that it controls, in a folder; more of its environment may be given."""
 
-    def __init__(self, command, folder):
+    def __init__(self, command, folder, environment=()):
         self.shown = ""
         self.end, other = pty.openpty()
         how = {"stdin": other, "stdout": other, "stderr": other, "start_new_session": True, "preexec_fn": control}
-        self.process = subprocess.Popen(command, cwd=folder, env=ENVIRONMENT, **how)
+        self.process = subprocess.Popen(command, cwd=folder, env={**ENVIRONMENT, **dict(environment)}, **how)
         os.close(other)
 
     def __enter__(self):

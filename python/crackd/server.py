@@ -7,6 +7,7 @@ import pathlib
 import shutil
 import socket
 import subprocess
+import tempfile
 from typing import Any, Optional, Sequence
 
 from .base import MOST_PARTS, POLICIES, parts_for
@@ -29,7 +30,8 @@ def find_program(path: Optional[str] = None) -> str:
     """The program that is given, or that the variable CRACKD names, or that is built in the checkout of this package, or else that of PATH."""
     found = path or os.environ.get("CRACKD") or (str(BUILT) if BUILT.exists() else shutil.which("crackd"))
     if found is None:
-        raise NoServer(f"{BUILT} isn't built, and PATH has no crackd; `make run` builds it, or say `program=`")
+        is_checkout = BUILT.parent.parent.exists()
+        raise NoServer((f"{BUILT} isn't built, and " if is_checkout else "") + "PATH has no crackd; `make run` in the repository builds it")
     return str(found)
 
 
@@ -49,7 +51,7 @@ class Server:
             self._start(command)
             if self._process.stdout.readline() == f"listening {self.port}\n".encode("ascii"):
                 return
-            complaint = self._process.communicate()[1].decode("utf-8", "replace").strip()
+            complaint = self._complaint()
             # (another program may have taken the port in the meantime)
             if "refused 17" not in complaint:
                 self._complain(complaint)
@@ -57,11 +59,19 @@ class Server:
 
     def _start(self, command: Sequence[str]) -> None:
         words = [command[0], "serve", "--port", str(self.port), *command[1:]]
-        pipe = subprocess.PIPE
+        # (a file, which a server never waits for, however much it writes)
+        self._errors = tempfile.TemporaryFile()
+        how = {"stdin": subprocess.DEVNULL, "stdout": subprocess.PIPE, "stderr": self._errors, "start_new_session": True}
         try:
-            self._process = subprocess.Popen(words, stdin=subprocess.DEVNULL, stdout=pipe, stderr=pipe, start_new_session=True)
+            self._process = subprocess.Popen(words, **how)
         except OSError as error:
             raise NoServer(f"{command[0]}: {error.strerror}") from error
+
+    def _complaint(self) -> str:
+        """What the program wrote to standard error, once it has ended."""
+        self._process.communicate()
+        self._errors.seek(0)
+        return self._errors.read().decode("utf-8", "replace").strip()
 
     def _complain(self, complaint: str) -> None:
         said = complaint.partition("refused ")[2].split()
@@ -75,13 +85,15 @@ class Server:
 
     def close(self) -> None:
         """Ends the server, and with it the table. A second call does nothing."""
-        if self._process.poll() is None:
-            self._process.terminate()
-            try:
-                self._process.wait(SECONDS_OF_AN_END)
-            except subprocess.TimeoutExpired:
-                self._process.kill()
-        self._process.communicate()
+        if self._errors.closed:
+            return
+        self._process.terminate()
+        try:
+            self._process.communicate(timeout=SECONDS_OF_AN_END)
+        except subprocess.TimeoutExpired:
+            self._process.kill()
+            self._process.communicate()
+        self._errors.close()
 
     def __enter__(self) -> "Server":
         return self

@@ -1,7 +1,9 @@
-"""What `shell.py` says: the meanings of refusals, the help, times, and what it complains of."""
+"""What the shell says: the meanings of refusals, the help, times, and what it complains of."""
 
 import re
 import sys
+
+from ..errors import Disconnected
 
 GREATEST_KEY = 18446744073709551615
 LEAST_PAYLOAD, GREATEST_PAYLOAD = -9223372036854775808, 9223372036854775807
@@ -9,7 +11,7 @@ EVERYTHING = f"0 {GREATEST_KEY + 1}"
 REFUSED = re.compile("refused ([0-9]+)")
 
 MEANINGS = {
-    "1": "this is no statement; .help tells which there are",
+    "1": "this is no statement; help tells which there are",
     "2": "the low end of the range is above its high end, or that is above 18446744073709551616",
     "4": "the key is of another partition, and a row never leaves its own",
     "5": "there is no such partition",
@@ -39,15 +41,18 @@ select LO HI      these rows, a line P.S K V for each
 layout P          what stands where in partition P, as numbers
 checkpoint P      the history of partition P begins anew, and its rows stay; the reply is how many entries went
 policy NAME       how rows that came or went are merged: complete, gradual or ripple
-quit              ends the session
+quit              ends the session, as exit does
 
-Keys are whole numbers from 0 to 18446744073709551615, payloads from -9223372036854775808 to 9223372036854775807.
+A ; at the end of a statement is left out. Keys are whole numbers from 0 to 18446744073709551615, payloads from -9223372036854775808 to 9223372036854775807.
 
 .load FILE        inserts the rows of CSV, with or without the header key,payload, and merges them by one count
 .save FILE        writes all rows as CSV; the histories keep the selects that list them
 .read FILE        answers the lines of a file
 .layout [P]       draws the columns of all partitions, or of one
-.help             this
+.mode NAME        how replies are shown: lines as the server gives them, csv, or json with a value a line
+.limit N          a select shows at most N rows; .limit off shows all
+.bail on          what reads a file or a pipe ends where a statement is refused or a command isn't done; .bail off goes on
+.help             this, as help does
 .quit             ends the session, as control-D does
 
 Control-C ends what is at work; rows that were answered stay."""
@@ -65,8 +70,8 @@ class Ended(Exception):
     """Why the shell ends, in words."""
 
 
-class Left(Exception):
-    """The server closed the connection. What had been done then, in words, where there is something to say."""
+class Left(Disconnected):
+    """The server closed the connection. What had been done then, in words."""
 
 
 def complain(text):
@@ -88,7 +93,3 @@ def fault_text(path, error):
 
 def time_text(seconds):
     return f"({seconds:.2f} s)" if seconds >= 1 else f"({seconds * 1000:.3f} ms)"
-
-
-def rows_text(count):
-    return "1 row" if count == 1 else f"{count} rows"

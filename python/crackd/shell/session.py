@@ -1,4 +1,4 @@
-"""What `shell.py` asks of a server: a statement and its reply, a load of CSV, a layout, all rows as CSV."""
+"""What the shell asks of a server: a statement and its reply, a load of CSV, a layout, all rows as CSV."""
 
 import csv
 import dataclasses
@@ -7,10 +7,10 @@ import os
 import re
 import time
 
-from shell_layout import Layout
-from shell_texts import EVERYTHING, GREATEST_KEY, GREATEST_PAYLOAD, LEAST_PAYLOAD, Fault, Left, in_words, rows_text
+from ..errors import Disconnected
+from ..layout import PartLayout, rows_text
+from .texts import EVERYTHING, GREATEST_KEY, GREATEST_PAYLOAD, LEAST_PAYLOAD, Fault, Left, in_words
 
-POLICIES = ["complete", "gradual", "ripple"]
 POLICY_OF_A_SERVER = "ripple"
 HEADER = ["key", "payload"]
 MOST_DIGITS = 20
@@ -138,8 +138,8 @@ class Session:
         self.channel.send(os.fsencode(statement) + b"\n")
         lines = [self.channel.line()]
         listed = LISTED.fullmatch(lines[0])
-        while listed and len(lines) <= int(listed[1]):
-            lines.append(self.channel.line())
+        if listed:
+            lines += self.channel.lines(int(listed[1]))
         words = lines[0].split(" ")
         if words[0] == "policy":
             self.policy = words[-1]
@@ -165,7 +165,7 @@ class Session:
                 self.settle(loaded, ROWS_UNANSWERED)
                 progress.show(rows_text(loaded.placed))
             self.settle(loaded, 0)
-        except Left as left:
+        except Disconnected as left:
             raise Left(f"{rows_text(loaded.placed)} had been answered") from left
         finally:
             progress.clear()
@@ -175,7 +175,7 @@ class Session:
         """Waits until all is sent, and no more rows than these are unanswered."""
         while self.channel.unsent or loaded.sent - loaded.answered > most:
             self.channel.step()
-            loaded.take(self.channel.all_lines())
+            loaded.take(self.channel.lines_given())
 
     def warm_up(self):
         """Merges all pending rows by one count of everything, and goes back to the policy as it was. Under ripple alone each count would put its rows into
@@ -193,7 +193,7 @@ class Session:
             return None
         if reply.is_refusal:
             raise Fault(f"layout {partition}: {in_words(reply.lines[0])}")
-        return Layout.read(reply.lines)
+        return PartLayout.read(reply.lines)
 
     def layouts(self):
         """How each partition is laid out."""

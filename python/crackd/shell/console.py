@@ -1,26 +1,28 @@
-#!/usr/bin/env python3
-"""A shell over `crackd serve`, for a person or as a filter: shell.py [--program PATH] [--limit N] [--cells N] [--life N] [--policy NAME] [SPLIT ..],
-or shell.py --port N
+"""A shell over `crackd serve`: python3 -m crackd shell [--program PATH] [--limit N] [--cells N] [--life N] [--policy NAME] [SPLIT ..], or
+python3 -m crackd shell --port N
 
 Without a port it starts a server of its own, which ends with it. On a terminal it prompts, says what a refusal means, and how long each statement
-took; `.help` tells what can be said. Where its input or output is no terminal it answers line by line and says nothing else. The status is 0; 1 where no
-server can be had, or it left, or a command of a filter wasn't done; 2 where the command line was refused.
+took, keeps what was typed in a file, and completes words by Tab; `help` tells what can be said. Where its input or output is no terminal it answers line by
+line and says nothing else. The status is 0; 1 where no server can be had, or it left, or of a filter a statement was refused or a command wasn't done; 2
+where the command line was refused.
 """
 
 import argparse
 import contextlib
 import os
-import pathlib
-import shutil
 import signal
 import sys
 import time
 
-from shell_server import Channel, Interrupts, Server
-from shell_session import POLICIES, POLICY_OF_A_SERVER, Records, Session
-from shell_texts import HELP, Ended, Fault, Interrupted, Left, complain, fault_text, in_words, rows_text, time_text
+from ..base import POLICIES
+from ..errors import Disconnected
+from ..layout import rows_text
+from ..server import NoServer, find_program
+from . import modes, typing
+from .child import Interrupts, Server, channel_to
+from .session import POLICY_OF_A_SERVER, Records, Session
+from .texts import HELP, Ended, Fault, Interrupted, Left, complain, fault_text, in_words, time_text
 
-BUILT = pathlib.Path(__file__).resolve().parent.parent / "crates" / "crackd" / "out" / "crackd"
 PROMPT = "crackd> "
 MOST_LINE_BYTES = 200
 GREATEST_PORT = 65535
@@ -77,27 +79,33 @@ class Shell:
 
     def __init__(self, session, interrupts, is_terminal):
         self.session, self.interrupts, self.is_terminal = session, interrupts, is_terminal
-        self.answered = self.refused = 0
-        self.has_ended = self.has_failed = False
+        # (faults are refused statements and commands that weren't done)
+        self.answered = self.refused = self.faults = 0
+        self.has_ended = self.bails = False
+        self.mode, self.most_rows = "lines", None
         # (those whose lines are being obeyed)
         self.files = []
         self.of_files = {".load": self.load, ".save": self.save, ".read": self.read}
         self.others = {".layout": self.layout, ".help": self.help, ".quit": self.quit}
+        self.others |= {".mode": self.set_mode, ".limit": self.set_limit, ".bail": self.set_bail}
 
     def run(self, lines):
         """Obeys lines until one ends the session, or there are no more."""
         for line in lines:
             self.interrupts.forget()
+            faults = self.faults
             try:
                 self.obey(line)
             except Interrupted as it:
                 complain(f"interrupted: {it}")
             sys.stdout.flush()
             if self.interrupts.noted and not self.is_terminal:
-                self.has_failed = True
+                self.faults += 1
                 return
             if self.has_ended:
                 return
+            if self.bails and self.faults > faults and not self.is_terminal:
+                break
         self.quit()
 
     def obey(self, line):
@@ -106,9 +114,12 @@ class Shell:
         name, _, argument = text.strip(b" ").partition(b" ")
         if name.startswith(b"."):
             self.command(os.fsdecode(name), os.fsdecode(argument.strip(b" ")))
+        elif ended(text) == b"help":
+            self.help()
         elif name or len(text) > MOST_LINE_BYTES:
             # (the server answers nothing to a blank line)
-            self.statement(line)
+            statement = ended(text) if text.rstrip(b" ").endswith(b";") else text
+            self.statement(b"quit" if ended(text) == b"exit" else statement or text)
 
     def command(self, name, argument):
         """Does what a command says. What goes wrong is told, and the shell goes on."""
@@ -123,28 +134,31 @@ class Shell:
             self.fail(fault)
 
     def fail(self, text):
-        self.has_failed = True
+        self.faults += 1
         complain(text)
 
     def statement(self, statement):
         reply = self.session.ask(statement)
         self.answered += 1
         self.refused += reply.is_refusal
+        self.faults += reply.is_refusal
         self.has_ended = reply.lines == ["bye"]
         self.interrupts.check("the statement was answered, and its reply is left out")
         self.show(reply)
 
     def show(self, reply):
-        """Shows a reply. On a terminal it says what a refusal means, and the time: behind a reply of one line, below others."""
+        """Shows a reply in the mode that was chosen. On a terminal it says what a refusal means, and the time: behind a reply of one line, below others."""
+        lines = modes.shown(reply.lines, self.mode, self.most_rows)
         if not self.is_terminal:
-            print("\n".join(reply.lines))
-        elif len(reply.lines) == 1:
-            self.say(in_words(reply.lines[0]), reply.seconds)
+            print("\n".join(lines))
+        elif len(lines) == 1:
+            self.say(in_words(lines[0]), reply.seconds)
         else:
-            for line in reply.lines:
+            for line in lines:
                 self.interrupts.check("the rest is left out")
                 print(line)
-            print(time_text(reply.seconds))
+            hidden = modes.hidden(reply.lines, self.most_rows)
+            print(f"({rows_text(hidden)} more; .limit off shows all)  {time_text(reply.seconds)}" if hidden else time_text(reply.seconds))
 
     def say(self, text, seconds):
         """Says what was done, with the time where a person is told."""
@@ -204,7 +218,7 @@ class Shell:
             raise Fault(f"{path}: it is being read already")
         with self.waiting_for(path), open(path, "rb") as file:
             lines = file.read().split(b"\n")
-        begun, answered, refused, first = time.perf_counter(), self.answered, self.refused, 0
+        begun, answered, refused, faults, first = time.perf_counter(), self.answered, self.refused, self.faults, 0
         with self.within(path):
             for number, line in enumerate(lines, 1):
                 try:
@@ -214,6 +228,9 @@ class Shell:
                     raise Interrupted(f"{path} was read up to its line {number}") from None
                 first = first or (number if self.refused > refused else 0)
                 if self.has_ended:
+                    return
+                if self.bails and self.faults > faults:
+                    self.fail(f"{path} was read up to its line {number}, since .bail is on")
                     return
         if self.is_terminal:
             told = f", {self.refused - refused} refused, the first in line {first}" if first else ""
@@ -237,7 +254,25 @@ class Shell:
             self.interrupts.check("the rest is left out")
             print("\n".join(it.drawn()))
 
-    def help(self, _):
+    def set_mode(self, name):
+        """Chooses how replies are shown."""
+        if name not in modes.MODES:
+            raise Fault(f".mode is one of {', '.join(modes.MODES)}")
+        self.mode = name
+
+    def set_limit(self, number):
+        """Chooses how many rows a select shows."""
+        if number != "off" and not (number.isascii() and number.isdigit()):
+            raise Fault(".limit needs a number of rows, or off")
+        self.most_rows = None if number == "off" else int(number)
+
+    def set_bail(self, word):
+        """Chooses whether what reads a file or a pipe ends at the first fault."""
+        if word not in ("on", "off"):
+            raise Fault(".bail is on or off")
+        self.bails = word == "on"
+
+    def help(self, _=""):
         print(HELP)
 
     def quit(self, _=""):
@@ -246,24 +281,27 @@ class Shell:
         self.has_ended = True
 
 
+def ended(text):
+    """A line without the spaces around it, and without one ; at its end."""
+    return text.strip(b" ").removesuffix(b";").rstrip(b" ")
+
+
 def typed_lines(interrupts):
     """The lines that a person types, until control-D. A control-C leaves out the one that was begun."""
-    # (line editing and history, where there are any)
-    with contextlib.suppress(ImportError):
-        import readline  # noqa: F401
     sys.stdin.reconfigure(errors="surrogateescape")
-    while True:
-        try:
-            with interrupts.breaking_in():
-                text = input(PROMPT)
-        except KeyboardInterrupt:
-            print()
-            continue
-        except (EOFError, OSError):
-            print()
-            return
-        # (what is pasted may have several lines)
-        yield from os.fsencode(text).split(b"\n")
+    with typing.edited():
+        while True:
+            try:
+                with interrupts.breaking_in():
+                    text = input(PROMPT)
+            except KeyboardInterrupt:
+                print()
+                continue
+            except (EOFError, OSError):
+                print()
+                return
+            # (what is pasted may have several lines)
+            yield from os.fsencode(text).split(b"\n")
 
 
 def given_lines(interrupts):
@@ -283,24 +321,24 @@ def is_with_a_person():
 
 def talk(port, policy, is_known, interrupts):
     """A session with the server of a port, in which a policy is known to hold or is asked for first. Whether all was done."""
-    channel, is_terminal = Channel(port, interrupts), is_with_a_person()
+    channel, is_terminal = channel_to(port, interrupts), is_with_a_person()
     session = Session(channel, interrupts, policy if is_known else None)
     if policy and not is_known:
         session.demand(f"policy {policy}")
     if is_terminal:
-        print(f"crackd on port {port}; .help tells what can be said, control-D ends")
+        print(f"crackd on port {port}; help tells what can be said, control-D ends")
     shell = Shell(session, interrupts, is_terminal)
     shell.run(typed_lines(interrupts) if is_terminal else given_lines(interrupts))
     channel.close()
-    return is_terminal or not shell.has_failed
+    return is_terminal or not shell.faults
 
 
 def program_of(path):
-    """The program that is given, or the one that is built beside this script, or else that of PATH."""
-    found = path or (str(BUILT) if BUILT.exists() else shutil.which("crackd"))
-    if found is None:
-        raise Ended(f"no server: {BUILT} isn't built, and PATH has no crackd; `make run` builds it, and --program says where it is")
-    return found
+    """The program that is given, or that is found."""
+    try:
+        return find_program(path)
+    except NoServer as error:
+        raise Ended(f"no server: {error}") from error
 
 
 def talk_to_own(options, interrupts):
@@ -315,16 +353,16 @@ def talk_to_own(options, interrupts):
         if is_with_a_person():
             print(totals)
         return is_done
-    except Left as left:
-        raise Left("; ".join(filter(None, [str(left), server.why()]))) from left
+    except Disconnected as left:
+        raise Left("; ".join(filter(None, [str(left) if isinstance(left, Left) else "", server.why()]))) from left
     finally:
         server.end()
 
 
 def options_of(words):
     """What the command line says."""
-    parser = argparse.ArgumentParser(description="A shell over `crackd serve`. Without a port it starts a server of its own.")
-    parser.add_argument("--program", metavar="PATH", help="the program crackd [default: the one that is built beside this script, else that of PATH]")
+    parser = argparse.ArgumentParser(prog="python3 -m crackd shell", description="A shell over `crackd serve`. Without a port it starts a server of its own.")
+    parser.add_argument("--program", metavar="PATH", help="the program crackd [default: the one that is built beside this package, else that of PATH]")
     parser.add_argument("--port", metavar="N", type=int, help="the port of a server on this machine")
     parser.add_argument("--limit", metavar="N", help="how many commands a partition answers from one checkpoint to the next, 1 to 1000000")
     parser.add_argument("--cells", metavar="N", help="how many cells for rows a partition has, 1 to 1048576")
@@ -346,8 +384,8 @@ def main(words):
         is_done = talk_to_own(options, interrupts) if options.port is None else talk(options.port, options.policy, False, interrupts)
         sys.stdout.flush()
         return 0 if is_done else 1
-    except Left as left:
-        complain("the server left" + (f": {left}" if str(left) else ""))
+    except Disconnected as left:
+        complain("the server left" + (f": {left}" if isinstance(left, Left) else ""))
     except (Ended, Fault) as fault:
         complain(fault)
     except KeyboardInterrupt:
@@ -357,7 +395,3 @@ def main(words):
         # (nobody reads the replies any more)
         os.dup2(os.open(os.devnull, os.O_WRONLY), sys.stdout.fileno())
     return 1
-
-
-if __name__ == "__main__":
-    sys.exit(main(sys.argv[1:]))

@@ -1,17 +1,14 @@
-"""How `shell.py` reaches a server: one of its own or one that is there, lines out and in, and what a control-C does meanwhile."""
+"""How the shell reaches a server: one of its own or one that is there, and what a control-C does meanwhile."""
 
-import collections
 import contextlib
-import select
 import signal
-import socket
 import subprocess
+import tempfile
 
-from shell_texts import Ended, Interrupted, Left, complain, fault_text, in_words
+from ..channel import Channel
+from ..server import TRIES, free_port
+from .texts import Ended, Interrupted, complain, fault_text, in_words
 
-TRIES = 5
-BYTES_AT_ONCE = 2**18
-SECONDS_OF_A_STEP = 0.2
 SECONDS_OF_AN_END = 60
 
 
@@ -49,12 +46,6 @@ class Interrupts:
         if self.noted and not self.is_told:
             self.is_told = True
             complain("the server hasn't answered yet; control-C again ends the session")
-
-
-def free_port():
-    with socket.socket() as it:
-        it.bind(("127.0.0.1", 0))
-        return it.getsockname()[1]
 
 
 class Server:
@@ -121,54 +112,9 @@ class Server:
         self.process.communicate()
 
 
-class Channel:
-    """A connection with a server. It takes lines in while it sends, so that neither side waits for ever."""
-
-    def __init__(self, port, interrupts):
-        self.interrupts = interrupts
-        try:
-            self.socket = socket.create_connection(("127.0.0.1", port))
-        except OSError as error:
-            raise Ended(f"no server on port {port}: {error.strerror or error}") from error
-        self.socket.setsockopt(socket.IPPROTO_TCP, socket.TCP_NODELAY, 1)
-        self.socket.setblocking(False)
-        self.unsent, self.begun, self.lines = b"", "", collections.deque()
-
-    def send(self, text):
-        self.unsent += text
-
-    def step(self):
-        """Waits a moment for the server, keeps what it gives, and sends what it takes."""
-        waiting = [self.socket] if self.unsent else []
-        gives, takes, _ = select.select([self.socket], waiting, [], SECONDS_OF_A_STEP)
-        try:
-            if gives:
-                self.keep(self.socket.recv(BYTES_AT_ONCE))
-            if takes:
-                self.unsent = self.unsent[self.socket.send(self.unsent) :]
-        except BlockingIOError:
-            pass
-        except OSError as error:
-            raise Left from error
-        if not gives and not takes:
-            self.interrupts.tell_once()
-
-    def keep(self, given):
-        if not given:
-            raise Left
-        *lines, self.begun = (self.begun + given.decode("ascii", "backslashreplace")).split("\n")
-        self.lines.extend(lines)
-
-    def line(self):
-        """The next line that the server gives."""
-        while not self.lines:
-            self.step()
-        return self.lines.popleft()
-
-    def all_lines(self):
-        """The lines that were given and not yet taken."""
-        lines, self.lines = self.lines, collections.deque()
-        return lines
-
-    def close(self):
-        self.socket.close()
+def channel_to(port, interrupts):
+    """A connection with the server of a port of this machine."""
+    try:
+        return Channel("127.0.0.1", port, interrupts.tell_once)
+    except OSError as error:
+        raise Ended(f"no server on port {port}: {error.strerror or error}") from error

@@ -1,0 +1,63 @@
+"""How replies are shown: as the server gives them, as CSV, or as JSON with a value a line."""
+
+import json
+
+from ..errors import REASONS
+
+MODES = ("lines", "csv", "json")
+ROW = ("row", "key", "payload")
+PIECE = ("low", "high", "rows")
+
+
+def is_list_of_rows(lines):
+    return lines[0].startswith("rows ")
+
+
+def hidden(lines, most):
+    """How many rows of a reply aren't shown where at most so many are."""
+    return max(0, len(lines) - 1 - most) if most is not None and is_list_of_rows(lines) else 0
+
+
+def shown(lines, mode, most):
+    """The lines that a reply is shown by, with at most so many of its rows, or all."""
+    kept = lines[: len(lines) - hidden(lines, most)]
+    if mode == "lines":
+        return kept
+    return [json.dumps(value(kept))] if mode == "json" else records(kept)
+
+
+def number(word):
+    """A word of a reply, as a number where it is one."""
+    return int(word) if word.removeprefix("-").isdigit() else word
+
+
+def of_names(names, line):
+    """The words of a line, by these names."""
+    return dict(zip(names, map(number, line.split(" "))))
+
+
+def value(lines):
+    """What a reply says, as JSON has it."""
+    words = lines[0].split(" ")
+    match words[0]:
+        case "rows":
+            return [of_names(ROW, line) for line in lines[1:]]
+        case "layout":
+            told = dict(zip(words[::2], map(int, words[1::2])))
+            return {**told, "pieces": [of_names(PIECE, line.removeprefix("piece ")) for line in lines[1:]]}
+        case "gone":
+            return {"gone": of_names(ROW[1:], " ".join(words[1:]))}
+        case "refused":
+            code = int(words[1])
+            return {"refused": code, "reason": REASONS.get(code, ""), "numbers": [int(it) for it in words[2:]]}
+        case _:
+            return {words[0]: number(words[1]) if len(words) > 1 else True}
+
+
+def records(lines):
+    """A reply as records of CSV: rows and pieces behind a header, any other reply as its words."""
+    if is_list_of_rows(lines):
+        return [",".join(ROW), *(line.replace(" ", ",") for line in lines[1:])]
+    if lines[0].startswith("layout "):
+        return [",".join(PIECE), *(line.removeprefix("piece ").replace(" ", ",") for line in lines[1:])]
+    return [lines[0].replace(" ", ",")]

@@ -1,0 +1,55 @@
+"""What is typed at the prompt: edited, completed by Tab, and kept in a file, where the module readline is there."""
+
+import contextlib
+import glob
+import os
+
+from ..base import POLICIES
+from .modes import MODES
+
+WORDS = ["insert", "delete", "update", "count", "sum", "select", "layout", "checkpoint", "policy", "quit", "exit", "help"]
+COMMANDS = [".load", ".save", ".read", ".layout", ".mode", ".limit", ".bail", ".help", ".quit"]
+# what may stand behind a word
+BEHIND = {"policy": list(POLICIES), ".mode": list(MODES), ".bail": ["on", "off"], ".limit": ["off"]}
+OF_FILES = (".load", ".save", ".read")
+MOST_KEPT = 1000
+
+
+def history_file():
+    """Where what was typed is kept: the file that CRACKD_HISTORY names, or nowhere where that is empty, or else ~/.crackd_history."""
+    return os.environ.get("CRACKD_HISTORY", os.path.expanduser("~/.crackd_history"))
+
+
+def completions(line, word):
+    """What a word may be completed to that ends a line."""
+    before = line[: len(line) - len(word)].split()
+    if not before:
+        return [f"{it} " for it in WORDS + COMMANDS if it.startswith(word)]
+    if before[0] in OF_FILES and len(before) == 1:
+        found = sorted(glob.glob(glob.escape(os.path.expanduser(word)) + "*"))
+        return [it + ("/" if os.path.isdir(it) else " ") for it in found]
+    return [f"{it} " for it in BEHIND.get(before[0], []) if len(before) == 1 and it.startswith(word)]
+
+
+@contextlib.contextmanager
+def edited():
+    """While lines are typed. What was typed before is there, and what is typed is kept."""
+    try:
+        import readline
+    except ImportError:
+        yield
+        return
+    readline.set_completer_delims(" ")
+    readline.set_completer(lambda word, at: [*completions(readline.get_line_buffer()[: readline.get_endidx()], word), None][at])
+    readline.parse_and_bind("bind ^I rl_complete" if "libedit" in (readline.__doc__ or "") else "tab: complete")
+    path = history_file()
+    if path:
+        with contextlib.suppress(OSError):
+            readline.read_history_file(path)
+    readline.set_history_length(MOST_KEPT)
+    try:
+        yield
+    finally:
+        if path:
+            with contextlib.suppress(OSError):
+                readline.write_history_file(path)
