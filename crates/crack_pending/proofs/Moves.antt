@@ -1,12 +1,12 @@
 -- Laws of closing holes up.
 use Rattle.std.specs.Prelude.{slice_index_or}
 use Rattle.std.proofs.Common.{◌≡◌, ℕ, ◌+◌, ◌<◌, ◌≤◌, Bool, false, ◌≢◌, List, length, get_or, set, take, All, refl, sym, ap, ◌∙◌, inl, inr, arith, length-set}
-use Rattle.std.proofs.lemmas.Bool.{cases_eq}
+use Rattle.std.proofs.lemmas.Bool.{cases_eq, true≢false}
 use Rattle.std.proofs.lemmas.List.{get_or-set_same, get_or-set_other, get_or_default, get_or-take, length-take-le, ext_get_or}
 use Rattle.crack_arena.specs.Arena.{Handle, no_handle}
 use Rattle.crack_pending.specs.Spots.{kept}
-use Rattle.crack_pending.specs.Keeps.{place_at, HasRow, LeadBack}
-use Rattle.crack_pending.specs.Inside.{AreLed, AreApart}
+use Rattle.crack_pending.specs.Keeps.{place_at, HasRow, LeadBack, StandApart, AreCovered}
+use Rattle.crack_pending.specs.Inside.{AreApart}
 use Rattle.crack_pending.proofs.Kept.{place_at-more, place_at-few, length-kept, kept-at, kept-at_place, spot_of, Stands-within}
 
 -- so far the rows of the first spots have moved to the front, and the spots behind are as they were
@@ -66,42 +66,44 @@ module _ {X : Type 0} where
       let before : i < low = omega (arith, inside, size) in
       get_or-take low new i d before ∙ moved.front i d before)
 
--- the next handle's cell is led to its spot
-pub led_more : (handles : List Handle) (spots : List ℕ) (spot slot : ℕ) → spot < length handles → AreApart handles → (get_or handles spot no_handle).slot ≡ slot → slot < length spots → AreLed handles spots spot → AreLed handles (set spots slot spot) (spot + 1)
-led_more handles spots spot slot within apart at covered led j before = elim (cases_eq j spot) [
-  | inl e ↦ rw (e, at) (record { covered = omega (arith, covered, length-set spots slot spot); is = get_or-set_same spots slot spot 0 covered })
-  | inr ne ↦
-      let lower : j < spot = omega (arith, before, ne) in
-      let one = led j lower in
-      let other : (get_or handles j no_handle).slot ≢ slot = λ e. ne (apart j spot (omega (arith, lower, within)) within (e ∙ sym at)) in
-      record {
-        covered = omega (arith, one.covered, length-set spots slot spot);
-        is = get_or-set_other spots slot (get_or handles j no_handle).slot spot 0 other ∙ one.is;
-      }
-]
+module _ (handles : List Handle) (stands : List Bool) (spots : List ℕ) (spot : ℕ) (led : LeadBack handles stands spots spot) where
+  -- the next row's spot is noted
+  pub led_row : StandApart handles stands → HasRow stands spot → (slot : ℕ) → (get_or handles spot no_handle).slot ≡ slot → slot < length spots → LeadBack handles stands (set spots slot spot) (spot + 1)
+  led_row apart there slot at covered j before stands_j = elim (cases_eq j spot) [
+    | inl e ↦ rw (e, at) (record { covered = omega (arith, covered, length-set spots slot spot); is = get_or-set_same spots slot spot 0 covered })
+    | inr ne ↦
+        let one = led j (omega (arith, before, ne)) stands_j in
+        let other : (get_or handles j no_handle).slot ≢ slot = λ e. ne (apart j spot stands_j there (e ∙ sym at)) in
+        record {
+          covered = omega (arith, one.covered, length-set spots slot spot);
+          is = get_or-set_other spots slot (get_or handles j no_handle).slot spot 0 other ∙ one.is;
+        }
+  ]
 
-module _ (handles : List Handle) (stands : List Bool) (spots : List ℕ) (beside : length stands ≡ length handles) (led : LeadBack handles stands spots) where
+  -- a hole is passed over
+  pub led_hole : get_or stands spot false ≡ false → LeadBack handles stands spots (spot + 1)
+  led_hole hole j before stands_j = elim (cases_eq j spot) [
+    | inl e ↦ absurd (true≢false (sym (rw e at stands_j) ∙ hole))
+    | inr ne ↦ led j (omega (arith, before, ne)) stands_j
+  ]
+
+module _ (handles : List Handle) (stands : List Bool) (beside : length stands ≡ length handles) where
   -- no two rows have a handle of the same cell
-  pub kept-apart : AreApart (kept stands handles)
-  kept-apart j k j_within k_within same =
+  pub kept-apart : StandApart handles stands → AreApart (kept stands handles)
+  kept-apart apart j k j_within k_within same =
       let long = length-kept stands handles beside in
       let s = spot_of stands j (omega (arith, long, j_within)) in
       let t = spot_of stands k (omega (arith, long, k_within)) in
       let at_s = kept-at_place stands handles j no_handle beside s in
       let at_t = kept-at_place stands handles k no_handle beside t in
       let slot : (get_or handles s.spot no_handle).slot ≡ (get_or handles t.spot no_handle).slot = rw (at_s, at_t) at same in
-      let once : s.spot ≡ t.spot = sym (led s.spot s.stands).is ∙ ap (λ n. get_or spots n 0) slot ∙ (led t.spot t.stands).is in
-      sym s.is ∙ ap (place_at stands) once ∙ t.is
+      sym s.is ∙ ap (place_at stands) (apart s.spot t.spot s.stands t.stands slot) ∙ t.is
 
-  -- each is of a cell that leads to a spot
-  pub kept-covered : All (λ (h : Handle). h.slot < length spots) (kept stands handles)
-  kept-covered k d within =
+  -- each is of a cell that is covered
+  pub kept-covered : (cells : ℕ) → AreCovered handles stands cells → All (λ (h : Handle). h.slot < cells) (kept stands handles)
+  kept-covered cells covered k d within =
       let long = length-kept stands handles beside in
       let s = spot_of stands k (omega (arith, long, within)) in
       let at = kept-at_place stands handles k d beside s in
       let same : get_or handles s.spot d ≡ get_or handles s.spot no_handle = get_or_default handles s.spot d no_handle (omega (arith, Stands-within stands s.spot s.stands, beside)) in
-      rw (at, same) ((led s.spot s.stands).covered)
-
--- where all are led back, those of rows are
-pub led_all : (handles : List Handle) (stands : List Bool) (spots : List ℕ) → length stands ≡ length handles → AreLed handles spots (length handles) → LeadBack handles stands spots
-led_all handles stands spots beside led spot at = led spot (omega (arith, Stands-within stands spot at, beside))
+      rw (at, same) (covered s.spot s.stands)

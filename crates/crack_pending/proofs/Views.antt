@@ -10,13 +10,13 @@ use Rattle.crack_arena.specs.Rows.{key_at, keys_at, RemembersKeys}
 use Rattle.crack_arena.proofs.Times.{times_map_at}
 use Rattle.crack_arena.proofs.Remembering.{RemembersKeys-anew}
 use Rattle.crack_arena.proofs.Places.{place_in-within, place_in-slot, place_in-is, times_apart_once}
-use Rattle.std.specs.Prelude.{Result, Ok, Err, OnOk}
+use Rattle.std.specs.Prelude.{Result, Ok, Err, OnOk, min}
 use Rattle.crack_pending.specs.Pending.{Pending, NoneIn, IsFirstIn}
 use Rattle.crack_pending.specs.Spots.{kept, spot_room}
-use Rattle.crack_pending.specs.Keeps.{place_at, HasRow, LeadBack, AreKept}
-use Rattle.crack_pending.specs.Inside.{KnowKeys, IsMissed, IsHit, IsSpotWith, IsNowhere}
+use Rattle.crack_pending.specs.Keeps.{place_at, HasRow, LeadBack, StandApart, AreCovered, AreKept}
+use Rattle.crack_pending.specs.Inside.{KnowKeys, IsMissed, IsHit, IsSpotWith, IsNowhere, IsUnnoted, IsNotBehind}
 use Rattle.crack_pending.proofs.Kept.{place_at-le, place_at-more, place_at-before, place_at-hole_before, place_at-push, place_at-few, kept-full, Stands-within, length-kept, kept-at, kept-hole, kept-set, kept-at_place, spot_of}
-use Rattle.crack_pending.proofs.Moves.{kept-apart}
+use Rattle.crack_pending.proofs.Moves.{kept-apart, kept-covered}
 use Rattle.crack_pending.proofs.Searches.{keys_at-StandsAt, length-keys_at, StandsAt-get_or}
 
 module _ (handles : List Handle) (stands : List Bool) (beside : length stands ≡ length handles) where
@@ -45,29 +45,17 @@ module _ (handles : List Handle) (stands : List Bool) (beside : length stands �
         absurd (nowhere s.spot (record { stands_there = s.stands; of = of }))
   ]
 
-  module _ (spots : List ℕ) (led : LeadBack handles stands spots) where
+  module _ (apart : StandApart handles stands) where
     pub spot-place_in : (slot spot : ℕ) → IsSpotWith handles stands slot spot → place_in (kept stands handles) slot ≡ place_at stands spot
     spot-place_in slot spot with =
         let here : (get_or (kept stands handles) (place_at stands spot) no_handle).slot ≡ slot = ap (λ (h : Handle). h.slot) (kept-at stands handles spot no_handle beside with.stands_there) ∙ with.of in
         let within = place-within spot with.stands_there in
         place_in-is (kept stands handles) slot (place_at stands spot) no_handle within here (λ k less same.
-        let one : k ≡ place_at stands spot = kept-apart handles stands spots beside led k (place_at stands spot) (omega (arith, less, within)) within (same ∙ sym here) in
+        let one : k ≡ place_at stands spot = kept-apart handles stands beside apart k (place_at stands spot) (omega (arith, less, within)) within (same ∙ sym here) in
         absurd (omega (arith, one, less)))
 
     pub once : (slot : ℕ) → times slot (slots (kept stands handles)) ≤ 1
-    once slot = times_apart_once (kept stands handles) slot (kept-apart handles stands spots beside led)
-
-    -- a spot that a cell leads to, where no row of it stands: none stands anywhere
-    pub led-nowhere : (slot spot : ℕ) → get_or spots slot 0 ≡ spot → (IsSpotWith handles stands slot spot → ⊥) → IsNowhere handles stands slot
-    led-nowhere slot spot at none other with =
-        let back = (led other with.stands_there).is in
-        let same : other ≡ spot = sym (rw (with.of) at back) ∙ at in
-        none (rw same at with)
-
-    pub uncovered-nowhere : (slot : ℕ) → length spots ≤ slot → IsNowhere handles stands slot
-    uncovered-nowhere slot past other with =
-        let covered = (led other with.stands_there).covered in
-        absurd (omega (arith, covered, past, with.of))
+    once slot = times_apart_once (kept stands handles) slot (kept-apart handles stands beside apart)
 
     -- the place of a handle is the first, and it is nowhere where its cell's row is another
     pub handle-first : (h : Handle) (spot : ℕ) → IsSpotWith handles stands h.slot spot → h ≡ get_or handles spot h → IsFirstAt (kept stands handles) h (place_at stands spot)
@@ -78,7 +66,7 @@ module _ (handles : List Handle) (stands : List Bool) (beside : length stands �
           before = λ k less stands_k.
               let at_k : (get_or (kept stands handles) k no_handle).slot ≡ h.slot = ap (λ (x : Handle). x.slot) (get_or_default (kept stands handles) k no_handle h stands_k.within ∙ sym stands_k.is) in
               let at : (get_or (kept stands handles) (place_at stands spot) no_handle).slot ≡ h.slot = ap (λ (x : Handle). x.slot) (get_or_default (kept stands handles) (place_at stands spot) no_handle h here.within ∙ sym here.is) in
-              let one : k ≡ place_at stands spot = kept-apart handles stands spots beside led k (place_at stands spot) stands_k.within here.within (at_k ∙ sym at) in
+              let one : k ≡ place_at stands spot = kept-apart handles stands beside apart k (place_at stands spot) stands_k.within here.within (at_k ∙ sym at) in
               absurd (omega (arith, one, less));
         }
 
@@ -93,21 +81,42 @@ module _ (handles : List Handle) (stands : List Bool) (beside : length stands �
   pub nowhere-absent : (h : Handle) → IsNowhere handles stands h.slot → IsAbsent (kept stands handles) h
   nowhere-absent h nowhere place there = nowhere (stands-spot h place there).0 (stands-spot h place there).1.0
 
-  pub other-absent : (spots : List ℕ) → LeadBack handles stands spots → (h other : Handle) (spot : ℕ) → IsSpotWith handles stands h.slot spot → other ≡ get_or handles spot other → other ≢ h → IsAbsent (kept stands handles) h
-  other-absent spots led h other spot with is differs place there =
+  pub other-absent : StandApart handles stands → (h other : Handle) (spot : ℕ) → IsSpotWith handles stands h.slot spot → other ≡ get_or handles spot other → other ≢ h → IsAbsent (kept stands handles) h
+  other-absent apart h other spot with is differs place there =
       let found = stands-spot h place there in
-      let back = (led found.0 found.1.0.stands_there).is in
-      let back_spot = (led spot with.stands_there).is in
-      let same : found.0 ≡ spot = sym (rw (found.1.0.of) at back) ∙ (rw (with.of) at back_spot) in
+      let same : found.0 ≡ spot = apart found.0 spot found.1.0.stands_there with.stands_there (found.1.0.of ∙ sym with.of) in
       let within = Stands-within stands spot with.stands_there in
       let here : h ≡ get_or handles spot h = rw same at found.1.1 in
       differs (is ∙ get_or_default handles spot other h (omega (arith, within, beside)) ∙ sym here)
 
-module _ (handles : List Handle) (keys : List ℕ) (stands : List Bool) (spots : List ℕ) (beside : length stands ≡ length handles) (keys_beside : length keys ≡ length handles) (led : LeadBack handles stands spots) (slot spot : ℕ) (with : IsSpotWith handles stands slot spot) where
+-- a spot that a cell leads to, where no row of it stands
+pub elsewhere-unnoted : (handles : List Handle) (stands : List Bool) (spots : List ℕ) (slot spot : ℕ) → get_or spots slot 0 ≡ spot → (IsSpotWith handles stands slot spot → ⊥) → IsUnnoted handles stands spots slot
+elsewhere-unnoted handles stands spots slot spot at none other with leads =
+    let same : other ≡ spot = sym leads.is ∙ at in
+    none (rw same at with)
+
+-- a cell that leads nowhere
+pub uncovered-unnoted : (handles : List Handle) (stands : List Bool) (spots : List ℕ) (slot : ℕ) → length spots ≤ slot → IsUnnoted handles stands spots slot
+uncovered-unnoted handles stands spots slot past other with leads = absurd (omega (arith, leads.covered, past))
+
+module _ (handles : List Handle) (stands : List Bool) (spots : List ℕ) (slot : ℕ) (unnoted : IsUnnoted handles stands spots slot) (noted : ℕ) (led : LeadBack handles stands spots noted) where
+  -- where all spots are noted, no row of the cell stands anywhere
+  pub unnoted-nowhere : length stands ≤ noted → IsNowhere handles stands slot
+  unnoted-nowhere all spot with =
+      unnoted spot with (rw (with.of) at (led spot (omega (arith, all, Stands-within stands spot with.stands_there)) with.stands_there))
+
+  -- nor where none stands at the others
+  pub behind-nowhere : IsNotBehind handles stands slot noted → IsNowhere handles stands slot
+  behind-nowhere behind spot with = elim (cases_lt spot noted) [
+    | inl l ↦ unnoted spot with (rw (with.of) at (led spot l with.stands_there))
+    | inr m ↦ behind spot m with
+  ]
+
+module _ (handles : List Handle) (keys : List ℕ) (stands : List Bool) (beside : length stands ≡ length handles) (keys_beside : length keys ≡ length handles) (apart : StandApart handles stands) (slot spot : ℕ) (with : IsSpotWith handles stands slot spot) where
   -- another key beside a row
   pub other_key : (key : ℕ) → kept stands (set keys spot key) ≡ set (kept stands keys) (place_in (kept stands handles) slot) key
   other_key key =
-      kept-set stands keys spot key (omega (arith, beside, keys_beside)) with.stands_there ∙ ap (λ p. set (kept stands keys) p key) (sym (spot-place_in handles stands beside spots led slot spot with))
+      kept-set stands keys spot key (omega (arith, beside, keys_beside)) with.stands_there ∙ ap (λ p. set (kept stands keys) p key) (sym (spot-place_in handles stands beside apart slot spot with))
 
   pub anew : (cells cells' : List (Cell Row)) (key : ℕ) → key ≡ key_at cells' (get_or (kept stands handles) (place_in (kept stands handles) slot) no_handle) → ((h : Handle) → h.slot ≢ slot → key_at cells' h ≡ key_at cells h) → RemembersKeys cells (kept stands handles) (kept stands keys) → RemembersKeys cells' (kept stands handles) (kept stands (set keys spot key))
   anew cells cells' key is others r =
@@ -117,12 +126,12 @@ module _ (handles : List Handle) (keys : List ℕ) (stands : List Bool) (spots :
       rw (other_key key) (RemembersKeys-anew cells cells' rows (kept stands keys) place key is (λ k d k_within ne.
       others (get_or rows k d) (λ same.
       let at_k : (get_or rows k no_handle).slot ≡ slot = ap (λ (h : Handle). h.slot) (get_or_default rows k no_handle d k_within) ∙ same in
-      ne (kept-apart handles stands spots beside led k place k_within within (at_k ∙ sym (place_in-slot rows slot no_handle within))))) r)
+      ne (kept-apart handles stands beside apart k place k_within within (at_k ∙ sym (place_in-slot rows slot no_handle within))))) r)
 
   -- a hole where it stood
   pub struck : {X : Type 0} (xs : List X) → length stands ≡ length xs → kept (set stands spot false) xs ≡ remove (kept stands xs) (place_in (kept stands handles) slot)
   struck xs xs_beside =
-      kept-hole stands xs spot xs_beside with.stands_there ∙ ap (λ p. remove (kept stands xs) p) (sym (spot-place_in handles stands beside spots led slot spot with))
+      kept-hole stands xs spot xs_beside with.stands_there ∙ ap (λ p. remove (kept stands xs) p) (sym (spot-place_in handles stands beside apart slot spot with))
 
 -- a key that is remembered beside a row is right at its spot
 pub KnowKeys-kept : (cells : List (Cell Row)) (handles : List Handle) (keys : List ℕ) (stands : List Bool) → length stands ≡ length handles → length keys ≡ length handles → RemembersKeys cells (kept stands handles) (kept stands keys) → KnowKeys cells handles keys stands
@@ -165,40 +174,47 @@ module _ (range : Range) (cells : List (Cell Row)) (handles : List Handle) (stan
         before = missed-NoneIn start spot hit.before (omega (arith, within));
       }
 
-pub kept_none : (spots : List ℕ) → AreKept [] [] [] spots 0 0 0
+pub kept_none : (spots : List ℕ) → AreKept [] [] [] spots 0 0 0 0
 kept_none spots = record {
   keys_beside = refl;
   stands_beside = refl;
   counted = refl;
   few = omega arith;
-  led = λ spot at. absurd (true≢false (sym at));
+  covered = λ spot at. absurd (true≢false (sym at));
+  apart = λ j k at. absurd (true≢false (sym at));
+  noted_near = omega arith;
+  led = λ spot before. absurd (omega (arith, before));
   near = omega arith;
   hinted = refl;
 }
 
-module _ (handles : List Handle) (keys : List ℕ) (stands : List Bool) (spots : List ℕ) (rows hint_place hint_spot : ℕ) (are : AreKept handles keys stands spots rows hint_place hint_spot) where
+module _ (handles : List Handle) (keys : List ℕ) (stands : List Bool) (spots : List ℕ) (rows noted hint_place hint_spot : ℕ) (are : AreKept handles keys stands spots rows noted hint_place hint_spot) where
   -- a hole more
-  pub kept_hole : (spot hint_place' hint_spot' : ℕ) → HasRow stands spot → hint_spot' ≤ length handles → hint_place' ≡ place_at (set stands spot false) hint_spot' → AreKept handles keys (set stands spot false) spots (rows - 1) hint_place' hint_spot'
+  pub kept_hole : (spot hint_place' hint_spot' : ℕ) → HasRow stands spot → hint_spot' ≤ length handles → hint_place' ≡ place_at (set stands spot false) hint_spot' → AreKept handles keys (set stands spot false) spots (rows - 1) noted hint_place' hint_spot'
   kept_hole spot hint_place' hint_spot' at near hinted =
       let within = Stands-within stands spot at in
       let long = length-set stands spot false in
       let less = place_at-hole_before stands spot (length stands) at within in
       let less' : place_at (set stands spot false) (length (set stands spot false)) + 1 ≡ place_at stands (length stands) = rw long less in
+      let stood : (other : ℕ) → HasRow (set stands spot false) other → HasRow stands other = λ other there. elim (cases_eq other spot) [
+        | inl e ↦ absurd (true≢false (sym there ∙ rw e (get_or-set_same stands spot false false within)))
+        | inr ne ↦ sym (get_or-set_other stands spot other false false ne) ∙ there
+      ] in
       record {
         keys_beside = are.keys_beside;
         stands_beside = long ∙ are.stands_beside;
         counted = omega (arith, are.counted, less');
         few = are.few;
-        led = λ other there. elim (cases_eq other spot) [
-          | inl e ↦ absurd (true≢false (sym there ∙ rw e (get_or-set_same stands spot false false within)))
-          | inr ne ↦ are.led other (sym (get_or-set_other stands spot other false false ne) ∙ there)
-        ];
+        covered = λ other there. are.covered other (stood other there);
+        apart = λ j k at_j at_k. are.apart j k (stood j at_j) (stood k at_k);
+        noted_near = are.noted_near;
+        led = λ other before there. are.led other before (stood other there);
         near = near;
         hinted = hinted;
       }
 
   -- a row more, behind all spots
-  pub kept_more : (h : Handle) (key : ℕ) → length handles < 2 ^ 32 → h.slot < length spots → times h.slot (slots (kept stands handles)) ≡ 0 → AreKept (handles ++ h ∷ []) (keys ++ key ∷ []) (stands ++ true ∷ []) (set spots h.slot (length handles)) (rows + 1) hint_place hint_spot
+  pub kept_more : (h : Handle) (key : ℕ) → length handles < 2 ^ 32 → h.slot < length spots → times h.slot (slots (kept stands handles)) ≡ 0 → AreKept (handles ++ h ∷ []) (keys ++ key ∷ []) (stands ++ true ∷ []) spots (rows + 1) noted hint_place hint_spot
   kept_more h key few covered absent =
       let long = length-append handles (h ∷ []) in
       let stands_long = length-append stands (true ∷ []) in
@@ -206,54 +222,95 @@ module _ (handles : List Handle) (keys : List ℕ) (stands : List Bool) (spots :
       let there : get_or (stands ++ true ∷ []) (length stands) false ≡ true = get_or_push stands true false (length stands) refl in
       let more : place_at (stands ++ true ∷ []) (length stands + 1) ≡ place_at (stands ++ true ∷ []) (length stands) + 1 = rw there at (place_at-more (stands ++ true ∷ []) (length stands) (omega (arith, whole))) in
       let before = place_at-push stands true (length stands) (omega arith) in
+      let last : get_or (handles ++ h ∷ []) (length handles) no_handle ≡ h = get_or_push handles h no_handle (length handles) refl in
+      let inside : (spot : ℕ) → HasRow (stands ++ true ∷ []) spot → spot ≢ length handles → spot < length handles = λ spot at ne.
+      omega (arith, Stands-within (stands ++ true ∷ []) spot at, whole, are.stands_beside, ne) in
+      let old : (spot : ℕ) → spot < length handles → HasRow (stands ++ true ∷ []) spot → HasRow stands spot = λ spot within at.
+      sym (get_or_append_left stands (true ∷ []) false spot (omega (arith, within, are.stands_beside))) ∙ at in
+      let same : (spot : ℕ) → spot < length handles → get_or (handles ++ h ∷ []) spot no_handle ≡ get_or handles spot no_handle = λ spot within.
+      get_or_append_left handles (h ∷ []) no_handle spot within in
+      let other : (spot : ℕ) → HasRow stands spot → (get_or handles spot no_handle).slot ≢ h.slot = λ spot at e.
+      absurd (omega (arith, absent, spot-times handles stands are.stands_beside h.slot spot (record { stands_there = at; of = e }))) in
+      let slot_last : (get_or (handles ++ h ∷ []) (length handles) no_handle).slot ≡ h.slot = ap (λ (x : Handle). x.slot) last in
+      let slot_same : (spot : ℕ) → spot < length handles → (get_or (handles ++ h ∷ []) spot no_handle).slot ≡ (get_or handles spot no_handle).slot = λ spot within.
+      ap (λ (x : Handle). x.slot) (same spot within) in
       record {
         keys_beside = omega (arith, are.keys_beside, long, length-append keys (key ∷ []));
         stands_beside = omega (arith, are.stands_beside, long, stands_long);
         counted = rw whole (omega (arith, are.counted, more, before));
         few = omega (arith, few, long);
-        led = λ spot at. elim (cases_eq spot (length handles)) [
-          | inl e ↦ rw (e, get_or_push handles h no_handle (length handles) refl) (record {
-            covered = omega (arith, covered, length-set spots h.slot (length handles));
-            is = get_or-set_same spots h.slot (length handles) 0 covered;
-          })
-          | inr ne ↦
-              let inside : spot < length handles = omega (arith, Stands-within (stands ++ true ∷ []) spot at, whole, are.stands_beside, ne) in
-              let old : HasRow stands spot = sym (get_or_append_left stands (true ∷ []) false spot (omega (arith, inside, are.stands_beside))) ∙ at in
-              let one = are.led spot old in
-              let other : (get_or handles spot no_handle).slot ≢ h.slot = λ e.
-              absurd (omega (arith, absent, spot-times handles stands are.stands_beside h.slot spot (record { stands_there = old; of = e }))) in
-              rw (get_or_append_left handles (h ∷ []) no_handle spot inside) (record {
-                covered = omega (arith, one.covered, length-set spots h.slot (length handles));
-                is = get_or-set_other spots h.slot (get_or handles spot no_handle).slot (length handles) 0 other ∙ one.is;
-              })
+        covered = λ spot at. elim (cases_eq spot (length handles)) [
+          | inl e ↦ rw (e, slot_last) covered
+          | inr ne ↦ rw (slot_same spot (inside spot at ne)) (are.covered spot (old spot (inside spot at ne) at))
         ];
+        apart = λ j k at_j at_k alike. elim (cases_eq j (length handles)) [
+          | inl e ↦ elim (cases_eq k (length handles)) [
+            | inl f ↦ e ∙ sym f
+            | inr ne ↦
+                let within = inside k at_k ne in
+                absurd (other k (old k within at_k) (sym (slot_same k within) ∙ sym alike ∙ (rw e slot_last)))
+          ]
+          | inr ne ↦
+              let j_within = inside j at_j ne in
+              elim (cases_eq k (length handles)) [
+                | inl f ↦ absurd (other j (old j j_within at_j) (sym (slot_same j j_within) ∙ alike ∙ (rw f slot_last)))
+                | inr nf ↦
+                    let k_within = inside k at_k nf in
+                    are.apart j k (old j j_within at_j) (old k k_within at_k) (sym (slot_same j j_within) ∙ alike ∙ slot_same k k_within)
+              ]
+        ];
+        noted_near = omega (arith, are.noted_near, long);
+        led = λ spot early at.
+            let within : spot < length handles = omega (arith, early, are.noted_near) in
+            rw (slot_same spot within) (are.led spot early (old spot within at));
         near = omega (arith, are.near, long);
         hinted = are.hinted ∙ sym (place_at-push stands true hint_spot (omega (arith, are.near, are.stands_beside)));
       }
 
   -- another key beside
-  pub kept_key : (spot key : ℕ) → AreKept handles (set keys spot key) stands spots rows hint_place hint_spot
+  pub kept_key : (spot key : ℕ) → AreKept handles (set keys spot key) stands spots rows noted hint_place hint_spot
   kept_key spot key = record {
     keys_beside = length-set keys spot key ∙ are.keys_beside;
     stands_beside = are.stands_beside;
     counted = are.counted;
     few = are.few;
+    covered = are.covered;
+    apart = are.apart;
+    noted_near = are.noted_near;
     led = are.led;
     near = are.near;
     hinted = are.hinted;
   }
 
   -- more cells covered
-  pub kept_covered : (spots' : List ℕ) → length spots ≤ length spots' → ((k : ℕ) → k < length spots → get_or spots' k 0 ≡ get_or spots k 0) → AreKept handles keys stands spots' rows hint_place hint_spot
+  pub kept_covered : (spots' : List ℕ) → length spots ≤ length spots' → ((k : ℕ) → k < length spots → get_or spots' k 0 ≡ get_or spots k 0) → AreKept handles keys stands spots' rows noted hint_place hint_spot
   kept_covered spots' longer same = record {
     keys_beside = are.keys_beside;
     stands_beside = are.stands_beside;
     counted = are.counted;
     few = are.few;
-    led = λ spot at. let one = are.led spot at in record {
+    covered = λ spot at. omega (arith, are.covered spot at, longer);
+    apart = are.apart;
+    noted_near = are.noted_near;
+    led = λ spot before at. let one = are.led spot before at in record {
       covered = omega (arith, one.covered, longer);
       is = same (get_or handles spot no_handle).slot one.covered ∙ one.is;
     };
+    near = are.near;
+    hinted = are.hinted;
+  }
+
+  -- all spots noted
+  pub kept_noted : (spots' : List ℕ) → length spots' ≡ length spots → LeadBack handles stands spots' (length handles) → AreKept handles keys stands spots' rows (length handles) hint_place hint_spot
+  kept_noted spots' long led = record {
+    keys_beside = are.keys_beside;
+    stands_beside = are.stands_beside;
+    counted = are.counted;
+    few = are.few;
+    covered = λ spot at. omega (arith, are.covered spot at, long);
+    apart = are.apart;
+    noted_near = omega arith;
+    led = led;
     near = are.near;
     hinted = are.hinted;
   }
@@ -272,6 +329,22 @@ room-more n n' h h' k k' s s' a b c d = omega (arith, a, b, c, d)
 pub room-enough : (n more h k s : ℕ) → n + more ≤ 2 ^ 32 → n + more ≤ h → n + more ≤ k → n + more ≤ s → more ≤ spot_room n h k s
 room-enough n more h k s a b c d = omega (arith, a, b, c, d)
 
+pub room-within : (n more h k s : ℕ) → 0 < more → more ≤ spot_room n h k s → (n + more ≤ 2 ^ 32) × (n + more ≤ h) × (n + more ≤ k) × (n + more ≤ s)
+room-within n more h k s some within = (omega (arith, some, within), omega (arith, some, within), omega (arith, some, within), omega (arith, some, within))
+
+-- a list that takes less memory, and has fewer spots
+pub memory-sure : (n rows sure wanted cap cap' : ℕ) → rows ≤ n → sure ≤ wanted → n + sure ≤ cap → min (rows + wanted) cap ≤ cap' → rows + sure ≤ cap'
+memory-sure n rows sure wanted cap cap' few less within kept = omega (arith, few, less, within, kept)
+
+-- what is sure to need no memory needs none then, either
+pub room-sure : (n rows sure wanted h k s h' k' s' : ℕ) → rows ≤ n → sure ≤ wanted → sure ≤ spot_room n h k s → min (rows + wanted) h ≤ h' → min (rows + wanted) k ≤ k' → min (rows + wanted) s ≤ s' → sure ≤ spot_room rows h' k' s'
+room-sure n rows sure wanted h k s h' k' s' few less within kept_h kept_k kept_s = elim (cases_eq sure 0) [
+  | inl e ↦ rw e (omega arith)
+  | inr ne ↦
+      let all = room-within n sure h k s (omega (arith, ne)) within in
+      room-enough rows sure h' k' s' (omega (arith, few, all.0)) (memory-sure n rows sure wanted h h' few less all.1 kept_h) (memory-sure n rows sure wanted k k' few less all.2 kept_k) (memory-sure n rows sure wanted s s' few less all.3 kept_s)
+]
+
 pub room-less : (n h k s : ℕ) → spot_room (n + 1) h k s ≡ spot_room n h k s - 1
 room-less n h k s = omega arith
 
@@ -287,14 +360,13 @@ pub handle-is : (h k : Handle) → h.slot ≡ k.slot → h.generation ≡ k.gene
 handle-is h k e f = rw (e, f) refl
 
 -- where holes are closed up
-pub record IsClosed (handles : List Handle) (keys : List ℕ) (stands : List Bool) (spots : List ℕ) (rows : ℕ) (handles' : List Handle) (keys' : List ℕ) (stands' : List Bool) (spots' : List ℕ) : Type 0 where
+pub record IsClosed (handles : List Handle) (keys : List ℕ) (stands : List Bool) (rows : ℕ) (handles' : List Handle) (keys' : List ℕ) (stands' : List Bool) : Type 0 where
   pub handles_are : handles' ≡ kept stands handles
   pub keys_are : keys' ≡ kept stands keys
   pub long : length stands' ≡ rows
   pub full : place_at stands' rows ≡ rows
-  pub led : LeadBack handles' stands' spots'
 
-module _ (handles : List Handle) (keys : List ℕ) (stands : List Bool) (spots : List ℕ) (rows hint_place hint_spot : ℕ) (are : AreKept handles keys stands spots rows hint_place hint_spot) (handles' : List Handle) (keys' : List ℕ) (stands' : List Bool) (spots' : List ℕ) (closed : IsClosed handles keys stands spots rows handles' keys' stands' spots') where
+module _ (handles : List Handle) (keys : List ℕ) (stands : List Bool) (spots : List ℕ) (rows noted hint_place hint_spot : ℕ) (are : AreKept handles keys stands spots rows noted hint_place hint_spot) (handles' : List Handle) (keys' : List ℕ) (stands' : List Bool) (closed : IsClosed handles keys stands rows handles' keys' stands') where
   closed-beside : length stands' ≡ length handles'
   closed-beside = closed.long ∙ are.counted ∙ sym (length-kept stands handles are.stands_beside) ∙ ap length (sym closed.handles_are)
 
@@ -312,13 +384,27 @@ module _ (handles : List Handle) (keys : List ℕ) (stands : List Bool) (spots :
   pub closed-rows : length handles' ≡ rows
   closed-rows = sym closed-beside ∙ closed.long
 
-  pub closed-kept : AreKept handles' keys' stands' spots' rows 0 0
+  -- no two of them are of the same cell
+  closed-apart : StandApart handles' stands'
+  closed-apart j k at_j at_k alike =
+      let one = kept-apart handles stands are.stands_beside are.apart in
+      (rw (← closed.handles_are) at one) j k (omega (arith, Stands-within stands' j at_j, closed-beside)) (omega (arith, Stands-within stands' k at_k, closed-beside)) alike
+
+  closed-covered : AreCovered handles' stands' (length spots)
+  closed-covered spot at =
+      let all = kept-covered handles stands are.stands_beside (length spots) are.covered in
+      (rw (← closed.handles_are) at all) spot no_handle (omega (arith, Stands-within stands' spot at, closed-beside))
+
+  pub closed-kept : AreKept handles' keys' stands' spots rows 0 0 0
   closed-kept = record {
     keys_beside = closed-keys_beside;
     stands_beside = closed-beside;
     counted = sym closed.long ∙ sym closed-full;
     few = omega (arith, closed-fewer, are.few);
-    led = closed.led;
+    covered = closed-covered;
+    apart = closed-apart;
+    noted_near = omega arith;
+    led = λ spot before. absurd (omega (arith, before));
     near = omega arith;
     hinted = refl;
   }

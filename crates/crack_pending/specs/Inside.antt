@@ -32,10 +32,6 @@ pub record IsHit (range : Range) (cells : List (Cell Row)) (handles : List Handl
   pub holds : IsIn range (key_at cells (slice_index_or handles spot no_handle))
   pub before : IsMissed range cells handles stands from spot
 
--- the cells of the first handles lead to their spots
-abbrev pub AreLed : List Handle → List ℕ → ℕ → Type 0
-AreLed handles spots count = (spot : ℕ) → spot < count → LeadsTo spots (slice_index_or handles spot no_handle).slot spot
-
 -- no two handles name the same cell
 abbrev pub AreApart : List Handle → Type 0
 AreApart handles =
@@ -49,3 +45,11 @@ pub record IsSpotWith (handles : List Handle) (stands : List Bool) (slot spot : 
 -- no row has the handle of this slot
 abbrev pub IsNowhere : List Handle → List Bool → ℕ → Type 0
 IsNowhere handles stands slot = (spot : ℕ) → ¬ IsSpotWith handles stands slot spot
+
+-- no row has the handle of this slot and stands where its cell leads
+abbrev pub IsUnnoted : List Handle → List Bool → List ℕ → ℕ → Type 0
+IsUnnoted handles stands spots slot = (spot : ℕ) → IsSpotWith handles stands slot spot → ¬ LeadsTo spots slot spot
+
+-- no row from one spot on has the handle of this slot
+abbrev pub IsNotBehind : List Handle → List Bool → ℕ → ℕ → Type 0
+IsNotBehind handles stands slot from = (spot : ℕ) → from ≤ spot → ¬ IsSpotWith handles stands slot spot

@@ -28,17 +28,29 @@ pub record LeadsTo (spots : List ℕ) (slot spot : ℕ) : Type 0 where
   pub covered : slot < length spots
   pub is : slice_index_or spots slot 0 ≡ spot
 
--- each row's cell leads to its spot
-abbrev pub LeadBack : List Handle → List Bool → List ℕ → Type 0
-LeadBack handles stands spots = (spot : ℕ) → HasRow stands spot → LeadsTo spots (slice_index_or handles spot no_handle).slot spot
+-- the cell of each row at so many of the first spots leads to its spot
+abbrev pub LeadBack : List Handle → List Bool → List ℕ → ℕ → Type 0
+LeadBack handles stands spots noted = (spot : ℕ) → spot < noted → HasRow stands spot → LeadsTo spots (slice_index_or handles spot no_handle).slot spot
 
--- a key and a mark stand beside each handle, the rows are counted, each row's cell leads to its spot, and so many rows stand before
--- the spot at which the last row was taken
-pub record AreKept (handles : List Handle) (keys : List ℕ) (stands : List Bool) (spots : List ℕ) (rows hint_place hint_spot : ℕ) : Type 0 where
+-- no two rows have a handle of the same cell
+abbrev pub StandApart : List Handle → List Bool → Type 0
+StandApart handles stands =
+    (j k : ℕ) → HasRow stands j → HasRow stands k → (slice_index_or handles j no_handle).slot ≡ (slice_index_or handles k no_handle).slot → j ≡ k
+
+-- each row has a handle of one of so many cells
+abbrev pub AreCovered : List Handle → List Bool → ℕ → Type 0
+AreCovered handles stands cells = (spot : ℕ) → HasRow stands spot → (slice_index_or handles spot no_handle).slot < cells
+
+-- a key and a mark stand beside each handle, the rows are counted, no two are of one cell, the cells of those at the first spots lead to
+-- their spots, and so many rows stand before the spot at which the last row was taken
+pub record AreKept (handles : List Handle) (keys : List ℕ) (stands : List Bool) (spots : List ℕ) (rows noted hint_place hint_spot : ℕ) : Type 0 where
   pub keys_beside : length keys ≡ length handles
   pub stands_beside : length stands ≡ length handles
   pub counted : rows ≡ place_at stands (length stands)
   pub few : length handles ≤ 2 ^ 32
-  pub led : LeadBack handles stands spots
+  pub covered : AreCovered handles stands (length spots)
+  pub apart : StandApart handles stands
+  pub noted_near : noted ≤ length handles
+  pub led : LeadBack handles stands spots noted
   pub near : hint_spot ≤ length handles
   pub hinted : hint_place ≡ place_at stands hint_spot

@@ -1,34 +1,27 @@
 //! How holes are closed up.
-ghost use Rattle.std.specs.Prelude.{◌≡◌, ◌+◌, ◌<◌, ◌≤◌, ◌^◌, ℕ, length, vec_len, vec_capacity, All};
-ghost use Rattle.crack_arena.specs.Arena.{Handle as Name};
-ghost use Rattle.crack_pending.specs.Keeps.{place_at, LeadBack};
+ghost use Rattle.std.specs.Prelude.{◌≡◌, ◌≤◌, length, vec_len, vec_capacity};
+ghost use Rattle.crack_pending.specs.Keeps.{place_at};
 ghost use Rattle.crack_pending.specs.Spots.{kept};
-ghost use Rattle.crack_pending.specs.Inside.{AreLed, AreApart};
 
 use crate::spots::StoredKey;
 use crack_arena::Handle;
 use crack_row::Row;
 
-/// Closes all holes up: the rows stand in their order without any, and each cell leads to the new spot.
+/// Closes all holes up: the rows stand in their order without any. No cell leads to the new spots until they are noted.
 /// O(spots), and O(1) where there is no hole.
 pub(crate) fn close_up(
     handles: &mut Vec<Handle<Row>>,
     keys: &mut Vec<StoredKey>,
     stands: &mut Vec<bool>,
-    spots: &mut Vec<u32>,
     rows: usize,
 )
     requires keys { vec_len keys.old ≡ vec_len handles.old }
     requires stands { vec_len stands.old ≡ vec_len handles.old }
     requires rows { rows ≡ place_at stands.old.items (vec_len stands.old) }
-    requires few { vec_len handles.old ≤ 2 ^ 32 }
-    requires led { LeadBack handles.old.items stands.old.items spots.old.items }
     ensures handles { handles.new.items ≡ kept stands.old.items handles.old.items }
     ensures keys { keys.new.items ≡ kept stands.old.items keys.old.items }
     ensures rows { vec_len stands.new ≡ rows }
     ensures full { place_at stands.new.items rows ≡ rows }
-    ensures led { LeadBack handles.new.items stands.new.items spots.new.items }
-    ensures covered { vec_len spots.new ≡ vec_len spots.old }
     ensures handle_capacity { vec_capacity handles.new ≡ vec_capacity handles.old }
     ensures key_capacity { vec_capacity keys.new ≡ vec_capacity keys.old }
     ensures stand_capacity { vec_capacity stands.new ≡ vec_capacity stands.old }
@@ -39,7 +32,6 @@ pub(crate) fn close_up(
     close_up_handles(handles, stands);
     close_up_keys(keys, stands);
     close_up_marks(stands, rows);
-    lead_back(spots, handles);
 }
 
 /// Moves the handles of rows to the front, in order.
@@ -83,17 +75,4 @@ fn close_up_marks(stands: &mut Vec<bool>, rows: usize)
 {
     stands.truncate(rows);
     stands.fill(true);
-}
-
-/// Lets the cell of each handle lead to its spot.
-fn lead_back(spots: &mut Vec<u32>, handles: &[Handle<Row>])
-    requires few { length handles.now ≤ 2 ^ 32 }
-    requires covered { All (λ (h : Name). h.slot < vec_len spots.old) handles.now }
-    requires apart { AreApart handles.now }
-    ensures led { AreLed handles.now spots.new.items (length handles.now) }
-    ensures covered { vec_len spots.new ≡ vec_len spots.old }
-{
-    'spots: for spot in 0..handles.len() {
-        spots[handles[spot].slot() as usize] = spot as u32;
-    }
 }

@@ -4,6 +4,7 @@
 mod bits;
 mod closing;
 pub mod list;
+mod noting;
 mod pass;
 mod rows;
 mod spots;

@@ -85,6 +85,30 @@ impl<Kind> PendingList<Kind> {
         self.list.reserve(additional)
     }
 
+    /// Gives back memory that holds no row: what is kept is room for half as many rows again as there are, for 8,192 at least, and for
+    /// `room` pushes. O(1) where there are no holes, else O(len). It can't fail: what the allocator doesn't take back stays room.
+    pub fn shrink(&mut self, room: usize)
+        requires { room ≤ self.old.room }
+        ensures same { self.new ≡ record self.old { room = self.new.room } }
+        ensures sure { room ≤ self.new.room }
+        ensures remembered { StillRemembersKeys self.old self.new }
+    {
+        self.list.shrink(room);
+    }
+
+    /// As `shrink` where there is no handle, so that a list that was emptied gives its memory back; else it does nothing. O(1).
+    #[inline(always)]
+    pub fn shrink_if_empty(&mut self, room: usize)
+        requires { room ≤ self.old.room }
+        ensures same { self.new ≡ record self.old { room = self.new.room } }
+        ensures sure { room ≤ self.new.room }
+        ensures remembered { StillRemembersKeys self.old self.new }
+    {
+        if self.is_empty() {
+            self.shrink(room);
+        }
+    }
+
     /// Makes place for the handles of as many cells, counted from the first; amortised O(1) for each that is new.
     /// Refused with 8 alone.
     pub fn make_places(&mut self, cells: usize) -> Result<(), Refusal>

@@ -1,14 +1,14 @@
 //! A list that leaves a hole where a row goes.
-ghost use Rattle.std.specs.Prelude.{◌≡◌, ◌+◌, ◌-◌, ◌*◌, ◌<◌, ◌≤◌, ◌^◌, ◌↔◌, ◌∷◌, [], ◌++◌, ℕ, length, All, MatchOption, false, IfErr, OnOk, OnErr, slice_set, slice_index, slice_index_or, vec_len, vec_capacity};
+ghost use Rattle.std.specs.Prelude.{◌≡◌, ◌+◌, ◌-◌, ◌*◌, ◌<◌, ◌≤◌, ◌^◌, ◌↔◌, ◌∷◌, [], ◌++◌, ℕ, length, All, MatchOption, false, IfErr, OnOk, OnErr, slice_set, slice_index, vec_len, vec_capacity};
 ghost use Rattle.std.specs.List.{remove};
 ghost use Rattle.crack_arena.specs.Rows.{keys_at, unknown, RemembersKeys};
 ghost use Rattle.crack_arena.specs.Arena.{StandsAt, IsFirstAt, IsAbsent, times, slots, place_in, no_handle};
 ghost use Rattle.crack_pending.specs.Pending.{Finds, StillRemembersKeys, RemembersOneMore, RemembersAnew};
-ghost use Rattle.crack_pending.specs.Keeps.{place_at, HasRow, LeadBack, Has};
-ghost use Rattle.crack_pending.specs.Inside.{IsNowhere, IsSpotWith};
+ghost use Rattle.crack_pending.specs.Keeps.{place_at, HasRow, Has};
 
 use crate::bits::BitSet;
 use crate::closing::close_up;
+use crate::noting::{spot_noted, spot_sought};
 use crate::pass::first_hit;
 use crate::rows::{rows_between, spot_before, spot_of};
 use crack_arena::{Arena, Handle};
@@ -44,8 +44,10 @@ pub(crate) struct SpotList {
     rows: usize,
     /// Of how many of them the key isn't known.
     unknowns: usize,
-    /// By cell number: the spot of its handle, if it has one here.
+    /// By cell number: the spot of its handle, if that was noted.
     spots: Vec<u32>,
+    /// How many of the first spots are noted. A push notes none; what needs the spot of a cell first notes all.
+    noted: usize,
     /// How many rows stand before `hint_spot`, from which the next look for a place goes on.
     hint_place: usize,
     hint_spot: usize,
@@ -69,7 +71,7 @@ impl Model for SpotList {
     } };
 
     ghost invariant = { λ l.
-        AreKept l.handles.items l.keys.items l.stands.items l.spots.items l.rows l.hint_place l.hint_spot
+        AreKept l.handles.items l.keys.items l.stands.items l.spots.items l.rows l.noted l.hint_place l.hint_spot
         × (l.unknowns ≡ times unknown (kept l.stands.items l.keys.items)) };
 }
 
@@ -84,6 +86,7 @@ impl SpotList {
             rows: 0,
             unknowns: 0,
             spots: Vec::new(alloc),
+            noted: 0,
             hint_place: 0,
             hint_spot: 0,
         }
@@ -148,13 +151,37 @@ impl SpotList {
             &mut self.handles,
             &mut self.keys,
             &mut self.stands,
-            &mut self.spots,
             self.rows,
         );
+        self.noted = 0;
         self.hint_place = 0;
         self.hint_spot = 0;
         let wanted = additional.max(self.rows / 2).max(FIRST_SPOTS);
         grow(&mut self.handles, &mut self.keys, &mut self.stands, wanted)
+    }
+
+    /// Gives back the memory of more spots than a growth would leave room for; so many more rows still need none.
+    #[inline(never)]
+    pub(crate) fn shrink(&mut self, room: usize)
+        requires { room ≤ self.old.room }
+        ensures same { self.new ≡ record self.old { room = self.new.room } }
+        ensures sure { room ≤ self.new.room }
+        ensures remembered { StillRemembersKeys self.old self.new }
+    {
+        close_up(
+            &mut self.handles,
+            &mut self.keys,
+            &mut self.stands,
+            self.rows,
+        );
+        self.noted = 0;
+        self.hint_place = 0;
+        self.hint_spot = 0;
+        let wanted = room.max(self.rows / 2).max(FIRST_SPOTS);
+        let spots = self.rows + wanted;
+        self.handles.shrink_to(spots);
+        self.keys.shrink_to(spots);
+        self.stands.shrink_to(spots);
     }
 
     /// Makes place for so many cells, and for a mark of each; where there is place, it looks at no more than that.
@@ -190,7 +217,6 @@ impl SpotList {
         ensures remembered { RemembersOneMore handle key self.old self.new }
         ensures forgotten { key ≡ unknown → StillRemembersKeys self.old self.new }
     {
-        self.spots[handle.slot() as usize] = self.handles.len() as u32;
         self.handles.push_reserved(handle);
         self.keys.push_reserved(key);
         self.stands.push_reserved(true);
@@ -260,7 +286,13 @@ impl SpotList {
         ensures covered { self.new.covered ≡ self.old.covered }
         ensures remembered { StillRemembersKeys self.old self.new }
     {
-        let Some(spot) = spot_with(&self.handles, &self.stands, &self.spots, slot) else {
+        let Some(spot) = spot_noted(
+            &mut self.spots,
+            &mut self.noted,
+            &self.handles,
+            &self.stands,
+            slot,
+        ) else {
             return;
         };
         self.hint_place = hint_without(&self.stands, self.hint_place, self.hint_spot, spot);
@@ -281,18 +313,21 @@ impl SpotList {
         self.close_up();
     }
 
-    /// Closes all holes up.
+    /// Closes all holes up. Where there is none, the spots that are noted stay so.
     pub(crate) fn close_up(&mut self)
         ensures same { self.new ≡ record self.old { room = self.new.room } }
         ensures kept { self.old.room ≤ self.new.room }
     {
+        if self.rows == self.handles.len() {
+            return;
+        }
         close_up(
             &mut self.handles,
             &mut self.keys,
             &mut self.stands,
-            &mut self.spots,
             self.rows,
         );
+        self.noted = 0;
         self.hint_place = 0;
         self.hint_spot = 0;
     }
@@ -309,6 +344,7 @@ impl SpotList {
         self.stands.clear();
         self.rows = 0;
         self.unknowns = 0;
+        self.noted = 0;
         self.hint_place = 0;
         self.hint_spot = 0;
     }
@@ -318,7 +354,13 @@ impl SpotList {
         ensures after { self.new ≡ record self.old { keys = slice_set self.old.keys (place_in self.old.handles slot) key } }
         ensures remembered { RemembersAnew slot key self.old self.new }
     {
-        if let Some(spot) = spot_with(&self.handles, &self.stands, &self.spots, slot) {
+        if let Some(spot) = spot_noted(
+            &mut self.spots,
+            &mut self.noted,
+            &self.handles,
+            &self.stands,
+            slot,
+        ) {
             self.unknowns = unknowns_without(&self.keys, self.unknowns, spot)
                 + (key == UNKNOWN) as usize;
             self.keys[spot] = key;
@@ -328,7 +370,13 @@ impl SpotList {
     pub(crate) fn place_of(&self, handle: Handle<Row>) -> Option<usize>
         ensures { MatchOption result (IsAbsent self.now.handles handle) (IsFirstAt self.now.handles handle) }
     {
-        match spot_with(&self.handles, &self.stands, &self.spots, handle.slot()) {
+        match spot_sought(
+            &self.handles,
+            &self.stands,
+            &self.spots,
+            self.noted,
+            handle.slot(),
+        ) {
             Some(spot) => {
                 if self.handles[spot].generation() != handle.generation() {
                     return None;
@@ -453,23 +501,6 @@ fn lengthen(spots: &mut Vec<u32>, marks: &mut BitSet, cells: usize) -> Result<()
         spots.push_reserved(0);
     }
     Ok(())
-}
-
-/// The spot of the row whose handle names the cell of this number.
-fn spot_with(handles: &[Handle<Row>], stands: &[bool], spots: &[u32], slot: u32) -> Option<usize>
-    requires beside { length stands.now ≡ length handles.now }
-    requires led { LeadBack handles.now stands.now spots.now }
-    ensures { MatchOption result (IsNowhere handles.now stands.now slot) (λ spot. IsSpotWith handles.now stands.now slot spot) }
-{
-    if slot as usize >= spots.len() {
-        return None;
-    }
-    let spot = spots[slot as usize] as usize;
-    if spot < stands.len() && stands[spot] && handles[spot].slot() == slot {
-        Some(spot)
-    } else {
-        None
-    }
 }
 
 /// The place of the row at the spot.

@@ -1,4 +1,4 @@
-use Rattle.std.proofs.Common.{sym, ◌∙◌, arith}
+use Rattle.std.proofs.Common.{length, sym, ◌∙◌, arith}
 use Rattle.crack_pending.proofs.Kept.{length-kept}
 use Rattle.crack_pending.proofs.Moves.{kept-covered}
 use Rattle.crack_pending.proofs.Views.{once}
@@ -7,12 +7,12 @@ use Rattle.crack_pending.proofs.spots.SpotList.facts.Goals as goal
 pub returns-clause-once : goal.returns-clause-once
 returns-clause-once c =
     let a = c.self.invariant.0 in
-    rw (← c.self.view_is) (once c.self.inside.handles.items c.self.inside.stands.items a.stands_beside c.self.inside.spots.items a.led)
+    rw (← c.self.view_is) (once c.self.inside.handles.items c.self.inside.stands.items a.stands_beside a.apart)
 
 pub returns-clause-covered : goal.returns-clause-covered
 returns-clause-covered c =
     let a = c.self.invariant.0 in
-    rw (← c.self.view_is) (kept-covered c.self.inside.handles.items c.self.inside.stands.items c.self.inside.spots.items a.stands_beside a.led)
+    rw (← c.self.view_is) (kept-covered c.self.inside.handles.items c.self.inside.stands.items a.stands_beside (length c.self.inside.spots.items) a.covered)
 
 pub returns-clause-beside : goal.returns-clause-beside
 returns-clause-beside c =

@@ -1,4 +1,4 @@
-use Rattle.std.proofs.Common.{◌≡◌, ◌≤◌, length, vec_len, vec_capacity, ap, ◌∙◌, arith}
+use Rattle.std.proofs.Common.{◌≡◌, ◌≤◌, length, vec_len, vec_capacity, refl, ap, ◌∙◌, arith}
 use Rattle.crack_pending.proofs.Kept.{length-kept}
 use Rattle.crack_pending.proofs.Views.{IsClosed, same_view, closed-kept, closed-handles, closed-keys, closed-fewer, closed-rows, room-more, room-enough, OnOk_three}
 use Rattle.crack_pending.proofs.spots.SpotList.make_room.Goals as goal
@@ -7,46 +7,42 @@ pub invariant_of-self : goal.invariant_of-self
 invariant_of-self c =
     let a = c.self.invariant.0 in
     let i = c.self.inside in
-    let closed : IsClosed i.handles.items i.keys.items i.stands.items i.spots.items i.rows c.close_up.new.handles.items c.close_up.new.keys.items c.close_up.new.stands.items c.close_up.new.spots.items = record {
+    let closed : IsClosed i.handles.items i.keys.items i.stands.items i.rows c.close_up.new.handles.items c.close_up.new.keys.items c.close_up.new.stands.items = record {
       handles_are = c.close_up.ensures.handles;
       keys_are = c.close_up.ensures.keys;
       long = omega (arith, c.close_up.ensures.rows);
       full = c.close_up.ensures.full;
-      led = c.close_up.ensures.led;
     } in
     rw (c.grow.ensures.handles, c.grow.ensures.keys, c.grow.ensures.stands) (
-      closed-kept i.handles.items i.keys.items i.stands.items i.spots.items i.rows i.hint_place i.hint_spot a _ _ _ _ closed,
-      rw (closed-keys i.handles.items i.keys.items i.stands.items i.spots.items i.rows i.hint_place i.hint_spot a _ _ _ _ closed) c.self.invariant.1,
+      closed-kept i.handles.items i.keys.items i.stands.items i.spots.items i.rows i.noted i.hint_place i.hint_spot a _ _ _ closed,
+      rw (closed-keys i.handles.items i.keys.items i.stands.items i.spots.items i.rows i.noted i.hint_place i.hint_spot a _ _ _ closed) c.self.invariant.1,
     )
 
 pub returns-clause-same : goal.returns-clause-same
 returns-clause-same c =
     let a = c.self.invariant.0 in
     let i = c.self.inside in
-    let closed : IsClosed i.handles.items i.keys.items i.stands.items i.spots.items i.rows c.close_up.new.handles.items c.close_up.new.keys.items c.close_up.new.stands.items c.close_up.new.spots.items = record {
+    let closed : IsClosed i.handles.items i.keys.items i.stands.items i.rows c.close_up.new.handles.items c.close_up.new.keys.items c.close_up.new.stands.items = record {
       handles_are = c.close_up.ensures.handles;
       keys_are = c.close_up.ensures.keys;
       long = omega (arith, c.close_up.ensures.rows);
       full = c.close_up.ensures.full;
-      led = c.close_up.ensures.led;
     } in
-    let handles = closed-handles i.handles.items i.keys.items i.stands.items i.spots.items i.rows i.hint_place i.hint_spot a _ _ _ _ closed in
-    let keys = closed-keys i.handles.items i.keys.items i.stands.items i.spots.items i.rows i.hint_place i.hint_spot a _ _ _ _ closed in
-    let covered : length c.close_up.new.spots.items ≡ length i.spots.items = omega (arith, c.close_up.ensures.covered) in
-    rw (← c.self.view_is) (same_view _ _ _ _ _ _ _ (rw (c.grow.ensures.handles, c.grow.ensures.stands) handles) (rw (c.grow.ensures.keys, c.grow.ensures.stands) keys) covered)
+    let handles = closed-handles i.handles.items i.keys.items i.stands.items i.spots.items i.rows i.noted i.hint_place i.hint_spot a _ _ _ closed in
+    let keys = closed-keys i.handles.items i.keys.items i.stands.items i.spots.items i.rows i.noted i.hint_place i.hint_spot a _ _ _ closed in
+    rw (← c.self.view_is) (same_view _ _ _ _ _ _ _ (rw (c.grow.ensures.handles, c.grow.ensures.stands) handles) (rw (c.grow.ensures.keys, c.grow.ensures.stands) keys) refl)
 
 pub returns-clause-room : goal.returns-clause-room
 returns-clause-room c =
     let a = c.self.invariant.0 in
     let i = c.self.inside in
-    let closed : IsClosed i.handles.items i.keys.items i.stands.items i.spots.items i.rows c.close_up.new.handles.items c.close_up.new.keys.items c.close_up.new.stands.items c.close_up.new.spots.items = record {
+    let closed : IsClosed i.handles.items i.keys.items i.stands.items i.rows c.close_up.new.handles.items c.close_up.new.keys.items c.close_up.new.stands.items = record {
       handles_are = c.close_up.ensures.handles;
       keys_are = c.close_up.ensures.keys;
       long = omega (arith, c.close_up.ensures.rows);
       full = c.close_up.ensures.full;
-      led = c.close_up.ensures.led;
     } in
-    let rows = closed-rows i.handles.items i.keys.items i.stands.items i.spots.items i.rows i.hint_place i.hint_spot a _ _ _ _ closed in
+    let rows = closed-rows i.handles.items i.keys.items i.stands.items i.spots.items i.rows i.noted i.hint_place i.hint_spot a _ _ _ closed in
     let few = rw (← c.self.view_is) at c.requires in
     let long : length c.grow.new.handles.items ≡ i.rows = ap length c.grow.ensures.handles ∙ rows in
     let kept_rows = length-kept i.stands.items i.handles.items a.stands_beside in
@@ -61,14 +57,13 @@ pub returns-clause-kept : goal.returns-clause-kept
 returns-clause-kept c =
     let a = c.self.invariant.0 in
     let i = c.self.inside in
-    let closed : IsClosed i.handles.items i.keys.items i.stands.items i.spots.items i.rows c.close_up.new.handles.items c.close_up.new.keys.items c.close_up.new.stands.items c.close_up.new.spots.items = record {
+    let closed : IsClosed i.handles.items i.keys.items i.stands.items i.rows c.close_up.new.handles.items c.close_up.new.keys.items c.close_up.new.stands.items = record {
       handles_are = c.close_up.ensures.handles;
       keys_are = c.close_up.ensures.keys;
       long = omega (arith, c.close_up.ensures.rows);
       full = c.close_up.ensures.full;
-      led = c.close_up.ensures.led;
     } in
-    let fewer = closed-fewer i.handles.items i.keys.items i.stands.items i.spots.items i.rows i.hint_place i.hint_spot a _ _ _ _ closed in
+    let fewer = closed-fewer i.handles.items i.keys.items i.stands.items i.spots.items i.rows i.noted i.hint_place i.hint_spot a _ _ _ closed in
     let long : length c.grow.new.handles.items ≤ length i.handles.items = omega (arith, ap length c.grow.ensures.handles, fewer) in
     rw (← c.self.view_is) (room-more _ _ _ _ _ _ _ _ long (omega (arith, c.grow.ensures.handle_kept, c.close_up.ensures.handle_capacity)) (omega (arith, c.grow.ensures.key_kept, c.close_up.ensures.key_capacity)) (omega (arith, c.grow.ensures.stand_kept, c.close_up.ensures.stand_capacity)))
 
@@ -76,12 +71,11 @@ pub returns-clause-remembered : goal.returns-clause-remembered
 returns-clause-remembered c = λ cells r.
     let a = c.self.invariant.0 in
     let i = c.self.inside in
-    let closed : IsClosed i.handles.items i.keys.items i.stands.items i.spots.items i.rows c.close_up.new.handles.items c.close_up.new.keys.items c.close_up.new.stands.items c.close_up.new.spots.items = record {
+    let closed : IsClosed i.handles.items i.keys.items i.stands.items i.rows c.close_up.new.handles.items c.close_up.new.keys.items c.close_up.new.stands.items = record {
       handles_are = c.close_up.ensures.handles;
       keys_are = c.close_up.ensures.keys;
       long = omega (arith, c.close_up.ensures.rows);
       full = c.close_up.ensures.full;
-      led = c.close_up.ensures.led;
     } in
     let known = rw (← c.self.view_is) at r in
-    rw (c.grow.ensures.handles, c.grow.ensures.keys, c.grow.ensures.stands, closed-handles i.handles.items i.keys.items i.stands.items i.spots.items i.rows i.hint_place i.hint_spot a _ _ _ _ closed, closed-keys i.handles.items i.keys.items i.stands.items i.spots.items i.rows i.hint_place i.hint_spot a _ _ _ _ closed) known
+    rw (c.grow.ensures.handles, c.grow.ensures.keys, c.grow.ensures.stands, closed-handles i.handles.items i.keys.items i.stands.items i.spots.items i.rows i.noted i.hint_place i.hint_spot a _ _ _ closed, closed-keys i.handles.items i.keys.items i.stands.items i.spots.items i.rows i.noted i.hint_place i.hint_spot a _ _ _ closed) known

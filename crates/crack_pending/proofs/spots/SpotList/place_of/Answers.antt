@@ -10,7 +10,7 @@ pub returns-then-generation : goal.returns-then-generation
 returns-then-generation c =
     let a = c.self.invariant.0 in
     let with = rw (c.deref.ensures.value, c.deref-2.ensures.value, c.slot.ensures) at c.in-Some.ensures in
-    rw (← c.self.view_is) (other-absent c.self.inside.handles.items c.self.inside.stands.items a.stands_beside c.self.inside.spots.items a.led c.args.handle c.index.result.now c.in-Some.spot with c.index.ensures (λ same.
+    rw (← c.self.view_is) (other-absent c.self.inside.handles.items c.self.inside.stands.items a.stands_beside a.apart c.args.handle c.index.result.now c.in-Some.spot with c.index.ensures (λ same.
     c.if-generation.true (c.generation.ensures ∙ ap (λ (h : Handle). h.generation) same ∙ sym c.generation-in-Some.ensures)))
 
 pub returns-else-generation : goal.returns-else-generation
@@ -24,7 +24,7 @@ returns-else-generation c =
     let same = handle-is c.args.handle c.index.result.now slot generation in
     let is = same ∙ c.index.ensures ∙ get_or_default c.self.inside.handles.items c.in-Some.spot c.index.result.now c.args.handle (omega (arith, within, a.stands_beside)) in
     let place : c.place_of_spot.result ≡ place_at c.self.inside.stands.items c.in-Some.spot = rw (c.deref-in-Some.ensures.value) at c.place_of_spot.ensures in
-    rw (← c.self.view_is, place) (handle-first c.self.inside.handles.items c.self.inside.stands.items a.stands_beside c.self.inside.spots.items a.led c.args.handle c.in-Some.spot with is)
+    rw (← c.self.view_is, place) (handle-first c.self.inside.handles.items c.self.inside.stands.items a.stands_beside a.apart c.args.handle c.in-Some.spot with is)
 
 pub returns-in-None : goal.returns-in-None
 returns-in-None c =

@@ -1,4 +1,4 @@
-use Rattle.std.proofs.Common.{◌≡◌, ◌+◌, ◌-◌, ◌∷◌, [], ◌++◌, length, nat_eq, vec_capacity, ap, inl, inr, ◌∙◌, arith, length-append, length-set}
+use Rattle.std.proofs.Common.{◌≡◌, ◌+◌, ◌-◌, ◌∷◌, [], ◌++◌, length, nat_eq, vec_capacity, refl, ap, inl, inr, ◌∙◌, arith, length-append}
 use Rattle.crack_arena.proofs.Remembering.{RemembersKeys-append}
 use Rattle.crack_arena.specs.Rows.{unknown}
 use Rattle.crack_pending.specs.Spots.{kept, spot_room}
@@ -25,9 +25,8 @@ invariant_of-self c =
     let room = rw (← c.self.view_is) at c.requires.room in
     let covered = rw (← c.self.view_is) at c.requires.covered in
     let absent = rw (← c.self.view_is) at c.requires.absent in
-    let long : c.len.result ≡ length i.handles.items = omega (arith, c.len.ensures) in
-    rw (c.push_reserved.ensures.items, c.push_reserved-2.ensures.items, c.push_reserved-3.ensures.items, c.slot.ensures, long) (
-      kept_more i.handles.items i.keys.items i.stands.items i.spots.items i.rows i.hint_place i.hint_spot a c.args.handle c.args.key (room-some _ _ _ _ room).0 covered absent,
+    rw (c.push_reserved.ensures.items, c.push_reserved-2.ensures.items, c.push_reserved-3.ensures.items) (
+      kept_more i.handles.items i.keys.items i.stands.items i.spots.items i.rows i.noted i.hint_place i.hint_spot a c.args.handle c.args.key (room-some _ _ _ _ room).0 covered absent,
       omega (arith, c.self.invariant.1, counted_one c.args.key, counted_push i.keys.items i.stands.items (omega (arith, a.stands_beside, a.keys_beside)) c.args.key),
     )
 
@@ -43,7 +42,7 @@ returns-clause-after c =
     let long : length c.push_reserved.new.self.items ≡ length i.handles.items + 1 = ap length c.push_reserved.ensures.items ∙ omega (arith, length-append i.handles.items (h ∷ [])) in
     let room : spot_room (length c.push_reserved.new.self.items) (vec_capacity c.push_reserved.new.self) (vec_capacity c.push_reserved-2.new.self) (vec_capacity c.push_reserved-3.new.self) ≡ spot_room (length i.handles.items) (vec_capacity i.handles) (vec_capacity i.keys) (vec_capacity i.stands) - 1 =
     rw (long, c.push_reserved.ensures.capacity, c.push_reserved-2.ensures.capacity, c.push_reserved-3.ensures.capacity) (room-less (length i.handles.items) (vec_capacity i.handles) (vec_capacity i.keys) (vec_capacity i.stands)) in
-    rw (← c.self.view_is) (view_after _ _ _ _ _ _ _ _ handles keys room (length-set i.spots.items c.slot.result c.len.result))
+    rw (← c.self.view_is) (view_after _ _ _ _ _ _ _ _ handles keys room refl)
 
 pub returns-clause-remembered : goal.returns-clause-remembered
 returns-clause-remembered c = λ cells is r.

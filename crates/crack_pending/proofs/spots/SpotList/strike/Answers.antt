@@ -6,28 +6,28 @@ use Rattle.crack_arena.proofs.Remembering.{RemembersKeys-remove}
 use Rattle.crack_pending.specs.Pending.{Pending}
 use Rattle.crack_pending.specs.Spots.{kept}
 use Rattle.crack_pending.proofs.Kept.{place_at-before, Stands-within}
-use Rattle.crack_pending.proofs.Views.{kept_hole, struck, nowhere-times, spot-times}
+use Rattle.crack_pending.proofs.Views.{kept_hole, kept_noted, struck, nowhere-times, spot-times}
 use Rattle.crack_pending.proofs.Unknown.{counted_hole, counted_some}
 use Rattle.crack_pending.proofs.spots.SpotList.strike.Goals as goal
 
 pub returns-in_default-clause-handles : goal.returns-in_default-clause-handles
 returns-in_default-clause-handles c =
     let a = c.self.invariant.0 in
-    let nowhere = rw (c.deref.ensures.value, c.deref-2.ensures.value) at c.in_default.ensures in
+    let nowhere = rw (c.deref.ensures.value, c.deref-2.ensures.value) at c.in_default.ensures.found in
     let some = rw (← c.self.view_is) at c.requires in
     absurd (omega (arith, some, nowhere-times c.self.inside.handles.items c.self.inside.stands.items a.stands_beside c.args.slot nowhere))
 
 pub returns-in_default-clause-keys : goal.returns-in_default-clause-keys
 returns-in_default-clause-keys c =
     let a = c.self.invariant.0 in
-    let nowhere = rw (c.deref.ensures.value, c.deref-2.ensures.value) at c.in_default.ensures in
+    let nowhere = rw (c.deref.ensures.value, c.deref-2.ensures.value) at c.in_default.ensures.found in
     let some = rw (← c.self.view_is) at c.requires in
     absurd (omega (arith, some, nowhere-times c.self.inside.handles.items c.self.inside.stands.items a.stands_beside c.args.slot nowhere))
 
 pub overflow_sub-self : goal.overflow_sub-self
 overflow_sub-self c =
     let a = c.self.invariant.0 in
-    let with = rw (c.deref.ensures.value, c.deref-2.ensures.value) at c.in-Some.ensures in
+    let with = rw (c.deref.ensures.value, c.deref-2.ensures.value) at c.in-Some.ensures.found in
     let within = Stands-within c.self.inside.stands.items c.in-Some.spot with.stands_there in
     omega (arith, a.counted, place_at-before c.self.inside.stands.items c.in-Some.spot (length c.self.inside.stands.items) with.stands_there within)
 
@@ -35,17 +35,32 @@ pub unknowns_without-self-inside-requires-clause-counted : goal.unknowns_without
 unknowns_without-self-inside-requires-clause-counted c = λ is.
     let a = c.self.invariant.0 in
     let i = c.self.inside in
-    let with = rw (c.deref.ensures.value, c.deref-2.ensures.value) at c.in-Some.ensures in
-    omega (arith, c.self.invariant.1, counted_some i.keys.items i.stands.items (omega (arith, a.stands_beside, a.keys_beside)) c.in-Some.spot with.stands_there (rw (c.deref-5.ensures.value) at is))
+    let with = rw (c.deref.ensures.value, c.deref-2.ensures.value) at c.in-Some.ensures.found in
+    omega (arith, c.self.invariant.1, counted_some i.keys.items i.stands.items (omega (arith, a.stands_beside, a.keys_beside)) c.in-Some.spot with.stands_there (rw (c.deref-4.ensures.value) at is))
 
 pub invariant_of-self : goal.invariant_of-self
 invariant_of-self c =
     let a = c.self.invariant.0 in
     let i = c.self.inside in
-    let with = rw (c.deref.ensures.value, c.deref-2.ensures.value) at c.in-Some.ensures in
-    let hint = rw (c.deref-4.ensures.value) at c.hint_without-self-inside.ensures in
-    let less = rw (c.deref-5.ensures.value) at c.unknowns_without-self-inside.ensures in (
-      kept_hole i.handles.items i.keys.items i.stands.items i.spots.items i.rows i.hint_place i.hint_spot a c.in-Some.spot c.hint_without-self-inside.result i.hint_spot with.stands_there a.near hint,
+    let all = rw (c.deref.ensures.value) at c.spot_noted.ensures.all in
+    let led = rw (c.deref.ensures.value, c.deref-2.ensures.value) at c.spot_noted.ensures.led in
+    rw all (
+      kept_noted i.handles.items i.keys.items i.stands.items i.spots.items i.rows i.noted i.hint_place i.hint_spot a c.spot_noted.new.spots.items (omega (arith, c.spot_noted.ensures.covered)) led,
+      c.self.invariant.1,
+    )
+
+pub invariant_of-self-2 : goal.invariant_of-self-2
+invariant_of-self-2 c =
+    let a = c.self.invariant.0 in
+    let i = c.self.inside in
+    let with = rw (c.deref.ensures.value, c.deref-2.ensures.value) at c.in-Some.ensures.found in
+    let hint = rw (c.deref-3.ensures.value) at c.hint_without-self-inside.ensures in
+    let less = rw (c.deref-4.ensures.value) at c.unknowns_without-self-inside.ensures in
+    let all = rw (c.deref.ensures.value) at c.spot_noted.ensures.all in
+    let led = rw (c.deref.ensures.value, c.deref-2.ensures.value) at c.spot_noted.ensures.led in
+    let noted = kept_noted i.handles.items i.keys.items i.stands.items i.spots.items i.rows i.noted i.hint_place i.hint_spot a c.spot_noted.new.spots.items (omega (arith, c.spot_noted.ensures.covered)) led in
+    rw all (
+      kept_hole i.handles.items i.keys.items i.stands.items c.spot_noted.new.spots.items i.rows (length i.handles.items) i.hint_place i.hint_spot noted c.in-Some.spot c.hint_without-self-inside.result i.hint_spot with.stands_there a.near hint,
       omega (arith, c.self.invariant.1, less, counted_hole i.keys.items i.stands.items (omega (arith, a.stands_beside, a.keys_beside)) c.in-Some.spot with.stands_there),
     )
 
@@ -53,25 +68,25 @@ pub returns-clause-handles : goal.returns-clause-handles
 returns-clause-handles c =
     let a = c.self.invariant.0 in
     let i = c.self.inside in
-    let with = rw (c.deref.ensures.value, c.deref-2.ensures.value) at c.in-Some.ensures in
-    rw (← c.self.view_is) (ap (λ (p : Pending). p.handles) c.close_up_if_sparse.ensures.same ∙ struck i.handles.items i.keys.items i.stands.items i.spots.items a.stands_beside a.keys_beside a.led c.args.slot c.in-Some.spot with i.handles.items a.stands_beside)
+    let with = rw (c.deref.ensures.value, c.deref-2.ensures.value) at c.in-Some.ensures.found in
+    rw (← c.self.view_is) (ap (λ (p : Pending). p.handles) c.close_up_if_sparse.ensures.same ∙ struck i.handles.items i.keys.items i.stands.items a.stands_beside a.keys_beside a.apart c.args.slot c.in-Some.spot with i.handles.items a.stands_beside)
 
 pub returns-clause-keys : goal.returns-clause-keys
 returns-clause-keys c =
     let a = c.self.invariant.0 in
     let i = c.self.inside in
-    let with = rw (c.deref.ensures.value, c.deref-2.ensures.value) at c.in-Some.ensures in
-    rw (← c.self.view_is) (ap (λ (p : Pending). p.keys) c.close_up_if_sparse.ensures.same ∙ struck i.handles.items i.keys.items i.stands.items i.spots.items a.stands_beside a.keys_beside a.led c.args.slot c.in-Some.spot with i.keys.items (omega (arith, a.stands_beside, a.keys_beside)))
+    let with = rw (c.deref.ensures.value, c.deref-2.ensures.value) at c.in-Some.ensures.found in
+    rw (← c.self.view_is) (ap (λ (p : Pending). p.keys) c.close_up_if_sparse.ensures.same ∙ struck i.handles.items i.keys.items i.stands.items a.stands_beside a.keys_beside a.apart c.args.slot c.in-Some.spot with i.keys.items (omega (arith, a.stands_beside, a.keys_beside)))
 
 pub returns-clause-remembered : goal.returns-clause-remembered
 returns-clause-remembered c = λ cells r.
     let a = c.self.invariant.0 in
     let i = c.self.inside in
-    let with = rw (c.deref.ensures.value, c.deref-2.ensures.value) at c.in-Some.ensures in
+    let with = rw (c.deref.ensures.value, c.deref-2.ensures.value) at c.in-Some.ensures.found in
     let known = rw (← c.self.view_is) at r in
     let rows = kept i.stands.items i.handles.items in
     let handles : c.close_up_if_sparse.new.self.handles ≡ remove rows (place_in rows c.args.slot) =
-    ap (λ (p : Pending). p.handles) c.close_up_if_sparse.ensures.same ∙ struck i.handles.items i.keys.items i.stands.items i.spots.items a.stands_beside a.keys_beside a.led c.args.slot c.in-Some.spot with i.handles.items a.stands_beside in
+    ap (λ (p : Pending). p.handles) c.close_up_if_sparse.ensures.same ∙ struck i.handles.items i.keys.items i.stands.items a.stands_beside a.keys_beside a.apart c.args.slot c.in-Some.spot with i.handles.items a.stands_beside in
     let keys : c.close_up_if_sparse.new.self.keys ≡ remove (kept i.stands.items i.keys.items) (place_in rows c.args.slot) =
-    ap (λ (p : Pending). p.keys) c.close_up_if_sparse.ensures.same ∙ struck i.handles.items i.keys.items i.stands.items i.spots.items a.stands_beside a.keys_beside a.led c.args.slot c.in-Some.spot with i.keys.items (omega (arith, a.stands_beside, a.keys_beside)) in
+    ap (λ (p : Pending). p.keys) c.close_up_if_sparse.ensures.same ∙ struck i.handles.items i.keys.items i.stands.items a.stands_beside a.keys_beside a.apart c.args.slot c.in-Some.spot with i.keys.items (omega (arith, a.stands_beside, a.keys_beside)) in
     rw (handles, keys) (RemembersKeys-remove cells rows (kept i.stands.items i.keys.items) (place_in rows c.args.slot) (place_in-within rows c.args.slot (spot-times i.handles.items i.stands.items a.stands_beside c.args.slot c.in-Some.spot with)) known)

@@ -35,7 +35,7 @@ invariant_of-self c =
     let stands = rw (c.deref.ensures.value) at c.spot_of-spot.ensures.stands in
     let place = rw (c.deref.ensures.value) at c.spot_of-spot.ensures.place in
     let less = rw (c.deref-2.ensures.value) at c.unknowns_without-self-inside.ensures in (
-      kept_hole i.handles.items i.keys.items i.stands.items i.spots.items i.rows i.hint_place i.hint_spot a spot c.args.place spot stands (omega (arith, Stands-within i.stands.items spot stands, a.stands_beside)) (sym place ∙ sym (place_at-hole_behind i.stands.items spot spot (omega arith))),
+      kept_hole i.handles.items i.keys.items i.stands.items i.spots.items i.rows i.noted i.hint_place i.hint_spot a spot c.args.place spot stands (omega (arith, Stands-within i.stands.items spot stands, a.stands_beside)) (sym place ∙ sym (place_at-hole_behind i.stands.items spot spot (omega arith))),
       omega (arith, c.self.invariant.1, less, counted_hole i.keys.items i.stands.items (omega (arith, a.stands_beside, a.keys_beside)) spot stands),
     )
 
