@@ -10,6 +10,7 @@ import shutil
 import subprocess
 import sys
 
+import package
 import plain_session
 import random_script
 import server
@@ -48,6 +49,17 @@ def client(program):
         server.expect("client.py", wanted, printed("client.py", port, sys.executable))
 
 
+def table(_):
+    """A table in the process. Rows and answers are those of a list."""
+    wanted = "count 500\nsum 499500\nselect [(10, 20), (11, 22), (12, 24)]\nafter updates 499\nsum 498502\n"
+    server.expect("table.py", wanted, printed("table.py", "1000", package.interpreter()))
+
+
+def served(program):
+    """Threads with a connection each share the table of a server."""
+    server.expect("served.py", "4 clients\nrows 4000\nsum 7998000\n", printed("served.py", program, sys.executable))
+
+
 def session(program):
     wanted = "row 0.0\nrow 0.1\nrow 0.2\ncount 2\nrows 3\n0.0 30 3\n0.1 10 1\n0.2 20 2\nbye\n"
     with server.serving(program, (5, 3, 0, 3), 1, 1) as port:
@@ -84,7 +96,7 @@ def for_ever(program):
 
 
 # each with the program that it needs
-CASES = [*((it, sys.executable) for it in [first, for_ever, client]), (session, "nc"), (csv, "sqlite3"), *((it, sys.executable) for it in shell_cases.CASES)]
+CASES = [*((it, sys.executable) for it in [first, for_ever, client, served]), (table, str(package.LIBRARY)), (session, "nc"), (csv, "sqlite3"), *((it, sys.executable) for it in shell_cases.CASES)]
 
 
 def run(program):

@@ -12,6 +12,7 @@ import subprocess
 import sys
 
 PACKAGE = pathlib.Path(__file__).resolve().parent.parent / "python"
+LIBRARY = PACKAGE / "crackd" / "libcrackd.so"
 INTERPRETERS = [sys.executable, "/usr/bin/python3"]
 WANTED = "import sys, numpy; sys.exit(sys.version_info < (3, 10))"
 RAN = re.compile(r"^Ran (\d+) tests?", re.MULTILINE)

@@ -2,8 +2,9 @@
 """Measures the proved programs beside others, and compares the ratios with their bounds:
 run.py [--once] [--small] [--report] [--before FOLDER] [WHAT ..]
 
-WHAT is session, tcp, csv, batch, instructions, splits, memory, arena, column, partition, cold, updates, steps, folds, growth, workers, asking or
-gathering; all of them without a word. Wants a quiet machine, rustc, and the programs, which are built (and first proved, where they aren't) as
+WHAT is session, tcp, csv, batch, instructions, splits, memory, arena, column, partition, cold, updates, steps, folds, growth, workers, asking,
+gathering or python; all of them without a word. python is the package's table in the process, where numpy and libcrackd.so are there; its times go
+into docs/PYTHON.md, too. Wants a quiet machine, rustc, and the programs, which are built (and first proved, where they aren't) as
 `make run` does it. Each number is the median of five runs; with --once of one. The programs and their peers run in turn, so that all meet the same machine.
 Instructions are counted by valgrind where it is installed, and then once, since they are the same each time. Prints a table, and ends with status
 1 where a ratio is above its bound, or a gain below it, or where a program and its peer don't compute the same.
@@ -23,16 +24,19 @@ import before
 import contests
 import of_bench
 import of_crackd
+import of_python
 import of_workers
 import sizes
 from programs import OUT, TOP, build
 from table import Table
 
-MEASURES = {**of_crackd.MEASURES, **of_bench.MEASURES, **of_workers.MEASURES}
+MEASURES = {**of_crackd.MEASURES, **of_bench.MEASURES, **of_workers.MEASURES, **of_python.MEASURES}
 
 
 def program_of(word):
-    """The program that a word runs."""
+    """The program that a word runs, if any."""
+    if word in of_python.MEASURES:
+        return None
     if word in of_crackd.MEASURES:
         return "crackd"
     return "crack_bench_workers" if word in of_workers.MEASURES else "crack_bench"
@@ -40,7 +44,9 @@ def program_of(word):
 
 def measure(words, runs):
     """Whether all ratios of these words are within their bounds."""
-    build(sorted({program_of(word) for word in words}))
+    programs = sorted({program_of(word) for word in words} - {None})
+    if programs:
+        build(programs)
     table = Table()
     for word in words:
         for it in MEASURES[word]:

@@ -20,7 +20,7 @@ class Table:
     def line(self, what, measured, beside, bound=None):
         """A line of seconds beside others."""
         ratio = measured / beside
-        shown = "-" if bound is None else f"{bound:.1f}"
+        shown = "-" if bound is None else f"{bound:.1f}" if bound >= 1 else f"{bound:.2f}"
         print(f"{what:{WIDTH}} {measured * 1e3:9.2f} ms {beside * 1e3:9.2f} ms {ratio:7.2f} {shown:>6}{self.above(ratio, bound)}", flush=True)
 
     def step(self, what, measured, beside, bound):

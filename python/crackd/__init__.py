@@ -4,7 +4,7 @@
 numbers, floats or dates of numpy, and payloads that are whole numbers of 64 bits. `load_csv` reads one from a file. numpy is used where it is installed.
 """
 
-from .base import Rows
+from .base import Rows, row_text
 from .client import Client, connect
 from .csvfile import CsvError, load_csv
 from .errors import (
@@ -50,6 +50,7 @@ __all__ = [
     "WrongPartition",
     "connect",
     "load_csv",
+    "row_text",
     "serve",
     "version",
 ]

@@ -30,6 +30,11 @@ def parts_for(rows: int) -> int:
     return min(MOST_PARTS, max(rows // ROWS_A_PART, 1))
 
 
+def row_text(row: int) -> str:
+    """A row number as a server writes it: its partition, a full stop, and its serial there."""
+    return f"{int(row) >> SHIFT}.{int(row) & SERIAL}"
+
+
 def payload_of(payload: Any) -> int:
     """A payload that is given by itself."""
     number = operator.index(payload)

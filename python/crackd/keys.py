@@ -230,11 +230,13 @@ class Keys:
 
     def _numbers_of_ends(self, ends: Any, unbounded: int, count: int) -> Any:
         """The numbers of ends that are an array which can be taken whole, else None."""
-        if np is None or not (ends is None or is_array(ends)):
+        if np is None:
             return None
         if ends is None:
             return np.full(count, unbounded, np.uint64)
-        given = as_flat(ends)
+        given = self._ends_of_list(ends) if not is_array(ends) else as_flat(ends)
+        if given is None:
+            return None
         if self.kind == "u" and given.dtype.kind in "ui":
             return np.maximum(given, 0).astype(np.uint64)
         # (a whole number that is above all signed ones is an end, though no key)
@@ -242,6 +244,15 @@ class Keys:
             return given.astype(np.int64).view(np.uint64) ^ np.uint64(SIGN)
         is_same = given.dtype.kind == "f" and given.dtype.itemsize <= 8 if self.kind == "f" else given.dtype == self.dtype
         return self.many(given) if self.kind in "fM" and is_same else None
+
+    def _ends_of_list(self, ends: Any) -> Any:
+        """Ends of a list that are keys, all of them whole numbers, as an array; else None."""
+        if self.kind not in "ui":
+            return None
+        try:
+            return from_ints("Q" if self.kind == "u" else "q", ends, "ends")
+        except (TypeError, OverflowError):
+            return None
 
     def _ends_one_by_one(self, lows: Any, highs: Any, count: int) -> tuple[Any, Any]:
         firsts = [0] * count if lows is None else [0 if it is None else self.bound(_item(it)) for it in lows]

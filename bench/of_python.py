@@ -1,0 +1,90 @@
+"""What is measured of the Python package: a table in the process, beside arrays of numpy and SQLite in the same process."""
+
+import json
+import os
+import subprocess
+import sys
+
+import sizes
+from programs import TOP
+
+sys.path.insert(0, str(TOP / "acceptance"))
+import package  # which finds an interpreter that has numpy
+
+LIBRARY = TOP / "python" / "crackd" / "libcrackd.so"
+PAGE = TOP / "docs" / "PYTHON.md"
+BEGIN, END = "<!-- times: bench/run.py python -->\n", "<!-- end of times -->\n"
+SORTED, MASKS, SQLITE = "numpy, sorted", "numpy, masks", "SQLite, an index"
+# what is told of each step, by its name
+STEPS = {
+    "load": "load, in order where there is one",
+    "counts": "{ranges} counts of new ranges of 1 %",
+    "counts again": "the same again",
+    "sums": "{ranges} sums of other ranges",
+    "select": "a select of {selected} rows",
+    "step": "10 deletes, 10 inserts and a sum",
+}
+# (what is bounded, beside what, and by how much of it)
+RATIOS = [("load", SQLITE, 0.35), ("step", SORTED, 0.05), ("counts", MASKS, 0.03)]
+# the most nanoseconds
+MOST = [("warm count", "a count of a range that was asked before, nanoseconds", 6000), ("warm count of many", "the same, many in a call", 2500), ("select", "a select of {selected} rows, nanoseconds", 450_000)]
+
+
+def told(text):
+    return text.format(ranges=sizes.RANGES, selected=sizes.PART_ROWS // 100)
+
+
+def milliseconds(seconds):
+    number = seconds * 1e3
+    return f"{number:.0f}" if number >= 100 else f"{number:.1f}" if number >= 10 else f"{number:.2f}" if number >= 0.1 else f"{number:.3f}"
+
+
+def lines_of(seconds):
+    """The table of docs/PYTHON.md."""
+    yield f"| Milliseconds, {sizes.PART_ROWS} rows | {' | '.join(seconds)} |\n"
+    yield "|---" * (len(seconds) + 1) + "|\n"
+    for name, text in STEPS.items():
+        yield f"| {told(text)} | {' | '.join(milliseconds(it[name]) for it in seconds.values())} |\n"
+
+
+def write_page(seconds):
+    """Puts the table into docs/PYTHON.md, in place of the one that is there."""
+    before, _, rest = PAGE.read_text(encoding="utf-8").partition(BEGIN)
+    after = rest.partition(END)[2]
+    PAGE.write_text(before + BEGIN + "".join(lines_of(seconds)) + END + after, encoding="utf-8")
+
+
+def is_missing():
+    """Whether the package can't be measured here, and says why."""
+    if not LIBRARY.exists() and "CRACKD_LIBRARY" not in os.environ:
+        print("libcrackd.so isn't built (`make lib`): the package isn't measured")
+        return True
+    if subprocess.run([package.interpreter(), "-c", "import numpy, sqlite3"], capture_output=True, check=False).returncode:
+        print("numpy isn't installed: the package isn't measured")
+        return True
+    return False
+
+
+def measure_python(table, runs):
+    if is_missing():
+        return
+    words = [str(it) for it in (sizes.PART_ROWS, sizes.RANGES, runs)]
+    ran = subprocess.run([package.interpreter(), str(TOP / "bench" / "python_rows.py"), *words], capture_output=True, text=True, check=False)
+    if ran.returncode:
+        complaint = ran.stderr.strip().splitlines()[-1:] or ["it failed"]
+        sys.exit(f"the package isn't measured: {complaint[0]}")
+    found = json.loads(ran.stdout)
+    seconds = found["seconds"]
+    print(f"the package by {found['version']}")
+    ours = seconds["crackd"]
+    for name, text in STEPS.items():
+        for other, theirs in list(seconds.items())[1:]:
+            bound = next((most for step, beside, most in RATIOS if (step, beside) == (name, other)), None)
+            table.line(f"{told(text)}, beside {other}", ours[name], theirs[name], bound)
+    for name, text, most in MOST:
+        table.count(told(text), ours[name] * 1e9, most)
+    if sizes.PART_ROWS == 500_000:
+        write_page(seconds)
+
+
+MEASURES = {"python": [measure_python]}
