@@ -15,8 +15,7 @@ PACKAGE = pathlib.Path(__file__).resolve().parent.parent / "python"
 LIBRARY = PACKAGE / "crackd" / "libcrackd.so"
 INTERPRETERS = [sys.executable, "/usr/bin/python3"]
 WANTED = "import sys, numpy; sys.exit(sys.version_info < (3, 10))"
-RAN = re.compile(r"^Ran (\d+) tests?", re.MULTILINE)
-COUNTED = re.compile(r"(failures|errors|skipped|unexpected successes)=(\d+)")
+COUNTED = re.compile(r"^(\d+) passed, (\d+) failed, \d+ skipped$", re.MULTILINE)
 SKIPPED = re.compile(r"^(\w+) .*\.\.\. skipped (.*)$", re.MULTILINE)
 SECONDS = 1800
 
@@ -30,20 +29,16 @@ def interpreter():
 
 
 def told(output, status):
-    """How many tests passed, and how many failed, as unittest tells. A run that tells nothing is one failure."""
-    ran = RAN.findall(output)
-    if not ran:
-        return 0, 1
-    counted = {name: int(number) for name, number in COUNTED.findall(output.splitlines()[-1])}
-    failed = counted.get("failures", 0) + counted.get("errors", 0) + counted.get("unexpected successes", 0)
-    passed = int(ran[-1]) - counted.get("skipped", 0) - min(failed, int(ran[-1]))
-    return max(0, passed), failed if failed or status == 0 else 1
+    """How many tests passed, and how many failed. A run that fails and tells nothing is one failure."""
+    counted = COUNTED.findall(output)
+    passed, failed = map(int, counted[-1]) if counted else (0, 0)
+    return passed, failed if failed or (counted and status == 0) else 1
 
 
 def run(program):
     """Runs all tests. How many passed, and how many failed."""
     environment = {**os.environ, "CRACKD": str(pathlib.Path(program).resolve())}
-    command = [interpreter(), "-W", "error::DeprecationWarning", "-m", "unittest", "discover", "-v", "-s", str(PACKAGE / "tests")]
+    command = [interpreter(), "-W", "error::DeprecationWarning", str(PACKAGE / "tests")]
     try:
         ran = subprocess.run(command, env=environment, stdout=subprocess.PIPE, stderr=subprocess.STDOUT, text=True, timeout=SECONDS, check=False)
     except subprocess.TimeoutExpired:

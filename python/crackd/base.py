@@ -2,12 +2,13 @@
 
 from __future__ import annotations
 
+import abc
 import operator
-from typing import Any, NamedTuple, Optional, Sequence
+from typing import Any, Iterable, NamedTuple, Optional, Sequence
 
 from .arrays import SIGN, flags, ints
 from .keys import Keys
-from .layout import Layout
+from .layout import Layout, PartLayout
 
 # a row's number is its partition, and its serial in that many bits
 SHIFT = 48
@@ -43,7 +44,7 @@ def payload_of(payload: Any) -> int:
     return number
 
 
-class AnyTable:
+class AnyTable(abc.ABC):
     """Rows of a key and a payload each, in the process or behind a server.
 
     Ranges are half open, as in Python: from `low` up to and without `high`, where None stands for no end. Each row has a number, which is never given twice
@@ -116,9 +117,9 @@ class AnyTable:
         """What stands where in each partition, with pictures."""
         return Layout(tuple(self._layouts()))
 
+    @abc.abstractmethod
     def close(self) -> None:
         """Gives back all that the table took here. A second call does nothing."""
-        raise NotImplementedError
 
     def _nothing(self, answer: Any) -> Any:
         """The answer to an empty range, of a table that is open."""
@@ -143,3 +144,44 @@ class AnyTable:
 
     def __exit__(self, *_: Any) -> None:
         self.close()
+
+    # What each way to reach a table does, over keys that are numbers of 64 bits; ranges have a first and a last one
+
+    @abc.abstractmethod
+    def _check_open(self) -> None: ...
+
+    @abc.abstractmethod
+    def _insert(self, key: int, payload: int) -> int: ...
+
+    @abc.abstractmethod
+    def _insert_many(self, keys: Any, payloads: Any) -> Any: ...
+
+    @abc.abstractmethod
+    def _delete_many(self, rows: Any) -> Any: ...
+
+    @abc.abstractmethod
+    def _update_many(self, rows: Any, keys: Any, payloads: Any) -> Any: ...
+
+    @abc.abstractmethod
+    def _count(self, first: int, last: int) -> int: ...
+
+    @abc.abstractmethod
+    def _count_many(self, firsts: Any, lasts: Any) -> Any: ...
+
+    @abc.abstractmethod
+    def _sum(self, first: int, last: int) -> int: ...
+
+    @abc.abstractmethod
+    def _sum_many(self, firsts: Any, lasts: Any) -> list[int]: ...
+
+    @abc.abstractmethod
+    def _select(self, first: int, last: int) -> tuple[Any, Any, Any]: ...
+
+    @abc.abstractmethod
+    def _settle(self) -> None: ...
+
+    @abc.abstractmethod
+    def _checkpoint(self) -> int: ...
+
+    @abc.abstractmethod
+    def _layouts(self) -> Iterable[PartLayout]: ...
