@@ -15,7 +15,7 @@ use crack_column::Remembered;
 use crack_index::{CrackerIndex, Mark};
 
 /// Takes the pending insertion at this place into the hand, with what is to be remembered of its row. No bound is looked up yet.
-/// O(1) at the first place or behind the one that was taken last; takes no memory.
+/// O(1) at the first place or behind the one that was taken last; takes no memory. A list that is emptied gives its memory back.
 pub(crate) fn take_in(inside: &mut Inside, place: usize) -> Near
     requires intact { KeepsIntact inside.old [] }
     requires there { place < length inside.old.pending_in.handles }
@@ -24,6 +24,7 @@ pub(crate) fn take_in(inside: &mut Inside, place: usize) -> Near
     ensures kept { KeepsHand inside.new result }
 {
     let hand = inside.pending_in.take(place);
+    inside.pending_in.shrink_if_empty(inside.in_room);
     inside.tally.put_in = inside.tally.put_in.saturating_add(1);
     let row = row_at(&inside.arena, hand);
     inside.column.set_aside(hand, Remembered::of(row));
@@ -44,7 +45,8 @@ pub(crate) fn take_last(inside: &mut Inside) -> Near
     Near::Unsought
 }
 
-/// Frees the cell of the hand, which is doomed, and strikes it from the pending deletions. Amortised O(1).
+/// Frees the cell of the hand, which is doomed, and strikes it from the pending deletions. Amortised O(1). A list that is emptied gives its
+/// memory back.
 pub(crate) fn free_hand(inside: &mut Inside)
     requires hand { HasHand inside.old }
     requires doomed { IsDoomed (carried_of inside.old) }
@@ -54,6 +56,7 @@ pub(crate) fn free_hand(inside: &mut Inside)
 {
     let hand = inside.column.aside();
     inside.pending_out.strike(hand);
+    inside.pending_out.shrink_if_empty(0);
     let _ = inside.arena.free(hand);
     inside.tally.taken_out = inside.tally.taken_out.saturating_add(1);
 }

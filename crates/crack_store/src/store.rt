@@ -247,6 +247,15 @@ impl Store {
         })
     }
 
+    /// Gives back what memory the pending lists have beyond their rows and the room of a growth. Contracts see no change.
+    /// O(1) where no row left a hole in them, else O(pending rows); it takes no memory and can't fail.
+    pub fn shrink_pending(&mut self)
+        ensures { self.new ≡ self.old }
+    {
+        self.inside.pending_in.shrink(self.inside.in_room);
+        self.inside.pending_out.shrink(0);
+    }
+
     /// The number of pending insertions.
     pub fn pending_in(&self) -> usize
         ensures { result ≡ length self.now.pending_in }

@@ -34,16 +34,16 @@ returns-clause-intact c =
     let apart = hand_apart s.cells s.free s.column s.pending_in s.pending_out hand c.requires.hand.kept.intact.owned in
     let agree = AgreeOff-set s.cells hand.slot (record { generation = hand.generation + 1; value = None }) in
     record {
-      intact = rw (freed c, c.strike.ensures.handles, c.aside-hand.ensures, c.saturating_add-inside.ensures) (IsIntact-buried carried c.requires.doomed c.requires.hand.kept.intact);
+      intact = rw (freed c, c.shrink_if_empty.ensures.same, c.strike.ensures.handles, c.aside-hand.ensures, c.saturating_add-inside.ensures) (IsIntact-buried carried c.requires.doomed c.requires.hand.kept.intact);
       remembers = rw (freed c) (Remembers-off hand.slot s.cells (buried carried).cells s.column c.args.inside.now.column.remembered agree apart.off_column c.requires.hand.kept.remembers);
       keys_in = rw (freed c) (RemembersKeys-off hand.slot s.cells (buried carried).cells s.pending_in c.args.inside.now.pending_in.keys agree apart.off_pending c.requires.hand.kept.keys_in);
-      keys_out = rw (freed c) (RemembersKeys-off hand.slot s.cells (buried carried).cells c.strike.new.self.handles c.strike.new.self.keys agree (rw (c.strike.ensures.handles, c.aside-hand.ensures) (off_buried carried c.requires.doomed c.requires.hand.kept.intact)) (c.strike.ensures.remembered s.cells c.requires.hand.kept.keys_out));
+      keys_out = rw (freed c) (RemembersKeys-off hand.slot s.cells (buried carried).cells c.shrink_if_empty.new.self.handles c.shrink_if_empty.new.self.keys agree (rw (c.shrink_if_empty.ensures.same, c.strike.ensures.handles, c.aside-hand.ensures) (off_buried carried c.requires.doomed c.requires.hand.kept.intact)) (c.shrink_if_empty.ensures.remembered s.cells (c.strike.ensures.remembered s.cells c.requires.hand.kept.keys_out)));
       room = c.requires.hand.kept.room;
       covered = rw (freed c) (omega (arith, c.requires.hand.kept.covered, length-set s.cells hand.slot (record { generation = hand.generation + 1; value = None })));
     }
 
 pub returns-clause-after : goal.returns-clause-after
-returns-clause-after c = rw (freed c, c.strike.ensures.handles, c.aside-hand.ensures, c.saturating_add-inside.ensures) refl
+returns-clause-after c = rw (freed c, c.shrink_if_empty.ensures.same, c.strike.ensures.handles, c.aside-hand.ensures, c.saturating_add-inside.ensures) refl
 
 pub returns-clause-live : goal.returns-clause-live
-returns-clause-live c = rw (freed c, c.strike.ensures.handles, c.aside-hand.ensures) (live_rows-buried (carried_of c.args.inside.now) c.requires.doomed c.requires.hand.kept.intact)
+returns-clause-live c = rw (freed c, c.shrink_if_empty.ensures.same, c.strike.ensures.handles, c.aside-hand.ensures) (live_rows-buried (carried_of c.args.inside.now) c.requires.doomed c.requires.hand.kept.intact)

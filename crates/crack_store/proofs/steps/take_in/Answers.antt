@@ -14,6 +14,9 @@ pub row_at-row-requires : goal.row_at-row-requires
 row_at-row-requires c =
     rw (hand (goal.at.row_at-row-requires c).After-take-hand) (c.requires.intact.intact.owned.pending_reads c.args.place no_handle c.requires.there)
 
+pub shrink_if_empty-requires : goal.shrink_if_empty-requires
+shrink_if_empty-requires c = omega (arith, c.requires.intact.room, c.take-hand.ensures.room)
+
 pub returns-clause-kept : goal.returns-clause-kept
 returns-clause-kept c =
     let s = lists_of c.args.inside.now in
@@ -22,12 +25,12 @@ returns-clause-kept c =
     record {
       has = record {
         kept = record {
-          intact = rw (c.set_aside.ensures, c.take-hand.ensures.handles, hand, c.saturating_add-inside.ensures) (IsIntact-lifted c.args.place s c.requires.there c.requires.intact.intact);
+          intact = rw (c.set_aside.ensures, c.shrink_if_empty.ensures.same, c.take-hand.ensures.handles, hand, c.saturating_add-inside.ensures) (IsIntact-lifted c.args.place s c.requires.there c.requires.intact.intact);
           remembers = rw c.set_aside.ensures c.requires.intact.remembers;
-          keys_in = c.take-hand.ensures.remembered s.cells c.requires.intact.keys_in;
+          keys_in = c.shrink_if_empty.ensures.remembered s.cells (c.take-hand.ensures.remembered s.cells c.requires.intact.keys_in);
           keys_out = c.requires.intact.keys_out;
-          room = omega (arith, c.requires.intact.room, c.take-hand.ensures.room);
-          covered = rw c.take-hand.ensures.covered c.requires.intact.covered;
+          room = c.shrink_if_empty.ensures.sure;
+          covered = rw (c.shrink_if_empty.ensures.same, c.take-hand.ensures.covered) c.requires.intact.covered;
         };
         aside = rw c.set_aside.ensures (omega arith);
         agrees = rw c.set_aside.ensures (inr (rw (hand, reads) c.of.ensures));
@@ -38,4 +41,4 @@ returns-clause-kept c =
 
 pub returns-clause-after : goal.returns-clause-after
 returns-clause-after c =
-    rw (c.set_aside.ensures, c.take-hand.ensures.handles, c.saturating_add-inside.ensures, hand (goal.at.returns-clause-after c).After-take-hand) refl
+    rw (c.set_aside.ensures, c.shrink_if_empty.ensures.same, c.take-hand.ensures.handles, c.saturating_add-inside.ensures, hand (goal.at.returns-clause-after c).After-take-hand) refl
