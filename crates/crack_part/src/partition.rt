@@ -181,6 +181,7 @@ impl Partition {
         let placed = self.next;
         let gone = placed - rows.len() as u64;
         empty(&mut self.history, self.alloc)?;
+        self.store.shrink_pending();
         self.base = Base {
             rows,
             folded,

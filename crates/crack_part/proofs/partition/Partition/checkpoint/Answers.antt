@@ -18,7 +18,7 @@ invariant_of-self-2 c =
     let base = base-folded part c.in_ok-rows.rows.items c.self.invariant is in
     let count : c.accepted-folded.result ≡ at.base.folded + length at.history.items = rw (← c.self.view_is) at c.accepted-folded.ensures.value in
     let long : c.len.result ≡ length c.in_ok-rows.rows.items = omega (arith, c.len.ensures, c.in_ok-rows.rows.ok) in
-    rw (c.in_ok-empty.ensures.ok, count, long) (subst (λ (b : Base). IsSound (record part { past = record { base = b; tail = [] } })) (sym base) (IsSound-folded part c.self.invariant))
+    rw (c.in_ok-empty.ensures.ok, c.shrink_pending.ensures, count, long) (subst (λ (b : Base). IsSound (record part { past = record { base = b; tail = [] } })) (sym base) (IsSound-folded part c.self.invariant))
 
 pub returns-clause-folded : goal.returns-clause-folded
 returns-clause-folded c =
@@ -28,4 +28,4 @@ returns-clause-folded c =
     let base = base-folded part c.in_ok-rows.rows.items c.self.invariant is in
     let count : c.accepted-folded.result ≡ at.base.folded + length at.history.items = rw (← c.self.view_is) at c.accepted-folded.ensures.value in
     let long : c.len.result ≡ length c.in_ok-rows.rows.items = omega (arith, c.len.ensures, c.in_ok-rows.rows.ok) in
-    rw (← c.self.view_is, c.in_ok-empty.ensures.ok, count, long) (ap (λ (b : Base). record part { past = record { base = b; tail = [] } }) base)
+    rw (← c.self.view_is, c.in_ok-empty.ensures.ok, c.shrink_pending.ensures, count, long) (ap (λ (b : Base). record part { past = record { base = b; tail = [] } }) base)
