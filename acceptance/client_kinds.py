@@ -139,7 +139,7 @@ def any_statement(guest):
         case "layout" | "checkpoint":
             return f"layout {part}"
         case "policy":
-            return f"policy {numbers.choice(['complete', 'gradual', 'ripple'])}"
+            return f"policy {numbers.choice(['complete', 'gradual', 'ripple', 'auto'])}"
         case "no statement":
             return numbers.choice(["nonsense", f"insert {low}", f"count {low} x", "checkpoint", "x" * 201])
     return f"count {high + 1} {low}"

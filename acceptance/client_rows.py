@@ -19,7 +19,7 @@ BYTES_OF_A_COMMAND, BYTES_OF_A_LISTED_ROW, BYTES_OF_A_SESSION = 330, 60, 100_000
 INSERT = re.compile(r" *insert +(\d{1,20}) +(-?\d{1,20}) *")
 RANGE = re.compile(r" *(count|sum|select) +(\d{1,20}) +(\d{1,20}) *")
 ROW = re.compile(r"(delete|update) (\d+)\.(\d+)( (\d+) -?\d+)?")
-POLICY = re.compile(r" *policy +(complete|gradual|ripple) *")
+POLICY = re.compile(r" *policy +(complete|gradual|ripple|auto) *")
 CHECKPOINT = re.compile(r"checkpoint (\d+)")
 FULL, NO_CELL, OVER = 6, 9, 10
 

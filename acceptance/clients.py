@@ -179,7 +179,7 @@ class Storm:
         # (some clients have a split amid their keys)
         self.splits = sorted(it * self.width + numbers.choice([0, self.width // 2]) for it in places)
         self.seed = numbers.randrange(MOST)
-        self.policy = numbers.choice(["complete", "gradual", "ripple"])
+        self.policy = numbers.choice(["complete", "gradual", "ripple", "auto"])
         self.limits = LIMITS[seed % len(LIMITS)]
         self.clients = []
 

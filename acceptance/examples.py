@@ -37,7 +37,7 @@ def printed(example, given, *interpreter, more=(), text=""):
 
 def first(program):
     layout = "layout 0 rows 4 column 4 out 0 in 0 cells 4 free 0 pieces 3\npiece 0 15 1\npiece 15 35 2\npiece 35 18446744073709551616 1\n"
-    wanted = f"row 0.0\nrow 0.1\nrow 0.2\nrow 0.3\npolicy complete\ncount 4\npolicy ripple\nsum 5\n{layout}bye\n"
+    wanted = f"policy auto\nrow 0.0\nrow 0.1\nrow 0.2\nrow 0.3\nsum 5\n{layout}bye\n"
     with (EXAMPLES / "first.txt").open() as given:
         ran = subprocess.run([program, "script"], stdin=given, capture_output=True, text=True, timeout=server.SECONDS, check=False)
     server.expect("first.txt: status, output and standard error", (0, wanted, ""), (ran.returncode, ran.stdout, ran.stderr))
@@ -45,7 +45,7 @@ def first(program):
 
 def client(program):
     wanted = "rows 0.0 to 0.999\ncount 500\nsum 499500\nselect [('0.10', 10, 20), ('0.11', 11, 22), ('0.12', 12, 24)]\n"
-    with server.serving(program, (1004, 1000, 0, 1000), 1, 1) as port:
+    with server.serving(program, (1003, 1000, 0, 1000), 1, 1) as port:
         server.expect("client.py", wanted, printed("client.py", port, sys.executable))
 
 

@@ -21,7 +21,7 @@ LONG_LINE = 64 * 2**20
 NUMBERS = [0, 1, 2, 9, 10, 99, 100, 101, *random_script.EDGES, 2**64 + 1, 10**19, 10**20 - 1, 10**20]
 ODD_NUMBERS = [b"", b"-1", b"+1", b"1.0", b"0x1", b"1e3", b"1_0", b"\xb2", b"00000000000000000001", b"000000000000000000001", b"0" * 20, b"0" * 21]
 ODD_NUMBERS += [b"-", b"-0", b"--1", b"- 1", b"+-1", b"1-", b"-1.0", b"-1_0", b"-\xb2", b"\xe2\x88\x921", b"-" + b"0" * 20, b"-" + b"0" * 21]
-WORDS = [b"insert", b"delete", b"update", b"count", b"sum", b"select", b"layout", b"checkpoint", b"policy", b"quit", b"complete", b"gradual", b"ripple"]
+WORDS = [b"insert", b"delete", b"update", b"count", b"sum", b"select", b"layout", b"checkpoint", b"policy", b"quit", b"complete", b"gradual", b"ripple", b"auto"]
 ODD_WORDS = [b"INSERT", b"inser", b"inserts", b"insert1", b"row", b"refused", b"bye", b"none", b"checkpoints", b"fold", b"\xc3\xa9", b"\0", b"#", b"--"]
 # how many bytes are written at a time
 PIECES = [1, 2, 3, 7, 199, 201, 4095, 4096, 4097, 65536]

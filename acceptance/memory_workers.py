@@ -104,7 +104,7 @@ def fault_of_batch(program, seed, way):
     """Sweeps one way over the batch of a seed. Where all calls are refused from one on, it must end with 8. What is wrong, or None, and how many runs
     there were."""
     texts = worker_texts(seed)
-    policy = random_script.POLICIES[seed % 3]
+    policy = random_script.POLICIES[seed % len(random_script.POLICIES)]
     words = ["batch", "--workers", str(WORKERS), "--policy", policy, *map(str, SPLITS)]
 
     def check(wrote, refused):
@@ -190,7 +190,7 @@ def served_once(program, words, texts, which):
 def fault_of_server(program, seed, way):
     """Sweeps one way over the server of a seed, which must always end by itself. What is wrong, or None, and how many runs there were."""
     texts = session_texts(seed)
-    words = ["--workers", "2", "--sessions", str(SESSIONS), "--policy", random_script.POLICIES[seed % 3], *map(str, SPLITS)]
+    words = ["--workers", "2", "--sessions", str(SESSIONS), "--policy", random_script.POLICIES[seed % len(random_script.POLICIES)], *map(str, SPLITS)]
     for runs, number in enumerate(memory.numbers_of(way), 1):
         served, refused = served_once(program, words, texts, memory.WAYS[way](number))
         wrong = fault_of_served(texts, served, refused)

@@ -2,7 +2,7 @@
 """Answers seeded scripts of a thousand random statements of all kinds by lists in Python, and compares: random_script.py PROGRAM [SEED ..]
 
 What a statement is answered is written here from docs/SPECIFICATION.md alone: a list of rows for each partition, changed and filtered, and no
-more; all three policies answer alike. A seed says how many splits there are, how far keys go, whether histories get full, and whether limits are
+more; all four policies answer alike. A seed says how many splits there are, how far keys go, whether histories get full, and whether limits are
 so small that statements are often refused with 6, 9 and 10. Keys and ends of ranges are often splits, or beside one, or at a limit, as payloads are, which
 have either sign. Checkpoints stand amid the other statements. A layout is compared by its equations, since no rule fixes more of it: the pieces' sizes add
 up to the column; column, pending insertions and free cells make up the cells; the rows are the column less the pending deletions and the pending
@@ -27,7 +27,7 @@ MOST, LEAST_PAYLOAD, MOST_PAYLOAD = 2**64, -(2**63), 2**63 - 1
 EDGES = [0, 1, 2**31 - 1, 2**31, 2**32 - 1, 2**32, 2**32 + 1, 2**63 - 1, 2**63, 2**63 + 1, 2**64 - 2, 2**64 - 1, 2**64]
 STATEMENTS = 1000
 SECONDS = 20
-POLICIES = ["complete", "gradual", "ripple"]
+POLICIES = ["complete", "gradual", "ripple", "auto"]
 SEEDS = range(18)
 # by the seed, whether limits are small
 TIGHT = [False, True]

@@ -126,6 +126,25 @@ def two_at_once(program):
         one.end()
 
 
+def one_under_auto(program):
+    """A session begins with the policy of the command line: `auto` merges all rows of a load, and makes room near the range for one row beside 22."""
+    laid = ["piece 0 15 1", "piece 15 25 1", "piece 25 18446744073709551616 20"]
+    with serving(program, (27, 24, 0, 24), 1, 1, "--policy", "auto") as port, Client(port) as one:
+        for serial in range(22):
+            one.ask(f"insert {10 * serial + 10} 1", f"row 0.{serial}")
+        one.ask("count 15 25", "count 1")
+        one.ask("layout 0", "layout 0 rows 22 column 22 out 0 in 0 cells 22 free 0 pieces 3", *laid)
+        one.ask("insert 17 2", "row 0.22")
+        one.ask("sum 15 25", "sum 3")
+        laid[1:] = ["piece 15 25 2", "piece 25 18446744073709551616 19"]
+        one.ask("layout 0", "layout 0 rows 23 column 22 out 0 in 1 cells 23 free 0 pieces 3", *laid)
+        one.ask("insert 16 3", "row 0.23")
+        one.ask("select 15 25", "rows 3", "0.1 20 1", "0.22 17 2", "0.23 16 3")
+        laid[1:] = ["piece 15 25 3", "piece 25 18446744073709551616 20"]
+        one.ask("layout 0", "layout 0 rows 24 column 24 out 0 in 0 cells 24 free 0 pieces 3", *laid)
+        one.end()
+
+
 def one_breaks_off(program):
     """Clients that break off in a line, say nothing, or go without their replies leave the others their rows and the server its sessions."""
     with serving(program, (3, 2, 0, 2), 1, 4) as port:
@@ -260,6 +279,7 @@ def a_port_that_is_taken(program):
 
 CASES = [
     two_at_once,
+    one_under_auto,
     one_breaks_off,
     one_is_silent,
     one_reads_no_reply,

@@ -127,19 +127,27 @@ def control_c_at_the_prompt(program):
 
 
 def load(program):
-    """A load tells how many rows came, merges them all, and leaves the policy as it was."""
+    """A load tells how many rows came. Under the shell's own policy, `auto`, the next query of a partition merges all of them."""
     files = {"rows.csv": 'key,payload\n150,-6\n\n"50",5\n007,"-001"\n'}
-    with talking("--program", program, "--policy", "gradual", "100", files=files) as (shell, _):
-        ask(shell, ".load rows.csv", LOADED.format("3 rows"), "warm-up: count 3, all merged; policy gradual as before" + TIME)
-        ask(shell, "layout 0", "layout 0 rows 2 column 2 out 0 in 0 cells 2 free 0 pieces 1\npiece 0 100 2\n", TIME.strip())
+    with talking("--program", program, "100", files=files) as (shell, _):
+        ask(shell, ".load rows.csv", LOADED.format("3 rows"))
+        ask(shell, "layout 0", "layout 0 rows 2 column 0 out 0 in 2 cells 2 free 0 pieces 1\npiece 0 100 0\n", TIME.strip())
+        ask(shell, "count 50 51", "count 1" + TIME)
+        pieces = "piece 0 50 1\npiece 50 51 1\npiece 51 100 0\n"
+        ask(shell, "layout 0", "layout 0 rows 2 column 2 out 0 in 0 cells 2 free 0 pieces 3\n" + pieces, TIME.strip())
         ask(shell, "select 0 200", "rows 3\n0.0 50 5\n0.1 7 -1\n1.0 150 -6\n", TIME.strip())
+        # (three inserts; the count asks one partition, the select both)
+        end(shell, (6, 3, 0, 3))
+
+
+def load_under_another_policy(program):
+    """A policy that is named holds, and a load leaves it as it is."""
+    with talking("--program", program, "--policy", "gradual", files={"rows.csv": "7,1\n50,5\n"}) as (shell, _):
+        ask(shell, ".load rows.csv", LOADED.format("2 rows"))
+        ask(shell, "count 50 51", "count 1" + TIME)
         # (gradual leaves what a query doesn't need)
-        ask(shell, "insert 20 2", "row 0.2" + TIME)
-        ask(shell, "insert 30 3", "row 0.3" + TIME)
-        ask(shell, "count 20 21", "count 1" + TIME)
-        ask(shell, "layout 0", "layout 0 rows 4 column 3 out 0 in 1 (.|\n)*", TIME.strip())
-        # (five inserts; the warm-up's count and the select ask both partitions, the last count asks one)
-        end(shell, (10, 5, 0, 5))
+        ask(shell, "layout 0", "layout 0 rows 2 column 1 out 0 in 1 (.|\n)*", TIME.strip())
+        end(shell, (3, 2, 0, 2))
 
 
 def load_of_a_bad_record(program):
@@ -149,16 +157,16 @@ def load_of_a_bad_record(program):
     with talking("--program", program, files=files) as (shell, _):
         limits = "a key from 0 to 18446744073709551615 and a payload from -9223372036854775808 to 9223372036854775807"
         bad = f"shell: record 4: refused 19: a record isn't {limits}: '3,x'; 2 rows came before it, and stay\n"
-        ask(shell, ".load bad.csv", PROGRESS + bad, "warm-up: count 2, all merged; policy ripple as before" + TIME)
+        ask(shell, ".load bad.csv", PROGRESS + bad)
         for name, text in [("great", "18446744073709551616,1"), ("low", "1,-9223372036854775809")]:
             ask(shell, f".load {name}.csv", f"shell: record 1: refused 19: .*: '{text}'; 0 rows came before it, and stay\n")
         ask(shell, f"sum {EVERYTHING}", "sum -10" + TIME)
         plus = PROGRESS + r"shell: record 2: refused 19: .*: '2,\+2'; 1 row came before it, and stay\n"
-        ask(shell, ".load plus.csv", plus, "warm-up: count 3, .*" + TIME)
-        ask(shell, ".load most.csv", LOADED.format("2 rows"), "warm-up: count 5, .*" + TIME)
+        ask(shell, ".load plus.csv", plus)
+        ask(shell, ".load most.csv", LOADED.format("2 rows"))
         ask(shell, f"sum {EVERYTHING}", "sum -11" + TIME)
-        # (five inserts, three warm-ups and two sums)
-        end(shell, (10, 5, 0, 5))
+        # (five inserts and two sums)
+        end(shell, (7, 5, 0, 5))
 
 
 def load_into_a_full_history(program):
@@ -166,7 +174,7 @@ def load_into_a_full_history(program):
     files = {"rows.csv": "1,10\n2,20\n3,30\n150,6\n"}
     with talking("--program", program, "--limit", "2", "100", files=files) as (shell, _):
         full = "shell: record 3: refused 6 2: the history is full: .*; 2 rows came before it, and stay, with 1 from behind it that had been sent\n"
-        ask(shell, ".load rows.csv", PROGRESS + full, "shell: the rows aren't merged yet: refused 6 2: .*\n")
+        ask(shell, ".load rows.csv", PROGRESS + full)
         end(shell, (3, 3, 0, 3))
 
 
@@ -188,10 +196,9 @@ def control_c_in_a_load(program):
         ask(shell, ".load endless", r"\r\d+ rows")
         shell.type(terminal.CONTROL_C)
         rows = shell.wait_for(r"shell: interrupted: (\d+) rows came in, and stay\n")[1]
-        shell.wait_for(f"^warm-up: count {rows}, .*\n")
         ask(shell, f"count {EVERYTHING}", f"count {rows}" + TIME)
         feeder.join(server.SECONDS)
-        end(shell, (int(rows) + 2, rows, 0, rows))
+        end(shell, (int(rows) + 1, rows, 0, rows))
 
 
 def save(program):
@@ -240,9 +247,9 @@ def read(program):
     files = {"lines": "insert 1 10\r\n\nnonsense\n.read lines\n.load one.csv\ncount 0 10", "one.csv": "2,20\n"}
     with talking("--program", program, files=files) as (shell, _):
         answers = ["row 0.0" + TIME, "refused 1: .*" + TIME, "shell: lines: it is being read already\n"]
-        answers += [LOADED.format("1 row"), "warm-up: count 2, .*" + TIME, "count 2" + TIME]
+        answers += [LOADED.format("1 row"), "count 2" + TIME]
         ask(shell, ".read lines", *answers, "lines: statements 3, 1 refused, the first in line 3" + TIME)
-        end(shell, (4, 2, 0, 2))
+        end(shell, (3, 2, 0, 2))
 
 
 def commands_that_are_not_done(program):
@@ -316,6 +323,8 @@ def a_server_that_leaves_in_a_load(_):
     with answered_by_hand() as (port, accepted), talking("--port", str(port), files={"rows.csv": "1,1\n2,2\n3,3\n"}) as (shell, _):
         ask(shell, ".load rows.csv")
         by_hand = accepted()
+        server.expect("what was sent", "policy auto\n", by_hand.readline())
+        print("policy auto", file=by_hand, flush=True)
         server.expect("what was sent", ["insert 1 1\n", "insert 2 2\n", "insert 3 3\n"], [by_hand.readline() for _ in range(3)])
         by_hand.write("row 0.0\nrow 0.1\nro")
         by_hand.close()
@@ -455,6 +464,7 @@ CASES = [
     checkpoints,
     control_c_at_the_prompt,
     load,
+    load_under_another_policy,
     load_of_a_bad_record,
     load_into_a_full_history,
     control_c_in_a_load,

@@ -1,7 +1,7 @@
 #!/usr/bin/env python3
 """A client of `crackd serve`: client.py PORT
 
-Inserts a thousand rows without waiting for each reply, has them merged, then counts, sums and selects some of them.
+Inserts a thousand rows without waiting for each reply, then counts, sums and selects some of them.
 """
 
 import socket
@@ -46,12 +46,9 @@ class Session:
         writer.join()
         return numbers
 
-    def warm_up(self):
-        """Has all rows merged by one count of everything. Under ripple alone each count would put its rows into a column that was never filled, and put
-        them back, again and again."""
-        self.ask("policy complete")
-        self.count(0, 2**64)
-        self.ask("policy ripple")
+    def set_policy(self, name):
+        """Sets how pending rows are merged from now on in this session. Under `auto` the first query after a load merges all rows at once."""
+        self.ask(f"policy {name}")
 
     def count(self, low, high):
         return int(self.ask(f"count {low} {high}")[1])
@@ -72,9 +69,9 @@ class Session:
 
 def main(port):
     session = Session(port)
+    session.set_policy("auto")
     numbers = session.insert_all([(key, 2 * key) for key in range(1000)])
     print("rows", numbers[0], "to", numbers[-1])
-    session.warm_up()
     print("count", session.count(250, 750))
     print("sum", session.sum(250, 750))
     print("select", session.select(10, 13))

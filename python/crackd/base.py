@@ -15,7 +15,7 @@ SHIFT = 48
 SERIAL = (1 << SHIFT) - 1
 ROWS_A_PART = 4096
 MOST_PARTS = 64
-POLICIES = ("complete", "gradual", "ripple")
+POLICIES = ("complete", "gradual", "ripple", "auto")
 
 
 class Rows(NamedTuple):

@@ -205,7 +205,7 @@ def _check(said: bytes, before: int = 0, parts: Sequence[bytes] = ()) -> None:
     raise error
 
 
-def connect(host: str = "127.0.0.1", port: int = 4000, *, key_type: Any = "uint64", policy: str = "ripple") -> Client:
+def connect(host: str = "127.0.0.1", port: int = 4000, *, key_type: Any = "uint64", policy: str = "auto") -> Client:
     """A table behind `crackd serve`.
 
     `key_type` says of which kind they are: unsigned whole numbers as the server has them, or "int64", "float64", "datetime64[s]" .., which are numbered in

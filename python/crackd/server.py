@@ -124,7 +124,7 @@ def serve(
     partitions: Optional[int] = None,
     splits: Optional[Sequence[Any]] = None,
     workers: int = 8,
-    policy: str = "ripple",
+    policy: str = "auto",
     history: Optional[int] = None,
     cells: Optional[int] = None,
     program: Optional[str] = None,

@@ -23,7 +23,7 @@ def answered(replies):
         def answer():
             with listening.accept()[0] as connection:
                 connection.recv(4096)
-                connection.sendall(b"policy ripple\n" + replies)
+                connection.sendall(b"policy auto\n" + replies)
                 connection.recv(4096)
 
         thread = threading.Thread(target=answer)

@@ -45,7 +45,7 @@ macro_rules! with_statements {
             "  select LOW HIGH             rows N, and N lines P.N KEY PAYLOAD\n",
             "  layout P                    what stands where in partition P\n",
             "  checkpoint P                folded N: its history begins anew, its rows stay\n",
-            "  policy NAME                 policy NAME: complete, gradual or ripple merges\n",
+            "  policy NAME                 policy NAME: complete, gradual, ripple or auto\n",
             "  quit                        bye"
         )
     };

@@ -53,7 +53,7 @@ pub struct Service {
 }
 
 /// The names that a policy goes by.
-static POLICIES: [&str; 3] = ["complete", "gradual", "ripple"];
+static POLICIES: [&str; 4] = ["complete", "gradual", "ripple", "auto"];
 
 /// Why a command line makes no request. Its text is what standard error gets.
 #[derive(Drop, Debug, Error)]
@@ -103,7 +103,7 @@ fn policy_option<'a>(alloc: Global) -> Arg<'a> {
         .value_name("NAME")
         .value_parser(POLICIES.as_slice())
         .hide_possible_values(true)
-        .help("Merges: complete, gradual or ripple [default: ripple]")
+        .help("Merges: complete, gradual, ripple or auto [default: ripple]")
 }
 
 fn split_values<'a>(alloc: Global) -> Arg<'a> {
@@ -215,6 +215,7 @@ fn policy_of(matches: &ArgMatches<'_>) -> Policy {
     match matches.get_str("policy") {
         Some("complete") => Policy::Complete,
         Some("gradual") => Policy::Gradual,
+        Some("auto") => Policy::Auto,
         _ => Policy::Ripple,
     }
 }

@@ -9,7 +9,7 @@ use Rattle.crack_row.specs.declared.Payload.{Payload}
 use Rattle.crack_row.specs.declared.TheConstants.{GREATEST_KEY, LEAST_PAYLOAD, GREATEST_PAYLOAD, GREATEST_BOUND}
 use Rattle.crack_row.specs.declared.RowNo.{RowNo}
 use Rattle.crack_row.specs.declared.command.Policy.{Policy as Merging}
-use Rattle.crack_row.specs.declared.command.Policy.TheVariants.{Complete, Gradual, Ripple}
+use Rattle.crack_row.specs.declared.command.Policy.TheVariants.{Complete, Gradual, Ripple, Auto}
 use Rattle.crack_row.specs.declared.refusal.Refusal.{Refusal}
 use Rattle.crack_row.specs.declared.refusal.Refusal.TheVariants.{BadStatement, BadRange}
 use Rattle.crack_commands.specs.declared.words.TheConstants.{MOST_DIGITS, GREATEST_PART, GREATEST_SERIAL}
@@ -83,7 +83,7 @@ only_word _ = []
 -- the policy of this name
 abbrev pub policy_named : List ℕ → Option Merging
 policy_named name =
-    if bytes_eq name (codes "complete") then Some Complete else if bytes_eq name (codes "gradual") then Some Gradual else if bytes_eq name (codes "ripple") then Some Ripple else None
+    if bytes_eq name (codes "complete") then Some Complete else if bytes_eq name (codes "gradual") then Some Gradual else if bytes_eq name (codes "ripple") then Some Ripple else if bytes_eq name (codes "auto") then Some Auto else None
 
 -- a statement that is made from what there is, if there is something
 abbrev pub made : {A : Type 0} → (A → Statement) → Option A → Reading

@@ -9,7 +9,7 @@ use Rattle.crack_row.specs.declared.Key.{Key}
 use Rattle.crack_row.specs.declared.Payload.{Payload}
 use Rattle.crack_row.specs.declared.Row.{Row}
 use Rattle.crack_row.specs.declared.command.Policy.{Policy}
-use Rattle.crack_row.specs.declared.command.Policy.TheVariants.{Complete, Gradual, Ripple}
+use Rattle.crack_row.specs.declared.command.Policy.TheVariants.{Complete, Gradual, Ripple, Auto}
 use Rattle.crack_row.specs.declared.command.Reply.{Reply}
 use Rattle.crack_row.specs.declared.command.Reply.TheVariants.{Placed, Gone, Changed, NoRow, Counted, Summed, Rows}
 use Rattle.crack_row.specs.declared.layout.Layout.{Layout}
@@ -79,6 +79,7 @@ abbrev pub policy_text : Policy → List ℕ
 policy_text Complete = codes "policy complete\n"
 policy_text Gradual = codes "policy gradual\n"
 policy_text Ripple = codes "policy ripple\n"
+policy_text Auto = codes "policy auto\n"
 
 -- a number behind a space
 abbrev pub field_text : ℕ → List ℕ

@@ -218,6 +218,8 @@ fn policy_named(name: &[u8]) -> Option<Policy>
         Some(Policy::Gradual)
     } else if name == b"ripple".as_slice() {
         Some(Policy::Ripple)
+    } else if name == b"auto".as_slice() {
+        Some(Policy::Auto)
     } else {
         None
     }

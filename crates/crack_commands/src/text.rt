@@ -411,6 +411,7 @@ pub fn policy_line(policy: Policy) -> &'static [u8]
         Policy::Complete => b"policy complete",
         Policy::Gradual => b"policy gradual",
         Policy::Ripple => b"policy ripple",
+        Policy::Auto => b"policy auto",
     }
 }
 

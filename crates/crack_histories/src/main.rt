@@ -32,7 +32,8 @@ fn policy_of(name: &str) -> anyhow::Result<Policy> {
         "complete" => Ok(Policy::Complete),
         "gradual" => Ok(Policy::Gradual),
         "ripple" => Ok(Policy::Ripple),
-        _ => Err(anyhow::anyhow!("complete, gradual or ripple")),
+        "auto" => Ok(Policy::Auto),
+        _ => Err(anyhow::anyhow!("complete, gradual, ripple or auto")),
     }
 }
 

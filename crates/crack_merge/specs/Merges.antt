@@ -2,7 +2,7 @@
 use Rattle.std.specs.Prelude.{◌≡◌, ◌≢◌, ◌<◌, ◌≤◌, ⊤, ℕ, ◌+◌, ◌++◌, take, drop, length, List, [], Option, Some, None}
 use Rattle.crack_row.specs.Ranges.{Range}
 use Rattle.crack_row.specs.declared.command.Policy.{Policy}
-use Rattle.crack_row.specs.declared.command.Policy.TheVariants.{Complete, Gradual, Ripple}
+use Rattle.crack_row.specs.declared.command.Policy.TheVariants.{Complete, Gradual, Ripple, Auto}
 use Rattle.crack_arena.specs.Arena.{Handle, StandsAt}
 use Rattle.crack_arena.specs.Rows.{keys_at}
 use Rattle.crack_pending.specs.Pending.{Finds, NoneIn}
@@ -101,6 +101,7 @@ abbrev pub LeavesRest : Policy → State → State → Range → Type 0
 LeavesRest Complete s t r = (k : ℕ) × (k ≤ length s.pending_in) × (t.pending_in ≡ drop k s.pending_in)
 LeavesRest Gradual s t r = (k : ℕ) × (k ≤ length s.pending_in) × (t.pending_in ≡ outside_of s.cells r (take k s.pending_in) ++ drop k s.pending_in)
 LeavesRest Ripple s t r = (hs : List Handle) × EvictsFirst s r hs × Fills s t r hs
+LeavesRest Auto s t r = ⊥
 
 -- a merge that found no memory on the way: what it had done stands, and commands see the same rows as before; of the pending
 -- deletions some are left, in the order of arrival

@@ -1,9 +1,9 @@
 -- A merge where no row is pending: there is nothing to do.
-use Rattle.std.proofs.Common.{◌≡◌, ◌≤◌, false, [], refl, sym, arith}
+use Rattle.std.proofs.Common.{◌≡◌, ◌≤◌, Bool, true, false, cond, [], refl, sym, arith}
 use Rattle.std.proofs.Math.Nat.{max-eq_left}
 use Rattle.crack_row.specs.Ranges.{Range}
 use Rattle.crack_row.specs.declared.command.Policy.{Policy}
-use Rattle.crack_row.specs.declared.command.Policy.TheVariants.{Complete, Gradual, Ripple}
+use Rattle.crack_row.specs.declared.command.Policy.TheVariants.{Complete, Gradual, Ripple, Auto}
 use Rattle.crack_state.specs.State.{State, IsIntact}
 use Rattle.crack_state.specs.Merge.{Refines, IsInner, IsCracked, IsSettled, Leaves, LeavesOutside, Evicts, is_touched}
 use Rattle.crack_state.specs.Merge.SomeOf.{nothing}
@@ -12,7 +12,7 @@ use Rattle.crack_state.proofs.FollowLaws.{Follows-refl, Tallies-room}
 use Rattle.crack_state.proofs.MergeLaws.{Merges-untouched}
 use Rattle.crack_state.proofs.OutsideLaws.{SomeOf-none, SomeOf-refl}
 use Rattle.crack_ripple.specs.Near.{MergesNear, fillers_of}
-use Rattle.crack_part.specs.Parts.{LeavesNear, CracksAndMerges}
+use Rattle.crack_part.specs.Parts.{LeavesNear, has_many_pending, chosen, CracksAndMerges}
 
 LeavesOutside-idle : (s : State) (r : Range) → s.pending_in ≡ [] → s.pending_out ≡ [] → LeavesOutside s s r
 LeavesOutside-idle s r no_in no_out = record { some = rw no_out nothing; few = rw no_out (omega arith) }
@@ -20,7 +20,7 @@ LeavesOutside-idle s r no_in no_out = record { some = rw no_out nothing; few = r
 Evicts-idle : (s : State) (r : Range) → s.pending_in ≡ [] → Evicts s r s.pending_in
 Evicts-idle s r no_in = record { evicted = []; pending_in = rw no_in refl; some = SomeOf-none _; few = omega arith }
 
-Leaves-idle : (policy : Policy) (s : State) (r : Range) → s.pending_in ≡ [] → s.pending_out ≡ [] → is_touched s r ≡ false → Leaves policy s s r
+Leaves-idle : (policy : Policy) (s : State) (r : Range) → s.pending_in ≡ [] → s.pending_out ≡ [] → is_touched s r ≡ false → Leaves (chosen policy s) s s r
 Leaves-idle Complete s r no_in no_out untouched = (rw untouched refl, rw untouched refl)
 Leaves-idle Gradual s r no_in no_out untouched = (rw no_in refl, LeavesOutside-idle s r no_in no_out)
 Leaves-idle Ripple s r no_in no_out untouched = (
@@ -29,6 +29,11 @@ Leaves-idle Ripple s r no_in no_out untouched = (
   record { count = 0; few = omega arith; loses = record { passed = 0; left_are = refl; count_is = refl } },
   LeavesOutside-idle s r no_in no_out,
 )
+Leaves-idle Auto s r no_in no_out untouched = by_test (has_many_pending s)
+  where
+    by_test : (b : Bool) → Leaves (cond b Complete Ripple) s s r
+    by_test true = Leaves-idle Complete s r no_in no_out untouched
+    by_test false = Leaves-idle Ripple s r no_in no_out untouched
 
 MergesNear-idle : (s : State) (r : Range) → IsIntact s [] → IsSettled s r → s.pending_in ≡ [] → s.pending_out ≡ [] → MergesNear s s r
 MergesNear-idle s r intact settled no_in no_out =
@@ -61,6 +66,7 @@ LeavesNear-idle : (policy : Policy) (s : State) (r : Range) → IsIntact s [] �
 LeavesNear-idle Complete s r intact settled no_in no_out = tt
 LeavesNear-idle Gradual s r intact settled no_in no_out = tt
 LeavesNear-idle Ripple s r intact settled no_in no_out = MergesNear-idle s r intact settled no_in no_out
+LeavesNear-idle Auto s r intact settled no_in no_out = tt
 
 -- a store that was cracked and has no pending row is merged as it stands
 pub CracksAndMerges-idle : (policy : Policy) (s u : State) (r : Range) → r.low ≤ r.high → s.keys.low ≤ r.low → r.high ≤ s.keys.high → Refines s u r → IsCracked u r → IsIntact u [] → u.pending_in ≡ [] → u.pending_out ≡ [] → CracksAndMerges policy s u r
@@ -73,6 +79,6 @@ CracksAndMerges-idle policy s u r order low high refines cracked intact no_in no
       refines = refines;
       intact = intact;
       merges = record { follows = complete.follows; intact = intact; settled = complete.settled; leaves = Leaves-idle policy u r no_in no_out untouched };
-      near = LeavesNear-idle policy u r intact complete.settled no_in no_out;
-      tallies = Tallies-room policy u u (record { same = refl });
+      near = LeavesNear-idle (chosen policy u) u r intact complete.settled no_in no_out;
+      tallies = Tallies-room (chosen policy u) u u (record { same = refl });
     }

@@ -4,7 +4,7 @@ use Rattle.std.proofs.lemmas.Bool.{cases_lt}
 use Rattle.std.proofs.lemmas.List.{take_all, drop_all, append-nil}
 use Rattle.crack_row.specs.Ranges.{Range, is_in, clipped}
 use Rattle.crack_row.specs.declared.command.Policy.{Policy}
-use Rattle.crack_row.specs.declared.command.Policy.TheVariants.{Complete, Gradual, Ripple}
+use Rattle.crack_row.specs.declared.command.Policy.TheVariants.{Complete, Gradual, Ripple, Auto}
 use Rattle.crack_arena.specs.Arena.{Handle}
 use Rattle.crack_arena.specs.Rows.{key_at}
 use Rattle.crack_state.specs.State.{State, IsIntact, live_rows, freed_of}
@@ -16,7 +16,7 @@ use Rattle.crack_state.proofs.StepLaws.{IsIntact-room}
 use Rattle.crack_state.proofs.CrackLaws.{keys-refined, live_rows-refined, cells-refined, pending_out-refined}
 use Rattle.crack_state.proofs.FollowLaws.{Follows-trans, Follows-room, Tallies-trans, Tallies-room, length_marks-Follows}
 use Rattle.crack_merge.specs.Merges.{EvictsFirst, LeavesRest, Stops}
-use Rattle.crack_part.specs.Parts.{ReadsRange, CracksAndMerges, StopsRead, Prepares, Spares}
+use Rattle.crack_part.specs.Parts.{chosen, ReadsRange, CracksAndMerges, StopsRead, Prepares, Spares}
 
 -- the same rows for commands to see, as many cells, and as many of them freed or still to be
 pub record Keeps (s t : State) : Type 0 where
@@ -133,6 +133,7 @@ Leaves-rest Ripple s t r leaves =
       few = rw all evicts.few;
     } in
     (leaves.0, first, leaves.2)
+Leaves-rest Auto s t r leaves = leaves
 
 SomeOf-left : (s t : State) (r : Range) → LeavesOutside s t r → SomeOf t.pending_out s.pending_out
 SomeOf-left s t r left = SomeOf-trans t.pending_out (outside_of s.cells r s.pending_out) s.pending_out left.some (SomeOf-filter (λ h. not (is_in r (key_at s.cells h))) s.pending_out)
@@ -145,6 +146,7 @@ Leaves-some Complete s t r leaves = by_test (is_touched s r) leaves.1
     by_test false same = rw same (SomeOf-refl s.pending_out)
 Leaves-some Gradual s t r leaves = SomeOf-left s t r leaves.1
 Leaves-some Ripple s t r leaves = SomeOf-left s t r leaves.3
+Leaves-some Auto s t r leaves = absurd leaves
 
 Stops-merged : (policy : Policy) (s t u : State) (r : Range) → Merges policy s t r → Tallies policy s t → SameButRoom t u → Stops policy s u r
 Stops-merged policy s t u r merges tallies room =
@@ -164,13 +166,14 @@ Stops-merged policy s t u r merges tallies room =
     by_policy Ripple rest same =
         let loses = rest.2.loses in
         (rest.0, rest.1, record { count = rest.2.count; few = rest.2.few; loses = record { passed = loses.passed; left_are = same ∙ loses.left_are; count_is = loses.count_is } })
+    by_policy Auto rest same = rest
 
 -- a range was read, and no memory was found afterwards
 StopsRead-read : (policy : Policy) (s u t : State) (r : Range) → ReadsRange policy s u r → SameButRoom u t → StopsRead policy s t r
 StopsRead-read policy s u t r reads room = elim (cases_lt r.low r.high) [
   | inl filled ↦
       let done = reads.settled filled in
-      inr (record { filled = filled; cracked = done.cracked; refines = done.refines; intact = done.intact; stops = Stops-merged policy done.cracked u t r done.merges done.tallies room })
+      inr (record { filled = filled; cracked = done.cracked; refines = done.refines; intact = done.intact; stops = Stops-merged (chosen policy done.cracked) done.cracked u t r done.merges done.tallies room })
   | inr empty ↦ inl (subst (λ (x : State). SameButRoom x t) (reads.empty empty) room)
 ]
 

@@ -1,5 +1,5 @@
 -- What contracts see of a partition, and what holds of each.
-use Rattle.std.specs.Prelude.{◌≡◌, ◌⊎◌, ℕ, ◌+◌, ◌<◌, ◌≤◌, false, [], length, Option, Some, None}
+use Rattle.std.specs.Prelude.{◌≡◌, ◌⊎◌, ℕ, Bool, ◌+◌, ◌*◌, ◌<◌, ◌≤◌, nat_le, if◌then◌else◌, false, [], length, Option, Some, None}
 use Rattle.std.specs.List.Sorted.{IsPermutation}
 use Rattle.crack_row.specs.Commands.{change_of, range_of}
 use Rattle.crack_row.specs.Ranges.{Range, clipped}
@@ -12,7 +12,7 @@ use Rattle.crack_row.specs.declared.command.Change.{Change}
 use Rattle.crack_row.specs.declared.command.Change.TheVariants.{Place, Remove, Rewrite}
 use Rattle.crack_row.specs.declared.command.Command.{Command}
 use Rattle.crack_row.specs.declared.command.Policy.{Policy}
-use Rattle.crack_row.specs.declared.command.Policy.TheVariants.{Ripple}
+use Rattle.crack_row.specs.declared.command.Policy.TheVariants.{Complete, Ripple, Auto}
 use Rattle.crack_row.specs.Limits.{AreLimits}
 use Rattle.crack_row.specs.declared.limit.Limits.{Limits}
 use Rattle.crack_plain.specs.Past.{Past, folded, state_after, IsLegal}
@@ -79,32 +79,41 @@ pub record LacksCell (most : ℕ) (s : State) (change : Option Change) : Type 0 
 abbrev pub placed : ℕ → Key → Payload → Row
 placed serial key payload = row_with (record { 0 = serial }) key payload
 
+-- 64 times the pending insertions are at least the column's rows times its pieces, as always where the column is empty
+abbrev pub has_many_pending : State → Bool
+has_many_pending s = nat_le (length s.column * (length s.marks + 1)) (64 * length s.pending_in)
+
+-- the policy by which a merge into this store is done: auto stands for complete where many insertions are pending, else for ripple
+abbrev pub chosen : Policy → State → Policy
+chosen Auto s = if has_many_pending s then Complete else Ripple
+chosen policy s = policy
+
 -- where a merge of this policy leaves rows: ripple near the range
 abbrev pub LeavesNear : Policy → State → State → Range → Type 0
 LeavesNear Ripple s t r = MergesNear s t r
 LeavesNear _ s t r = Unit {0}
 
--- a store is cracked at the ends of a range, where it is intact, and then merged
+-- a store is cracked at the ends of a range, where it is intact, and then merged by the policy that is chosen there
 pub record CracksAndMerges (policy : Policy) (s t : State) (r : Range) : Type 0 where
   pub cracked : State
   pub refines : Refines s cracked r
   pub intact : IsIntact cracked []
-  pub merges : Merges policy cracked t r
-  pub near : LeavesNear policy cracked t r
-  pub tallies : Tallies policy cracked t
+  pub merges : Merges (chosen policy cracked) cracked t r
+  pub near : LeavesNear (chosen policy cracked) cracked t r
+  pub tallies : Tallies (chosen policy cracked) cracked t
 
 -- what a read of a range does to a store: nothing where the range is empty
 pub record ReadsRange (policy : Policy) (s t : State) (r : Range) : Type 0 where
   pub empty : r.high ≤ r.low → t ≡ s
   pub settled : r.low < r.high → CracksAndMerges policy s t r
 
--- a store is cracked at the ends of a range, where it is intact, and its merge found no memory on the way
+-- a store is cracked at the ends of a range, where it is intact, and its merge, by the policy that is chosen there, found no memory on the way
 pub record CracksAndStops (policy : Policy) (s t : State) (r : Range) : Type 0 where
   pub filled : r.low < r.high
   pub cracked : State
   pub refines : Refines s cracked r
   pub intact : IsIntact cracked []
-  pub stops : Stops policy cracked t r
+  pub stops : Stops (chosen policy cracked) cracked t r
 
 -- what a read of a range that found no memory did to a store: nothing, or the store is cracked at the ends of the range, no bound
 -- else is new, and the merge went as far as it came

@@ -16,7 +16,7 @@ ghost use Rattle.crack_state.specs.Points.{pending_by, MayFree, IsRenewable, Rem
 ghost use Rattle.crack_state.specs.Merge.{IsCracked, IsSettled, Merges, Tallies};
 ghost use Rattle.crack_merge.specs.Merges.{Stops};
 ghost use Rattle.crack_store.specs.Inside.{no_cells, IsLayoutOf};
-ghost use Rattle.crack_part.specs.Parts.{state_of, folded_part, IsLimit, TakesCell, LacksCell, IsSound, IsFaithful, LeavesNear, CracksAndMerges, StopsRead, Serves, Spares, Prepares, Performs, placed};
+ghost use Rattle.crack_part.specs.Parts.{state_of, folded_part, IsLimit, TakesCell, LacksCell, IsSound, IsFaithful, LeavesNear, has_many_pending, chosen, CracksAndMerges, StopsRead, Serves, Spares, Prepares, Performs, placed};
 ghost use Rattle.crack_part.specs.Inside.{IsCommon, AreCommon, MayPerform};
 
 use crack_merge::{merge_complete, merge_gradual};
@@ -580,7 +580,7 @@ fn settle(
     }
 }
 
-/// Merges by the policy what a range needs by whose ends the store was cracked.
+/// Merges what a range needs by whose ends the store was cracked: by the policy, or by the one that `Policy::Auto` stands for here.
 fn merge(
     store: Store,
     range: KeyRange,
@@ -590,17 +590,27 @@ fn merge(
     requires low { store.keys.low ≤ range.low }
     requires high { range.high ≤ store.keys.high }
     requires cracked { IsCracked store range }
-    ensures merged { IfOk result (λ r. Merges policy store r.0 range) }
-    ensures near { IfOk result (λ r. LeavesNear policy store r.0 range) }
-    ensures tallied { IfOk result (λ r. Tallies policy store r.0) }
-    ensures stopped { IfErr result (λ e. Stops policy store e.0 range) }
+    ensures merged { IfOk result (λ r. Merges (chosen policy store) store r.0 range) }
+    ensures near { IfOk result (λ r. LeavesNear (chosen policy store) store r.0 range) }
+    ensures tallied { IfOk result (λ r. Tallies (chosen policy store) store r.0) }
+    ensures stopped { IfErr result (λ e. Stops (chosen policy store) store e.0 range) }
     ensures err { IfErr result (λ e. e.1 ≡ Refusal.OutOfMemory) }
 {
     match policy {
         Policy::Complete => merge_complete(store, range),
         Policy::Gradual => merge_gradual(store, range),
         Policy::Ripple => merge_ripple(store, range),
+        Policy::Auto if has_many_pending(&store) => merge_complete(store, range),
+        Policy::Auto => merge_ripple(store, range),
     }
+}
+
+/// Whether so many insertions are pending that merging all of them is expected to cost less than passing over them again and again. O(1).
+fn has_many_pending(store: &Store) -> bool
+    ensures { result ≡ has_many_pending store.now }
+{
+    let pieces = store.bounds() as u128 + 1;
+    (store.column_len() as u128).saturating_mul(pieces) <= store.pending_in() as u128 * 64
 }
 
 /// Puts in a row, which gets this serial; the reply. O(1), amortised.

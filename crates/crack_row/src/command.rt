@@ -104,6 +104,8 @@ pub enum Policy {
     /// Those alone whose key is in the range, with room made near it: a row that stands in the way behind the range is evicted, and is a
     /// pending insertion again.
     Ripple,
+    /// As `Complete` where many insertions are pending beside the rows of the column, else as `Ripple`; chosen anew at each range command.
+    Auto,
 }
 
 /// What a partition answers.

@@ -160,7 +160,12 @@ fn answer_all(rt: &impl Abort, alloc: Global, policy: Policy) {
 
 #[test]
 fn sweep_session(rt: HostRuntime) {
-    for policy in [Policy::Complete, Policy::Gradual, Policy::Ripple] {
+    for policy in [
+        Policy::Complete,
+        Policy::Gradual,
+        Policy::Ripple,
+        Policy::Auto,
+    ] {
         answer_all(&rt, rt.alloc(), policy);
     }
 }

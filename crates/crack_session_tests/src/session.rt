@@ -283,7 +283,41 @@ fn a_policy_holds_for_the_rest(rt: HostRuntime) -> Result<(), Fail> {
         "layout 0 rows 6 column 4 out 0 in 2 cells 6 free 0 pieces 3\npiece 0 15 1\npiece 15 25 2\npiece 25 18446744073709551616 1\n";
     assert_policy(&rt, rt.alloc(), "complete", all)?;
     assert_policy(&rt, rt.alloc(), "gradual", some)?;
-    assert_policy(&rt, rt.alloc(), "ripple", near)
+    assert_policy(&rt, rt.alloc(), "ripple", near)?;
+    assert_policy(&rt, rt.alloc(), "auto", all)
+}
+
+/// 22 rows, merged into three pieces.
+const ROWS_IN_PIECES: &str =
+    "insert 10 1\ninsert 20 1\ninsert 30 1\ninsert 40 1\ninsert 50 1\ninsert 60 1\ninsert 70 1\ninsert 80 1\n\
+insert 90 1\ninsert 100 1\ninsert 110 1\ninsert 120 1\ninsert 130 1\ninsert 140 1\ninsert 150 1\ninsert 160 1\n\
+insert 170 1\ninsert 180 1\ninsert 190 1\ninsert 200 1\ninsert 210 1\ninsert 220 1\ncount 15 25\n";
+
+/// What these are answered.
+const ROWS_TOLD: &str =
+    "row 0.0\nrow 0.1\nrow 0.2\nrow 0.3\nrow 0.4\nrow 0.5\nrow 0.6\nrow 0.7\nrow 0.8\nrow 0.9\nrow 0.10\n\
+row 0.11\nrow 0.12\nrow 0.13\nrow 0.14\nrow 0.15\nrow 0.16\nrow 0.17\nrow 0.18\nrow 0.19\nrow 0.20\nrow 0.21\ncount 1\n";
+
+/// One pending insertion beside 22 rows in three pieces is few: room for it is made near the range. Two are many: all are merged.
+#[test]
+fn auto_makes_room_where_few_rows_are_pending(rt: HostRuntime) -> Result<(), Fail> {
+    let more =
+        "delete 0.10\ndelete 0.11\ninsert 17 2\nsum 15 25\nlayout 0\ninsert 16 3\nselect 15 25\nlayout 0\n";
+    let told = "gone 110 1\ngone 120 1\nrow 0.22\nsum 3\n\
+layout 0 rows 21 column 22 out 2 in 1 cells 23 free 0 pieces 3\npiece 0 15 1\npiece 15 25 2\npiece 25 18446744073709551616 19\n\
+row 0.23\nrows 3\n0.1 20 1\n0.22 17 2\n0.23 16 3\n\
+layout 0 rows 22 column 22 out 0 in 0 cells 24 free 2 pieces 3\npiece 0 15 1\npiece 15 25 3\npiece 25 18446744073709551616 18\n";
+    let input = format!(in rt.alloc(); "policy auto\n{ROWS_IN_PIECES}{more}")?;
+    let replies = format!(in rt.alloc(); "policy auto\n{ROWS_TOLD}{told}")?;
+    let end = ends(How::InputEnded, 32);
+    assert_script(
+        &rt,
+        rt.alloc(),
+        GREATEST_LIMIT,
+        input.as_bytes(),
+        replies.as_bytes(),
+        end,
+    )
 }
 
 /// A plain table lays its rows out as one piece, and a layout that finds no memory is a want of room.

@@ -116,7 +116,8 @@ layout 1 rows 4 column 3 out 0 in 1 cells 4 free 0 pieces 2\npiece 100 125 2\npi
 layout 1 rows 4 column 2 out 0 in 2 cells 4 free 0 pieces 2\npiece 100 125 2\npiece 125 18446744073709551616 0\n";
     assert_policy(&rt, rt.alloc(), "complete", all)?;
     assert_policy(&rt, rt.alloc(), "gradual", some)?;
-    assert_policy(&rt, rt.alloc(), "ripple", near)
+    assert_policy(&rt, rt.alloc(), "ripple", near)?;
+    assert_policy(&rt, rt.alloc(), "auto", all)
 }
 
 /// Splits past 32 bits, the greatest among them: sums of both signs are added up over the partitions.

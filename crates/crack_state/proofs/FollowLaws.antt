@@ -4,7 +4,7 @@ use Rattle.std.specs.Prelude.{nat_lt}
 use Rattle.std.proofs.lemmas.List.Edits.{length-remove}
 use Rattle.std.proofs.lemmas.List.Sums.{count_by-le-length}
 use Rattle.crack_row.specs.declared.command.Policy.{Policy}
-use Rattle.crack_row.specs.declared.command.Policy.TheVariants.{Complete, Gradual, Ripple}
+use Rattle.crack_row.specs.declared.command.Policy.TheVariants.{Complete, Gradual, Ripple, Auto}
 use Rattle.crack_index.specs.declared.mark.Mark.{Mark}
 use Rattle.crack_index.specs.Marks.{next_mark, bounds_of}
 use Rattle.crack_state.specs.declared.MergeReport.{MergeReport}
@@ -52,12 +52,14 @@ MayEvict-trans : (policy : Policy) (s t u : State) → (IsExact u.tally → IsEx
 MayEvict-trans Complete s t u before a b = b ∙ a
 MayEvict-trans Gradual s t u before a b = b ∙ a
 MayEvict-trans Ripple s t u before a b = λ exact. omega (arith, a (before exact), b exact)
+MayEvict-trans Auto s t u before a b = b ∙ a
 
 -- where nothing was evicted, no policy is broken
 pub MayEvict-none : (policy : Policy) (s t : State) → s.tally.put_in ≤ t.tally.put_in → t.tally.evicted ≡ s.tally.evicted → MayEvict policy s t
 MayEvict-none Complete s t rises same = same
 MayEvict-none Gradual s t rises same = same
 MayEvict-none Ripple s t rises same = λ _. omega (arith, rises, same)
+MayEvict-none Auto s t rises same = same
 
 -- no counter is at its greatest number, if none is later on
 pub IsExact-before : (policy : Policy) (s t : State) → Tallies policy s t → IsExact t.tally → IsExact s.tally

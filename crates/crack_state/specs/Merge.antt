@@ -5,7 +5,7 @@ use Rattle.std.specs.List.Sorted.{IsPermutation}
 use Rattle.crack_row.specs.Ranges.{Range, is_in, in_range}
 use Rattle.crack_row.specs.declared.Row.{Row}
 use Rattle.crack_row.specs.declared.command.Policy.{Policy}
-use Rattle.crack_row.specs.declared.command.Policy.TheVariants.{Complete, Gradual, Ripple}
+use Rattle.crack_row.specs.declared.command.Policy.TheVariants.{Complete, Gradual, Ripple, Auto}
 use Rattle.crack_arena.specs.Arena.{Cell, Handle, read}
 use Rattle.crack_index.specs.declared.mark.Mark.{Mark}
 use Rattle.crack_index.specs.Marks.{HasBound, bounds_of, position_of, next_mark}
@@ -145,11 +145,13 @@ pub record Fills (s t : State) (r : Range) (hs : List Handle) : Type 0 where
   pub few : count ≤ count_inside s.cells r s.pending_out
   pub loses : LosesFirst s.cells (beyond s r) count hs t.pending_in
 
--- which pending rows are left by a merge of this policy: complete takes all or none of both, gradual and ripple those of the range
+-- which pending rows are left by a merge of this policy: complete takes all or none of both, gradual and ripple those of the range; no merge
+-- is by auto itself, which stands for one of the others
 abbrev pub Leaves : Policy → State → State → Range → Type 0
 Leaves Complete s t r = (t.pending_in ≡ (if is_touched s r then [] else s.pending_in)) × (t.pending_out ≡ (if is_touched s r then [] else s.pending_out))
 Leaves Gradual s t r = (t.pending_in ≡ outside_of s.cells r s.pending_in) × LeavesOutside s t r
 Leaves Ripple s t r = (hs : List Handle) × Evicts s r hs × Fills s t r hs × LeavesOutside s t r
+Leaves Auto s t r = ⊥
 
 -- merged: the range is settled, the pending rows that the policy takes are gone, and commands see the same rows as before
 pub record Merges (policy : Policy) (s t : State) (r : Range) : Type 0 where

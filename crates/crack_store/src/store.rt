@@ -277,6 +277,13 @@ impl Store {
         self.inside.column.len()
     }
 
+    /// The number of bounds in the index; the column has one piece more.
+    pub fn bounds(&self) -> usize
+        ensures { result ≡ length self.now.marks }
+    {
+        self.inside.index.len()
+    }
+
     /// The number of cells, free ones too.
     pub fn cells(&self) -> usize
         ensures { result ≡ length self.now.cells }

@@ -124,6 +124,7 @@ fn merge_at(rt: &impl Abort, store: Store, range: KeyRange, policy: Policy) -> (
         Policy::Complete => complete_at(rt, store, range),
         Policy::Gradual => gradual_at(rt, store, range),
         Policy::Ripple => ripple_at(rt, store, range),
+        Policy::Auto => panic!(rt; "a merge is by one of the other three"),
     }
 }
 

@@ -20,7 +20,7 @@ from ..layout import rows_text
 from ..server import NoServer, find_program
 from . import modes, typing
 from .child import Interrupts, Server, channel_to
-from .session import POLICY_OF_A_SERVER, Records, Session
+from .session import POLICY, Records, Session
 from .texts import HELP, Ended, Fault, Interrupted, Left, complain, fault_text, in_words, time_text
 
 PROMPT = "crackd> "
@@ -175,7 +175,7 @@ class Shell:
             raise Interrupted(f"{path} isn't read") from None
 
     def load(self, path):
-        """Inserts the rows of a CSV file, and merges them."""
+        """Inserts the rows of a CSV file."""
         with self.waiting_for(path):
             file = open(path, encoding="utf-8-sig", errors="surrogateescape", newline="")
         begun = time.perf_counter()
@@ -188,18 +188,6 @@ class Shell:
             self.fail(ended)
         else:
             self.say(f"loaded {rows_text(loaded.placed)}", seconds)
-        if loaded.placed:
-            self.warm_up()
-
-    def warm_up(self):
-        """Merges the rows of a load, so that each query after it is quick."""
-        is_known = self.session.policy is not None
-        reply = self.session.warm_up()
-        if reply.is_refusal:
-            complain(f"the rows aren't merged yet: {in_words(reply.lines[0])}")
-        elif self.is_terminal:
-            policy = f"policy {self.session.policy} {'as before' if is_known else 'from now on'}"
-            self.say(f"warm-up: {reply.lines[0]}, all merged; {policy}", reply.seconds)
 
     def save(self, path):
         """Writes all rows to a CSV file."""
@@ -343,12 +331,13 @@ def program_of(path):
 
 def talk_to_own(options, interrupts):
     """A session with a server of its own. Whether all was done."""
-    named = {"--limit": options.limit, "--cells": options.cells, "--life": options.life, "--policy": options.policy}
+    policy = options.policy or POLICY
+    named = {"--limit": options.limit, "--cells": options.cells, "--life": options.life, "--policy": policy}
     words = [word for name, value in named.items() if value for word in (name, value)]
     with interrupts.breaking_in():
         server = Server(program_of(options.program), [*words, *options.splits])
     try:
-        is_done = talk(server.port, options.policy or POLICY_OF_A_SERVER, True, interrupts)
+        is_done = talk(server.port, policy, True, interrupts)
         totals = server.totals()
         if is_with_a_person():
             print(totals)
@@ -367,7 +356,7 @@ def options_of(words):
     parser.add_argument("--limit", metavar="N", help="how many commands a partition answers from one checkpoint to the next, 1 to 1000000")
     parser.add_argument("--cells", metavar="N", help="how many cells for rows a partition has, 1 to 1048576")
     parser.add_argument("--life", metavar="N", help="how many commands a partition answers in all, 1 to 1099511627776")
-    parser.add_argument("--policy", metavar="NAME", choices=POLICIES, help="how rows that came or went are merged: complete, gradual or ripple")
+    parser.add_argument("--policy", metavar="NAME", choices=POLICIES, help="how rows that came or went are merged: complete, gradual, ripple or auto [default: auto, of a server that is started]")
     parser.add_argument("splits", metavar="SPLIT", nargs="*", help="where the keys are parted, rising, each 1 to 18446744073709551615")
     options = parser.parse_args(words)
     if options.port is not None and not 1 <= options.port <= GREATEST_PORT:

@@ -9,9 +9,10 @@ import time
 
 from ..errors import Disconnected
 from ..layout import PartLayout, rows_text
-from .texts import EVERYTHING, GREATEST_KEY, GREATEST_PAYLOAD, LEAST_PAYLOAD, Fault, Left, in_words
+from .texts import GREATEST_KEY, GREATEST_PAYLOAD, LEAST_PAYLOAD, Fault, Left, in_words
 
-POLICY_OF_A_SERVER = "ripple"
+# of a server that the shell starts, and of a load into one that was there already
+POLICY = "auto"
 HEADER = ["key", "payload"]
 MOST_DIGITS = 20
 KEY = re.compile(f"[0-9]{{1,{MOST_DIGITS}}}")
@@ -153,7 +154,10 @@ class Session:
         return reply
 
     def load(self, records, progress):
-        """Sends an insert for each row of the records, and counts what is answered. A control-C ends it; what was sent is still answered."""
+        """Sends an insert for each row of the records, and counts what is answered. A control-C ends it; what was sent is still answered. Where the policy
+        isn't known, `auto` is asked for first, so that the next query merges all rows at once."""
+        if self.policy is None:
+            self.demand(f"policy {POLICY}")
         loaded = Loaded()
         try:
             while not (loaded.refusal or records.fault or self.interrupts.noted):
@@ -176,15 +180,6 @@ class Session:
         while self.channel.unsent or loaded.sent - loaded.answered > most:
             self.channel.step()
             loaded.take(self.channel.lines_given())
-
-    def warm_up(self):
-        """Merges all pending rows by one count of everything, and goes back to the policy as it was. Under ripple alone each count would put its rows into
-        a column that was never filled, and put them back, again and again."""
-        policy = self.policy or POLICY_OF_A_SERVER
-        self.ask("policy complete")
-        reply = self.ask(f"count {EVERYTHING}")
-        self.ask(f"policy {policy}")
-        return reply
 
     def layout(self, partition):
         """How a partition is laid out, or None where there is no such partition."""

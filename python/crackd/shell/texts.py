@@ -7,7 +7,6 @@ from ..errors import Disconnected
 
 GREATEST_KEY = 18446744073709551615
 LEAST_PAYLOAD, GREATEST_PAYLOAD = -9223372036854775808, 9223372036854775807
-EVERYTHING = f"0 {GREATEST_KEY + 1}"
 REFUSED = re.compile("refused ([0-9]+)")
 
 MEANINGS = {
@@ -40,12 +39,12 @@ sum LO HI         the sum of their payloads
 select LO HI      these rows, a line P.S K V for each
 layout P          what stands where in partition P, as numbers
 checkpoint P      the history of partition P begins anew, and its rows stay; the reply is how many entries went
-policy NAME       how rows that came or went are merged: complete, gradual or ripple
+policy NAME       how rows that came or went are merged: complete, gradual, ripple or auto
 quit              ends the session, as exit does
 
 A ; at the end of a statement is left out. Keys are whole numbers from 0 to 18446744073709551615, payloads from -9223372036854775808 to 9223372036854775807.
 
-.load FILE        inserts the rows of CSV, with or without the header key,payload, and merges them by one count
+.load FILE        inserts the rows of CSV, with or without the header key,payload
 .save FILE        writes all rows as CSV; the histories keep the selects that list them
 .read FILE        answers the lines of a file
 .layout [P]       draws the columns of all partitions, or of one
