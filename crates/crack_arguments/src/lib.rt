@@ -103,7 +103,7 @@ fn policy_option<'a>(alloc: Global) -> Arg<'a> {
         .value_name("NAME")
         .value_parser(POLICIES.as_slice())
         .hide_possible_values(true)
-        .help("Merges: complete, gradual, ripple or auto [default: ripple]")
+        .help("complete, gradual, ripple or auto [default: ripple]")
 }
 
 fn split_values<'a>(alloc: Global) -> Arg<'a> {
