@@ -20,20 +20,26 @@ LeavesOutside-idle s r no_in no_out = record { some = rw no_out nothing; few = r
 Evicts-idle : (s : State) (r : Range) → s.pending_in ≡ [] → Evicts s r s.pending_in
 Evicts-idle s r no_in = record { evicted = []; pending_in = rw no_in refl; some = SomeOf-none _; few = omega arith }
 
-Leaves-idle : (policy : Policy) (s : State) (r : Range) → s.pending_in ≡ [] → s.pending_out ≡ [] → is_touched s r ≡ false → Leaves (chosen policy s) s s r
-Leaves-idle Complete s r no_in no_out untouched = (rw untouched refl, rw untouched refl)
-Leaves-idle Gradual s r no_in no_out untouched = (rw no_in refl, LeavesOutside-idle s r no_in no_out)
-Leaves-idle Ripple s r no_in no_out untouched = (
+Completes-idle : (s : State) (r : Range) → is_touched s r ≡ false → Leaves Complete s s r
+Completes-idle s r untouched = (rw untouched refl, rw untouched refl)
+
+Ripples-idle : (s : State) (r : Range) → s.pending_in ≡ [] → s.pending_out ≡ [] → Leaves Ripple s s r
+Ripples-idle s r no_in no_out = (
   s.pending_in,
   Evicts-idle s r no_in,
   record { count = 0; few = omega arith; loses = record { passed = 0; left_are = refl; count_is = refl } },
   LeavesOutside-idle s r no_in no_out,
 )
-Leaves-idle Auto s r no_in no_out untouched = by_test (has_many_pending s)
+
+Leaves-idle : (policy : Policy) (s : State) (r : Range) → s.pending_in ≡ [] → s.pending_out ≡ [] → is_touched s r ≡ false → Leaves (chosen policy s) s s r
+Leaves-idle Complete s r no_in no_out untouched = Completes-idle s r untouched
+Leaves-idle Gradual s r no_in no_out untouched = (rw no_in refl, LeavesOutside-idle s r no_in no_out)
+Leaves-idle Ripple s r no_in no_out untouched = Ripples-idle s r no_in no_out
+Leaves-idle Auto s r no_in no_out untouched = by_test (has_many_pending s) (Completes-idle s r untouched) (Ripples-idle s r no_in no_out)
   where
-    by_test : (b : Bool) → Leaves (cond b Complete Ripple) s s r
-    by_test true = Leaves-idle Complete s r no_in no_out untouched
-    by_test false = Leaves-idle Ripple s r no_in no_out untouched
+    by_test : (b : Bool) → Leaves Complete s s r → Leaves Ripple s s r → Leaves (cond b Complete Ripple) s s r
+    by_test true complete ripple = complete
+    by_test false complete ripple = ripple
 
 MergesNear-idle : (s : State) (r : Range) → IsIntact s [] → IsSettled s r → s.pending_in ≡ [] → s.pending_out ≡ [] → MergesNear s s r
 MergesNear-idle s r intact settled no_in no_out =
