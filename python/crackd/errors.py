@@ -49,6 +49,9 @@ class Refused(Error):
         super().__init__(f"refused {code}: {REASONS.get(code, 'unknown')}{after}")
         self.code, self.done, self.later = code, done, later
 
+    def __reduce__(self) -> Any:
+        return type(self), (self.code, self.done, self.later), {"answers": self.answers}
+
 
 class WrongPartition(Refused, ValueError):
     """The new key of a row belongs to another partition. Delete the row and insert it again."""

@@ -2,6 +2,7 @@
 
 import contextlib
 import os
+import pickle
 import socket
 import subprocess
 import sys
@@ -59,6 +60,12 @@ class Connections(unittest.TestCase):
         self.assertIn("No such file", str(caught.exception))
         self.assertRaises(crackd.NoServer, crackd.serve, program="/dev/null")
         self.assertRaises(crackd.NoServer, crackd.serve, program=sys.executable)
+
+    def test_errors_are_pickled(self):
+        error = crackd.Full(9, 3, 1)
+        error.answers = [1, 2]
+        back = pickle.loads(pickle.dumps(error))
+        self.assertEqual((type(back), back.code, back.done, back.later, back.answers, str(back)), (crackd.Full, 9, 3, 1, [1, 2], str(error)))
 
     def test_wrong_words(self):
         self.assertRaises(ValueError, crackd.connect, policy="none")
