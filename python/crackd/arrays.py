@@ -75,6 +75,8 @@ def ints(code: str, numbers: Any, what: str) -> Any:
 def address(it: Any) -> tuple[int, int]:
     """Where an array of this package's own begins, and how many numbers it has; an empty one, too, begins somewhere."""
     if np is not None:
+        if not (it.flags.c_contiguous and it.flags.aligned and it.ndim == 1):
+            raise ValueError("an array isn't laid out as the library wants it")
         return it.ctypes.data, it.size
     at, size = it.buffer_info()
     return at or _SOMEWHERE.buffer_info()[0], size
