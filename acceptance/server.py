@@ -13,6 +13,7 @@ import socket
 import subprocess
 import sys
 import threading
+import time
 
 SECONDS = 60
 MOST = 2**64
@@ -261,6 +262,51 @@ def a_thread_that_cannot_be_started(program):
     expect("server", (1, f"listening {port}\n", "crackd: refused 8\n"), (ran.returncode, ran.stdout, ran.stderr))
 
 
+def policy_of_the_start(program):
+    """Each session of a server starts with the policy that the server was given: what a sum merges shows in a layout."""
+    for policy, column, pending, last in [("complete", 4, 0, 2), ("gradual", 3, 1, 1), ("ripple", 2, 2, 0)]:
+        with serving(program, (7, 4, 0, 4), 1, 2, "--policy", policy) as port:
+            with Client(port) as it:
+                it.ask("insert 10 1", "row 0.0")
+                it.ask("insert 40 4", "row 0.1")
+                it.ask(f"count 0 {MOST}", "count 2")
+                it.ask("count 20 30", "count 0")
+                it.ask("policy complete", "policy complete")
+                it.end()
+            # (a policy that one session sets is that session's alone)
+            with Client(port) as it:
+                it.ask("insert 15 5", "row 0.2")
+                it.ask("insert 50 6", "row 0.3")
+                it.ask("sum 10 20", "sum 6")
+                pieces = ["piece 0 10 0", "piece 10 20 2", "piece 20 30 0", f"piece 30 {MOST} {last}"]
+                it.ask("layout 0", f"layout 0 rows 4 column {column} out 0 in {pending} cells 4 free 0 pieces 4", *pieces)
+                it.end()
+
+
+def descriptors_that_run_out(program):
+    """A worker whose accepts fail for want of a descriptor goes on, and serves again once there is one."""
+    server, port = started(program, 2, 10**15)
+    least = len(os.listdir(f"/proc/{server.pid}/fd"))
+    try:
+        with Client(port) as held:
+            held.ask("insert 1 1", "row 0.0")
+            with Client(port) as it:
+                it.ask(f"count 0 {MOST}", "count 1")
+                # (what is open stays, and the worker that is free next finds no other)
+                few, most = resource.prlimit(server.pid, resource.RLIMIT_NOFILE)
+                resource.prlimit(server.pid, resource.RLIMIT_NOFILE, (least, most))
+                it.end()
+            time.sleep(0.2)
+            resource.prlimit(server.pid, resource.RLIMIT_NOFILE, (few, most))
+            with Client(port) as it:
+                it.ask(f"count 0 {MOST}", "count 1")
+                it.end()
+            held.end()
+    finally:
+        server.kill()
+        server.communicate()
+
+
 def a_port_that_is_taken(program):
     """A port that another program listens on is refused 17."""
     with socket.socket() as taken:
@@ -287,6 +333,8 @@ CASES = [
     a_large_batch,
     an_input_past_its_bound,
     a_thread_that_cannot_be_started,
+    policy_of_the_start,
+    descriptors_that_run_out,
     a_port_that_is_taken,
 ]
 

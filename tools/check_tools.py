@@ -13,6 +13,7 @@ import due
 import edits
 import functions
 import lanes
+import numbers_held
 import reading
 import trust
 
@@ -280,6 +281,20 @@ class Lanes(unittest.TestCase):
     def test_no_task_is_begun_once_it_is_over(self):
         tasks = {key: lanes.Task([], 1, 1, lambda jobs: None) for key in "ab"}
         self.assertEqual(list(lanes.run(tasks, lambda: True)), [])
+
+
+class Numbers(unittest.TestCase):
+    def test_numbers_of_the_documents_are_the_constants_of_the_code(self):
+        self.assertEqual(numbers_held.mismatches(), [])
+
+    def test_a_number_that_differs_is_found(self):
+        with tempfile.TemporaryDirectory() as room:
+            top = pathlib.Path(room)
+            (top / "crates" / "a" / "src").mkdir(parents=True)
+            (top / "crates" / "a" / "src" / "lib.rt").write_text("pub const PLACES: u64 = 4096;\n", encoding="utf-8")
+            (top / "page.md").write_text("It has 4,096\nplaces, and 4097 names.\n", encoding="utf-8")
+            lines = [("page.md", text, "a", name) for text, name in [("has {} places", "PLACES"), ("and {} names", "PLACES"), ("has {}", "NAMES")]]
+            self.assertEqual(numbers_held.mismatches(lines, top), ["page.md doesn't say 'and 4096 names'", "a has 0 values of NAMES"])
 
 
 def run_all():

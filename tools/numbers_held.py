@@ -1,0 +1,77 @@
+"""Numbers of the documents that are constants of the code: what stands in a document is held to the constant that the source names.
+
+A line of NUMBERS is a document, a text of it in which {} stands for the number, and the crate and the constant. The text stands in the document once, on
+one line or over several, with the number in digits, in threes by commas or in one row. `mismatches` says which lines don't hold.
+"""
+
+import pathlib
+import re
+
+TOP = pathlib.Path(__file__).resolve().parent.parent
+CONSTANT = re.compile(r"^(?:pub(?:\(crate\))? )?const ([A-Z_]+): \w+ =\s+(-?[0-9_]+);", re.MULTILINE)
+
+NUMBERS = [
+    ("README.md", "A partition takes at most {} rows.", "crack_row", "GREATEST_CELLS"),
+    ("README.md", "**{} cells** a partition", "crack_row", "GREATEST_CELLS"),
+    ("README.md", "**{} commands** a partition since its start", "crack_row", "GREATEST_LIFE"),
+    ("README.md", "but for the room of {} entries", "crack_part", "KEPT_ENTRIES"),
+    ("README.md", "clients are connected at a time: {} at most", "crack_table", "MOST_WORKERS"),
+    ("README.md", "12 (more than {} splits)", "crack_core", "MOST_SPLITS"),
+    ("docs/SPECIFICATION.md", "| key | 0 to {} |", "crack_row", "GREATEST_KEY"),
+    ("docs/SPECIFICATION.md", "| payload | {} to", "crack_row", "LEAST_PAYLOAD"),
+    ("docs/SPECIFICATION.md", "to {} | | sum of payloads", "crack_row", "GREATEST_PAYLOAD"),
+    ("docs/SPECIFICATION.md", "| bound | 0 to {};", "crack_row", "GREATEST_BOUND"),
+    ("docs/SPECIFICATION.md", "by 0 to {} splits that rise strictly", "crack_core", "MOST_SPLITS"),
+    ("docs/SPECIFICATION.md", "at most its limit, which is 1 to {} |", "crack_row", "GREATEST_LIMIT"),
+    ("docs/SPECIFICATION.md", "at most their limit, which is 1 to {} |", "crack_row", "GREATEST_CELLS"),
+    ("docs/SPECIFICATION.md", "at most its life, which is 1 to {} |", "crack_row", "GREATEST_LIFE"),
+    ("docs/SPECIFICATION.md", "| statement line | at most {} bytes |", "crack_session", "LINE_BYTES"),
+    ("docs/SPECIFICATION.md", "| reads in one session | at most {} |", "crack_session", "MOST_READS"),
+    ("docs/SPECIFICATION.md", "A session reads up to {} bytes at a time", "crack_session", "READ_BYTES"),
+    ("docs/SPECIFICATION.md", "P is at most {} and S", "crack_commands", "GREATEST_PART"),
+    ("docs/SPECIFICATION.md", "and S at most {}, else 1", "crack_commands", "GREATEST_SERIAL"),
+    ("docs/SPECIFICATION.md", "before a worker starts: at most {}", "crack_server", "MOST_INPUT_BYTES"),
+    ("docs/SPECIFICATION.md", "a record behind the {}th that isn't a header", "crack_csv", "MOST_RECORDS"),
+    ("docs/PROOFS.md", "is answered until {} were accepted", "crack_plain", "MOST_ACCEPTED"),
+    ("docs/PROOFS.md", "or behind {} reads", "crack_session", "MOST_READS"),
+    ("docs/PROOFS.md", "n is at most {}. On a fault", "crack_csv", "MOST_RECORDS"),
+    ("docs/PROOFS.md", "each read asks for {} bytes", "crack_session", "READ_BYTES"),
+    ("docs/ARCHITECTURE.md", "each session has a buffer of {} bytes for its replies", "crack_server", "REPLY_BYTES"),
+    ("docs/ARCHITECTURE.md", "An arena's cells stand in pages of {}:", "crack_arena", "CELLS"),
+    ("docs/ARCHITECTURE.md", "its history has room for {} entries", "crack_part", "FIRST_ENTRIES"),
+    ("docs/ARCHITECTURE.md", "its pending insertions for {} rows", "crack_pending", "FIRST_SPOTS"),
+    ("docs/ARCHITECTURE.md", "The map of serials has room for {} rows at first", "crack_store", "FIRST_SERIALS"),
+    ("docs/ARCHITECTURE.md", "reply's line is put together in {} bytes", "crack_commands", "TEXT_BYTES"),
+    ("docs/ARCHITECTURE.md", "that of a placed row in {}, and written", "crack_commands", "PLACED_BYTES"),
+    ("docs/ARCHITECTURE.md", "The program's buffer, of {} bytes", "crack_server", "REPLY_BYTES"),
+    ("docs/ARCHITECTURE.md", "where the piece has at most {} rows", "crack_store", "SHORT"),
+    ("docs/ARCHITECTURE.md", "where at most {} rows are doomed", "crack_store", "FEW"),
+    ("docs/DECISIONS.md", "A folded history keeps room for {} entries", "crack_part", "KEPT_ENTRIES"),
+    ("docs/DECISIONS.md", "the buffer of a line stays at {} bytes", "crack_commands", "TEXT_BYTES"),
+    ("docs/DECISIONS.md", "the first {} bytes are enough", "crack_session", "KEPT_BYTES"),
+    ("docs/DECISIONS.md", "A plain table accepts {} commands", "crack_plain", "MOST_ACCEPTED"),
+]
+
+
+def constants(crate, top=TOP):
+    """The constants of a crate that are whole numbers, by their names: all values that a name has there."""
+    found = {}
+    for path in sorted((top / "crates" / crate / "src").rglob("*.rt")):
+        for name, number in CONSTANT.findall(path.read_text(encoding="utf-8")):
+            found.setdefault(name, set()).add(int(number.replace("_", "")))
+    return found
+
+
+def mismatches(numbers=None, top=TOP):
+    """The lines that don't hold, each with why."""
+    wrong = []
+    for document, text, crate, name in NUMBERS if numbers is None else numbers:
+        written = " ".join((top / document).read_text(encoding="utf-8").split())
+        values = constants(crate, top).get(name, set())
+        if len(values) != 1:
+            wrong.append(f"{crate} has {len(values)} values of {name}")
+            continue
+        [value] = values
+        if not any(text.format(it) in written for it in (str(value), f"{value:,}")):
+            wrong.append(f"{document} doesn't say {text.format(value)!r}")
+    return wrong
