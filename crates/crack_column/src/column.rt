@@ -145,7 +145,8 @@ impl CrackerColumn {
             .sum_between(from, to, self.unread, &self.generations, arena)
     }
 
-    /// Makes room for so many handles more; refused with 8 where it finds no memory. A handle of each cell of an arena fits.
+    /// Makes room for so many handles more. A handle of each cell of an arena fits.
+    /// Refused with 8 where it finds no memory; what it found is given back.
     pub fn reserve(&mut self, additional: usize) -> Result<(), Refusal>
         requires { length self.old.handles + additional ≤ 2 ^ 32 }
         ensures same { self.new ≡ record self.old { room = self.new.room } }
@@ -156,8 +157,12 @@ impl CrackerColumn {
         ensures remembered { StillRemembers self.old self.new }
     {
         let more = additional.saturating_sub(self.tags.len() - self.len);
+        let before = self.generations.capacity();
         self.generations.reserve(more)?;
-        self.tags.reserve(more)?;
+        if let Err(refusal) = self.tags.reserve(more) {
+            self.generations.shrink_to(before);
+            return Err(refusal);
+        }
         Ok(())
     }
 

@@ -84,7 +84,7 @@ impl Tags {
         self.payloads[place] = tag.payload;
     }
 
-    /// Makes room for so many more.
+    /// Makes room for so many more. Where that is refused, memory that was found is given back.
     pub(crate) fn reserve(&mut self, additional: usize) -> Result<(), Refusal>
         ensures items { self.new.items ≡ self.old.items }
         ensures ok { OnOk result (length self.new.items + additional ≤ self.new.capacity) }
@@ -92,8 +92,12 @@ impl Tags {
         ensures full { OnErr result (self.old.capacity < length self.old.items + additional) }
         ensures err { IfErr result (λ e. e ≡ Refusal.OutOfMemory) }
     {
+        let before = self.labels.capacity();
         self.labels.reserve(additional)?;
-        self.payloads.reserve(additional)?;
+        if let Err(refused) = self.payloads.reserve(additional) {
+            self.labels.shrink_to(before);
+            return Err(Refusal::from(refused));
+        }
         Ok(())
     }
 

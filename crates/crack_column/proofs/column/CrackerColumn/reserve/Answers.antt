@@ -17,7 +17,7 @@ returns-clause-err c = search rules
 pub returns-clause-remembered : goal.returns-clause-remembered
 returns-clause-remembered c = search rules
 
-pub returns-in_err-reserve-2-clause-full : goal.returns-in_err-reserve-2-clause-full
-returns-in_err-reserve-2-clause-full c =
-    let short : room_in (length c.self.inside.tags.items) (vec_capacity c.self.inside.generations) c.self.inside.tags.capacity c.self.inside.len < c.args.additional = omega (arith, c.in_err-reserve-2.ensures.full, c.in_err-reserve-2.ensures.items, c.len.ensures.value, c.len.ensures.room, c.saturating_sub-more.ensures, c.self.invariant.are.within) in
+pub returns-in-Err-clause-full : goal.returns-in-Err-clause-full
+returns-in-Err-clause-full c =
+    let short : room_in (length c.self.inside.tags.items) (vec_capacity c.self.inside.generations) c.self.inside.tags.capacity c.self.inside.len < c.args.additional = omega (arith, c.in-Err.ensures.full, c.len.ensures.value, c.len.ensures.room, c.saturating_sub-more.ensures, c.self.invariant.are.within) in
     rw (← c.self.view_is) (search (rules, short))

@@ -9,11 +9,11 @@ returns-in_err-reserve-clause-full c =
     let short : min (vec_capacity c.self.inside.labels) (vec_capacity c.self.inside.payloads) < length (tags_of c.self.inside.labels.items c.self.inside.payloads.items) + c.args.additional = omega (arith, long, c.in_err-reserve.ensures.full) in
     rw (← c.self.view_is) (search (rules, short))
 
-pub returns-in_err-reserve-2-clause-full : goal.returns-in_err-reserve-2-clause-full
-returns-in_err-reserve-2-clause-full c =
+pub returns-in-Err-clause-full : goal.returns-in-Err-clause-full
+returns-in-Err-clause-full c =
     let long = length-tags_of c.self.inside.labels.items c.self.inside.payloads.items c.self.invariant in
-    let short : min (vec_capacity c.self.inside.labels) (vec_capacity c.self.inside.payloads) < length (tags_of c.self.inside.labels.items c.self.inside.payloads.items) + c.args.additional = omega (arith, long, c.self.invariant, c.in_err-reserve-2.ensures.full, c.in_ok-reserve.ensures.ok) in
+    let short : min (vec_capacity c.self.inside.labels) (vec_capacity c.self.inside.payloads) < length (tags_of c.self.inside.labels.items c.self.inside.payloads.items) + c.args.additional = omega (arith, long, c.self.invariant, c.in-Err.ensures.full, c.in_ok-reserve.ensures.ok) in
     rw (← c.self.view_is) (search (rules, short))
 
 pub returns-clause-ok : goal.returns-clause-ok
-returns-clause-ok c = rw (c.reserve.ensures.items, c.reserve-2.ensures.items) (omega (arith, length-tags_of c.self.inside.labels.items c.self.inside.payloads.items c.self.invariant, c.self.invariant, c.in_ok-reserve.ensures.ok, c.in_ok-reserve-2.ensures.ok))
+returns-clause-ok c = rw (c.reserve.ensures.items, c.reserve-2.ensures.items) (omega (arith, length-tags_of c.self.inside.labels.items c.self.inside.payloads.items c.self.invariant, c.self.invariant, c.in_ok-reserve.ensures.ok, c.in_default.ensures.ok))
