@@ -138,6 +138,15 @@ impl CrackerIndex {
         tree::next_above(&self.root, key.number())
     }
 
+    /// The least bound above this one, which need not be there, with its place. O(log bounds).
+    pub fn next_after(&self, bound: InnerBound) -> Option<Mark>
+        ensures value { result ≡ next_mark bound.0 self.now.marks }
+        ensures there { IfSome result (λ m. Contains self.now.marks m) }
+        ensures rising { Rising self.now.marks }
+    {
+        self.bound_above(bound.key())
+    }
+
     /// The greatest bound at or below this key. O(log bounds).
     pub fn bound_below(&self, key: Key) -> Option<Mark>
         ensures value { result ≡ last_mark key.0 self.now.marks }
