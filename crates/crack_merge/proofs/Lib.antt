@@ -1,5 +1,6 @@
 mod Ending
 mod Pulling
+mod AtOnce
 pub mod CarryLaws
 pub mod PullLaws
 pub mod RangeLaws

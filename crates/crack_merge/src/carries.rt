@@ -1,6 +1,9 @@
 //! The carry, and the carries of a range.
-ghost use Rattle.std.specs.Prelude.{◌≡◌, ◌<◌, length, IfOk, IfErr};
-ghost use Rattle.crack_state.specs.Steps.{hand_key, lifted, ceiling_of};
+ghost use Rattle.std.specs.Prelude.{◌≡◌, ◌<◌, ◌≤◌, ℕ, Option, Some, [], length, IsTrue, IsFalse, IfSome, IfNone, IfOk, IfErr};
+ghost use Rattle.crack_arena.specs.Rows.{keys_at};
+ghost use Rattle.crack_pending.specs.Pending.{Finds};
+ghost use Rattle.crack_state.specs.State.{IsIntact};
+ghost use Rattle.crack_state.specs.Steps.{hand_key, lifted, ceiling_of, all_appended, SameButRoom};
 ghost use Rattle.crack_merge.specs.Merges.{Carries, CarriesAll, CarriesSome, IsCeiling};
 ghost use Rattle.crack_merge.specs.Loops.{MayEnd, EvictsOver, ended};
 
@@ -9,7 +12,8 @@ use crack_store::{CarryEnd, Carrying, Store};
 
 /// Carries the pending insertions of a range, each as far as to the ceiling, in the order of arrival; passes over the others once. The ceiling
 /// lies at or above the range's high end, so no row that is evicted is one of these again.
-/// O(1) for each pending row that it passes, and O(log bounds) and the pieces on its way for each that it carries.
+/// O(1) for each pending row that it passes, and O(log bounds) and the pieces on its way for each that it carries. Where no bound stands and
+/// the range has all keys, it is one loop, with room made once for all.
 /// Refused with 8 where it finds no memory; the rows that it had carried stay where they are.
 pub fn carry_range(
     mut store: Store,
@@ -21,7 +25,7 @@ pub fn carry_range(
     ensures stops { IfErr result (λ e. CarriesSome (ceiling_of ceiling) range store e.0) }
     ensures err { IfErr result (λ e. e.1 ≡ Refusal.OutOfMemory) }
 {
-    let Some(first) = store.next_in(range, 0) else {
+    let Some(first) = first_to_carry(&mut store, range) else {
         return Ok(store);
     };
     if let Err(refusal) = store.make_room() {
@@ -41,6 +45,41 @@ pub fn carry_range(
         end_and_lift(&mut carrying, rule, place);
         from = place;
     }
+}
+
+/// The first pending insertion of a range, with which carries of one after the other begin; none where all are carried: since there was none, or
+/// all were carried at once. O(pending insertions).
+fn first_to_carry(store: &mut Store, range: KeyRange) -> Option<usize>
+    ensures carried { IfNone result ((ceiling : Option ℕ) → IsCeiling ceiling range → CarriesAll ceiling range store.old store.new) }
+    ensures first { IfSome result (λ first. Finds range (keys_at store.old.cells store.old.pending_in) 0 (Some first)) }
+    ensures same { IfSome result (λ _. SameButRoom store.old store.new) }
+{
+    let Some(first) = store.next_in(range, 0) else {
+        return None;
+    };
+    if carry_at_once(store, range) {
+        return None;
+    }
+    Some(first)
+}
+
+/// Carries all pending insertions at once, where no bound stands and the range has all keys; whether it did so. Where it finds no memory for
+/// all of them, it carries none. O(pending insertions).
+pub(crate) fn carry_at_once(store: &mut Store, range: KeyRange) -> bool
+    ensures intact { IsIntact store.old [] }
+    ensures uncracked { IsTrue result → store.old.marks ≡ [] }
+    ensures low { IsTrue result → range.low ≤ store.old.keys.low }
+    ensures high { IsTrue result → store.old.keys.high ≤ range.high }
+    ensures all { IsTrue result → SameButRoom (all_appended store.old) store.new }
+    ensures same { IsFalse result → SameButRoom store.old store.new }
+{
+    store.facts();
+    let keys = store.keys();
+    let has_all = range.low() <= keys.low() && keys.high() <= range.high();
+    if !has_all || !store.is_uncracked() {
+        return false;
+    }
+    store.append_all().is_ok()
 }
 
 /// Carries the hand up through the pieces until a rule holds that ends the carry, and tells which. As long as none does, the hand

@@ -1,12 +1,13 @@
 //! The complete merge.
-ghost use Rattle.std.specs.Prelude.{◌≡◌, ◌<◌, ◌≤◌, false, [], Ok, IsOk, IfOk, IfErr};
+ghost use Rattle.std.specs.Prelude.{◌≡◌, ◌<◌, ◌≤◌, false, [], length, Ok, IsOk, IsTrue, IsFalse, IfOk, IfErr};
 ghost use Rattle.crack_row.specs.Ranges.{Range};
 ghost use Rattle.crack_row.specs.declared.command.Policy.TheVariants.{Complete};
+ghost use Rattle.crack_state.specs.Steps.{SameButRoom};
 ghost use Rattle.crack_state.specs.Merge.{IsCracked, Merges, Tallies, counted_between, is_touched};
 ghost use Rattle.crack_merge.specs.Merges.{BuriesFew, Stops};
 ghost use Rattle.crack_merge.specs.Loops.{PutsIn, TakesOut};
 
-use crate::carries::{carry, end, end_and_lift};
+use crate::carries::{carry, carry_at_once, end, end_and_lift};
 use crate::pulls::pull_range;
 use crate::report::counted_between;
 use crack_row::{KeyRange, Refusal};
@@ -68,7 +69,7 @@ fn put_in_all(mut store: Store) -> Result<Store, (Store, Refusal)>
 {
     store.facts();
     let count = store.pending_in();
-    if count == 0 {
+    if put_in_at_once(&mut store) {
         return Ok(store);
     }
     if let Err(refusal) = store.make_room() {
@@ -88,6 +89,20 @@ fn put_in_all(mut store: Store) -> Result<Store, (Store, Refusal)>
     }
     let rule = carry(&mut carrying, None);
     Ok(end(carrying, rule))
+}
+
+/// Puts in every pending insertion at once, where no bound stands and memory is found for all; whether none is left. O(pending insertions).
+fn put_in_at_once(store: &mut Store) -> bool
+    ensures puts { IsTrue result → PutsIn Complete store.old store.new }
+    ensures all { IsTrue result → store.new.pending_in ≡ [] }
+    ensures some { IsFalse result → 0 < length store.old.pending_in }
+    ensures same { IsFalse result → SameButRoom store.old store.new }
+{
+    if store.pending_in() == 0 {
+        return true;
+    }
+    let keys = store.keys();
+    carry_at_once(store, keys)
 }
 
 /// Takes out every pending deletion, in the order of arrival, each by the column's last row.

@@ -1,5 +1,6 @@
 pub mod AdmitLaws
 pub mod AdvanceLaws
+pub mod AppendLaws
 pub mod BeyondLaws
 pub mod BuryLaws
 pub mod CellLaws

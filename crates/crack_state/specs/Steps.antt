@@ -99,6 +99,15 @@ appended c =
       column_room = c.store.column_room - 1;
     }
 
+-- where no bound stands, the carries of all pending insertions: in the order of arrival they become the column's last rows
+abbrev pub all_appended : State → State
+all_appended s =
+    record s {
+      column = s.column ++ s.pending_in;
+      pending_in = [];
+      tally = record s.tally { put_in = min (s.tally.put_in + length s.pending_in) greatest };
+    }
+
 -- bury: the hand, which is doomed, is struck from the pending deletions, and its cell is freed
 abbrev pub buried : Carried → State
 buried c =

@@ -49,10 +49,11 @@ RemembersKeys-off n cells after hs keys agree none remembers = record {
 pub record Added (row : Row) (s : State) (h : Handle) : Type 0 where
   pub agree : AgreeOff h.slot s.cells (cells_with row s.cells s.free)
   pub key : row.key.0 ≡ key_at (cells_with row s.cells s.free) h
+  pub off_column : times h.slot (slots s.column) ≡ 0
   pub off_in : times h.slot (slots s.pending_in) ≡ 0
   pub off_out : times h.slot (slots s.pending_out) ≡ 0
 
--- a row is admitted, whose cell neither list names
+-- a row is admitted, whose cell no list names
 pub added : (row : Row) (s : State) → IsIntact s [] → (h : Handle) → h ≡ next_handle s → Added row s h
 added row s intact h is =
     let fill = filled s row s.free refl intact.owned in
@@ -60,6 +61,7 @@ added row s intact h is =
     record {
       agree = rw is fill.others;
       key = rw (is, read-new s.cells (cells_with row s.cells s.free) (next_handle s) row fill) refl;
+      off_column = rw is off.column;
       off_in = rw is off.pending;
       off_out = rw is off.doomed;
     }

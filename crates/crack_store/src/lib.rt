@@ -4,6 +4,7 @@
 //! doomed row stays in the column and is a pending deletion besides. Contracts see a store as one record of plain lists.
 #![tactic(auto)]
 
+pub mod appending;
 mod ascent;
 pub mod carrying;
 mod cracking;

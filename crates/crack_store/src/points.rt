@@ -11,7 +11,7 @@ ghost use Rattle.crack_state.specs.Points.{row_by, pending_by, handle_by, Maps, 
 
 use crate::Store;
 use crate::inside::Serials;
-use crack_arena::{Arena, Handle, key_of};
+use crack_arena::{Arena, Handle};
 use crack_row::{Key, Payload, Refusal, Row, Serial};
 
 impl Store {
@@ -124,6 +124,31 @@ impl Store {
         Ok(row)
     }
 
+    /// Puts this row in the place of the one of its serial, if there is one, as `rewrite` does; the row as it was comes back, and none
+    /// where there is no such row. The serial is looked up once. O(1), but for a growth.
+    /// Refused with 8 where a row of the column finds no memory; all is then as it was.
+    pub fn replace(&mut self, row: Row) -> Result<Option<Row>, Refusal>
+        requires within { IsIn self.old.keys row.key.0 }
+        requires anew { pending_by self.old row.serial.0 ≡ Some false → IsRenewable self.old }
+        ensures row { IfOk result (λ before. before ≡ row_by self.old row.serial.0) }
+        ensures after { OnOk result (Rewrites (pending_by self.old row.serial.0) row self.old self.new) }
+        ensures live { IfOk result (λ before. IfSome before (λ _. IsPermutation (map (replaced row) (live_rows self.old)) (live_rows self.new))) }
+        ensures none { IfOk result (λ before. IfNone before (handle_of self.old.serials row.serial.0 ≡ None)) }
+        ensures spare { (pending_by self.old row.serial.0 ≡ Some false → ⊥) → IsOk result }
+        ensures same { OnErr result (SameButRoom self.old self.new) }
+        ensures err { IfErr result (λ e. e ≡ Refusal.OutOfMemory) }
+    {
+        let Some(lead) = find(&self.inside.serials, row.serial) else {
+            return Ok(None);
+        };
+        let waits = self.inside.pending_in.contains(lead.handle.slot());
+        if waits {
+            return Ok(Some(self.write_over(lead.handle, row)));
+        }
+        let before = self.renew(lead, row)?;
+        Ok(Some(before))
+    }
+
     /// Gives the row of this serial another key and another payload. A pending insertion is written in place, which takes no
     /// memory and always succeeds. A row of the column becomes a pending deletion, and a new one of its serial stands behind
     /// the last pending insertion. O(1), but for a growth.
@@ -141,30 +166,35 @@ impl Store {
             key,
             payload,
         };
-        if self.is_pending(serial) == Some(true) {
-            self.write_over(row);
-            return Ok(());
-        }
-        self.renew(row)
+        self.replace(row)?;
+        Ok(())
     }
 
-    /// Writes the row into the cell of the pending insertion of its serial. O(1).
-    fn write_over(&mut self, row: Row)
+    /// Writes the row into the cell of the pending insertion of its serial, which has this handle; the row as it was. O(1).
+    fn write_over(&mut self, handle: Handle<Row>, row: Row) -> Row
+        requires found { handle_of self.old.serials row.serial.0 ≡ Some handle }
         requires pending { pending_by self.old row.serial.0 ≡ Some true }
         requires within { IsIn self.old.keys row.key.0 }
+        ensures row { row_by self.old row.serial.0 ≡ Some result }
         ensures after { self.new ≡ overwritten row (handle_by self.old row.serial.0) self.old }
         ensures live { IsPermutation (map (replaced row) (live_rows self.old)) (live_rows self.new) }
     {
-        let handle = handle_in(&self.inside.serials, row.serial);
+        let before = row_at(&self.inside.arena, handle);
         let _ = self.inside.arena.set(handle, row);
         self.inside.pending_in.remember(handle, row.key);
+        before
     }
 
-    /// Dooms the row of this serial, which stands in the column, and keeps this one in a new cell. O(1), but for a growth.
-    fn renew(&mut self, row: Row) -> Result<(), Refusal>
+    /// Dooms the row of this serial, which stands in the column and was looked up, and keeps this one in a new cell; the row as it was.
+    /// O(1), but for a growth.
+    fn renew(&mut self, lead: Lead, row: Row) -> Result<Row, Refusal>
+        requires serial { lead.serial ≡ row.serial }
+        requires entry { slice_get self.old.serials lead.at ≡ Some (lead.serial.0, lead.handle) }
+        requires found { handle_of self.old.serials row.serial.0 ≡ Some lead.handle }
         requires column { pending_by self.old row.serial.0 ≡ Some false }
         requires within { IsIn self.old.keys row.key.0 }
         requires few { IsRenewable self.old }
+        ensures row { IfOk result (λ before. row_by self.old row.serial.0 ≡ Some before) }
         ensures after { OnOk result (Renews row self.old self.new) }
         ensures live { OnOk result (IsPermutation (map (replaced row) (live_rows self.old)) (live_rows self.new)) }
         ensures same { OnErr result (SameButRoom self.old self.new) }
@@ -181,13 +211,14 @@ impl Store {
         self.inside
             .pending_in
             .make_places(self.inside.arena.cells() + new_cells)?;
+        let doomed = lead.handle;
+        let before = row_at(&self.inside.arena, doomed);
         let handle = self.inside.arena.put_reserved(row);
-        let doomed = lead_to(&mut self.inside.serials, row.serial, handle);
-        let doomed_key = key_of(&self.inside.arena, doomed);
-        self.inside.pending_out.push_keyed(doomed, doomed_key);
+        lead_to(&mut self.inside.serials, lead, handle);
+        self.inside.pending_out.push_keyed(doomed, before.key);
         self.inside.pending_in.push_keyed(handle, row.key);
         self.inside.in_room = 0;
-        Ok(())
+        Ok(before)
     }
 }
 
@@ -250,17 +281,6 @@ fn lead_of(serials: &Serials, serial: Serial) -> Lead
     }
 }
 
-/// The handle of a serial that is in the map. O(1).
-fn handle_in(serials: &Serials, serial: Serial) -> Handle<Row>
-    requires { IsSome (handle_of serials.now.entries serial.0) }
-    ensures { handle_of serials.now.entries serial.0 ≡ Some result }
-{
-    match serials.get(&serial.0) {
-        Some(handle) => *handle,
-        None => unreachable!(),
-    }
-}
-
 /// Takes a serial out of the map, which isn't searched for it: the last entry takes its place. O(1).
 fn forget_at(serials: &mut Serials, lead: Lead)
     requires { slice_get serials.old.entries lead.at ≡ Some (lead.serial.0, lead.handle) }
@@ -269,14 +289,13 @@ fn forget_at(serials: &mut Serials, lead: Lead)
     serials.swap_remove_index(lead.at);
 }
 
-/// Lets a serial that is in the map lead to another handle; the one before. Takes no memory. O(1).
-fn lead_to(serials: &mut Serials, serial: Serial, handle: Handle<Row>) -> Handle<Row>
-    requires { IsSome (handle_of serials.old.entries serial.0) }
-    ensures before { handle_of serials.old.entries serial.0 ≡ Some result }
-    ensures map { Maps serial.0 (Some handle) serials.old.entries serials.new.entries }
+/// Lets a serial lead to another handle; the map isn't searched for it. Takes no memory. O(1).
+fn lead_to(serials: &mut Serials, lead: Lead, handle: Handle<Row>)
+    requires { slice_get serials.old.entries lead.at ≡ Some (lead.serial.0, lead.handle) }
+    ensures { Maps lead.serial.0 (Some handle) serials.old.entries serials.new.entries }
 {
-    match serials.insert(serial.0, handle) {
-        Ok(Some(before)) => before,
-        _ => unreachable!(),
+    match serials.get_index_mut(lead.at) {
+        Some(there) => *there = handle,
+        None => unreachable!(),
     }
 }

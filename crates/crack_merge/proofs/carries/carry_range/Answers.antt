@@ -1,24 +1,29 @@
 use Rattle.std.proofs.Common.{Some, None}
 use Rattle.crack_merge.specs.Loops.{ended}
-use Rattle.crack_state.specs.Steps.{ceiling_of}
+use Rattle.crack_state.specs.Steps.{ceiling_of, SameButRoom}
 use Rattle.crack_merge.specs.Merges.{begins, carries}
+use Rattle.crack_merge.proofs.AtOnce.{SameButRoom-trans}
 use Rattle.crack_merge.proofs.Ending.{EndsAlike, EndsAlike-room}
 use Rattle.crack_merge.proofs.Ending.{Arrives, Arrives-ended, IsOnWay-next, left_in-less}
 use Rattle.crack_merge.proofs.carries.carry_range.Goals as goal
-use Rattle.crack_merge.proofs.carries.carry_range.Goals.{After-facts, After-make_room-in-insertions}
+use Rattle.crack_merge.proofs.carries.carry_range.Goals.{After-facts, After-make_room, After-make_room-in-insertions}
 
 pub returns-in_default-clause-ok : goal.returns-in_default-clause-ok
-returns-in_default-clause-ok c = record { from = 0; carries = begins; none = c.in_default.ensures }
+returns-in_default-clause-ok c = c.in_default.ensures.carried (ceiling_of c.args.ceiling) c.requires
+
+-- room was made for the first
+made : (c : After-make_room) → SameButRoom c.args.store c.make_room.new.self
+made c = SameButRoom-trans c.args.store c.first_to_carry.new.store c.make_room.new.self c.in-Some.ensures.same c.make_room.ensures.same
 
 pub returns-in-Err-clause-stops : goal.returns-in-Err-clause-stops
-returns-in-Err-clause-stops c = record { from = 0; last = c.args.store; carries = begins; next = c.in-Some.first; left = c.in-Some.ensures; room = c.make_room.ensures.same }
+returns-in-Err-clause-stops c = record { from = 0; last = c.args.store; carries = begins; next = c.in-Some.first; left = c.in-Some.ensures.first; room = made (goal.at.returns-in-Err-clause-stops c).After-make_room }
 
 pub insertions-init : goal.insertions-init
 insertions-init c =
-    let made = c.in_default-make_room.ensures in
+    let room = c.in_default-make_room.ensures in
     rw c.lift-carrying.ensures.after (record {
-      carries_in = λ t rest. carries 0 c.in-Some.first c.args.store c.make_room.new.self t begins c.in-Some.ensures made.same rest;
-      room = record { column = made.column; pending_in = made.pending_in };
+      carries_in = λ t rest. carries 0 c.in-Some.first c.args.store c.make_room.new.self t begins c.in-Some.ensures.first (made (goal.at.insertions-init c).After-make_room) rest;
+      room = record { column = room.column; pending_in = room.pending_in };
     })
 
 -- the row in hand has come as far as to the rule that ends its carry

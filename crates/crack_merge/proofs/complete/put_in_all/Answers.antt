@@ -1,33 +1,36 @@
 use Rattle.std.proofs.Common.{◌<◌, ◌≤◌, length, refl, ap, ◌∙◌, arith}
 use Rattle.std.proofs.lemmas.List.{drop_all}
 use Rattle.crack_row.specs.declared.command.Policy.TheVariants.{Complete}
+use Rattle.crack_state.specs.Steps.{SameButRoom}
 use Rattle.crack_merge.specs.Loops.{ended}
-use Rattle.crack_merge.proofs.CarryLaws.{PutsIn-room, Stops-Advances}
+use Rattle.crack_merge.proofs.AtOnce.{SameButRoom-trans}
+use Rattle.crack_merge.proofs.CarryLaws.{Stops-Advances}
 use Rattle.crack_merge.proofs.Ending.{EndsAlike, EndsAlike-room, IsIntact-ended, HasRoom-ended}
 use Rattle.crack_merge.proofs.CarryLaws.{PutsFirst, PutsFirst-none, PutsFirst-room, IsNext-next}
 use Rattle.crack_merge.proofs.complete.put_in_all.Goals as goal
 use Rattle.crack_merge.proofs.complete.put_in_all.Goals.{After-end-stopped, After-make_room, After-make_room-in-insertions}
 
-pub returns-then-count-eq0-clause-ok : goal.returns-then-count-eq0-clause-ok
-returns-then-count-eq0-clause-ok c = PutsIn-room Complete c.args.store c.args.store (record { same = refl })
+-- room was made for the first
+made : (c : After-make_room) → SameButRoom c.args.store c.make_room.new.self
+made c = SameButRoom-trans c.args.store c.put_in_at_once.new.store c.make_room.new.self (c.put_in_at_once.ensures.same c.if-put_in_at_once.false) c.make_room.ensures.same
 
--- no memory was found for the first
+-- no memory was found for it
 none : (c : After-make_room) → PutsFirst c.args.store c.make_room.new.self 0
-none c = PutsFirst-none c.args.store c.make_room.new.self c.make_room.ensures.same
+none c = PutsFirst-none c.args.store c.make_room.new.self (made c)
 
 pub returns-in-Err-clause-stops : goal.returns-in-Err-clause-stops
 returns-in-Err-clause-stops c = λ range. Stops-Advances Complete c.args.store c.make_room.new.self range (none (goal.at.returns-in-Err-clause-stops c).After-make_room).puts.advances c.facts-in-Err.ensures (0, omega arith, (none (goal.at.returns-in-Err-clause-stops c).After-make_room).pending_in)
 
 pub returns-in-Err-clause-spare : goal.returns-in-Err-clause-spare
-returns-in-Err-clause-spare c = λ none. absurd (omega (arith, c.if-count-eq0.false, c.pending_in-count.ensures, ap length none))
+returns-in-Err-clause-spare c = λ none. absurd (omega (arith, c.put_in_at_once.ensures.some c.if-put_in_at_once.false, ap length none))
 
 pub returns-in-Err-clause-few : goal.returns-in-Err-clause-few
 returns-in-Err-clause-few c = (none (goal.at.returns-in-Err-clause-few c).After-make_room).puts.few
 
 pub insertions-init : goal.insertions-init
 insertions-init c =
-    let some : 0 < length c.args.store.pending_in = omega (arith, c.if-count-eq0.false, c.pending_in-count.ensures) in
-    rw c.lift-carrying.ensures.after (IsNext-next c.args.store c.args.store c.make_room.new.self 0 (PutsFirst-none c.args.store c.args.store (record { same = refl })) c.make_room.ensures.same some c.facts.ensures (record { column = c.in_default.ensures.column; pending_in = c.in_default.ensures.pending_in }))
+    let some : 0 < length c.args.store.pending_in = c.put_in_at_once.ensures.some c.if-put_in_at_once.false in
+    rw c.lift-carrying.ensures.after (IsNext-next c.args.store c.args.store c.make_room.new.self 0 (PutsFirst-none c.args.store c.args.store (record { same = refl })) (made (goal.at.insertions-init c).After-make_room) some c.facts.ensures (record { column = c.in_default.ensures.column; pending_in = c.in_default.ensures.pending_in }))
 
 -- room was made while a row was in hand
 alike : (c : After-make_room-in-insertions) → EndsAlike c.carry-rule.result c.carry-rule.new.carrying c.make_room-in-insertions.new.self
@@ -72,3 +75,8 @@ pub returns-clause-all : goal.returns-clause-all
 returns-clause-all c =
     let was = c.insertions.invariant.puts (ended c.carry-rule-2.result c.carry-rule-2.new.carrying) c.carry-rule-2.ensures.carries in
     rw c.end.ensures (was.pending_in ∙ drop_all c.insertions.taken c.args.store.pending_in (omega (arith, c.insertions-test.false, c.pending_in-count.ensures)))
+
+pub returns-clause-ok : goal.returns-clause-ok
+returns-clause-ok c =
+    let was = c.insertions.invariant.puts (ended c.carry-rule-2.result c.carry-rule-2.new.carrying) c.carry-rule-2.ensures.carries in
+    rw c.end.ensures was.puts

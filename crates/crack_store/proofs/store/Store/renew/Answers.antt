@@ -1,13 +1,15 @@
-use Rattle.std.proofs.Common.{◌≡◌, ◌≤◌, false, [], length, Some, refl, ap, arith}
+use Rattle.std.proofs.Common.{◌≡◌, ◌≢◌, ◌≤◌, false, [], length, Some, refl, ap, arith}
 use Rattle.crack_row.specs.Ranges.{IsIn}
-use Rattle.crack_arena.specs.Arena.{cells_with}
+use Rattle.crack_arena.specs.Arena.{cells_with, read}
 use Rattle.crack_arena.specs.Rows.{key_at}
 use Rattle.crack_pending.specs.Pending.{Pending}
+use Rattle.crack_state.specs.State.{handle_of}
 use Rattle.crack_state.specs.Steps.{SameButRoom, next_handle}
 use Rattle.crack_state.specs.Points.{pending_by, Maps, IsRenewable, renewed}
 use Rattle.crack_state.proofs.LayoutLaws.{cells-intact, pending_out-few}
+use Rattle.crack_state.proofs.CellLaws.{key_at-off}
 use Rattle.crack_state.proofs.StepLaws.{IsIntact-room}
-use Rattle.crack_state.proofs.PointLaws.{stands1, IsIntact-renewed, live_rows-renewed}
+use Rattle.crack_state.proofs.PointLaws.{stands1, reads_by, IsIntact-renewed, live_rows-renewed}
 use Rattle.crack_store.specs.Inside.{lists_of}
 use Rattle.crack_store.proofs.AdmitLemmas.{is_covered, all_covered}
 use Rattle.crack_store.proofs.RememberLemmas.{Remembers-admitted, RemembersKeys-off, Added, added}
@@ -25,6 +27,16 @@ reserve-requires-2 c =
     let intact = c.self.invariant.intact in
     omega (arith, cells-intact (lists_of c.self.inside.inside) [] intact, intact.few_cells)
 
+pub row_at-before-requires : goal.row_at-before-requires
+row_at-before-requires c =
+    let s = lists_of c.self.inside.inside in
+    let cells_is : c.reserve-3.new.self.cells ≡ s.cells = ap (λ a. a.cells) c.in_ok-reserve-3.ensures.same in
+    let found : handle_of s.serials c.args.row.serial.0 ≡ Some c.args.lead.handle = rw (← c.self.view_is) at c.requires.found in
+    rw cells_is (reads_by s c.args.row.serial.0 c.args.lead.handle found c.self.invariant.intact)
+
+pub lead_to-requires : goal.lead_to-requires
+lead_to-requires c = rw (← c.self.view_is) at c.requires.entry
+
 pub push_keyed-requires-clause-room : goal.push_keyed-requires-clause-room
 push_keyed-requires-clause-room c = omega (arith, c.in_ok-reserve.ensures.room, ap (λ (p : Pending). p.room) c.in_ok-make_places.ensures.same)
 
@@ -35,11 +47,14 @@ push_keyed-requires-clause-covered c =
     let free_is : c.reserve-3.new.self.free ≡ s.free = ap (λ a. a.free) c.in_ok-reserve-3.ensures.same in
     let next : c.put_reserved-handle.result ≡ next_handle s = rw (cells_is, free_is) at c.put_reserved-handle.ensures.handle in
     let covered : length s.cells ≤ c.make_places.new.self.covered = omega (arith, c.in_ok-make_places.ensures.covered, rw cells_is at c.cells.ensures) in
-    omega (arith, (stands1 s c.args.row.serial.0 c.lead_to-doomed.result c.lead_to-doomed.ensures.before c.self.invariant.intact).within, covered)
+    let found : handle_of s.serials c.args.row.serial.0 ≡ Some c.args.lead.handle = rw (← c.self.view_is) at c.requires.found in
+    omega (arith, (stands1 s c.args.row.serial.0 c.args.lead.handle found c.self.invariant.intact).within, covered)
 
 pub push_keyed-requires-clause-absent : goal.push_keyed-requires-clause-absent
 push_keyed-requires-clause-absent c =
-    rw (c.in_ok-make_places.ensures.same, c.in_ok-reserve.ensures.same) (c.self.invariant.intact.keyed.leads c.args.row.serial.0 c.lead_to-doomed.result c.lead_to-doomed.ensures.before).kept
+    let s = lists_of c.self.inside.inside in
+    let found : handle_of s.serials c.args.row.serial.0 ≡ Some c.args.lead.handle = rw (← c.self.view_is) at c.requires.found in
+    rw (c.in_ok-make_places.ensures.same, c.in_ok-reserve.ensures.same) (c.self.invariant.intact.keyed.leads c.args.row.serial.0 c.args.lead.handle found).kept
 
 pub push_keyed-requires-2-clause-room : goal.push_keyed-requires-2-clause-room
 push_keyed-requires-2-clause-room c = omega (arith, c.in_ok-reserve-2.ensures.room, ap (λ (p : Pending). p.room) c.in_ok-make_places-3.ensures.same)
@@ -70,7 +85,7 @@ handle c =
     next
 
 -- the store is the renewed one, but for room
-after : (c : goal.After-self-1) → SameButRoom (record (renewed c.args.row c.lead_to-doomed.result (lists_of c.self.inside.inside)) { serials = c.lead_to-doomed.new.serials.entries }) (lists_of (record c.self.inside.inside { arena = c.put_reserved-handle.new.self; pending_in = c.push_keyed-2.new.self; pending_out = c.push_keyed.new.self; in_room = 0; serials = c.lead_to-doomed.new.serials }))
+after : (c : goal.After-self-1) → SameButRoom (record (renewed c.args.row c.args.lead.handle (lists_of c.self.inside.inside)) { serials = c.lead_to.new.serials.entries }) (lists_of (record c.self.inside.inside { arena = c.put_reserved-handle.new.self; pending_in = c.push_keyed-2.new.self; pending_out = c.push_keyed.new.self; in_room = 0; serials = c.lead_to.new.serials }))
 after c =
     let s = lists_of c.self.inside.inside in
     let cells_is : c.reserve-3.new.self.cells ≡ s.cells = ap (λ a. a.cells) c.in_ok-reserve-3.ensures.same in
@@ -88,20 +103,24 @@ pub invariant_of-self-2 : goal.invariant_of-self-2
 invariant_of-self-2 c =
     let s = lists_of c.self.inside.inside in
     let row = c.args.row in
-    let h = c.lead_to-doomed.result in
+    let h = c.args.lead.handle in
     let n = c.put_reserved-handle.result in
-    let found = c.lead_to-doomed.ensures.before in
-    let entries = c.lead_to-doomed.new.serials.entries in
-    let new = record c.self.inside.inside { arena = c.put_reserved-handle.new.self; pending_in = c.push_keyed-2.new.self; pending_out = c.push_keyed.new.self; in_room = 0; serials = c.lead_to-doomed.new.serials } in
+    let found : handle_of s.serials row.serial.0 ≡ Some h = rw (← c.self.view_is) at c.requires.found in
+    let entries = c.lead_to.new.serials.entries in
+    let new = record c.self.inside.inside { arena = c.put_reserved-handle.new.self; pending_in = c.push_keyed-2.new.self; pending_out = c.push_keyed.new.self; in_room = 0; serials = c.lead_to.new.serials } in
     let column : pending_by s row.serial.0 ≡ Some false = rw (← c.self.view_is) at c.requires.column in
     let inside : IsIn s.keys row.key.0 = rw (← c.self.view_is) at c.requires.within in
     let may : IsRenewable s = rw (← c.self.view_is) at c.requires.few in
-    let maps : Maps row.serial.0 (Some (next_handle s)) s.serials entries = rw (handle c) at c.lead_to-doomed.ensures.map in
+    let maps : Maps row.serial.0 (Some (next_handle s)) s.serials entries = rw (c.requires.serial, handle c) at c.lead_to.ensures in
     let cells = cells_with row s.cells s.free in
     let plus : Added row s n = added row s c.self.invariant.intact n (handle c) in
     let kept_in = c.self.inside.inside.pending_in in
     let kept_out = c.self.inside.inside.pending_out in
-    let key : c.key_of-doomed_key.result.0 ≡ key_at cells h = rw (cells_after c) at c.key_of-doomed_key.ensures in
+    let cells_is : c.reserve-3.new.self.cells ≡ s.cells = ap (λ a. a.cells) c.in_ok-reserve-3.ensures.same in
+    let reads : read s.cells h ≡ Some c.row_at-before.result = rw cells_is at c.row_at-before.ensures in
+    let known = stands1 s row.serial.0 h found c.self.invariant.intact in
+    let apart : h.slot ≢ n.slot = λ e. absurd (omega (arith, rw e at known.once, plus.off_column, plus.off_in)) in
+    let key : c.row_at-before.result.key.0 ≡ key_at cells h = rw (key_at-off n.slot s.cells cells h plus.agree apart, reads) refl in
     record {
       intact = IsIntact-room (record (renewed row h s) { serials = entries }) (lists_of new) [] (after c) (IsIntact-renewed s h row entries found (column_handle s row.serial.0 h column found) maps inside may c.self.invariant.intact);
       remembers = rw (cells_after c) (Remembers-admitted row s c.self.inside.inside.column.remembered c.self.invariant.intact c.self.invariant.remembers);
@@ -115,8 +134,8 @@ pub returns-clause-live : goal.returns-clause-live
 returns-clause-live c =
     let s = lists_of c.self.inside.inside in
     let row = c.args.row in
-    let h = c.lead_to-doomed.result in
-    let found = c.lead_to-doomed.ensures.before in
+    let h = c.args.lead.handle in
+    let found : handle_of s.serials row.serial.0 ≡ Some h = rw (← c.self.view_is) at c.requires.found in
     let column : pending_by s row.serial.0 ≡ Some false = rw (← c.self.view_is) at c.requires.column in
     let may : IsRenewable s = rw (← c.self.view_is) at c.requires.few in
     rw (← c.self.view_is, cells_after c, c.push_keyed.ensures.after, c.in_ok-make_places.ensures.same, c.in_ok-reserve.ensures.same) (live_rows-renewed s h row found (column_handle s row.serial.0 h column found) may.few c.self.invariant.intact)

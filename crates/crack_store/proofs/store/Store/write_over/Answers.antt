@@ -3,6 +3,7 @@ use Rattle.std.proofs.lemmas.List.{get_or_default}
 use Rattle.crack_row.specs.Ranges.{IsIn}
 use Rattle.crack_arena.specs.Arena.{read, set_at, place_in, no_handle}
 use Rattle.crack_arena.specs.Rows.{key_at}
+use Rattle.crack_state.specs.State.{handle_of}
 use Rattle.crack_state.specs.Points.{pending_by, overwritten}
 use Rattle.crack_state.proofs.PointLaws.{handle_by-is, reads_by, IsIntact-rewritten, live_rows-rewritten}
 use Rattle.crack_store.specs.Inside.{lists_of}
@@ -12,24 +13,32 @@ use Rattle.crack_store.proofs.PointLemmas.{pending_handle, write_done, reads_not
 use Rattle.crack_store.proofs.store.Store.write_over.Goals as goal
 
 -- the cell is written
-written : (c : goal.After-remember) → c.set.new.self ≡ set_at c.args.row c.handle_in-handle.result c.self.inside.inside.arena
+written : (c : goal.After-remember) → c.set.new.self ≡ set_at c.args.row c.args.handle c.self.inside.inside.arena
 written c =
     let s = lists_of c.self.inside.inside in
-    let h = c.handle_in-handle.result in
-    write_done c.set.result (c.set.new.self ≡ set_at c.args.row h c.self.inside.inside.arena) (c.set.new.self ≡ c.self.inside.inside.arena) (read s.cells h ≡ None) c.set.ensures.after c.set.ensures.spent (reads_not_none (read s.cells h) (reads_by s c.args.row.serial.0 h c.handle_in-handle.ensures c.self.invariant.intact))
+    let h = c.args.handle in
+    let found : handle_of s.serials c.args.row.serial.0 ≡ Some h = rw (← c.self.view_is) at c.requires.found in
+    write_done c.set.result (c.set.new.self ≡ set_at c.args.row h c.self.inside.inside.arena) (c.set.new.self ≡ c.self.inside.inside.arena) (read s.cells h ≡ None) c.set.ensures.after c.set.ensures.spent (reads_not_none (read s.cells h) (reads_by s c.args.row.serial.0 h found c.self.invariant.intact))
+
+pub row_at-before-requires : goal.row_at-before-requires
+row_at-before-requires c =
+    let s = lists_of c.self.inside.inside in
+    let found : handle_of s.serials c.args.row.serial.0 ≡ Some c.args.handle = rw (← c.self.view_is) at c.requires.found in
+    reads_by s c.args.row.serial.0 c.args.handle found c.self.invariant.intact
 
 pub remember-requires : goal.remember-requires
 remember-requires c =
     let s = lists_of c.self.inside.inside in
+    let found : handle_of s.serials c.args.row.serial.0 ≡ Some c.args.handle = rw (← c.self.view_is) at c.requires.found in
     let pending : pending_by s c.args.row.serial.0 ≡ Some true = rw (← c.self.view_is) at c.requires.pending in
-    (pending_handle s c.args.row.serial.0 c.handle_in-handle.result pending c.handle_in-handle.ensures c.self.invariant.intact).listed
+    (pending_handle s c.args.row.serial.0 c.args.handle pending found c.self.invariant.intact).listed
 
 pub invariant_of-self : goal.invariant_of-self
 invariant_of-self c =
     let s = lists_of c.self.inside.inside in
-    let h = c.handle_in-handle.result in
+    let h = c.args.handle in
     let row = c.args.row in
-    let found = c.handle_in-handle.ensures in
+    let found : handle_of s.serials row.serial.0 ≡ Some h = rw (← c.self.view_is) at c.requires.found in
     let waits : pending_by s row.serial.0 ≡ Some true = rw (← c.self.view_is) at c.requires.pending in
     let inside : IsIn s.keys row.key.0 = rw (← c.self.view_is) at c.requires.within in
     let pending = pending_handle s row.serial.0 h waits found c.self.invariant.intact in
@@ -49,8 +58,11 @@ invariant_of-self c =
 pub returns-clause-after : goal.returns-clause-after
 returns-clause-after c =
     let s = lists_of c.self.inside.inside in
-    rw (← c.self.view_is, handle_by-is s c.args.row.serial.0 c.handle_in-handle.result c.handle_in-handle.ensures, written c, c.remember.ensures.after) refl
+    let found : handle_of s.serials c.args.row.serial.0 ≡ Some c.args.handle = rw (← c.self.view_is) at c.requires.found in
+    rw (← c.self.view_is, handle_by-is s c.args.row.serial.0 c.args.handle found, written c, c.remember.ensures.after) refl
 
 pub returns-clause-live : goal.returns-clause-live
 returns-clause-live c =
-    rw (← c.self.view_is, written c) (live_rows-rewritten (lists_of c.self.inside.inside) c.handle_in-handle.result c.args.row c.handle_in-handle.ensures c.self.invariant.intact)
+    let s = lists_of c.self.inside.inside in
+    let found : handle_of s.serials c.args.row.serial.0 ≡ Some c.args.handle = rw (← c.self.view_is) at c.requires.found in
+    rw (← c.self.view_is, written c) (live_rows-rewritten s c.args.handle c.args.row found c.self.invariant.intact)

@@ -1,0 +1,106 @@
+-- Where no bound stands, all pending insertions at once: what carry after carry leaves.
+use Rattle.std.proofs.Common.{◌≡◌, ℕ, ◌+◌, ◌<◌, ◌≤◌, List, [], ◌∷◌, length, get_or, Option, None, Some, refl, sym, ap, ◌∙◌, arith}
+use Rattle.std.proofs.lemmas.List.{get_or-map, length-map}
+use Rattle.crack_row.specs.Ranges.{Range, IsIn}
+use Rattle.crack_row.specs.declared.command.Policy.TheVariants.{Complete}
+use Rattle.crack_arena.specs.Arena.{Handle, no_handle}
+use Rattle.crack_arena.specs.Rows.{key_at, keys_at}
+use Rattle.crack_pending.specs.Pending.{Finds}
+use Rattle.crack_state.specs.State.{State, IsIntact}
+use Rattle.crack_state.specs.Steps.{lifted, all_appended, hand_key, IsBelow, SameButRoom}
+use Rattle.crack_state.proofs.AppendLaws.{first_appended, all-first, all-none, lifted-lasting, IsIntact-first}
+use Rattle.crack_state.proofs.CrackLaws.{key_within}
+use Rattle.crack_state.proofs.StepLaws.{IsIntact-room}
+use Rattle.crack_merge.specs.Loops.{PutsIn}
+use Rattle.crack_merge.specs.Merges.{IsCeiling, Carries, ends, CarriesIn, CarriesAll, begins, carries}
+use Rattle.crack_merge.proofs.CarryLaws.{PutsIn-room, PutsIn-trans, PutsAt-Carries}
+
+pub SameButRoom-trans : (s t u : State) → SameButRoom s t → SameButRoom t u → SameButRoom s u
+SameButRoom-trans s t u a b = record { same = b.same ∙ ap (λ (x : State). record x { column_room = u.column_room; in_room = u.in_room }) a.same }
+
+-- all pending insertions of a store without bounds are of the range, and below the ceiling
+pub record HasAll (ceiling : Option ℕ) (r : Range) (t : State) : Type 0 where
+  pub high_end : IsCeiling ceiling r
+  pub low : r.low ≤ t.keys.low
+  pub high : t.keys.high ≤ r.high
+  pub uncracked : t.marks ≡ []
+  pub intact : IsIntact t []
+
+below : (ceiling : Option ℕ) (r : Range) (key : ℕ) → IsCeiling ceiling r → key < r.high → IsBelow ceiling key
+below None r key high less = tt
+below (Some bound) r key high less = omega (arith, high, less)
+
+-- room for it was made, so many places and so many more pending insertions are left, and the first was carried
+abbrev pub next_of : ℕ → ℕ → State → State
+next_of column_room in_room t = first_appended (record t { column_room = column_room + 1; in_room = in_room })
+
+module _ (ceiling : Option ℕ) (r : Range) (column_room in_room : ℕ) (t : State) (has : HasAll ceiling r t) (some : 0 < length t.pending_in) where
+  key_inside : IsIn t.keys (key_at t.cells (get_or t.pending_in 0 no_handle))
+  key_inside = key_within t.keys t.cells (get_or t.pending_in 0 no_handle) has.intact.within (has.intact.owned.pending_reads 0 no_handle some)
+
+  first_found : Finds r (keys_at t.cells t.pending_in) 0 (Some 0)
+  first_found = record {
+    after = omega arith;
+    within = omega (arith, some, length-map t.pending_in (key_at t.cells));
+    holds = rw (get_or-map (key_at t.cells) t.pending_in 0 no_handle 0 some) (omega (arith, key_inside.0, has.low), omega (arith, key_inside.1, has.high));
+    before = λ k from_on up_to. absurd (omega (arith, up_to));
+  }
+
+  carried : Carries ceiling (lifted 0 (record t { column_room = column_room + 1; in_room = in_room })) (next_of column_room in_room t)
+  carried =
+      let u = record t { column_room = column_room + 1; in_room = in_room } in
+      let lasting = lifted-lasting t some has.intact in
+      ends (lifted 0 u) (λ doomed. omega (arith, doomed, lasting)) (below ceiling r (hand_key (lifted 0 u)) has.high_end (omega (arith, key_inside.1, has.high))) (rw has.uncracked refl)
+
+  pub carries_first : (s : State) → CarriesIn ceiling r s 0 t → CarriesIn ceiling r s 0 (next_of column_room in_room t)
+  carries_first s before = carries 0 0 t (record t { column_room = column_room + 1; in_room = in_room }) (next_of column_room in_room t) before first_found (record { same = refl }) carried
+
+  pub HasAll-next : HasAll ceiling r (next_of column_room in_room t)
+  HasAll-next =
+      let u = record t { column_room = column_room + 1; in_room = in_room } in
+      let made = IsIntact-room t u [] (record { same = refl }) has.intact in
+      record {
+        high_end = has.high_end;
+        low = has.low;
+        high = has.high;
+        uncracked = rw has.uncracked refl;
+        intact = IsIntact-first u has.uncracked some made;
+      }
+
+-- so many are left, and room for them
+carries_on : (ceiling : Option ℕ) (r : Range) (s : State) (column_room in_room : ℕ) (hs : List Handle) (t : State) → t.pending_in ≡ hs → t.column_room ≡ column_room → t.in_room ≡ in_room → HasAll ceiling r t → CarriesIn ceiling r s 0 t → CarriesIn ceiling r s 0 (all_appended t)
+carries_on ceiling r s column_room in_room [] t none column pending has before = rw (all-none t none has.intact) before
+carries_on ceiling r s column_room in_room (h ∷ hs) t first column pending has before =
+    let some : 0 < length t.pending_in = omega (arith, ap length first) in
+    let next = next_of column_room in_room t in
+    let places : next.column_room ≡ column_room = omega arith in
+    let rest = carries_on ceiling r s column_room in_room hs next (rw first refl) places refl (HasAll-next ceiling r column_room in_room t has some) (carries_first ceiling r column_room in_room t has some s before) in
+    let same : all_appended next ≡ all_appended t = all-first (record t { column_room = column_room + 1; in_room = in_room }) h hs has.uncracked first ∙ rw (places, column, pending) refl in
+    rw same at rest
+
+pub CarriesAll-at_once : (ceiling : Option ℕ) (r : Range) (s u : State) (first : ℕ) → HasAll ceiling r s → Finds r (keys_at s.cells s.pending_in) 0 (Some first) → SameButRoom (all_appended s) u → CarriesAll ceiling r s u
+CarriesAll-at_once ceiling r s u first has found room = by_first s.pending_in refl
+  where
+    by_first : (hs : List Handle) → s.pending_in ≡ hs → CarriesAll ceiling r s u
+    by_first [] none = absurd (omega (arith, found.within, length-map s.pending_in (key_at s.cells), ap length none))
+    by_first (h ∷ hs) is =
+        let some : 0 < length s.pending_in = omega (arith, ap length is) in
+        let next = next_of u.column_room u.in_room s in
+        let places : next.column_room ≡ u.column_room = omega arith in
+        let all = carries_on ceiling r s u.column_room u.in_room hs next (rw is refl) places refl (HasAll-next ceiling r u.column_room u.in_room s has some) (carries_first ceiling r u.column_room u.in_room s has some s begins) in
+        let same : all_appended next ≡ u = all-first (record s { column_room = u.column_room + 1; in_room = u.in_room }) h hs has.uncracked is ∙ rw places (sym room.same) in
+        record { from = 0; carries = rw same at all; none = rw room.same (λ k from_on up_to. absurd (omega (arith, up_to))) }
+
+-- complete: all were put in
+put_on : (s : State) (from : ℕ) (t : State) → IsIntact s [] → CarriesIn None s.keys s from t → PutsIn Complete s t × IsIntact t []
+put_on s from t intact begins = (PutsIn-room Complete s s (record { same = refl }), intact)
+put_on s from t intact (carries before place v u w rest finds room carrying) =
+    let was = put_on s before v intact rest in
+    let one = PutsAt-Carries v u w place room (omega (arith, finds.within, length-map v.pending_in (key_at v.cells))) was.1 carrying in
+    (PutsIn-trans Complete s v w was.0 (one.puts Complete), one.intact)
+
+pub PutsIn-at_once : (s u : State) → IsIntact s [] → 0 < length s.pending_in → s.marks ≡ [] → SameButRoom (all_appended s) u → PutsIn Complete s u
+PutsIn-at_once s u intact some uncracked room =
+    let has : HasAll None s.keys s = record { high_end = tt; low = omega arith; high = omega arith; uncracked = uncracked; intact = intact } in
+    let all = CarriesAll-at_once None s.keys s u 0 has (first_found None s.keys 0 0 s has some) room in
+    (put_on s all.from u intact all.carries).0

@@ -1,0 +1,61 @@
+//! All pending insertions put behind the column's last row at once, where no bound stands.
+ghost use Rattle.std.specs.Prelude.{◌≡◌, ◌↔◌, ◌≤◌, ◌++◌, [], length, All, IsTrue, IfErr, OnOk, OnErr};
+ghost use Rattle.crack_column.specs.Column.{Remembers};
+ghost use Rattle.crack_state.specs.State.{Reads, live_rows};
+ghost use Rattle.crack_state.specs.Steps.{SameButRoom, all_appended};
+
+use crate::Store;
+use crate::points::row_at;
+use crack_arena::Arena;
+use crack_column::{CrackerColumn, Remembered};
+use crack_pending::PendingIn;
+use crack_row::{Refusal, Row};
+
+impl Store {
+    /// Whether no bound stands. O(1).
+    pub fn is_uncracked(&self) -> bool
+        ensures { IsTrue result ↔ (self.now.marks ≡ []) }
+    {
+        self.inside.index.is_empty()
+    }
+
+    /// Puts all pending insertions behind the column's last row, in the order of arrival: where no bound stands, it leaves what the carry of
+    /// one after the other leaves. Room is made for all of them at once. O(pending insertions).
+    /// Refused with 8 where it finds no memory; all is then as it was.
+    pub fn append_all(&mut self) -> Result<(), Refusal>
+        requires { self.old.marks ≡ [] }
+        ensures ok { OnOk result (SameButRoom (all_appended self.old) self.new) }
+        ensures live { live_rows self.new ≡ live_rows self.old }
+        ensures same { OnErr result (SameButRoom self.old self.new) }
+        ensures err { IfErr result (λ e. e ≡ Refusal.OutOfMemory) }
+    {
+        let count = self.inside.pending_in.len();
+        self.inside.column.reserve(count)?;
+        self.inside.pending_in.close_up();
+        append_rows(
+            &mut self.inside.column,
+            &self.inside.pending_in,
+            &self.inside.arena,
+        );
+        self.inside.pending_in.clear();
+        self.inside.pending_in.shrink_if_empty(self.inside.in_room);
+        self.inside.tally.put_in = self.inside.tally.put_in.saturating_add(count as u64);
+        Ok(())
+    }
+}
+
+/// Puts the rows of a list behind the column's last one, in their order, each with what is to be remembered of it. O(rows), where the list has
+/// no holes; the cells are read in the order of the list.
+fn append_rows(column: &mut CrackerColumn, rows: &PendingIn, arena: &Arena<Row>)
+    requires room { length rows.now.handles ≤ column.old.room }
+    requires reads { All (Reads arena.now.cells) rows.now.handles }
+    requires remembered { Remembers arena.now.cells column.old.handles column.old.remembered }
+    ensures handles { column.new.handles ≡ column.old.handles ++ rows.now.handles }
+    ensures remembered { Remembers arena.now.cells column.new.handles column.new.remembered }
+{
+    'rows: for place in 0..rows.len() {
+        let handle = rows.at(place);
+        let row = row_at(arena, handle);
+        column.append_remembered(handle, Remembered::of(row));
+    }
+}
