@@ -11,8 +11,8 @@ use Rattle.crack_row.specs.declared.Row.{Row}
 use Rattle.crack_plain.proofs.Laws.{others-same, replaced-same}
 use Rattle.crack_arena.specs.Arena.{Handle, times, slots}
 use Rattle.crack_state.specs.State.{State, IsIntact, live_rows, handle_of}
-use Rattle.crack_state.specs.Points.{row_by, pending_by, Removes}
-use Rattle.crack_state.proofs.LookUpLaws.{row_by-is, row_by-none, gone-cancels, gone-dooms, live-without}
+use Rattle.crack_state.specs.Points.{row_by, pending_by, Removes, Rewrites}
+use Rattle.crack_state.proofs.LookUpLaws.{row_by-is, row_by-none, gone-cancels, gone-dooms, live-without, live-replaced}
 
 -- no row of a list of the live rows has a serial that leads nowhere
 plain-apart : (s : State) (serial : ℕ) (plain : List Row) → handle_of s.serials serial ≡ None → IsIntact s [] → IsPermutation (live_rows s) plain → All (λ (r : Row). r.serial.0 ≢ serial) plain
@@ -36,14 +36,14 @@ live-taken s t serial None is went none removes before after = λ plain same.
     let still : t ≡ s = rw none at removes in
     rw (still, others-same serial plain (plain-apart s serial plain none before same)) same
 
-pub live-nothing_replaced : (s : State) (row : Row) → handle_of s.serials row.serial.0 ≡ None → IsIntact s [] → (plain : List Row) → IsPermutation (live_rows s) plain → IsPermutation (live_rows s) (map (replaced row) plain)
-live-nothing_replaced s row none intact = λ plain same. rw (replaced-same row plain (plain-apart s row.serial.0 plain none intact same)) same
+-- a list of the live rows, with a row in the place of the one of its serial, if there was one
+pub live-put : (s t : State) (row : Row) (o : Option Row) → IfSome o (λ _. IsPermutation (map (replaced row) (live_rows s)) (live_rows t)) → IfNone o (handle_of s.serials row.serial.0 ≡ None) → Rewrites (pending_by s row.serial.0) row s t → IsIntact s [] → (plain : List Row) → IsPermutation (live_rows s) plain → IsPermutation (live_rows t) (map (replaced row) plain)
+live-put s t row (Some before) changed none rewrites intact = λ plain same. live-replaced s t row plain changed same
+live-put s t row None changed none rewrites intact = λ plain same.
+    let still : t ≡ s = rw none at rewrites in
+    rw (still, replaced-same row plain (plain-apart s row.serial.0 plain none intact same)) same
 
--- what follows of an answer, and of a look-up that finds nothing
+-- what follows of an answer
 pub on_err : {T E P : Type 0} (r : Result T E) → P → OnErr r P
 on_err (Ok x) p = tt
 on_err (Err e) p = p
-
-pub if_none : {T P : Type 0} (o : Option T) → false ≡ is_some o → IfNone o P → P
-if_none None none p = p
-if_none (Some x) some p = absurd (true≢false (sym some))

@@ -671,10 +671,7 @@ fn rewrite(store: &mut Store, row: Row) -> Result<Reply, Refusal>
     ensures err { IfErr result (λ e. e ≡ Refusal.OutOfMemory) }
 {
     store.facts();
-    let before = store.row_of(row.serial);
-    if before.is_some() {
-        store.rewrite(row.serial, row.key, row.payload)?;
-    }
+    let before = store.replace(row)?;
     store.facts();
     Ok(rewritten(before))
 }
