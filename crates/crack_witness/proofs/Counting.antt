@@ -1,0 +1,96 @@
+-- The calls of one worker.
+use Rattle.std.proofs.Common.{◌≡◌, ◌≢◌, ℕ, zero, suc, ◌+◌, ◌<◌, ◌≤◌, ◌==◌, Bool, true, false, List, [], ◌∷◌, ◌++◌, refl, ap, sym, ◌∙◌, subst, arith, length, length-append, slice_index_or, slice_set, filter}
+use Rattle.std.proofs.lemmas.Bool.Decides.{nat_tests}
+use Rattle.std.proofs.lemmas.List.{append-nil, length-set, get_or-set_same, get_or-set_other}
+use Rattle.std.proofs.lemmas.List.Elements.{filter-append}
+use mathlib.Core.List.{IsPrefix}
+use Rattle.crack_row.specs.declared.command.Entry.{Entry}
+use Rattle.crack_witness.specs.declared.event.Event.{Event}
+use Rattle.crack_witness.specs.Histories.{calls_by, calls_at, history_of}
+use Rattle.crack_witness.specs.Rules.{AreCounts, IsAsker}
+use Rattle.crack_witness.proofs.Lists.{prefix_trans, prefix_self, history_grows}
+
+pub calls_own : (w : ℕ) (es : List Entry) (e : Entry) → e.worker ≡ w → calls_by w (es ++ e ∷ []) ≡ calls_by w es ++ e ∷ []
+calls_own w es e is = let same : (e.worker == w) ≡ true = grind (arith, nat_tests) in rw (filter-append (λ (e : Entry). e.worker == w) es (e ∷ []), same) refl
+
+pub calls_other : (w : ℕ) (es : List Entry) (e : Entry) → (e.worker == w) ≡ false → calls_by w (es ++ e ∷ []) ≡ calls_by w es
+calls_other w es e is = rw (filter-append (λ (e : Entry). e.worker == w) es (e ∷ []), is) (append-nil (calls_by w es))
+
+pub counts_at : (counts : List ℕ) (es : List Entry) (e : Entry) (n k : ℕ) (b : Bool) → (e.worker == k) ≡ b → AreCounts counts es → n ≡ slice_index_or counts e.worker 0 + 1 → e.worker < length counts
+    → k < length (slice_set counts e.worker n) → slice_index_or (slice_set counts e.worker n) k 0 ≡ length (calls_by k (es ++ e ∷ []))
+counts_at counts es e n k true is old more less less' =
+    let same : e.worker ≡ k = grind (arith, nat_tests) in
+    subst (λ (j : ℕ). slice_index_or (slice_set counts e.worker n) j 0 ≡ length (calls_by j (es ++ e ∷ []))) same
+    (get_or-set_same counts e.worker n 0 less ∙ omega (arith, more, old e.worker less, ap length (calls_own e.worker es e refl), length-append (calls_by e.worker es) (e ∷ [])))
+counts_at counts es e n k false is old more less less' =
+    let away : k ≢ e.worker = grind (arith, nat_tests) in
+    get_or-set_other counts e.worker k n 0 away ∙ (old k (omega (arith, less', length-set counts e.worker n)) ∙ sym (ap length (calls_other k es e is)))
+
+pub counts_set : (counts : List ℕ) (es : List Entry) (e : Entry) (n : ℕ) → AreCounts counts es → n ≡ slice_index_or counts e.worker 0 + 1 → e.worker < length counts → AreCounts (slice_set counts e.worker n) (es ++ e ∷ [])
+counts_set counts es e n old more less k less' = counts_at counts es e n k (e.worker == k) refl old more less less'
+
+pub prefix_same : {A : Type 0} (xs ys : List A) → IsPrefix xs ys → length xs ≡ length ys → xs ≡ ys
+prefix_same [] [] p le = refl
+prefix_same [] (y ∷ ys) p le = absurd (omega (arith, le))
+prefix_same (x ∷ xs) [] p le = absurd (cc (p.1))
+prefix_same (x ∷ xs) (y ∷ ys) p le =
+    let rest = prefix_same xs ys (p.0, cc (p.1)) (omega (arith, le)) in cc (p.1, rest)
+
+pub calls_grow : (w : ℕ) (a h : List Entry) → IsPrefix a h → IsPrefix (calls_by w a) (calls_by w h)
+calls_grow w a h p = (calls_by w p.0, sym (filter-append (λ (e : Entry). e.worker == w) a p.0) ∙ ap (calls_by w) p.1)
+
+-- where a history has as many of a worker's calls as what it had seen, it has one more afterwards, and no other
+pub mine_exact : (w : ℕ) (a b h new : List Entry) (e : Entry) → IsPrefix a b → IsPrefix b h → length (calls_by w a) ≡ length (calls_by w h) → new ≡ h ++ e ∷ [] → e.worker ≡ w → calls_by w new ≡ calls_by w a ++ e ∷ []
+mine_exact w a b h new e p q same is own =
+    let all : calls_by w a ≡ calls_by w h = prefix_same (calls_by w a) (calls_by w h) (calls_grow w a h (prefix_trans a b h p q)) same in
+    ap (calls_by w) is ∙ (calls_own w h e own ∙ ap (λ (l : List Entry). l ++ e ∷ []) (sym all))
+
+pub counted_at : (own : ℕ → ℕ) (n : ℕ) (fronts : List (List Event)) (counts : List ℕ) (part count : ℕ) (new : List Event) (k : ℕ) (b : Bool) → (part == k) ≡ b
+    → ((q : ℕ) → q < length fronts → slice_index_or counts q 0 ≡ length (calls_at own q n (slice_index_or fronts q []))) → length counts ≡ length fronts → part < length fronts → count ≡ length (calls_at own part n new)
+    → k < length (slice_set fronts part new) → slice_index_or (slice_set counts part count) k 0 ≡ length (calls_at own k n (slice_index_or (slice_set fronts part new) k []))
+counted_at own n fronts counts part count new k true is old all less more less' =
+    let same : part ≡ k = grind (arith, nat_tests) in
+    subst (λ (j : ℕ). slice_index_or (slice_set counts part count) j 0 ≡ length (calls_at own j n (slice_index_or (slice_set fronts part new) j []))) same
+    (get_or-set_same counts part count 0 (omega (arith, all, less)) ∙ (more ∙ ap (λ (l : List Event). length (calls_at own part n l)) (sym (get_or-set_same fronts part new [] less))))
+counted_at own n fronts counts part count new k false is old all less more less' =
+    let away : k ≢ part = grind (arith, nat_tests) in
+    get_or-set_other counts part k count 0 away ∙ (old k (omega (arith, less', length-set fronts part new)) ∙ ap (λ (l : List Event). length (calls_at own k n l)) (sym (get_or-set_other fronts part k new [] away)))
+
+pub begins_at : (seen : List Event) (fronts : List (List Event)) (part : ℕ) (new : List Event) (k : ℕ) (b : Bool) → (part == k) ≡ b
+    → ((q : ℕ) → q < length fronts → IsPrefix (slice_index_or fronts q []) seen) → IsPrefix seen new → part < length fronts
+    → k < length (slice_set fronts part new) → IsPrefix (slice_index_or (slice_set fronts part new) k []) new
+begins_at seen fronts part new k true is old grows less less' =
+    let same : part ≡ k = grind (arith, nat_tests) in
+    subst (λ (j : ℕ). IsPrefix (slice_index_or (slice_set fronts part new) j []) new) same (subst (λ (l : List Event). IsPrefix l new) (sym (get_or-set_same fronts part new [] less)) (prefix_self new))
+begins_at seen fronts part new k false is old grows less less' =
+    let away : k ≢ part = grind (arith, nat_tests) in
+    subst (λ (l : List Event). IsPrefix l new) (sym (get_or-set_other fronts part k new [] away)) (prefix_trans (slice_index_or fronts k []) seen new (old k (omega (arith, less', length-set fronts part new))) grows)
+
+pub asker_after : (own : ℕ → ℕ) (n : ℕ) (seen : List Event) (fronts : List (List Event)) (counts : List ℕ) (part count : ℕ) (new : List Event)
+    → IsAsker own n seen fronts counts → part < length fronts → IsPrefix seen new → count ≡ length (calls_at own part n new) → IsAsker own n new (slice_set fronts part new) (slice_set counts part count)
+asker_after own n seen fronts counts part count new w less grows more = record {
+  all = length-set counts part count ∙ (w.all ∙ sym (length-set fronts part new));
+  counted = λ k l. counted_at own n fronts counts part count new k (part == k) refl w.counted w.all less more l;
+  begins = λ k l. begins_at seen fronts part new k (part == k) refl w.begins grows less l;
+}
+
+-- where a history has as many of a worker's calls as it counted, they are those that it made
+pub agree : (own : ℕ → ℕ) (n : ℕ) (seen : List Event) (fronts : List (List Event)) (counts : List ℕ) (part mine theirs : ℕ) (all log : List Event)
+    → IsAsker own n seen fronts counts → part < length counts → mine ≡ slice_index_or counts part 0 → theirs ≡ length (calls_by n (history_of (own part) log)) → mine ≡ theirs
+    → IsPrefix seen all → IsPrefix (history_of (own part) all) (history_of (own part) log)
+    → calls_at own part n log ≡ calls_at own part n (slice_index_or fronts part [])
+agree own n seen fronts counts part mine theirs all log w less is are same grows begins =
+    let f = slice_index_or fronts part [] in
+    let l : part < length fronts = omega (arith, w.all, less) in
+    let p : IsPrefix (history_of (own part) f) (history_of (own part) log) = prefix_trans (history_of (own part) f) (history_of (own part) all) (history_of (own part) log) (history_grows (own part) f all (prefix_trans f seen all (w.begins part l) grows)) begins in
+    sym (prefix_same (calls_by n (history_of (own part) f)) (calls_by n (history_of (own part) log)) (calls_grow n (history_of (own part) f) (history_of (own part) log) p) (omega (arith, w.counted part l, is, are, same)))
+
+-- an entry that was written where a history had as many of the worker's as it was given replies
+pub given_exact : (own : ℕ → ℕ) (n part number : ℕ) (f seen log new : List Event) (e : Entry) (count : ℕ) → number ≡ part → IsPrefix f seen → IsPrefix (history_of (own number) seen) (history_of (own number) log)
+    → history_of (own number) new ≡ history_of (own number) log ++ e ∷ [] → e.worker ≡ n → count ≡ length (calls_at own part n f) → length (calls_by n (history_of (own number) log)) ≡ count
+    → calls_at own part n new ≡ calls_at own part n f ++ e ∷ []
+given_exact own n part number f seen log new e count same begins before written is mine theirs =
+    let old : IsPrefix (history_of (own part) seen) (history_of (own part) log) = subst (λ (p : ℕ). IsPrefix (history_of (own p) seen) (history_of (own p) log)) same before in
+    let here : history_of (own part) new ≡ history_of (own part) log ++ e ∷ [] = subst (λ (p : ℕ). history_of (own p) new ≡ history_of (own p) log ++ e ∷ []) same written in
+    let many : length (calls_by n (history_of (own part) f)) ≡ length (calls_by n (history_of (own part) log)) = subst (λ (p : ℕ). length (calls_by n (history_of (own part) f)) ≡ length (calls_by n (history_of (own p) log))) same (omega (arith, mine, theirs)) in
+    mine_exact n (history_of (own part) f) (history_of (own part) seen) (history_of (own part) log) (history_of (own part) new) e (history_grows (own part) f seen begins) old many here is

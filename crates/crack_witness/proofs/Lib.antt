@@ -1,0 +1,6 @@
+pub mod Lists
+pub mod Cells
+pub mod Moving
+pub mod Keeping
+pub mod Counting
+pub mod Opens

@@ -1,0 +1,18 @@
+use Rattle.std.proofs.Common.{◌≡◌, ◌<◌, ◌^◌, length, reverse, All}
+use Rattle.crack_plain.specs.Past.{no_past}
+use Rattle.crack_part.specs.Parts.{Part}
+use Rattle.crack_witness.specs.Rules.{AreOwners}
+use Rattle.crack_witness.proofs.Opens.{AreDone}
+use Rattle.crack_witness.proofs.opening.witness_each.Given as goal
+
+abbrev pub invariant-partitions : goal.invariant-partitions
+invariant-partitions g l = record {
+  owners : AreOwners g.J.Naming.book g.J.Naming.owner l.owners.items;
+  new : All (λ (p : Part). p.past ≡ no_past) l.partitions.items;
+  count : length l.partitions.items ≡ length l.owners.items;
+  few : length l.owners.items < 2 ^ 32;
+  done : AreDone g.J.Naming.owner l.workers l.initial.partitions.items l.partitions.items (reverse l.witnessed.items);
+}
+
+abbrev pub decreases-partitions : goal.decreases-partitions
+decreases-partitions g l = length l.owners.items

@@ -1,0 +1,52 @@
+use Rattle.std.proofs.Common.{◌≡◌, ◌<◌, ◌+◌, ◌∙◌, ap, sym, subst, ℕ, List, [], ◌∷◌, ◌++◌, length, arith, slice_set, slice_index_or}
+use Rattle.crack_row.specs.declared.command.Entry.{Entry}
+use Rattle.crack_plain.specs.Plain.{PlainState, no_rows, replay_from, reply_to}
+use Rattle.crack_plain.proofs.Laws.{AreReplies-push}
+use Rattle.crack_witness.specs.Histories.{history_of, calls_by, IsPastOf}
+use Rattle.crack_witness.specs.Rules.{AreCounts}
+use Rattle.crack_witness.proofs.Keeping.{state_after-whole, IsPastOf-push, calls-le-accepted}
+use Rattle.crack_witness.proofs.Counting.{counts_set}
+use Rattle.crack_witness.proofs.witnessed.Witnessed.ask.Goals as goal
+
+pub write-requires : goal.write-requires
+write-requires g c =
+    let owner = g.J.Naming.owner c.self.inside.scribe.part in
+    let h = history_of owner c.self.inside.scribe.log in
+    let e : Entry = record { worker = c.args.worker; command = c.args.command; reply = c.in_ok-reply.reply } in
+    let is : c.in_ok-reply.reply ≡ reply_to (replay_from no_rows h) c.args.command = (c.in_ok-reply.ensures.replies).0 ∙ ap (λ (s : PlainState). reply_to s c.args.command) (state_after-whole h c.self.inside.partition.past c.self.invariant.0) in
+    AreReplies-push no_rows h e (c.part-part.ensures.legal owner) is
+
+-- the worker's count, and a bound on it
+pub overflow_add-count : goal.overflow_add-count
+overflow_add-count g c =
+    let h = history_of (g.J.Naming.owner c.self.inside.scribe.part) c.self.inside.scribe.log in
+    let at = c.is_at.ensures.0 c.if-not-is_at.false in
+    let items = c.as_slice.ensures.value in
+    let less : c.args.worker < length c.self.inside.answered.items = subst (λ (l : List ℕ). c.args.worker < length l) items at.0 in
+    let is : slice_index_or c.self.inside.answered.items c.args.worker 0 ≡ c.args.count = subst (λ (l : List ℕ). slice_index_or l c.args.worker 0 ≡ c.args.count) items at.1 in
+    let counted : slice_index_or c.self.inside.answered.items c.args.worker 0 ≡ length (calls_by c.args.worker h) = c.self.invariant.1 c.args.worker less in
+    omega (arith, is, counted, calls-le-accepted c.args.worker h c.self.inside.partition.past c.self.invariant.0, c.facts.ensures.legal.lived, c.facts.ensures.limited.life.1)
+
+pub invariant_of-self-2 : goal.invariant_of-self-2
+invariant_of-self-2 g c =
+    let own : ℕ → ℕ = g.J.Naming.owner in
+    let h = history_of (own c.self.inside.scribe.part) c.self.inside.scribe.log in
+    let e : Entry = record { worker = c.args.worker; command = c.args.command; reply = c.in_ok-reply.reply } in
+    let at = c.is_at.ensures.0 c.if-not-is_at.false in
+    let items = c.as_slice.ensures.value in
+    let less : c.args.worker < length c.self.inside.answered.items = subst (λ (l : List ℕ). c.args.worker < length l) items at.0 in
+    let is : slice_index_or c.self.inside.answered.items c.args.worker 0 ≡ c.args.count = subst (λ (l : List ℕ). slice_index_or l c.args.worker 0 ≡ c.args.count) items at.1 in
+    let counts : AreCounts (slice_set c.self.inside.answered.items c.args.worker (c.args.count + 1)) (h ++ e ∷ []) = counts_set c.self.inside.answered.items h e (c.args.count + 1) c.self.invariant.1 (omega (arith, is)) less in
+    let new : history_of (own c.write.new.self.part) c.write.new.self.log ≡ h ++ e ∷ [] = ap (λ (p : ℕ). history_of (own p) c.write.new.self.log) c.write.ensures.part ∙ c.write.ensures.history in
+    let past : IsPastOf (h ++ e ∷ []) c.apply.new.self.past = subst (IsPastOf (h ++ e ∷ [])) (sym c.in_ok-reply.ensures.kept) (IsPastOf-push h c.self.inside.partition.past e c.self.invariant.0) in
+    (subst (λ (l : List Entry). IsPastOf l c.apply.new.self.past) (sym new) past, subst (AreCounts (slice_set c.self.inside.answered.items c.args.worker (c.args.count + 1))) (sym new) counts)
+
+pub returns-clause-few : goal.returns-clause-few
+returns-clause-few g c =
+    let h = history_of (g.J.Naming.owner c.self.inside.scribe.part) c.self.inside.scribe.log in
+    let at = c.is_at.ensures.0 c.if-not-is_at.false in
+    let items = c.as_slice.ensures.value in
+    let less : c.args.worker < length c.self.inside.answered.items = subst (λ (l : List ℕ). c.args.worker < length l) items at.0 in
+    let is : slice_index_or c.self.inside.answered.items c.args.worker 0 ≡ c.args.count = subst (λ (l : List ℕ). slice_index_or l c.args.worker 0 ≡ c.args.count) items at.1 in
+    let counted : slice_index_or c.self.inside.answered.items c.args.worker 0 ≡ length (calls_by c.args.worker h) = c.self.invariant.1 c.args.worker less in
+    omega (arith, is, counted, calls-le-accepted c.args.worker h c.self.inside.partition.past c.self.invariant.0, c.facts.ensures.legal.lived, c.facts.ensures.limited.life.1)

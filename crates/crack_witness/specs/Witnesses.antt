@@ -1,0 +1,68 @@
+-- What contracts see of a book that was opened, and of partitions that are witnessed.
+use Rattle.std.specs.Prelude.{◌≡◌, ◌≢◌, ℕ, ◌+◌, ◌<◌, List, [], ◌∷◌, ◌++◌, length, AllPairs, slice_index_or}
+use mathlib.Core.List.{IsPrefix}
+use Rattle.logbook.specs.Pages.{Book}
+use Rattle.crack_row.specs.declared.command.Entry.{Entry}
+use Rattle.crack_part.specs.Parts.{Part}
+use Rattle.crack_witness.specs.declared.event.Event.{Event}
+use Rattle.crack_witness.specs.Histories.{history_of, calls_by, calls_at}
+
+-- a book, and the number of each owner in it
+pub record OpenedState : Type 0 where
+  pub book : Book
+  pub log : List Event
+  pub ids : List ℕ
+
+-- no two of them are the same
+abbrev pub AreDistinct : List ℕ → Type 0
+AreDistinct ids = AllPairs (λ (one other : ℕ). one ≢ other) ids
+
+-- each partition, by its number, is the owner of this book that stands at its place
+pub record AreNames (book : Book) (owner : ℕ → ℕ) (opened : OpenedState) : Type 0 where
+  pub book_is : book ≡ opened.book
+  pub owner_is : (part : ℕ) → owner part ≡ slice_index_or opened.ids part 0
+
+-- of so many partitions no two have one owner, and so one history
+abbrev pub AreApart : (ℕ → ℕ) → ℕ → Type 0
+AreApart owner count = (one other : ℕ) → one < other → other < count → owner one ≢ owner other
+
+-- a partition with its number, the events that were seen of its book, and how many workers it counts the entries of
+pub record WitnessedState : Type 0 where
+  pub part : ℕ
+  pub log : List Event
+  pub held : Part
+  pub workers : ℕ
+
+-- a partition that has its number, and no entry yet
+pub record IsNewAt (owner : ℕ → ℕ) (workers part : ℕ) (held : Part) (w : WitnessedState) : Type 0 where
+  pub part_is : w.part ≡ part
+  pub held_is : w.held ≡ held
+  pub workers_is : w.workers ≡ workers
+  pub empty : history_of (owner part) w.log ≡ []
+
+-- these partitions, with the numbers from one on, without an entry
+abbrev pub AreNewFrom : (ℕ → ℕ) → ℕ → ℕ → List Part → List WitnessedState → Type 0
+AreNewFrom owner workers number [] [] = Unit {0}
+AreNewFrom owner workers number (p ∷ ps) (w ∷ ws) = IsNewAt owner workers number p w × AreNewFrom owner workers (number + 1) ps ws
+AreNewFrom owner workers number _ _ = ⊥
+
+-- a worker is one of those that are counted, and so many of its entries stand in the history
+pub record IsInStep (owner : ℕ → ℕ) (w : WitnessedState) (worker count : ℕ) : Type 0 where
+  pub one : worker < w.workers
+  pub same : length (calls_by worker (history_of (owner w.part) w.log)) ≡ count
+
+-- a worker: its number, the events that it has seen, and those that it had seen after the last reply that each partition gave it
+pub record AskerState : Type 0 where
+  pub worker : ℕ
+  pub seen : List Event
+  pub fronts : List (List Event)
+
+-- the partition's history, as far as it is now seen, ends with the entry, and all that was seen of it before comes ahead of that
+pub record IsGiven (owner : ℕ → ℕ) (part : ℕ) (entry : Entry) (old new : List Event) : Type 0 where
+  pub before : List Entry
+  pub ends : history_of (owner part) new ≡ before ++ entry ∷ []
+  pub begins : IsPrefix (history_of (owner part) old) before
+
+-- the history of a partition has just the entries of a worker that it was given replies for
+abbrev pub HasJustItsOwn : (ℕ → ℕ) → AskerState → WitnessedState → Type 0
+HasJustItsOwn owner a w = calls_at owner w.part a.worker w.log ≡ calls_at owner w.part a.worker (slice_index_or a.fronts w.part [])

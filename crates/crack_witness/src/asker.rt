@@ -1,0 +1,140 @@
+//! Who asks witnessed partitions.
+ghost use Rattle.std.specs.Prelude.{◌≡◌, ◌+◌, ◌<◌, ◌≤◌, ◌++◌, ◌∷◌, [], length, IfOk, IfErr, OnErr, OnOk, Err, IsTrue, List, slice_index_or, slice_set};
+ghost use mathlib.Core.List.{IsPrefix};
+ghost use Rattle.crack_row.specs.declared.command.Entry.{Entry};
+ghost use Rattle.crack_plain.specs.Plain.{IsSmall, reply_to};
+ghost use Rattle.crack_plain.specs.Past.{with_entry};
+ghost use Rattle.crack_part.specs.Parts.{state_of};
+ghost use Rattle.crack_witness.specs.Histories.{history_of, calls_at, AreHistories, AreEmpty};
+ghost use Rattle.crack_witness.specs.Witnesses.{IsInStep, IsGiven, HasJustItsOwn};
+
+use crate::opening::Naming;
+use crate::scribe::Front;
+use crate::witnessed::{Witnessed, count_at};
+use crack_row::{Command, Policy, Refusal, Reply};
+use std::alloc::{AllocError, Global};
+use std::marker::Model;
+
+/// A worker's side of the witness: its number, what it has seen of the book, and how many replies each partition has given it, 8 bytes each.
+/// Contracts see the number, the events that it has seen, and those that it had seen after its last reply of each partition.
+#[derive(Drop)]
+pub struct Asker<J: Naming> {
+    number: u32,
+    front: Front<J>,
+    fronts: Vec<Front<J>>,
+    counts: Vec<u64>,
+}
+
+impl<J: Naming> Model for Asker<J> {
+    ghost use Rattle.crack_witness.specs.Witnesses.{AskerState};
+    ghost use Rattle.crack_witness.specs.Rules.{IsAsker};
+
+    ghost Value = { AskerState };
+
+    ghost view = { λ a. record { worker = a.number; seen = a.front; fronts = a.fronts.items } };
+
+    ghost invariant = { λ a. IsAsker J.owner a.number a.front a.fronts.items a.counts.items };
+}
+
+impl<J: Naming> Asker<J> {
+    /// A worker of this number at so many partitions, which has asked nothing.
+    pub fn new(
+        alloc: Global,
+        number: u32,
+        front: Front<J>,
+        parts: usize,
+    ) -> Result<Asker<J>, AllocError>
+        requires { AreEmpty front }
+        ensures ok { IfOk result (λ a. (a.worker ≡ number) × (a.seen ≡ front) × (length a.fronts ≡ parts)) }
+    {
+        let counts = vec![in alloc; 0u64; parts]?;
+        let mut fronts = Vec::with_capacity(alloc, parts)?;
+        'fronts: for part in 0..parts {
+            let _ = part;
+            if let Err(e) = fronts.push(front.again()) {
+                return Err(e.into());
+            }
+        }
+        Ok(Asker {
+            number,
+            front,
+            fronts,
+            counts,
+        })
+    }
+
+    /// What it has seen of the book.
+    pub fn front(&self) -> &Front<J>
+        ensures { result.now ≡ self.now.seen }
+    {
+        &self.front
+    }
+
+    /// Asks a partition, whose number is to be `part`: O(1) besides `Partition::apply`, and no memory. The second reply is a copy.
+    /// Refused with 5 where the worker knows of no such partition; with 16, with the number and the count of its replies there, where the
+    /// partition has another number, or its history another number of the worker's entries; then as `Partition::apply` is. After each
+    /// refusal nothing was seen or written.
+    pub fn ask(
+        &mut self,
+        witnessed: &mut Witnessed<J>,
+        part: u32,
+        command: Command,
+        policy: Policy,
+    ) -> Result<(Reply, Reply), Refusal>
+        ensures replies { IfOk result (λ replies. (replies.0 ≡ reply_to (state_of witnessed.old.held) command) × (replies.1 ≡ replies.0)) }
+        ensures small { IfOk result (λ replies. IsSmall replies.0) }
+        ensures given { IfOk result (λ replies. IsGiven J.owner part (record { worker = self.old.worker; command = command; reply = replies.0 }) self.old.seen self.new.seen) }
+        ensures mine { IfOk result (λ replies. calls_at J.owner part self.old.worker self.new.seen ≡ calls_at J.owner part self.old.worker (slice_index_or self.old.fronts part []) ++ record { worker = self.old.worker; command = command; reply = replies.0 } ∷ []) }
+        ensures fronts { OnOk result (self.new.fronts ≡ slice_set self.old.fronts part self.new.seen) }
+        ensures legal { OnOk result (AreHistories self.new.seen) }
+        ensures whole { OnOk result ((witnessed.old.part ≡ part) × (self.new.seen ≡ witnessed.new.log)) }
+        ensures kept { IfOk result (λ replies. witnessed.new.held.past ≡ with_entry witnessed.old.held.past (record { worker = self.old.worker; command = command; reply = replies.0 })) }
+        ensures opened { (witnessed.new.held.keys ≡ witnessed.old.held.keys) × (witnessed.new.held.limits ≡ witnessed.old.held.limits) × (witnessed.new.part ≡ witnessed.old.part) }
+        ensures seen { IsPrefix self.old.seen self.new.seen × IsPrefix witnessed.old.log witnessed.new.log }
+        ensures worker { self.new.worker ≡ self.old.worker }
+        ensures nowhere { length self.old.fronts ≤ part → result ≡ Err Refusal.NoSuchPartition }
+        ensures err { OnErr result ((self.new ≡ self.old) × (witnessed.new.log ≡ witnessed.old.log) × (witnessed.new.held.past ≡ witnessed.old.held.past)) }
+    {
+        let Some(count) = count_at(self.counts.as_slice(), part) else {
+            return Err(Refusal::NoSuchPartition);
+        };
+        if witnessed.part() != part {
+            return Err(Refusal::StrangeReceipt {
+                part,
+                position: count,
+            });
+        }
+        let replies = witnessed.ask(&mut self.front, self.number, count, command, policy)?;
+        self.counts[part as usize] = count + 1;
+        self.fronts[part as usize] = self.front.again();
+        Ok(replies)
+    }
+
+    /// Whether a partition's history has just the entries of this worker that it was given replies for. What the worker has seen of that
+    /// history is found to be a beginning of it. O(1).
+    pub fn agrees(&self, witnessed: &mut Witnessed<J>) -> bool
+        ensures same { witnessed.new ≡ witnessed.old }
+        ensures covered { IsPrefix (history_of (J.owner witnessed.old.part) self.now.seen) (history_of (J.owner witnessed.old.part) witnessed.old.log) }
+        ensures mine { IsTrue result → HasJustItsOwn J.owner self.now witnessed.old }
+        ensures others { witnessed.old.part < length self.now.fronts → self.now.worker < witnessed.old.workers → HasJustItsOwn J.owner self.now witnessed.old → IsTrue result }
+    {
+        witnessed.covers(&self.front);
+        self.counts_agree(witnessed)
+    }
+
+    /// The same of a partition that covers what the worker has seen.
+    fn counts_agree(&self, witnessed: &Witnessed<J>) -> bool
+        requires covered { IsPrefix (history_of (J.owner witnessed.now.part) self.now.seen) (history_of (J.owner witnessed.now.part) witnessed.now.log) }
+        ensures mine { IsTrue result → HasJustItsOwn J.owner self.now witnessed.now }
+        ensures others { witnessed.now.part < length self.now.fronts → self.now.worker < witnessed.now.workers → HasJustItsOwn J.owner self.now witnessed.now → IsTrue result }
+    {
+        let number = witnessed.part();
+        match (
+            count_at(self.counts.as_slice(), number),
+            witnessed.answered(self.number),
+        ) {
+            (Some(mine), Some(theirs)) => mine == theirs,
+            _ => false,
+        }
+    }
+}

@@ -1,0 +1,106 @@
+//! The book of a table: its events, the rule that they keep, and the steps that add to them. None of it has bytes but one word a partition.
+ghost use Rattle.std.specs.Prelude.{◌≡◌};
+
+use crack_row::Entry;
+use logbook::{Gain, Offer, Opening, Plain, Play, Rule, Seen, Word};
+
+/// An event of a book: the entry of an owner, and the cell that the owner's next event brings home. No value of it is made.
+pub struct Event {
+    pub owner: u64,
+    pub next: u64,
+    pub word: u64,
+    pub entry: Option<Entry>,
+}
+
+/// The rule of the book.
+pub struct Law;
+
+impl Rule<Event, u64> for Law {
+    ghost use Rattle.std.specs.Prelude.{[]};
+    ghost use base.Fml.{ftrue};
+    ghost use Rattle.crack_witness.specs.Rules.{IsKept};
+
+    ghost holds = { λ cells log. IsKept cells log };
+
+    ghost first = { [] };
+
+    ghost hinted = { λ n log. Unit {0} };
+
+    ghost shows = { λ log. [] };
+
+    ghost keeps = { λ names log. ftrue };
+
+    ghost moves = { λ ask before after answer. Unit {0} };
+}
+
+/// Callers trade nothing.
+pub struct Nothing;
+
+impl Gain<Event, u64> for Nothing {
+    ghost use base.Fml.{ftrue};
+
+    ghost after = { λ names about answer. ftrue };
+}
+
+/// What a thread has seen of the book.
+pub(crate) type Token = Seen<Event, u64, Law>;
+
+/// The word of a partition, which always holds 0.
+pub(crate) type Head = Word<Event, u64, Law>;
+
+/// What a step is to do.
+pub(crate) type Update = Offer<Event, u64, Law, Nothing>;
+
+/// The words of a new book.
+pub struct Row;
+
+impl Opening<u64, Event> for Row {
+    ghost use Rattle.crack_witness.specs.Rules.{row};
+
+    ghost log = { λ count x. row count };
+}
+
+/// A step that makes a pen.
+pub struct Make;
+
+impl Play<Event, u64> for Make {
+    ghost use Rattle.crack_witness.specs.Rules.{Makes};
+
+    ghost then = { Makes };
+}
+
+/// A step that opens an owner.
+pub struct Open;
+
+impl Play<Event, u64> for Open {
+    ghost use Rattle.crack_witness.specs.Rules.{Opens};
+
+    ghost then = { Opens };
+}
+
+impl Plain<Head, Event, u64> for Open {
+    ghost use Rattle.std.specs.Prelude.{None};
+    ghost use Rattle.crack_witness.specs.Rules.{place};
+
+    ghost ask = { λ word. place word.key };
+
+    ghost state = { λ word. None };
+}
+
+/// A step that adds an entry.
+pub struct Add;
+
+impl Play<Event, u64> for Add {
+    ghost use Rattle.crack_witness.specs.Rules.{Adds};
+
+    ghost then = { Adds };
+}
+
+/// A step that shows that an owner has no event after the last one that was seen.
+pub struct Look;
+
+impl Play<Event, u64> for Look {
+    ghost use Rattle.crack_witness.specs.Rules.{Looks};
+
+    ghost then = { Looks };
+}

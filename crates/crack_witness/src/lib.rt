@@ -1,0 +1,13 @@
+//! A witness for each reply: one history of each partition, which every worker sees, and what lies under a lock beside its partition.
+#![tactic(auto)]
+
+pub mod asker;
+pub mod event;
+pub mod opening;
+pub mod scribe;
+pub mod witnessed;
+
+pub use asker::Asker;
+pub use opening::{Naming, Opened};
+pub use scribe::Front;
+pub use witnessed::Witnessed;

@@ -1,0 +1,183 @@
+//! The opening of a book, with an owner for each partition.
+ghost use Rattle.std.specs.Prelude.{◌≡◌, ◌+◌, ◌<◌, ◌≤◌, ◌^◌, [], length, map, All, true, IfOk, vec_len};
+ghost use mathlib.Core.List.{IsPrefix};
+ghost use Rattle.crack_plain.specs.Past.{no_past};
+ghost use Rattle.crack_part.specs.Parts.{Part};
+ghost use Rattle.crack_witness.specs.Histories.{history_of, AreEmpty};
+ghost use Rattle.crack_witness.specs.Witnesses.{AreDistinct, AreNames, AreApart, AreNewFrom};
+ghost use Rattle.crack_witness.specs.Rules.{row, HasWord, HasOwner, NoneOf, IsNew, AreOwners};
+
+use crate::event::{Head, Law, Nothing, Open, Row, Token, Update};
+use crate::scribe::Front;
+use crate::witnessed::Witnessed;
+use crack_part::Partition;
+use logbook::{Pen, Pens, Start};
+use std::alloc::{AllocError, Global};
+use std::marker::{Brand, Model};
+
+/// Which book it is, and which owner each partition is in it. A program picks it once, for the book that it has opened.
+pub trait Naming {
+    ghost use Rattle.std.specs.Prelude.{ℕ};
+    ghost use Rattle.logbook.specs.Pages.{Book};
+
+    ghost book: { Book };
+
+    ghost owner: { ℕ → ℕ };
+}
+
+impl Naming for Brand {
+    ghost book = { record { number = 0; log_name = 0; cells_name = 0 } };
+
+    ghost owner = { λ part. 0 };
+}
+
+/// An owner in a book, which has no entry yet.
+#[derive(Drop)]
+pub(crate) struct Owner {
+    pub(crate) word: Head,
+    pub(crate) pen: Pen,
+    pub(crate) seen: Token,
+}
+
+impl Model for Owner {
+    ghost use Rattle.crack_witness.specs.Histories.{AreHistories};
+    ghost use Rattle.crack_witness.specs.Rules.{IsScribe, OwnerState};
+
+    ghost Value = { OwnerState };
+
+    ghost view = { λ o. record { book = o.seen.book; id = o.pen.nib.key; log = o.seen.log } };
+
+    ghost invariant = { λ o. IsScribe o.seen.book o.pen.nib.key o.word o.pen.book o.pen.nib.key o.pen.nib.right o.seen.book o.seen.log × AreHistories o.seen.log };
+}
+
+impl Owner {
+    /// Makes a word out to an owner of its own, by one step on it. The owner had no event among those seen before, and has one now.
+    fn open(word: Head, seen: &mut Token) -> Owner
+        requires { (word.tracked ≡ true) × (seen.old.book ≡ word.book) × HasWord word.key seen.old.log }
+        ensures book { (result.book ≡ seen.old.book) × (seen.new.book ≡ seen.old.book) }
+        ensures empty { history_of result.id result.log ≡ [] }
+        ensures fresh { NoneOf result.id seen.old.log }
+        ensures known { HasOwner result.id seen.new.log }
+        ensures grows { IsPrefix seen.old.log seen.new.log }
+    {
+        let mut token = seen.again();
+        let mut offer: Update = token.plain::<Nothing, Head, Open>(&word);
+        let mut pen = token.no_pen();
+        word.compare_exchange::<Open, Nothing>(0, 0, &mut token, &mut offer, &mut pen);
+        let _spare = Head::tracked(0, &mut pen);
+        *seen = token.again();
+        Owner {
+            word,
+            pen,
+            seen: token,
+        }
+    }
+}
+
+/// A new book, with its owners. Contracts see the book, and the owners' numbers in it, which exist in proofs alone.
+#[derive(Drop)]
+pub struct Opened {
+    seen: Token,
+    owners: Vec<Owner>,
+}
+
+impl Model for Opened {
+    ghost use Rattle.std.specs.Prelude.{◌≡◌, ◌<◌, ◌^◌, length, map, All};
+    ghost use Rattle.crack_witness.specs.Histories.{AreEmpty};
+    ghost use Rattle.crack_witness.specs.Witnesses.{OpenedState, AreDistinct};
+    ghost use Rattle.crack_witness.specs.Rules.{OwnerState, IsNew};
+
+    ghost Value = { OpenedState };
+
+    ghost view = { λ o. record { book = o.seen.book; log = o.seen.log; ids = map (λ (w : OwnerState). w.id) o.owners.items } };
+
+    ghost invariant = { λ o. AreEmpty o.seen.log × All (IsNew o.seen.book) o.owners.items × AreDistinct (map (λ (w : OwnerState). w.id) o.owners.items) × (length o.owners.items < 2 ^ 32) };
+}
+
+impl Opened {
+    /// A new book with so many owners, for so many partitions. O(owners).
+    pub fn new(alloc: Global, count: u32) -> Result<Opened, AllocError>
+        ensures count { IfOk result (λ o. length o.ids ≡ count) }
+        ensures distinct { IfOk result (λ o. AreDistinct o.ids) }
+        ensures empty { IfOk result (λ o. AreEmpty o.log) }
+    {
+        let (seen, mut pens) = Token::open_row::<u64, Row>(&0, Start::alone(), count as usize);
+        let mut latest = seen.again();
+        let mut owners = Vec::with_capacity(alloc, count as usize)?;
+        'owners: for number in 0..count {
+            let _ = number;
+            owners.push(next_owner(&mut pens, &mut latest))?;
+        }
+        Ok(Opened { seen, owners })
+    }
+
+    /// The partitions, each with its scribe, by their numbers, and what a worker begins with, once the book has its name. Each counts the
+    /// entries of so many workers. O(partitions × workers).
+    pub fn witness<J: Naming>(
+        self,
+        alloc: Global,
+        partitions: Vec<Partition>,
+        workers: u32,
+    ) -> Result<(Front<J>, Vec<Witnessed<J>>), AllocError>
+        requires names { AreNames J.book J.owner self }
+        requires new { All (λ (part : Part). part.past ≡ no_past) partitions.items }
+        requires count { length partitions.items ≡ length self.ids }
+        ensures front { IfOk result (λ r. AreEmpty r.0) }
+        ensures parts { IfOk result (λ r. AreNewFrom J.owner workers 0 partitions.items r.1.items) }
+        ensures apart { AreApart J.owner (length partitions.items) }
+    {
+        let (front, mut owners) = self.named::<J>();
+        let mut partitions = partitions;
+        let witnessed = witness_each(alloc, &mut owners, &mut partitions, workers)?;
+        Ok((front, witnessed))
+    }
+
+    /// What a worker begins with, and the owners.
+    fn named<J: Naming>(self) -> (Front<J>, Vec<Owner>)
+        requires { AreNames J.book J.owner self }
+        ensures owners { AreOwners J.book J.owner result.1.items }
+        ensures count { (length result.1.items ≡ length self.ids) × (length result.1.items < 2 ^ 32) }
+        ensures front { AreEmpty result.0 }
+        ensures apart { AreApart J.owner (length self.ids) }
+    {
+        let Opened { seen, owners } = self;
+        (Front::new(seen), owners)
+    }
+}
+
+/// The owner of the next word of a row.
+fn next_owner(pens: &mut Pens, seen: &mut Token) -> Owner
+    requires { (0 < pens.old.left) × (pens.old.book ≡ seen.old.book) × IsPrefix (row (pens.old.next + pens.old.left)) seen.old.log }
+    ensures owner { IsNew seen.old.book result }
+    ensures rest { (pens.new.book ≡ pens.old.book) × (pens.new.next ≡ pens.old.next + 1) × (pens.new.left + 1 ≡ pens.old.left) }
+    ensures book { seen.new.book ≡ seen.old.book }
+    ensures fresh { NoneOf result.id seen.old.log }
+    ensures known { HasOwner result.id seen.new.log }
+    ensures grows { IsPrefix seen.old.log seen.new.log }
+{
+    let mut pen = pens.take();
+    let word = Head::tracked(0, &mut pen);
+    Owner::open(word, seen)
+}
+
+/// Partitions with the scribes of these owners, by their numbers.
+fn witness_each<J: Naming>(
+    alloc: Global,
+    owners: &mut Vec<Owner>,
+    partitions: &mut Vec<Partition>,
+    workers: u32,
+) -> Result<Vec<Witnessed<J>>, AllocError>
+    requires owners { AreOwners J.book J.owner owners.old.items }
+    requires new { All (λ (part : Part). part.past ≡ no_past) partitions.old.items }
+    requires count { (length partitions.old.items ≡ length owners.old.items) × (length owners.old.items < 2 ^ 32) }
+    ensures { IfOk result (λ ws. AreNewFrom J.owner workers 0 partitions.old.items ws.items) }
+{
+    let mut witnessed = Vec::with_capacity(alloc, owners.len())?;
+    'partitions: while let (Some(owner), Some(partition)) = (owners.pop(), partitions.pop()) {
+        let number = owners.len() as u32;
+        let one = Witnessed::new(alloc, partition, number, owner, workers)?;
+        witnessed.push(one)?;
+    }
+    witnessed.reverse();
+    Ok(witnessed)
+}

@@ -1,0 +1,184 @@
+//! Who writes the entries of a partition into its history, and what others have seen of it.
+ghost use Rattle.std.specs.Prelude.{◌≡◌, [], ◌∷◌, ◌++◌, true};
+ghost use mathlib.Core.List.{IsPrefix};
+ghost use Rattle.logbook.specs.Pages.{may_write};
+ghost use Rattle.crack_witness.specs.Histories.{history_of, IsHistory, AreHistories, AreEmpty};
+ghost use Rattle.crack_witness.specs.Rules.{HasWord, IsOwnerAt};
+
+use crate::event::{Add, Event, Head, Look, Make, Nothing, Open, Token, Update};
+use crate::opening::{Naming, Owner};
+use crack_row::{Command, Reply};
+use logbook::{Pen, Plain};
+use std::marker::{Model, PhantomData};
+
+/// A beginning of the book that was seen, in no bytes. Contracts see its events.
+#[derive(Drop)]
+pub struct Front<J: Naming> {
+    seen: Token,
+    of: PhantomData<J>,
+}
+
+impl<J: Naming> Model for Front<J> {
+    ghost use Rattle.std.specs.Prelude.{◌≡◌, List};
+    ghost use Rattle.crack_witness.specs.declared.event.Event.{Event};
+    ghost use Rattle.crack_witness.specs.Histories.{AreHistories};
+
+    ghost Value = { List Event };
+
+    ghost view = { λ f. f.seen.log };
+
+    ghost invariant = { λ f. (f.seen.book ≡ J.book) × AreHistories f.seen.log };
+}
+
+impl<J: Naming> Front<J> {
+    /// What a token has seen of the book.
+    pub(crate) fn new(seen: Token) -> Front<J>
+        requires book { seen.book ≡ J.book }
+        requires legal { AreHistories seen.log }
+        ensures { result ≡ seen.log }
+    {
+        Front {
+            seen,
+            of: PhantomData,
+        }
+    }
+
+    /// A copy.
+    pub fn again(&self) -> Front<J>
+        ensures { result ≡ self.now }
+    {
+        Front {
+            seen: self.seen.again(),
+            of: PhantomData,
+        }
+    }
+
+    /// Afterwards it has seen what both have.
+    pub fn learn(&mut self, other: &Front<J>)
+        ensures { IsPrefix self.old self.new × IsPrefix other.now self.new }
+    {
+        self.seen.learn(&other.seen);
+    }
+}
+
+/// What is to be written: an entry of a partition, with the pen for the one that follows it.
+#[derive(Drop)]
+pub(crate) struct Asked<'a, J: Naming> {
+    part: u32,
+    worker: u32,
+    command: &'a Command,
+    reply: &'a Reply,
+    next: &'a Pen,
+    word: &'a Head,
+    of: PhantomData<J>,
+}
+
+impl<'a, J: Naming> Plain<Asked<'a, J>, Event, u64> for Add {
+    ghost use Rattle.std.specs.Prelude.{None, Some};
+
+    ghost ask = { λ a. record { owner = J.owner a.part; next = a.next.now.nib.key; word = a.word.now.key; entry = Some (record { worker = a.worker; command = a.command.now; reply = a.reply.now }) } };
+
+    ghost state = { λ a. None };
+}
+
+/// Who writes the entries of one partition into the book. Contracts see the partition's number, and the events that were seen.
+#[derive(Drop)]
+pub(crate) struct Scribe<J: Naming> {
+    part: u32,
+    word: Head,
+    pen: Pen,
+    seen: Token,
+    of: PhantomData<J>,
+}
+
+impl<J: Naming> Model for Scribe<J> {
+    ghost use Rattle.crack_witness.specs.Histories.{AreHistories};
+    ghost use Rattle.crack_witness.specs.Rules.{IsScribe, ScribeState};
+
+    ghost Value = { ScribeState };
+
+    ghost view = { λ s. record { part = s.part; log = s.seen.log } };
+
+    ghost invariant = { λ s. IsScribe J.book (J.owner s.part) s.word s.pen.book s.pen.nib.key s.pen.nib.right s.seen.book s.seen.log × AreHistories s.seen.log };
+}
+
+impl<J: Naming> Scribe<J> {
+    /// The scribe of a partition, which has no entry yet.
+    pub(crate) fn new(part: u32, owner: Owner) -> Scribe<J>
+        requires { IsOwnerAt J.book J.owner part owner }
+        ensures part { result.part ≡ part }
+        ensures empty { history_of (J.owner part) result.log ≡ [] }
+    {
+        let Owner { word, pen, seen } = owner;
+        Scribe {
+            part,
+            word,
+            pen,
+            seen,
+            of: PhantomData,
+        }
+    }
+
+    /// Which partition it writes for.
+    pub(crate) fn part(&self) -> u32
+        ensures part { result ≡ self.now.part }
+        ensures legal { AreHistories self.now.log }
+    {
+        self.part
+    }
+
+    /// Writes an entry after all that the scribe and the one who asks have seen. O(1): two steps on the partition's own word.
+    pub(crate) fn write(&mut self, me: &mut Front<J>, worker: u32, command: &Command, reply: &Reply)
+        requires { IsHistory (history_of (J.owner self.old.part) self.old.log ++ record { worker = worker; command = command.now; reply = reply.now } ∷ []) }
+        ensures part { self.new.part ≡ self.old.part }
+        ensures seen { me.new ≡ self.new.log }
+        ensures begins { IsPrefix self.old.log self.new.log × IsPrefix me.old self.new.log }
+        ensures history { history_of (J.owner self.old.part) self.new.log ≡ history_of (J.owner self.old.part) self.old.log ++ record { worker = worker; command = command.now; reply = reply.now } ∷ [] }
+        ensures before { IsPrefix (history_of (J.owner self.old.part) me.old) (history_of (J.owner self.old.part) self.old.log) }
+        ensures legal { AreHistories self.new.log }
+    {
+        let next = fresh(&self.word, &self.seen);
+        let mut token = self.seen.again();
+        token.learn(&me.seen);
+        let asked = Asked::<J> {
+            part: self.part,
+            worker,
+            command,
+            reply,
+            next: &next,
+            word: &self.word,
+            of: PhantomData,
+        };
+        let mut offer: Update = token.plain::<Nothing, Asked<J>, Add>(&asked);
+        self.word
+            .compare_exchange::<Add, Nothing>(0, 0, &mut token, &mut offer, &mut self.pen);
+        self.pen = next;
+        self.seen = token.again();
+        me.seen = token;
+    }
+
+    /// Finds that what anyone has seen of its partition's history is a beginning of its own. O(1).
+    pub(crate) fn covers(&mut self, front: &Front<J>)
+        ensures same { self.new ≡ self.old }
+        ensures begins { IsPrefix (history_of (J.owner self.old.part) front.now) (history_of (J.owner self.old.part) self.old.log) }
+    {
+        let mut token = self.seen.again();
+        token.learn(&front.seen);
+        let mut offer: Update = token.plain::<Nothing, Head, Open>(&self.word);
+        self.word
+            .compare_exchange::<Look, Nothing>(0, 0, &mut token, &mut offer, &mut self.pen);
+    }
+}
+
+/// A pen that may write, made by one step on the word.
+fn fresh(word: &Head, seen: &Token) -> Pen
+    requires { (word.now.tracked ≡ true) × (seen.now.book ≡ word.now.book) × HasWord word.now.key seen.now.log }
+    ensures { (result.book ≡ word.now.book) × (result.nib.right ≡ may_write) }
+{
+    let mut token = seen.again();
+    let mut offer: Update = token.plain::<Nothing, Head, Open>(word);
+    let mut pen = token.no_pen();
+    word.compare_exchange::<Make, Nothing>(0, 0, &mut token, &mut offer, &mut pen);
+    let _spare = Head::tracked(0, &mut pen);
+    pen
+}

@@ -1,0 +1,187 @@
+//! What lies under a lock: a partition, and the scribe of its whole history.
+ghost use Rattle.std.specs.Prelude.{◌≡◌, ◌⊎◌, ◌+◌, ◌<◌, ◌≤◌, [], ◌∷◌, ◌++◌, length, vec_len, IfOk, IfErr, IfSome, IsTrue, OnErr, OnOk, Err, None, ◌≢◌, ◌↔◌, ◌^◌, slice_index_or};
+ghost use mathlib.Core.List.{IsPrefix};
+ghost use Rattle.crack_row.specs.Commands.{change_of, range_of};
+ghost use Rattle.crack_plain.specs.Past.{no_past, with_entry, accepted_in};
+ghost use Rattle.crack_plain.specs.Plain.{IsSmall, IsWithin, reply_to};
+ghost use Rattle.crack_part.specs.Parts.{IsSound, state_of, folded_part, LacksCell, Serves, Spares};
+ghost use Rattle.crack_witness.specs.Histories.{history_of, calls_by, AreHistories, IsPastOf};
+ghost use Rattle.crack_witness.specs.Witnesses.{IsNewAt, IsInStep};
+ghost use Rattle.crack_witness.specs.Rules.{IsOwnerAt};
+
+use crate::opening::{Naming, Owner};
+use crate::scribe::{Front, Scribe};
+use crack_part::Partition;
+use crack_row::{Command, Policy, Refusal, Reply};
+use std::alloc::{AllocError, Global};
+use std::marker::Model;
+
+/// A partition with the scribe of its whole history since it was opened, and a count of each worker's entries there. Contracts see the
+/// partition, its number, and the events that the scribe has seen.
+#[derive(Drop)]
+pub struct Witnessed<J: Naming> {
+    partition: Partition,
+    scribe: Scribe<J>,
+    answered: Vec<u64>,
+}
+
+impl<J: Naming> Model for Witnessed<J> {
+    ghost use Rattle.std.specs.Prelude.{length};
+    ghost use Rattle.crack_witness.specs.Histories.{history_of, IsPastOf};
+    ghost use Rattle.crack_witness.specs.Witnesses.{WitnessedState};
+    ghost use Rattle.crack_witness.specs.Rules.{AreCounts};
+
+    ghost Value = { WitnessedState };
+
+    ghost view = { λ w. record { part = w.scribe.part; log = w.scribe.log; held = w.partition; workers = length w.answered.items } };
+
+    ghost invariant = { λ w. IsPastOf (history_of (J.owner w.scribe.part) w.scribe.log) w.partition.past × AreCounts w.answered.items (history_of (J.owner w.scribe.part) w.scribe.log) };
+}
+
+impl<J: Naming> Witnessed<J> {
+    /// A partition that has answered nothing, with its scribe.
+    pub(crate) fn new(
+        alloc: Global,
+        partition: Partition,
+        part: u32,
+        owner: Owner,
+        workers: u32,
+    ) -> Result<Witnessed<J>, AllocError>
+        requires owner { IsOwnerAt J.book J.owner part owner }
+        requires new { partition.past ≡ no_past }
+        ensures { IfOk result (IsNewAt J.owner workers part partition) }
+    {
+        let answered = vec![in alloc; 0u64; workers as usize]?;
+        Ok(Witnessed {
+            partition,
+            scribe: Scribe::new(part, owner),
+            answered,
+        })
+    }
+
+    /// Which partition it is.
+    pub fn part(&self) -> u32
+        ensures { result ≡ self.now.part }
+    {
+        self.scribe.part()
+    }
+
+    /// The partition itself, to be read.
+    pub fn partition(&self) -> &Partition
+        ensures { result.now ≡ self.now.held }
+    {
+        &self.partition
+    }
+
+    /// States what is true of each, and does nothing: its history is one, and what the partition keeps is all of it.
+    pub fn facts(&self)
+        ensures legal { AreHistories self.now.log }
+        ensures kept { IsPastOf (history_of (J.owner self.now.part) self.now.log) self.now.held.past }
+        ensures sound { IsSound self.now.held }
+    {
+        let _part = self.scribe.part();
+        self.partition.facts();
+    }
+
+    /// How many entries of a worker stand in its history: O(1). `None` where that is no worker of the table.
+    pub fn answered(&self, worker: u32) -> Option<u64>
+        ensures some { IfSome result (λ n. (worker < self.now.workers) × (n ≡ length (calls_by worker (history_of (J.owner self.now.part) self.now.log)))) }
+        ensures none { worker < self.now.workers → result ≢ None }
+    {
+        count_at(self.answered.as_slice(), worker)
+    }
+
+    /// Answers a command of a worker, who has been given `count` replies by this partition before, and writes it into the history: O(1)
+    /// besides `Partition::apply`, and no memory. The second reply is a copy, for a receipt.
+    /// Refused with 16, with the partition's number and that count, where the history hasn't just as many entries of the worker, or the
+    /// worker isn't one of the table's; nothing has changed then. Else refused as `Partition::apply` is, and nothing is written.
+    pub fn ask(
+        &mut self,
+        me: &mut Front<J>,
+        worker: u32,
+        count: u64,
+        command: Command,
+        policy: Policy,
+    ) -> Result<(Reply, Reply), Refusal>
+        ensures replies { IfOk result (λ replies. (replies.0 ≡ reply_to (state_of self.old.held) command) × (replies.1 ≡ replies.0)) }
+        ensures small { IfOk result (λ replies. IsSmall replies.0) }
+        ensures written { IfOk result (λ replies. history_of (J.owner self.old.part) self.new.log ≡ history_of (J.owner self.old.part) self.old.log ++ record { worker = worker; command = command; reply = replies.0 } ∷ []) }
+        ensures kept { IfOk result (λ replies. self.new.held.past ≡ with_entry self.old.held.past (record { worker = worker; command = command; reply = replies.0 })) }
+        ensures store { OnOk result (Serves policy self.old.held.keys self.old.held.next command self.old.held.store self.new.held.store) }
+        ensures opened { (self.new.held.keys ≡ self.old.held.keys) × (self.new.held.limits ≡ self.old.held.limits) }
+        ensures part { (self.new.part ≡ self.old.part) × (self.new.workers ≡ self.old.workers) }
+        ensures seen { OnOk result ((me.new ≡ self.new.log) × AreHistories me.new) }
+        ensures before { OnOk result (IsPrefix (history_of (J.owner self.old.part) me.old) (history_of (J.owner self.old.part) self.old.log)) }
+        ensures begins { IsPrefix me.old me.new × IsPrefix self.old.log self.new.log }
+        ensures in_step { OnOk result (IsInStep J.owner self.old worker count) }
+        ensures few { OnOk result (count + 1 < 2 ^ 64) }
+
+        ensures strange { (IsInStep J.owner self.old worker count → ⊥) → (result ≡ Err (Refusal.StrangeReceipt self.old.part count)) × (self.new ≡ self.old) }
+        ensures err { OnErr result ((self.new.log ≡ self.old.log) × (self.new.held.past ≡ self.old.held.past) × (me.new ≡ me.old)) }
+        ensures spared { OnErr result (Spares policy self.old.held.keys (range_of command) self.old.held.store self.new.held.store) }
+        ensures outside { IsInStep J.owner self.old worker count → (IsWithin self.old.held.keys command → ⊥) → result ≡ Err Refusal.KeyOutside }
+        ensures full { IsInStep J.owner self.old worker count → IsWithin self.old.held.keys command → self.old.held.limits.history ≤ length self.old.held.past.tail → result ≡ Err (Refusal.HistoryFull self.old.held.limits.history) }
+        ensures over { IsInStep J.owner self.old worker count → IsWithin self.old.held.keys command → length self.old.held.past.tail < self.old.held.limits.history → self.old.held.limits.life ≤ accepted_in self.old.held.past → result ≡ Err Refusal.LifeOver }
+        ensures no_cell { IsInStep J.owner self.old worker count → IsWithin self.old.held.keys command → length self.old.held.past.tail < self.old.held.limits.history → accepted_in self.old.held.past < self.old.held.limits.life → LacksCell self.old.held.limits.cells self.old.held.store (change_of command) → result ≡ Err Refusal.NoCell }
+        ensures room { IsInStep J.owner self.old worker count → IsWithin self.old.held.keys command → length self.old.held.past.tail < self.old.held.limits.history → accepted_in self.old.held.past < self.old.held.limits.life → (LacksCell self.old.held.limits.cells self.old.held.store (change_of command) → ⊥) → IfErr result (λ e. e ≡ Refusal.OutOfMemory) }
+    {
+        let part = self.scribe.part();
+        self.partition.facts();
+        if !is_at(self.answered.as_slice(), worker, count) {
+            return Err(Refusal::StrangeReceipt {
+                part,
+                position: count,
+            });
+        }
+        let asked = command;
+        let (reply, copy) = self.partition.apply(worker, command, policy)?;
+        self.scribe.write(me, worker, &asked, &reply);
+        self.answered[worker as usize] = count + 1;
+        Ok((reply, copy))
+    }
+
+    /// Folds what the partition keeps, as `Partition::checkpoint` does and with its refusal; the history stays whole.
+    pub fn checkpoint(&mut self) -> Result<u64, Refusal>
+        ensures ok { IfOk result (λ count. count ≡ length self.old.held.past.tail) }
+        ensures folded { OnOk result (self.new.held ≡ folded_part self.old.held) }
+        ensures witness { (self.new.part ≡ self.old.part) × (self.new.log ≡ self.old.log) × (self.new.workers ≡ self.old.workers) }
+        ensures err { IfErr result (λ e. e ≡ Refusal.OutOfMemory) }
+        ensures same { OnErr result (self.new ≡ self.old) }
+    {
+        self.partition.checkpoint()
+    }
+
+    /// Finds that what anyone has seen of the partition's history is a beginning of it. O(1).
+    pub fn covers(&mut self, front: &Front<J>)
+        ensures same { self.new ≡ self.old }
+        ensures begins { IsPrefix (history_of (J.owner self.old.part) front.now) (history_of (J.owner self.old.part) self.old.log) }
+    {
+        self.scribe.covers(front);
+    }
+
+    /// The partition, without its scribe.
+    pub fn into_partition(self) -> Partition
+        ensures { result ≡ self.held }
+    {
+        self.partition
+    }
+}
+
+/// The count that stands at a place, if there is one.
+pub(crate) fn count_at(counts: &[u64], place: u32) -> Option<u64>
+    ensures some { IfSome result (λ n. (place < length counts.now) × (n ≡ slice_index_or counts.now place 0)) }
+    ensures none { place < length counts.now → result ≢ None }
+{
+    if (place as usize) < counts.len() {
+        Some(counts[place as usize])
+    } else {
+        None
+    }
+}
+
+/// Whether this count stands at a place.
+fn is_at(counts: &[u64], place: u32, count: u64) -> bool
+    ensures { IsTrue result ↔ ((place < length counts.now) × (slice_index_or counts.now place 0 ≡ count)) }
+{
+    (place as usize) < counts.len() && counts[place as usize] == count
+}
