@@ -1,5 +1,5 @@
 -- A merge where no row is pending: there is nothing to do.
-use Rattle.std.proofs.Common.{◌≡◌, ◌≤◌, Bool, true, false, cond, [], refl, sym, arith}
+use Rattle.std.proofs.Common.{◌≡◌, ◌≤◌, false, [], refl, sym, arith}
 use Rattle.std.proofs.Math.Nat.{max-eq_left}
 use Rattle.crack_row.specs.Ranges.{Range}
 use Rattle.crack_row.specs.declared.command.Policy.{Policy}
@@ -12,16 +12,13 @@ use Rattle.crack_state.proofs.FollowLaws.{Follows-refl, Tallies-room}
 use Rattle.crack_state.proofs.MergeLaws.{Merges-untouched}
 use Rattle.crack_state.proofs.OutsideLaws.{SomeOf-none, SomeOf-refl}
 use Rattle.crack_ripple.specs.Near.{MergesNear, fillers_of}
-use Rattle.crack_part.specs.Parts.{LeavesNear, has_many_pending, chosen, CracksAndMerges}
+use Rattle.crack_part.specs.Parts.{LeavesNear, read_by, CracksAndMerges}
 
 LeavesOutside-idle : (s : State) (r : Range) → s.pending_in ≡ [] → s.pending_out ≡ [] → LeavesOutside s s r
 LeavesOutside-idle s r no_in no_out = record { some = rw no_out nothing; few = rw no_out (omega arith) }
 
 Evicts-idle : (s : State) (r : Range) → s.pending_in ≡ [] → Evicts s r s.pending_in
 Evicts-idle s r no_in = record { evicted = []; pending_in = rw no_in refl; some = SomeOf-none _; few = omega arith }
-
-Completes-idle : (s : State) (r : Range) → is_touched s r ≡ false → Leaves Complete s s r
-Completes-idle s r untouched = (rw untouched refl, rw untouched refl)
 
 Ripples-idle : (s : State) (r : Range) → s.pending_in ≡ [] → s.pending_out ≡ [] → Leaves Ripple s s r
 Ripples-idle s r no_in no_out = (
@@ -31,15 +28,11 @@ Ripples-idle s r no_in no_out = (
   LeavesOutside-idle s r no_in no_out,
 )
 
-Leaves-idle : (policy : Policy) (s : State) (r : Range) → s.pending_in ≡ [] → s.pending_out ≡ [] → is_touched s r ≡ false → Leaves (chosen policy s) s s r
-Leaves-idle Complete s r no_in no_out untouched = Completes-idle s r untouched
+Leaves-idle : (policy : Policy) (s : State) (r : Range) → s.pending_in ≡ [] → s.pending_out ≡ [] → is_touched s r ≡ false → Leaves (read_by policy) s s r
+Leaves-idle Complete s r no_in no_out untouched = (rw untouched refl, rw untouched refl)
 Leaves-idle Gradual s r no_in no_out untouched = (rw no_in refl, LeavesOutside-idle s r no_in no_out)
 Leaves-idle Ripple s r no_in no_out untouched = Ripples-idle s r no_in no_out
-Leaves-idle Auto s r no_in no_out untouched = by_test (has_many_pending s) (Completes-idle s r untouched) (Ripples-idle s r no_in no_out)
-  where
-    by_test : (b : Bool) → Leaves Complete s s r → Leaves Ripple s s r → Leaves (cond b Complete Ripple) s s r
-    by_test true complete ripple = complete
-    by_test false complete ripple = ripple
+Leaves-idle Auto s r no_in no_out untouched = Ripples-idle s r no_in no_out
 
 MergesNear-idle : (s : State) (r : Range) → IsIntact s [] → IsSettled s r → s.pending_in ≡ [] → s.pending_out ≡ [] → MergesNear s s r
 MergesNear-idle s r intact settled no_in no_out =
@@ -75,7 +68,7 @@ LeavesNear-idle Ripple s r intact settled no_in no_out = MergesNear-idle s r int
 LeavesNear-idle Auto s r intact settled no_in no_out = tt
 
 -- a store that was cracked and has no pending row is merged as it stands
-pub CracksAndMerges-idle : (policy : Policy) (s u : State) (r : Range) → r.low ≤ r.high → s.keys.low ≤ r.low → r.high ≤ s.keys.high → Refines s u r → IsCracked u r → IsIntact u [] → u.pending_in ≡ [] → u.pending_out ≡ [] → CracksAndMerges policy s u r
+pub CracksAndMerges-idle : (policy : Policy) (s u : State) (r : Range) → r.low ≤ r.high → s.keys.low ≤ r.low → r.high ≤ s.keys.high → Refines s u r → IsCracked u r → IsIntact u [] → u.pending_in ≡ [] → u.pending_out ≡ [] → CracksAndMerges (read_by policy) s u r
 CracksAndMerges-idle policy s u r order low high refines cracked intact no_in no_out =
     let untouched : is_touched u r ≡ false = rw (no_in, no_out) refl in
     let keys : u.keys ≡ s.keys = keys-refined (IsInner s.keys r) s u refines in
@@ -85,6 +78,6 @@ CracksAndMerges-idle policy s u r order low high refines cracked intact no_in no
       refines = refines;
       intact = intact;
       merges = record { follows = complete.follows; intact = intact; settled = complete.settled; leaves = Leaves-idle policy u r no_in no_out untouched };
-      near = LeavesNear-idle (chosen policy u) u r intact complete.settled no_in no_out;
-      tallies = Tallies-room (chosen policy u) u u (record { same = refl });
+      near = LeavesNear-idle (read_by policy) u r intact complete.settled no_in no_out;
+      tallies = Tallies-room (read_by policy) u u (record { same = refl });
     }

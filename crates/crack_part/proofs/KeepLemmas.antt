@@ -16,7 +16,7 @@ use Rattle.crack_state.proofs.StepLaws.{IsIntact-room}
 use Rattle.crack_state.proofs.CrackLaws.{keys-refined, live_rows-refined, cells-refined, pending_out-refined}
 use Rattle.crack_state.proofs.FollowLaws.{Follows-trans, Follows-room, Tallies-trans, Tallies-room, length_marks-Follows}
 use Rattle.crack_merge.specs.Merges.{EvictsFirst, LeavesRest, Stops}
-use Rattle.crack_part.specs.Parts.{chosen, ReadsRange, CracksAndMerges, StopsRead, Prepares, Spares}
+use Rattle.crack_part.specs.Parts.{is_merged_first, read_by, CracksAndMerges, Readies, Settles, ReadsRange, StopsAt, StopsRead, Prepares, Spares}
 
 -- the same rows for commands to see, as many cells, and as many of them freed or still to be
 pub record Keeps (s t : State) : Type 0 where
@@ -48,14 +48,30 @@ Keeps-refined s u r refines =
       freed = rw (cells, doomed) refl;
     }
 
-pub Keeps-settled : (policy : Policy) (s t : State) (r : Range) → CracksAndMerges policy s t r → Keeps s t
-Keeps-settled policy s t r done = Keeps-trans s done.cracked t (Keeps-refined s done.cracked r done.refines) (Keeps-follows done.cracked t done.merges.follows)
+pub Keeps-merged : (policy : Policy) (s t : State) (r : Range) → CracksAndMerges policy s t r → Keeps s t
+Keeps-merged policy s t r done = Keeps-trans s done.cracked t (Keeps-refined s done.cracked r done.refines) (Keeps-follows done.cracked t done.merges.follows)
+
+-- merging all pending rows first leaves the live rows as they were
+pub Keeps-readied : (policy : Policy) (s t : State) → Readies policy s t → Keeps s t
+Keeps-readied policy s t readies = elim readies [
+  | inl none ↦ rw none.1 (Keeps-refl s)
+  | inr first ↦ Keeps-merged Complete s t s.keys first.1
+]
+
+IsIntact-readied : (policy : Policy) (s t : State) → Readies policy s t → IsIntact s [] → IsIntact t []
+IsIntact-readied policy s t readies intact = elim readies [
+  | inl none ↦ rw none.1 intact
+  | inr first ↦ first.1.merges.intact
+]
+
+Keeps-settled : (policy : Policy) (s t : State) (r : Range) → Settles policy s t r → Keeps s t
+Keeps-settled policy s t r done = Keeps-trans s done.ready t (Keeps-readied policy s done.ready done.readies) (Keeps-merged (read_by policy) done.ready t r done.reads)
 
 -- nothing is read of an empty range
 pub ReadsRange-none : (policy : Policy) (s : State) (r : Range) → r.high ≤ r.low → ReadsRange policy s s r
 ReadsRange-none policy s r none = record { empty = λ e. refl; settled = λ filled. absurd (omega arith) }
 
-pub ReadsRange-settled : (policy : Policy) (s t : State) (r : Range) → r.low < r.high → CracksAndMerges policy s t r → ReadsRange policy s t r
+pub ReadsRange-settled : (policy : Policy) (s t : State) (r : Range) → r.low < r.high → Settles policy s t r → ReadsRange policy s t r
 ReadsRange-settled policy s t r filled done = record { empty = λ e. absurd (omega arith); settled = λ f. done }
 
 -- a read of a range leaves the live rows as they were
@@ -67,7 +83,7 @@ Keeps-reads policy s t r reads = elim (cases_lt r.low r.high) [
 
 IsIntact-reads : (policy : Policy) (s t : State) (r : Range) → ReadsRange policy s t r → IsIntact s [] → IsIntact t []
 IsIntact-reads policy s t r reads intact = elim (cases_lt r.low r.high) [
-  | inl filled ↦ (reads.settled filled).merges.intact
+  | inl filled ↦ (reads.settled filled).reads.merges.intact
   | inr empty ↦ rw (reads.empty empty) intact
 ]
 
@@ -80,10 +96,22 @@ pub IsIntact-prepared : (policy : Policy) (keys : Range) (range : Option Range) 
 IsIntact-prepared policy keys None s t same intact = rw same intact
 IsIntact-prepared policy keys (Some range) s t reads intact = IsIntact-reads policy s t (clipped range keys) reads intact
 
-Keeps-stops : (policy : Policy) (s t : State) (r : Range) → StopsRead policy s t r → Keeps s t
-Keeps-stops policy s t r read = elim read [
+Keeps-stopped : (policy : Policy) (s t : State) (r : Range) → StopsAt policy s t r → Keeps s t
+Keeps-stopped policy s t r read = elim read [
   | inl same ↦ Keeps-room s t same
   | inr done ↦ Keeps-trans s done.cracked t (Keeps-refined s done.cracked r done.refines) (Keeps-follows done.cracked t done.stops.follows)
+]
+
+IsIntact-stopped : (policy : Policy) (s t : State) (r : Range) → StopsAt policy s t r → IsIntact s [] → IsIntact t []
+IsIntact-stopped policy s t r read intact = elim read [
+  | inl same ↦ IsIntact-room s t [] same intact
+  | inr done ↦ done.stops.intact
+]
+
+Keeps-stops : (policy : Policy) (s t : State) (r : Range) → StopsRead policy s t r → Keeps s t
+Keeps-stops policy s t r read = elim read [
+  | inl first ↦ Keeps-stopped Complete s t s.keys first.1
+  | inr done ↦ Keeps-trans s done.ready t (Keeps-readied policy s done.ready done.readies) (Keeps-stopped (read_by policy) done.ready t r done.stops)
 ]
 
 -- a command that found no memory leaves the live rows as they were
@@ -94,8 +122,8 @@ Keeps-spared policy keys (Some range) s t spared = Keeps-stops policy s t (clipp
 pub IsIntact-spared : (policy : Policy) (keys : Range) (range : Option Range) (s t : State) → Spares policy keys range s t → IsIntact s [] → IsIntact t []
 IsIntact-spared policy keys None s t spared intact = IsIntact-room s t [] spared intact
 IsIntact-spared policy keys (Some range) s t spared intact = elim spared [
-  | inl same ↦ IsIntact-room s t [] same intact
-  | inr done ↦ done.stops.intact
+  | inl first ↦ IsIntact-stopped Complete s t s.keys first.1 intact
+  | inr done ↦ IsIntact-stopped (read_by policy) done.ready t (clipped range keys) done.stops (IsIntact-readied policy s done.ready done.readies intact)
 ]
 
 -- those of the handles that pass a test
@@ -168,13 +196,28 @@ Stops-merged policy s t u r merges tallies room =
         (rest.0, rest.1, record { count = rest.2.count; few = rest.2.few; loses = record { passed = loses.passed; left_are = same ∙ loses.left_are; count_is = loses.count_is } })
     by_policy Auto rest same = rest
 
+-- nothing but room is new
+StopsRead-room : (policy : Policy) (s t : State) (r : Range) → SameButRoom s t → StopsRead policy s t r
+StopsRead-room policy s t r same = by_test (is_merged_first policy s) refl
+  where
+    by_test : (b : Bool) → is_merged_first policy s ≡ b → StopsRead policy s t r
+    by_test true due = inl (due, inl same)
+    by_test false undue = inr (record { ready = s; readies = inl (undue, refl); stops = inl same })
+
+-- nothing was read
+pub Spares-same : (policy : Policy) (keys : Range) (range : Option Range) (s : State) → Spares policy keys range s s
+Spares-same policy keys None s = record { same = refl }
+Spares-same policy keys (Some range) s = StopsRead-room policy s s (clipped range keys) (record { same = refl })
+
 -- a range was read, and no memory was found afterwards
 StopsRead-read : (policy : Policy) (s u t : State) (r : Range) → ReadsRange policy s u r → SameButRoom u t → StopsRead policy s t r
 StopsRead-read policy s u t r reads room = elim (cases_lt r.low r.high) [
   | inl filled ↦
       let done = reads.settled filled in
-      inr (record { filled = filled; cracked = done.cracked; refines = done.refines; intact = done.intact; stops = Stops-merged (chosen policy done.cracked) done.cracked u t r done.merges done.tallies room })
-  | inr empty ↦ inl (subst (λ (x : State). SameButRoom x t) (reads.empty empty) room)
+      let read = done.reads in
+      let stops = Stops-merged (read_by policy) read.cracked u t r read.merges read.tallies room in
+      inr (record { ready = done.ready; readies = done.readies; stops = inr (record { filled = filled; cracked = read.cracked; refines = read.refines; intact = read.intact; stops = stops }) })
+  | inr empty ↦ StopsRead-room policy s t r (subst (λ (x : State). SameButRoom x t) (reads.empty empty) room)
 ]
 
 -- prepared, and then not performed

@@ -1,5 +1,5 @@
 -- What contracts see of a partition, and what holds of each.
-use Rattle.std.specs.Prelude.{◌≡◌, ◌⊎◌, ℕ, Bool, ◌+◌, ◌*◌, ◌<◌, ◌≤◌, nat_le, if◌then◌else◌, false, [], length, Option, Some, None}
+use Rattle.std.specs.Prelude.{◌≡◌, ◌⊎◌, ℕ, Bool, ◌+◌, ◌*◌, ◌<◌, ◌≤◌, nat_le, true, false, [], length, Option, Some, None}
 use Rattle.std.specs.List.Sorted.{IsPermutation}
 use Rattle.crack_row.specs.Commands.{change_of, range_of}
 use Rattle.crack_row.specs.Ranges.{Range, clipped}
@@ -83,42 +83,67 @@ placed serial key payload = row_with (record { 0 = serial }) key payload
 abbrev pub has_many_pending : State → Bool
 has_many_pending s = nat_le (length s.column * (length s.marks + 1)) (64 * length s.pending_in)
 
--- the policy by which a merge into this store is done: auto stands for complete where many insertions are pending, else for ripple
-abbrev pub chosen : Policy → State → Policy
-chosen Auto s = if has_many_pending s then Complete else Ripple
-chosen policy s = policy
+-- whether all pending rows are merged before a range is read: under auto, where many insertions are pending
+abbrev pub is_merged_first : Policy → State → Bool
+is_merged_first Auto s = has_many_pending s
+is_merged_first policy s = false
+
+-- the policy by which the range itself is read: ripple under auto
+abbrev pub read_by : Policy → Policy
+read_by Auto = Ripple
+read_by policy = policy
 
 -- where a merge of this policy leaves rows: ripple near the range
 abbrev pub LeavesNear : Policy → State → State → Range → Type 0
 LeavesNear Ripple s t r = MergesNear s t r
 LeavesNear _ s t r = Unit {0}
 
--- a store is cracked at the ends of a range, where it is intact, and then merged by the policy that is chosen there
+-- a store is cracked at the ends of a range, where it is intact, and then merged
 pub record CracksAndMerges (policy : Policy) (s t : State) (r : Range) : Type 0 where
   pub cracked : State
   pub refines : Refines s cracked r
   pub intact : IsIntact cracked []
-  pub merges : Merges (chosen policy cracked) cracked t r
-  pub near : LeavesNear (chosen policy cracked) cracked t r
-  pub tallies : Tallies (chosen policy cracked) cracked t
+  pub merges : Merges policy cracked t r
+  pub near : LeavesNear policy cracked t r
+  pub tallies : Tallies policy cracked t
+
+-- where all pending rows are merged first, that is done by a read of all keys under complete
+abbrev pub Readies : Policy → State → State → Type 0
+Readies policy s t = ((is_merged_first policy s ≡ false) × (t ≡ s)) ⊎ ((is_merged_first policy s ≡ true) × CracksAndMerges Complete s t s.keys)
+
+-- a store is ready for a range, and the range is then read
+pub record Settles (policy : Policy) (s t : State) (r : Range) : Type 0 where
+  pub ready : State
+  pub readies : Readies policy s ready
+  pub reads : CracksAndMerges (read_by policy) ready t r
 
 -- what a read of a range does to a store: nothing where the range is empty
 pub record ReadsRange (policy : Policy) (s t : State) (r : Range) : Type 0 where
   pub empty : r.high ≤ r.low → t ≡ s
-  pub settled : r.low < r.high → CracksAndMerges policy s t r
+  pub settled : r.low < r.high → Settles policy s t r
 
--- a store is cracked at the ends of a range, where it is intact, and its merge, by the policy that is chosen there, found no memory on the way
+-- a store is cracked at the ends of a range, where it is intact, and its merge found no memory on the way
 pub record CracksAndStops (policy : Policy) (s t : State) (r : Range) : Type 0 where
   pub filled : r.low < r.high
   pub cracked : State
   pub refines : Refines s cracked r
   pub intact : IsIntact cracked []
-  pub stops : Stops (chosen policy cracked) cracked t r
+  pub stops : Stops policy cracked t r
 
--- what a read of a range that found no memory did to a store: nothing, or the store is cracked at the ends of the range, no bound
--- else is new, and the merge went as far as it came
+-- what a read of a range under one policy that found no memory did to a store: nothing, or the store is cracked at the ends of the range, no
+-- bound else is new, and the merge went as far as it came
+abbrev pub StopsAt : Policy → State → State → Range → Type 0
+StopsAt policy s t r = SameButRoom s t ⊎ CracksAndStops policy s t r
+
+-- a store is ready for a range, and the read of that found no memory
+pub record ReadiesAndStops (policy : Policy) (s t : State) (r : Range) : Type 0 where
+  pub ready : State
+  pub readies : Readies policy s ready
+  pub stops : StopsAt (read_by policy) ready t r
+
+-- what a read of a range that found no memory did to a store: it stopped where all pending rows are merged first, or at the range
 abbrev pub StopsRead : Policy → State → State → Range → Type 0
-StopsRead policy s t r = SameButRoom s t ⊎ CracksAndStops policy s t r
+StopsRead policy s t r = ((is_merged_first policy s ≡ true) × StopsAt Complete s t s.keys) ⊎ ReadiesAndStops policy s t r
 
 -- what is done to a store before a command is replied: the range that it reads, if any, is read as far as it is within the keys
 abbrev pub Prepares : Policy → Range → Option Range → State → State → Type 0

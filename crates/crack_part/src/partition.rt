@@ -1,5 +1,5 @@
 //! Commands and their history.
-ghost use Rattle.std.specs.Prelude.{◌≡◌, ◌⊎◌, None, Some, ◌+◌, ◌<◌, ◌≤◌, ◌<ℤ◌, neg_ℤ, pos, ◌↔◌, ◌^◌, List, [], ◌∷◌, ◌++◌, length, map, filter, count_by, IsTrue, IsOk, IfOk, IfErr, IfSome, OnErr, OnOk, Err, vec_len, vec_capacity};
+ghost use Rattle.std.specs.Prelude.{◌≡◌, ◌⊎◌, None, Some, ◌+◌, ◌<◌, ◌≤◌, ◌<ℤ◌, neg_ℤ, pos, ◌↔◌, ◌^◌, List, [], ◌∷◌, ◌++◌, length, map, filter, count_by, IsTrue, true, false, IsOk, IfOk, IfErr, IfSome, OnErr, OnOk, Err, vec_len, vec_capacity};
 ghost use Rattle.std.specs.List.Sorted.{IsPermutation};
 ghost use Rattle.crack_row.specs.Commands.{change_of, range_of};
 ghost use Rattle.crack_row.specs.Ranges.{Range, IsIn, in_range};
@@ -16,7 +16,7 @@ ghost use Rattle.crack_state.specs.Points.{pending_by, MayFree, IsRenewable, Rem
 ghost use Rattle.crack_state.specs.Merge.{IsCracked, IsSettled, Merges, Tallies};
 ghost use Rattle.crack_merge.specs.Merges.{Stops};
 ghost use Rattle.crack_store.specs.Inside.{no_cells, IsLayoutOf};
-ghost use Rattle.crack_part.specs.Parts.{state_of, folded_part, IsLimit, TakesCell, LacksCell, IsSound, IsFaithful, LeavesNear, has_many_pending, chosen, CracksAndMerges, StopsRead, Serves, Spares, Prepares, Performs, placed};
+ghost use Rattle.crack_part.specs.Parts.{state_of, folded_part, IsLimit, TakesCell, LacksCell, IsSound, IsFaithful, LeavesNear, has_many_pending, is_merged_first, read_by, CracksAndMerges, Readies, Settles, StopsAt, StopsRead, Serves, Spares, Prepares, Performs, placed};
 ghost use Rattle.crack_part.specs.Inside.{IsCommon, AreCommon, MayPerform};
 
 use crack_merge::{merge_complete, merge_gradual};
@@ -544,9 +544,62 @@ fn copied(reply: Reply, alloc: Global) -> Result<Copies, Refusal>
     })
 }
 
-/// Cracks the store at the ends of a range, and merges by the policy what the range needs.
+/// Settles the store for a range. Under `Policy::Auto` all pending rows are merged first where many insertions are pending, as a count of all keys
+/// under `Policy::Complete` does, and the range is then read under `Policy::Ripple`.
 #[inline(never)]
 fn settle(
+    store: &mut Store,
+    alloc: Global,
+    keys: KeyRange,
+    range: KeyRange,
+    policy: Policy,
+) -> Result<(), Refusal>
+    requires ends { store.old.keys ≡ keys }
+    requires filled { range.low < range.high }
+    requires low { keys.low ≤ range.low }
+    requires high { range.high ≤ keys.high }
+    ensures settled { OnOk result (Settles policy store.old store.new range) }
+    ensures stopped { OnErr result (StopsRead policy store.old store.new range) }
+    ensures err { IfErr result (λ e. e ≡ Refusal.OutOfMemory) }
+{
+    make_ready(store, alloc, keys, policy)?;
+    crack_and_merge(store, alloc, keys, range, policy)
+}
+
+/// Merges all pending rows, where that is due before a range is read.
+#[inline(always)]
+fn make_ready(
+    store: &mut Store,
+    alloc: Global,
+    keys: KeyRange,
+    policy: Policy,
+) -> Result<(), Refusal>
+    requires ends { store.old.keys ≡ keys }
+    requires filled { keys.low < keys.high }
+    ensures ready { OnOk result (Readies policy store.old store.new) }
+    ensures stopped { OnErr result ((is_merged_first policy store.old ≡ true) × StopsAt Policy.Complete store.old store.new store.old.keys) }
+    ensures err { IfErr result (λ e. e ≡ Refusal.OutOfMemory) }
+{
+    if is_merged_first(policy, store) {
+        return crack_and_merge(store, alloc, keys, keys, Policy::Complete);
+    }
+    Ok(())
+}
+
+/// Whether all pending rows are merged before a range is read. O(1).
+#[inline(always)]
+fn is_merged_first(policy: Policy, store: &Store) -> bool
+    ensures { result ≡ is_merged_first policy store.now }
+{
+    match policy {
+        Policy::Auto => has_many_pending(store),
+        _ => false,
+    }
+}
+
+/// Cracks the store at the ends of a range, and merges by the policy what the range needs.
+#[inline(never)]
+fn crack_and_merge(
     store: &mut Store,
     alloc: Global,
     keys: KeyRange,
@@ -556,8 +609,8 @@ fn settle(
     requires filled { range.low < range.high }
     requires low { store.old.keys.low ≤ range.low }
     requires high { range.high ≤ store.old.keys.high }
-    ensures settled { OnOk result (CracksAndMerges policy store.old store.new range) }
-    ensures stopped { OnErr result (StopsRead policy store.old store.new range) }
+    ensures settled { OnOk result (CracksAndMerges (read_by policy) store.old store.new range) }
+    ensures stopped { OnErr result (StopsAt (read_by policy) store.old store.new range) }
     ensures err { IfErr result (λ e. e ≡ Refusal.OutOfMemory) }
 {
     if let Err(refusal) = store.crack(range) {
@@ -580,7 +633,7 @@ fn settle(
     }
 }
 
-/// Merges what a range needs by whose ends the store was cracked: by the policy, or by the one that `Policy::Auto` stands for here.
+/// Merges by the policy what a range needs by whose ends the store was cracked; `Policy::Auto` merges as `Policy::Ripple` here.
 fn merge(
     store: Store,
     range: KeyRange,
@@ -590,17 +643,16 @@ fn merge(
     requires low { store.keys.low ≤ range.low }
     requires high { range.high ≤ store.keys.high }
     requires cracked { IsCracked store range }
-    ensures merged { IfOk result (λ r. Merges (chosen policy store) store r.0 range) }
-    ensures near { IfOk result (λ r. LeavesNear (chosen policy store) store r.0 range) }
-    ensures tallied { IfOk result (λ r. Tallies (chosen policy store) store r.0) }
-    ensures stopped { IfErr result (λ e. Stops (chosen policy store) store e.0 range) }
+    ensures merged { IfOk result (λ r. Merges (read_by policy) store r.0 range) }
+    ensures near { IfOk result (λ r. LeavesNear (read_by policy) store r.0 range) }
+    ensures tallied { IfOk result (λ r. Tallies (read_by policy) store r.0) }
+    ensures stopped { IfErr result (λ e. Stops (read_by policy) store e.0 range) }
     ensures err { IfErr result (λ e. e.1 ≡ Refusal.OutOfMemory) }
 {
     match policy {
         Policy::Complete => merge_complete(store, range),
         Policy::Gradual => merge_gradual(store, range),
         Policy::Ripple => merge_ripple(store, range),
-        Policy::Auto if has_many_pending(&store) => merge_complete(store, range),
         Policy::Auto => merge_ripple(store, range),
     }
 }

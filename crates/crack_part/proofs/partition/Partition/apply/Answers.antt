@@ -7,7 +7,7 @@ use Rattle.crack_plain.specs.Past.{Past, state_after}
 use Rattle.crack_plain.specs.Plain.{IsSmall}
 use Rattle.crack_plain.proofs.PastLaws.{state_after-push, IsNumbered-after_past}
 use Rattle.crack_part.proofs.CellLemmas.{fits-served}
-use Rattle.crack_part.proofs.KeepLemmas.{Keeps-spared, IsIntact-spared, Keeps-prepared, Spares-prepared}
+use Rattle.crack_part.proofs.KeepLemmas.{Keeps-spared, IsIntact-spared, Keeps-prepared, Spares-same, Spares-prepared}
 use Rattle.crack_part.proofs.SoundLemmas.{lived, few_rows, next-le-life, MayPerform-prepared, IsSound-kept, IsSound-served, Spends-served}
 use Rattle.crack_part.proofs.PointLemmas.{on_err}
 use Rattle.crack_part.proofs.partition.Partition.apply.Goals as goal
@@ -34,6 +34,12 @@ invariant_of-self-in_err-copies c = elim c.in_ok-reply.ensures.lists [
       rw (c.make_room.ensures.same, read.1) (IsSound-kept _ c.answer.new.store c.self.invariant keeps c.in_ok-reply.ensures.intact)
   | inr flat ↦ absurd (false≢true (c.in_err-copies.ensures.flat flat))
 ]
+
+pub returns-in_err-may_keep-clause-spared : goal.returns-in_err-may_keep-clause-spared
+returns-in_err-may_keep-clause-spared c = on_err _ (Spares-same c.args.policy _ (range_of c.args.command) _)
+
+pub returns-in_err-make_room-clause-spared : goal.returns-in_err-make_room-clause-spared
+returns-in_err-make_room-clause-spared c = rw (← c.self.view_is) (on_err _ (Spares-same c.args.policy _ (range_of c.args.command) _))
 
 pub returns-in_err-copies-clause-spared : goal.returns-in_err-copies-clause-spared
 returns-in_err-copies-clause-spared c = elim c.in_ok-reply.ensures.lists [
