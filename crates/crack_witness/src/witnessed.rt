@@ -118,7 +118,7 @@ impl<J: Naming> Witnessed<J> {
 
         ensures strange { (IsInStep J.owner self.old worker count → ⊥) → (result ≡ Err (Refusal.StrangeReceipt self.old.part count)) × (self.new ≡ self.old) }
         ensures err { OnErr result ((self.new.log ≡ self.old.log) × (self.new.held.past ≡ self.old.held.past) × (me.new ≡ me.old)) }
-        ensures spared { OnErr result (Spares policy self.old.held.keys (range_of command) self.old.held.store self.new.held.store) }
+        ensures spared { IsInStep J.owner self.old worker count → OnErr result (Spares policy self.old.held.keys (range_of command) self.old.held.store self.new.held.store) }
         ensures outside { IsInStep J.owner self.old worker count → (IsWithin self.old.held.keys command → ⊥) → result ≡ Err Refusal.KeyOutside }
         ensures full { IsInStep J.owner self.old worker count → IsWithin self.old.held.keys command → self.old.held.limits.history ≤ length self.old.held.past.tail → result ≡ Err (Refusal.HistoryFull self.old.held.limits.history) }
         ensures over { IsInStep J.owner self.old worker count → IsWithin self.old.held.keys command → length self.old.held.past.tail < self.old.held.limits.history → self.old.held.limits.life ≤ accepted_in self.old.held.past → result ≡ Err Refusal.LifeOver }
