@@ -38,7 +38,7 @@ def told(output, status):
 def run(program):
     """Runs all tests. How many passed, and how many failed."""
     environment = {**os.environ, "CRACKD": str(pathlib.Path(program).resolve())}
-    command = [interpreter(), "-W", "error::DeprecationWarning", str(PACKAGE / "tests")]
+    command = [interpreter(), str(PACKAGE / "tests")]
     try:
         ran = subprocess.run(command, env=environment, stdout=subprocess.PIPE, stderr=subprocess.STDOUT, text=True, timeout=SECONDS, check=False)
     except subprocess.TimeoutExpired:

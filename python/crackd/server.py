@@ -65,13 +65,15 @@ class Server:
         try:
             self._process = subprocess.Popen(words, **how)
         except OSError as error:
+            self._errors.close()
             raise NoServer(f"{command[0]}: {error.strerror}") from error
 
     def _complaint(self) -> str:
         """What the program wrote to standard error, once it has ended."""
         self._process.communicate()
         self._errors.seek(0)
-        return self._errors.read().decode("utf-8", "replace").strip()
+        with self._errors:
+            return self._errors.read().decode("utf-8", "replace").strip()
 
     def _complain(self, complaint: str) -> None:
         said = complaint.partition("refused ")[2].split()
