@@ -131,7 +131,7 @@ class Served:
 
     def __init__(self, program, words, texts, environment):
         self.got, self.wrote, self.port = [], b"", server.free_port()
-        command = [program, "serve", "--port", str(self.port), *words]
+        command = [program, "serve", "--port", str(self.port), "--quiet", *words]
         how = {"stdin": subprocess.DEVNULL, "stdout": subprocess.PIPE, "stderr": subprocess.PIPE, "env": environment}
         with subprocess.Popen(command, **how) as it:
             watch = threading.Timer(memory.SECONDS, it.kill)

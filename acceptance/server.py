@@ -45,7 +45,7 @@ def started(program, workers, sessions, *words, environment=None):
     for _ in range(TRIES):
         port = free_port()
         server = subprocess.Popen(
-            [program, "serve", "--port", str(port), "--workers", str(workers), "--sessions", str(sessions), *words],
+            [program, "serve", "--port", str(port), "--workers", str(workers), "--sessions", str(sessions), "--quiet", *words],
             stdin=subprocess.DEVNULL,
             stdout=subprocess.PIPE,
             stderr=subprocess.PIPE,
@@ -251,7 +251,7 @@ def a_thread_that_cannot_be_started(program):
     expect("a batch of one worker", (0, alone, ""), batch(program, 1, "0 count 0 1\n", limit=few_bytes))
     port = free_port()
     ran = subprocess.run(
-        [program, "serve", "--port", str(port), "--workers", str(MOST_WORKERS), "--sessions", "1"],
+        [program, "serve", "--port", str(port), "--workers", str(MOST_WORKERS), "--sessions", "1", "--quiet"],
         stdin=subprocess.DEVNULL,
         capture_output=True,
         text=True,

@@ -36,6 +36,7 @@ import random_script
 import rooms
 import run
 import server
+import server_ends
 import server_limits
 
 PROGRAM = TOP / "crates" / "crackd" / "out" / "crackd"
@@ -133,7 +134,7 @@ def test_all():
     passed, failed, times = gate()
     if PROGRAM.exists():
         more = [check_tools.run_all(), check_hostile.run_all(), check_clients.run_all(), run.run_all(PROGRAM), random_script.run(PROGRAM)]
-        more += [server.run(PROGRAM), server_limits.run(PROGRAM), clients.run(PROGRAM), hostile.run(PROGRAM), examples.run(PROGRAM)]
+        more += [server.run(PROGRAM), server_ends.run(PROGRAM), server_limits.run(PROGRAM), clients.run(PROGRAM), hostile.run(PROGRAM), examples.run(PROGRAM)]
         more += [package.run(PROGRAM)]
         more_passed, more_failed = (sum(it) for it in zip(*more))
     else:

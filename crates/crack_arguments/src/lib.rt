@@ -9,10 +9,16 @@ use crack_row::{Bound, BoundNumber, GREATEST_LIMIT, Limits, Policy, Refusal};
 use std::alloc::{AllocError, Global};
 use thiserror::Error;
 
+/// The version of the program, as `--version` prints it.
+pub const VERSION: &str = "0.1.0";
+
+/// The option that has errors explained, wherever it stands in a command line.
+const WORDS: &str = "--words";
+
 /// What a command line asks for.
 #[derive(Drop)]
 pub enum Request {
-    /// The help that was asked for, as it is to be printed.
+    /// The help or the version that was asked for, as it is to be printed.
     Help(String),
     /// To serve standard input to standard output, over a table of one's own.
     Script(Opening),
@@ -48,8 +54,12 @@ pub struct Service {
     pub table: Staffed,
     /// The port of 127.0.0.1 that it listens on, which isn't 0.
     pub port: u16,
-    /// How many connections it serves.
-    pub sessions: u64,
+    /// How many connections it serves; without it, it serves until its input ends.
+    pub sessions: Option<u64>,
+    /// How long one read or write of a connection may wait, in seconds, at least 1; without it, for ever.
+    pub idle: Option<u32>,
+    /// Whether nothing is written to standard error but a refusal.
+    pub is_quiet: bool,
 }
 
 /// The names that a policy goes by.
@@ -62,6 +72,9 @@ pub enum ArgumentsError {
     /// unknown policy.
     #[error("bad arguments")]
     Bad,
+    /// The same, with the parser's own text.
+    #[error("bad arguments\n{0}")]
+    Explained(String),
     /// There was no memory to read it.
     #[error("{0}")]
     Refused(Refusal),
@@ -137,9 +150,38 @@ fn sessions_option<'a>(alloc: Global) -> Arg<'a> {
     Arg::new(alloc, "sessions")
         .long("sessions")
         .value_name("N")
-        .required(true)
         .value_parser(value_parser!(u64))
         .help("How many connections are served before it ends")
+}
+
+fn until_eof_option<'a>(alloc: Global) -> Arg<'a> {
+    Arg::new(alloc, "until-eof")
+        .long("until-eof")
+        .action(ArgAction::SetTrue)
+        .help("Serves until standard input ends, in place of --sessions")
+}
+
+fn idle_option<'a>(alloc: Global) -> Arg<'a> {
+    Arg::new(alloc, "idle")
+        .long("idle")
+        .value_name("SECONDS")
+        .value_parser(value_parser!(u64))
+        .help("Ends a session that waits so long for its client [default: never]")
+}
+
+fn quiet_option<'a>(alloc: Global) -> Arg<'a> {
+    Arg::new(alloc, "quiet")
+        .long("quiet")
+        .action(ArgAction::SetTrue)
+        .help("Writes nothing to standard error but a refusal")
+}
+
+fn words_option<'a>(alloc: Global) -> Arg<'a> {
+    Arg::new(alloc, "words")
+        .long("words")
+        .global(true)
+        .action(ArgAction::SetTrue)
+        .help("Explains an error in words, on standard error")
 }
 
 /// A subcommand with the options and the splits of every opening.
@@ -187,7 +229,10 @@ fn serve_command<'a>(alloc: Global) -> Result<Command<'a>, AllocError> {
     )?
     .arg(port_option(alloc))?
     .arg(workers_option(alloc))?
-    .arg(sessions_option(alloc))
+    .arg(sessions_option(alloc))?
+    .arg(until_eof_option(alloc))?
+    .arg(idle_option(alloc))?
+    .arg(quiet_option(alloc))
 }
 
 fn csv_command<'a>(alloc: Global) -> Result<Command<'a>, AllocError> {
@@ -203,8 +248,10 @@ fn csv_command<'a>(alloc: Global) -> Result<Command<'a>, AllocError> {
 fn command_line<'a>(alloc: Global) -> Result<Command<'a>, AllocError> {
     Command::new(alloc, "crackd")
         .about("An in-memory table that its queries put into order")
+        .version(VERSION)
         .after_help(help::OF_PROGRAM)
         .subcommand_required(true)
+        .arg(words_option(alloc))?
         .subcommand(script_command(alloc)?)?
         .subcommand(batch_command(alloc)?)?
         .subcommand(serve_command(alloc)?)?
@@ -274,10 +321,32 @@ fn staffed_of(alloc: Global, matches: &ArgMatches<'_>) -> Result<Staffed, Argume
     })
 }
 
+/// How many sessions a server has, or that it serves until its input ends: one of the two is said.
+fn sessions_of(matches: &ArgMatches<'_>) -> Result<Option<u64>, ArgumentsError> {
+    let sessions = matches.get_one::<u64>("sessions");
+    if sessions.is_some() == matches.get_flag("until-eof") {
+        return Err(ArgumentsError::Bad);
+    }
+    Ok(sessions)
+}
+
+/// How long a read or a write of a connection may wait, in seconds: 1 to 2^32 - 1.
+fn idle_of(matches: &ArgMatches<'_>) -> Result<Option<u32>, ArgumentsError> {
+    let Some(seconds) = matches.get_one::<u64>("idle") else {
+        return Ok(None);
+    };
+    match u32::try_from(seconds) {
+        Ok(seconds) if seconds > 0 => Ok(Some(seconds)),
+        _ => Err(ArgumentsError::Bad),
+    }
+}
+
 fn service_of(alloc: Global, matches: &ArgMatches<'_>) -> Result<Service, ArgumentsError> {
     Ok(Service {
         port: port_of(matches)?,
-        sessions: number_of(matches, "sessions")?,
+        sessions: sessions_of(matches)?,
+        idle: idle_of(matches)?,
+        is_quiet: matches.get_flag("quiet"),
         table: staffed_of(alloc, matches)?,
     })
 }
@@ -311,13 +380,33 @@ fn request_of(alloc: Global, matches: &ArgMatches<'_>) -> Result<Request, Argume
     }
 }
 
-/// What the parser says where it gives no matches: the help that was asked for, or why there is no request.
-fn unmatched(alloc: Global, error: &clap::Error) -> Result<Request, ArgumentsError> {
+/// Whether a command line asks for errors in words.
+pub fn asks_for_words(words: &[String]) -> bool {
+    words.iter().any(|word| word.as_str() == WORDS)
+}
+
+/// What the parser says where it gives no matches: the help or the version that was asked for, or why there is no request.
+fn unmatched(
+    alloc: Global,
+    error: &clap::Error,
+    in_words: bool,
+) -> Result<Request, ArgumentsError> {
     match error.kind() {
-        ErrorKind::DisplayHelp => Ok(Request::Help(error.to_string(alloc)?)),
+        ErrorKind::DisplayHelp | ErrorKind::DisplayVersion => {
+            Ok(Request::Help(error.to_string(alloc)?))
+        }
         ErrorKind::OutOfMemory => Err(ArgumentsError::Refused(Refusal::OutOfMemory)),
+        _ if in_words => Err(explained(alloc, error)?),
         _ => Err(ArgumentsError::Bad),
     }
+}
+
+/// A mistake with the parser's own text, without the line feeds at its end.
+fn explained(alloc: Global, error: &clap::Error) -> Result<ArgumentsError, AllocError> {
+    let text = error.to_string(alloc)?;
+    let line = String::from_str(alloc, text.trim_end())?;
+    drop(text);
+    Ok(ArgumentsError::Explained(line))
 }
 
 /// Reads the words of a command line, the program's name first.
@@ -329,7 +418,7 @@ pub fn read(alloc: Global, words: &[String]) -> Result<Request, ArgumentsError> 
             request
         }
         Err(error) => {
-            let request = unmatched(alloc, &error);
+            let request = unmatched(alloc, &error, asks_for_words(words));
             drop(error);
             request
         }

@@ -2,12 +2,16 @@
 #![tactic(auto)]
 
 pub mod batch;
+pub mod host;
 mod input;
 pub mod server;
+pub mod tickets;
 mod totals;
 
 pub use batch::run_batch;
-pub use server::run_server;
+pub use host::{Alone, Host, Notice};
+pub use server::{Terms, run_server, run_service};
+pub use tickets::Ending;
 
 /// How many bytes the input of a batch may have.
 pub const MOST_INPUT_BYTES: u64 = 67108864;

@@ -1,34 +1,29 @@
 //! A server: sessions over TCP, each worker's on a thread of its own.
 use crate::REPLY_BYTES;
+use crate::host::{Alone, Host, Notice};
+use crate::tickets::{Ending, Tickets};
 use crate::totals::totals_of;
 use crack_row::{Policy, Refusal, Watched};
 use crack_session::serve;
 use crack_table::{Gate, Table, Worker};
 use crack_worker_desk::WorkerDesk;
 use std::alloc::Global;
-use std::io::{BufWriter, Write};
-use std::net::{TcpListener, TcpStream};
-use std::sync::{Mutex, Wait};
-use std::thread;
+use std::io::{BufWriter, ErrorKind, Read, Write};
+use std::net::{Shutdown, TcpListener, TcpStream};
+use std::sync::Wait;
 use std::thread::Threads;
+use std::time::Duration;
+use std::{io, thread};
 
-/// The sessions of a server, of which each worker takes the next where it is free. The lock is the counter's own.
-#[derive(Drop)]
-struct Tickets {
-    next: Mutex<u64>,
-    sessions: u64,
-}
-
-impl Tickets {
-    /// Takes the next ticket, where there is one more.
-    fn take<Rt: Wait>(&self, rt: &Rt) -> bool {
-        let mut next = self.next.lock(rt);
-        if *next >= self.sessions {
-            return false;
-        }
-        *next += 1;
-        true
-    }
+/// How a server serves.
+#[derive(Clone, Copy, Drop)]
+pub struct Terms {
+    /// The policy that each session begins with.
+    pub policy: Policy,
+    /// When the server ends.
+    pub ending: Ending,
+    /// How long one read or write of a connection may wait, in seconds, 1 at least; without it, for ever.
+    pub idle: Option<u32>,
 }
 
 /// Serves so many connections of a listener, one at a time for each worker, then gathers the workers and writes the totals. An accept that fails,
@@ -45,88 +40,199 @@ pub fn run_server<Rt: Threads + Wait + Sync, G: Gate + Sync, W: Write>(
     gate: &G,
     writer: &mut W,
 ) -> Result<(), Refusal> {
-    match serve_all(rt, alloc, listener, &table, workers, policy, sessions, gate) {
+    let terms = Terms {
+        policy,
+        ending: Ending::AfterSessions(sessions),
+        idle: None,
+    };
+    let mut input: &[u8] = &[];
+    run_service(
+        rt, alloc, listener, table, workers, terms, gate, &Alone, &mut input, writer,
+    )
+}
+
+/// Serves connections as `run_server` does, on these terms: with `Ending::AtEndOfInput` until `input` ends or fails. Then the workers that
+/// wait for a connection are woken by `host.knock()`, and those that have one serve it to its end. A read or a write of a connection that waits
+/// longer than `terms.idle` fails, so its session is cut off. The host is given a notice of each session that was cut off, and of the end.
+/// Refused as `run_server` is.
+pub fn run_service<Rt: Threads + Wait + Sync, G: Gate + Sync, H: Host + Sync, I: Read, W: Write>(
+    rt: &Rt,
+    alloc: Global,
+    listener: &TcpListener,
+    table: Table,
+    workers: Vec<Worker>,
+    terms: Terms,
+    gate: &G,
+    host: &H,
+    input: &mut I,
+    writer: &mut W,
+) -> Result<(), Refusal> {
+    match serve_all(
+        rt, alloc, listener, &table, workers, terms, gate, host, input,
+    ) {
         Ok(workers) => totals_of(alloc, table, workers)?.write(writer),
         Err(refusal) => Err(refusal),
     }
 }
 
-/// Has each worker serve sessions on a thread of its own. The tickets are kept back until all threads are started: where one can't be, there are
+/// Has each worker serve sessions on a thread of its own. No ticket is given out before all threads are started: where one can't be, there are
 /// none, and the others end at once.
-fn serve_all<Rt: Threads + Wait + Sync, G: Gate + Sync>(
+fn serve_all<Rt: Threads + Wait + Sync, G: Gate + Sync, H: Host + Sync, I: Read>(
     rt: &Rt,
     alloc: Global,
     listener: &TcpListener,
     table: &Table,
     workers: Vec<Worker>,
-    policy: Policy,
-    sessions: u64,
+    terms: Terms,
     gate: &G,
+    host: &H,
+    input: &mut I,
 ) -> Result<Vec<Worker>, Refusal> {
     let mut threads = Vec::with_capacity(alloc, workers.len())?;
     let mut ended = Vec::with_capacity(alloc, workers.len())?;
-    let counter = Tickets {
-        next: Mutex::new(0),
-        sessions,
-    };
+    let counter = Tickets::new(terms.ending);
     let tickets = &counter;
     let all = thread::scope(thread::scope_env(), rt, move |scope| {
-        let mut next = tickets.next.lock(rt);
+        let mut progress = tickets.progress.lock(rt);
         let mut started = true;
-        'starts: for worker in workers {
-            match scope.spawn(move || serve_tickets(
-                rt, alloc, listener, table, worker, policy, tickets, gate,
-            )) {
+        'starts: for (number, worker) in (0u32..).zip(workers) {
+            match scope.spawn(move || {
+                serve_tickets(
+                    rt, alloc, listener, table, number, worker, terms, tickets, gate, host,
+                )
+            }) {
                 Ok(thread) => started = threads.push(thread).is_ok() && started,
                 Err(_) => started = false,
             }
         }
-        if !started {
-            *next = sessions;
+        progress.closed = !started;
+        drop(progress);
+        if started {
+            await_end(rt, terms.ending, tickets, host, input);
         }
-        drop(next);
         'ends: for thread in threads {
             started = ended.push(thread.join(rt)).is_ok() && started;
         }
         if started { Some(ended) } else { None }
     });
-    all.ok_or(Refusal::OutOfMemory)
+    let ended = all.ok_or(Refusal::OutOfMemory)?;
+    let (sessions, cut_off) = counter.served(rt);
+    host.note(Notice::Ended { sessions, cut_off });
+    Ok(ended)
+}
+
+/// Waits until the input of a server ends that ends with it. Then no further ticket is given out, and each worker that waits for a connection is
+/// woken by one of the host's own: as many as wait then, since none begins to wait afterwards.
+fn await_end<Rt: Wait, H: Host, I: Read>(
+    rt: &Rt,
+    ending: Ending,
+    tickets: &Tickets,
+    host: &H,
+    input: &mut I,
+) {
+    if let Ending::AtEndOfInput = ending {
+        read_out(input);
+        let waiting = tickets.close(rt);
+        'workers: for _ in 0..waiting {
+            wake(rt, tickets, host);
+        }
+    }
+}
+
+/// Reads an input to its end, or until it fails.
+fn read_out<I: Read>(input: &mut I) {
+    let mut bytes = [0u8; 512];
+    'reads: for _ in 0..u64::MAX {
+        match input.read(&mut bytes) {
+            Ok(0) => break,
+            Ok(_) => {}
+            Err(error) if error.kind() == ErrorKind::Interrupted => {}
+            Err(_) => break,
+        }
+    }
+}
+
+/// Wakes one worker that waits for a connection. A knock that fails, as for want of a descriptor, is tried again as long as a worker waits.
+fn wake<Rt: Wait, H: Host>(rt: &Rt, tickets: &Tickets, host: &H) {
+    'tries: for _ in 0..u64::MAX {
+        if host.knock() || tickets.waiting(rt) == 0 {
+            break;
+        }
+        host.pause();
+    }
 }
 
 /// Serves one connection for each ticket, as long as there are tickets.
-fn serve_tickets<Rt: Wait, G: Gate>(
+fn serve_tickets<Rt: Wait, G: Gate, H: Host>(
     rt: &Rt,
     alloc: Global,
     listener: &TcpListener,
     table: &Table,
+    number: u32,
     worker: Worker,
-    policy: Policy,
+    terms: Terms,
     tickets: &Tickets,
     gate: &G,
+    host: &H,
 ) -> Worker {
     let mut desk = WorkerDesk::new(rt, table, gate, worker);
-    'tickets: for _ in 0..tickets.sessions {
+    'tickets: for _ in 0..u64::MAX {
         if !tickets.take(rt) {
             break;
         }
-        if let Ok((stream, _)) = listener.accept() {
-            serve_stream(alloc, &mut desk, policy, &stream);
+        let accepted = listener.accept();
+        if !tickets.arrive(rt) {
+            break;
+        }
+        match accepted {
+            Ok((stream, _)) => {
+                let fault = serve_stream(alloc, &mut desk, terms, &stream);
+                tickets.end(rt, fault.is_some());
+                if let Some(refusal) = fault {
+                    host.note(Notice::CutOff {
+                        worker: number,
+                        refusal,
+                    });
+                }
+            }
+            Err(_) => host.pause(),
         }
     }
     desk.into_worker()
 }
 
-/// Serves one connection as a session. Its replies are kept until it reads again, and then sent at once.
+/// Serves one connection as a session. Its replies are kept until it reads again, and then sent at once. Why it was cut off, if it was.
 fn serve_stream<Rt: Wait, G: Gate>(
     alloc: Global,
     desk: &mut WorkerDesk<'_, Rt, G>,
-    policy: Policy,
+    terms: Terms,
     stream: &TcpStream,
-) {
+) -> Option<Refusal> {
     let _ = stream.set_nodelay(true);
-    if let Ok(buffered) = BufWriter::with_capacity(alloc, REPLY_BYTES, stream) {
-        let mut reader = Watched::new(stream);
-        let mut writer = Watched::new(buffered);
-        let _ = serve(alloc, desk, policy, &mut reader, &mut writer);
+    if limit_waits(stream, terms.idle).is_err() {
+        return Some(Refusal::ReadFault);
     }
+    let Ok(buffered) = BufWriter::with_capacity(alloc, REPLY_BYTES, stream) else {
+        return Some(Refusal::OutOfMemory);
+    };
+    let mut reader = Watched::new(stream);
+    let mut writer = Watched::new(buffered);
+    match serve(alloc, desk, terms.policy, &mut reader, &mut writer) {
+        Ok(_) => None,
+        Err(fault) => {
+            // (so that the writer, which is let go now, waits for nobody once more)
+            let _ = stream.shutdown(Shutdown::Both);
+            Some(fault.refusal)
+        }
+    }
+}
+
+/// Has each read and each write of a connection fail that waits longer than so many seconds.
+fn limit_waits(stream: &TcpStream, idle: Option<u32>) -> io::Result<()> {
+    let Some(seconds) = idle else {
+        return Ok(());
+    };
+    let most = Some(Duration::from_secs(u64::from(seconds)));
+    stream.set_read_timeout(most)?;
+    stream.set_write_timeout(most)
 }

@@ -1,6 +1,6 @@
 //! A server over loopback.
 use crack_row::{Policy, Refusal};
-use crack_server::run_server;
+use crack_server::{Ending, Host, Notice, Terms, run_server, run_service};
 use crack_table::{OpenGate, Table};
 use std::alloc::Global;
 use std::io::{Read, Write};
@@ -173,6 +173,69 @@ fn a_session_that_is_cut_off_ends_no_other(rt: HostRuntime) -> Result<(), Fail> 
     assert_eq!(rt;
         written.as_slice(),
         b"accepted 2 inserted 1 deleted 0 held 1\n".as_slice()
+    );
+    Ok(())
+}
+
+/// A host whose knock reaches a listener of this port.
+#[derive(Drop)]
+struct Knocking<'a, N: Net<Listener = TcpListener, Stream = TcpStream>> {
+    rt: &'a N,
+    port: u16,
+}
+
+impl<'a, N: Net<Listener = TcpListener, Stream = TcpStream>> Host for Knocking<'a, N> {
+    fn note(&self, _notice: Notice) {}
+
+    fn knock(&self) -> bool {
+        TcpStream::connect(self.rt, ("127.0.0.1", self.port)).is_ok()
+    }
+
+    fn pause(&self) {}
+}
+
+/// What a server of three workers writes whose input has ended.
+fn server_at_its_end<H: Threads + Wait + Net<Listener = TcpListener, Stream = TcpStream> + Sync>(
+    rt: &H,
+    alloc: Global,
+    listener: &TcpListener,
+    port: u16,
+) -> Result<Vec<u8>, Refusal> {
+    let (table, workers) = Table::open(alloc, &[], 10, 3)?;
+    let terms = Terms {
+        policy: Policy::Ripple,
+        ending: Ending::AtEndOfInput,
+        idle: Some(60),
+    };
+    let host = Knocking { rt, port };
+    let mut input: &[u8] = b"what is read is ignored";
+    let mut output = Vec::new(alloc);
+    match run_service(
+        rt,
+        alloc,
+        listener,
+        table,
+        workers,
+        terms,
+        &OpenGate,
+        &host,
+        &mut input,
+        &mut output,
+    ) {
+        Ok(()) => Ok(output),
+        Err(refusal) => Err(refusal),
+    }
+}
+
+#[test]
+fn workers_that_wait_end_with_the_input(rt: HostRuntime) -> Result<(), Fail> {
+    let alloc: Global = rt.alloc();
+    let listener = TcpListener::bind(&rt, "127.0.0.1:0")?;
+    let port = listener.local_addr()?.port();
+    let written = server_at_its_end(&rt, alloc, &listener, port)?;
+    assert_eq!(rt;
+        written.as_slice(),
+        b"accepted 0 inserted 0 deleted 0 held 0\n".as_slice()
     );
     Ok(())
 }

@@ -1,11 +1,11 @@
 //! The program `crackd`: reads its command line, and does what it asks for.
 #![tactic(auto)]
 
-use crack_arguments::{ArgumentsError, Opening, Request, Service, Staffed};
+use crack_arguments::{ArgumentsError, Opening, Request, Service, Staffed, asks_for_words};
 use crack_core::Core;
 use crack_csv::{export_csv, load_csv};
 use crack_row::{Policy, Refusal, Watched};
-use crack_server::{REPLY_BYTES, run_batch, run_server};
+use crack_server::{Ending, Host, Notice, REPLY_BYTES, Terms, run_batch, run_service};
 use crack_session::serve;
 use crack_table::{OpenGate, Table};
 use std::io::{BufWriter, ErrorKind, Write};
@@ -13,16 +13,20 @@ use std::net::{Ipv4Addr, Net, TcpListener, TcpStream};
 use std::process::ExitCode;
 use std::sync::Wait;
 use std::thread::Threads;
-use std::{env, io};
+use std::time::Duration;
+use std::{env, io, thread};
 
-/// What the command line asks for.
-fn request(rt: &HostRuntime) -> Result<Request, ArgumentsError> {
+/// What the command line asks for, and whether it asks for errors in words.
+fn request(rt: &HostRuntime) -> (Result<Request, ArgumentsError>, bool) {
     match words(rt) {
-        Ok(words) => crack_arguments::read(rt.alloc(), words.as_slice()),
-        Err(error) if error.kind() == ErrorKind::OutOfMemory => {
-            Err(ArgumentsError::Refused(Refusal::OutOfMemory))
+        Ok(words) => {
+            let request = crack_arguments::read(rt.alloc(), words.as_slice());
+            (request, asks_for_words(words.as_slice()))
         }
-        Err(_) => Err(ArgumentsError::Bad),
+        Err(error) if error.kind() == ErrorKind::OutOfMemory => {
+            (Err(ArgumentsError::Refused(Refusal::OutOfMemory)), false)
+        }
+        Err(_) => (Err(ArgumentsError::Bad), false),
     }
 }
 
@@ -112,16 +116,24 @@ fn serve_port<H: Threads + Wait + Net<Listener = TcpListener, Stream = TcpStream
         *workers,
     )?;
     let mut writer = rt.stdout();
-    match listen(handle, service.port, &mut writer) {
-        Ok(listener) => run_server(
+    let terms = terms_of(service);
+    let host = Console {
+        handle,
+        rt,
+        port: service.port,
+        is_quiet: service.is_quiet,
+    };
+    match listen(&host, &mut writer) {
+        Ok(listener) => run_service(
             handle,
             rt.alloc(),
             &listener,
             table,
             workers,
-            opening.policy,
-            service.sessions,
+            terms,
             &OpenGate,
+            &host,
+            &mut rt.stdin(),
             &mut writer,
         ),
         Err(refusal) => {
@@ -132,16 +144,53 @@ fn serve_port<H: Threads + Wait + Net<Listener = TcpListener, Stream = TcpStream
     }
 }
 
-/// Listens on a port, and tells so.
-fn listen<H: Net<Listener = TcpListener, Stream = TcpStream>, W: Write>(
-    handle: &H,
+/// How a server serves.
+fn terms_of(service: &Service) -> Terms {
+    Terms {
+        policy: service.table.opening.policy,
+        ending: match service.sessions {
+            Some(sessions) => Ending::AfterSessions(sessions),
+            None => Ending::AtEndOfInput,
+        },
+        idle: service.idle,
+    }
+}
+
+/// The program as a server's host. Its notices are lines of standard error.
+#[derive(Drop)]
+struct Console<'a, H: Net<Listener = TcpListener, Stream = TcpStream>> {
+    handle: &'a H,
+    rt: &'a HostRuntime,
     port: u16,
+    is_quiet: bool,
+}
+
+impl<'a, H: Net<Listener = TcpListener, Stream = TcpStream>> Host for Console<'a, H> {
+    fn note(&self, notice: Notice) {
+        if !self.is_quiet {
+            let _ = eprintln!(self.rt; "crackd: {notice}");
+        }
+    }
+
+    fn knock(&self) -> bool {
+        TcpStream::connect(self.handle, (Ipv4Addr::LOCALHOST, self.port)).is_ok()
+    }
+
+    fn pause(&self) {
+        thread::sleep(self.rt, Duration::from_millis(10));
+    }
+}
+
+/// Listens on the host's port, and says so.
+fn listen<H: Net<Listener = TcpListener, Stream = TcpStream>, W: Write>(
+    host: &Console<'_, H>,
     writer: &mut W,
 ) -> Result<TcpListener, Refusal> {
-    let Ok(listener) = TcpListener::bind(handle, (Ipv4Addr::LOCALHOST, port)) else {
+    let Ok(listener) = TcpListener::bind(host.handle, (Ipv4Addr::LOCALHOST, host.port)) else {
         return Err(Refusal::ReadFault);
     };
-    announce(port, writer)?;
+    announce(host.port, writer)?;
+    host.note(Notice::Listening { port: host.port });
     Ok(listener)
 }
 
@@ -169,25 +218,31 @@ fn run_request<H: Threads + Wait + Net<Listener = TcpListener, Stream = TcpStrea
     }
 }
 
+/// Writes a refusal to standard error, and its cause after it where words are asked for.
+fn complain(rt: &HostRuntime, refusal: Refusal, in_words: bool) -> ExitCode {
+    let _ = if in_words {
+        eprintln!(rt; "crackd: {refusal}: {}", refusal.cause())
+    } else {
+        eprintln!(rt; "crackd: {refusal}")
+    };
+    ExitCode::FAILURE
+}
+
 fn main(rt: HostRuntime) -> ExitCode {
-    match request(&rt) {
+    let (request, in_words) = request(&rt);
+    match request {
         Ok(request) => {
             let done = run_request(&rt, &rt, &request);
             drop(request);
             match done {
                 Ok(()) => ExitCode::SUCCESS,
-                Err(refusal) => {
-                    let _ = eprintln!(rt; "crackd: {refusal}");
-                    ExitCode::FAILURE
-                }
+                Err(refusal) => complain(&rt, refusal, in_words),
             }
         }
+        Err(ArgumentsError::Refused(refusal)) => complain(&rt, refusal, in_words),
         Err(error) => {
             let _ = eprintln!(rt; "crackd: {error}");
-            match error {
-                ArgumentsError::Bad => ExitCode::from(2),
-                ArgumentsError::Refused(_) => ExitCode::FAILURE,
-            }
+            ExitCode::from(2)
         }
     }
 }

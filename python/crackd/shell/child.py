@@ -66,7 +66,7 @@ class Server:
 
     def started(self, words):
         """The process of a server, as it begins."""
-        command = [self.program, "serve", "--port", str(self.port), "--workers", "1", "--sessions", "1", *words]
+        command = [self.program, "serve", "--port", str(self.port), "--workers", "1", "--sessions", "1", "--quiet", *words]
         pipe = subprocess.PIPE
         try:
             return subprocess.Popen(command, stdin=subprocess.DEVNULL, stdout=pipe, stderr=pipe, text=True, errors="replace", start_new_session=True)

@@ -1,0 +1,65 @@
+//! What a server says of itself, and what it asks of the program that runs it.
+use crack_row::Refusal;
+use std::fmt;
+use std::fmt::{Display, Formatter, Write};
+
+/// Something that happened to a server. Its text is a line without its end.
+#[derive(Clone, Copy, Drop)]
+pub enum Notice {
+    /// The server listens on this port of 127.0.0.1.
+    Listening { port: u16 },
+    /// A session was cut off: a read or a write of its connection failed or waited too long, or no memory was found.
+    CutOff { worker: u32, refusal: Refusal },
+    /// The server has served its last session: how many there were, those that were cut off among them.
+    Ended { sessions: u64, cut_off: u64 },
+}
+
+impl Display for Notice {
+    fn fmt<W: Write>(&self, f: &mut Formatter<W>) -> fmt::Result {
+        match *self {
+            Notice::Listening { port } => write!(f, "listening on 127.0.0.1:{port}"),
+            Notice::CutOff { worker, refusal } => {
+                let cause = cause_of(refusal);
+                write!(f, "worker {worker}: session cut off: {refusal}: {cause}")
+            }
+            Notice::Ended { sessions, cut_off } => {
+                write!(f, "ended: sessions {sessions}, cut off {cut_off}")
+            }
+        }
+    }
+}
+
+/// Why a session was cut off, in words.
+fn cause_of(refusal: Refusal) -> &'static str {
+    match refusal {
+        Refusal::ReadFault => "reading from the client failed or waited too long",
+        Refusal::WriteFault => "writing to the client failed or waited too long",
+        other => other.cause(),
+    }
+}
+
+/// What a server asks of the program that runs it, on any of its threads.
+pub trait Host {
+    /// Takes note of something that happened.
+    fn note(&self, notice: Notice);
+
+    /// Connects to the server's own listener and lets go at once, so that one worker that waits for a connection goes on. Whether it could.
+    fn knock(&self) -> bool;
+
+    /// Waits for a moment, after a call of the system that failed and is to be tried again.
+    fn pause(&self);
+}
+
+/// A host that notes nothing and never waits, for servers that end after a number of sessions. Its knock reaches nobody.
+#[derive(Clone, Copy, Drop)]
+pub struct Alone;
+
+impl Host for Alone {
+    fn note(&self, _notice: Notice) {}
+
+    fn knock(&self) -> bool {
+        true
+    }
+
+    fn pause(&self) {}
+}
