@@ -17,7 +17,6 @@ from .keys import Keys, kind_of, quantiles
 
 TRIES = 5
 SECONDS_OF_AN_END = 10
-MOST_SESSIONS = 2**32
 # where the program lies in a checkout of the repository whose python/ this package is
 BUILT = pathlib.Path(__file__).resolve().parent.parent.parent / "crates" / "crackd" / "out" / "crackd"
 
@@ -61,7 +60,8 @@ class Server:
         words = [command[0], "serve", "--port", str(self.port), *command[1:]]
         # (a file, which a server never waits for, however much it writes)
         self._errors = tempfile.TemporaryFile()
-        how = {"stdin": subprocess.DEVNULL, "stdout": subprocess.PIPE, "stderr": self._errors, "start_new_session": True}
+        # (the server ends with its input, so also where this process is killed)
+        how = {"stdin": subprocess.PIPE, "stdout": subprocess.PIPE, "stderr": self._errors, "start_new_session": True}
         try:
             self._process = subprocess.Popen(words, **how)
         except OSError as error:
@@ -143,5 +143,5 @@ def serve(
     cuts = splits_of(kind, sample, rows, partitions) if splits is None else [int(it) for it in kind.many(splits)]
     limits = {"--limit": history, "--cells": cells}
     words = [word for name, value in limits.items() if value is not None for word in (name, str(value))]
-    command = [find_program(program), "--workers", str(workers), "--sessions", str(MOST_SESSIONS), *words, *map(str, cuts)]
+    command = [find_program(program), "--workers", str(workers), "--until-eof", "--quiet", *words, *map(str, cuts)]
     return Server(command, kind, policy)
