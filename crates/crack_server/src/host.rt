@@ -9,7 +9,7 @@ pub enum Notice {
     /// The server listens on this port of 127.0.0.1.
     Listening { port: u16 },
     /// A session was cut off: a read or a write of its connection failed or waited too long, or no memory was found.
-    CutOff { worker: u32, refusal: Refusal },
+    CutOff { worker: usize, refusal: Refusal },
     /// The server has served its last session: how many there were, those that were cut off among them.
     Ended { sessions: u64, cut_off: u64 },
 }

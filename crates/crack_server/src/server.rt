@@ -95,7 +95,7 @@ fn serve_all<Rt: Threads + Wait + Sync, G: Gate + Sync, H: Host + Sync, I: Read>
     let all = thread::scope(thread::scope_env(), rt, move |scope| {
         let mut progress = tickets.progress.lock(rt);
         let mut started = true;
-        'starts: for (number, worker) in (0u32..).zip(workers) {
+        'starts: for (number, worker) in workers.into_iter().enumerate() {
             match scope.spawn(move || {
                 serve_tickets(
                     rt, alloc, listener, table, number, worker, terms, tickets, gate, host,
@@ -168,7 +168,7 @@ fn serve_tickets<Rt: Wait, G: Gate, H: Host>(
     alloc: Global,
     listener: &TcpListener,
     table: &Table,
-    number: u32,
+    number: usize,
     worker: Worker,
     terms: Terms,
     tickets: &Tickets,
