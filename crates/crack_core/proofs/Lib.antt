@@ -1,3 +1,4 @@
+pub mod AskLaws
 pub mod JobLaws
 pub mod RouteLaws
 pub mod ShortLaws

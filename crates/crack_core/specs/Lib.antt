@@ -1,3 +1,4 @@
+pub mod Asking
 pub mod Cores
 pub mod Jobs
 pub mod Opening

@@ -1,6 +1,7 @@
 //! Partitions by key range, asked by one thread; the receipts of workers, and the books that keep them.
 #![tactic(auto)]
 
+pub mod asking;
 pub mod book;
 pub mod cores;
 pub mod opening;
@@ -8,6 +9,7 @@ pub mod receipt;
 pub mod routes;
 pub mod step;
 
+pub use asking::Query;
 pub use book::Book;
 pub use cores::Core;
 pub use opening::{limits_fault, open_partitions, splits_fault};

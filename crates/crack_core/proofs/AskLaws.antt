@@ -1,0 +1,241 @@
+-- What follows of asking a partition whose full history is folded first.
+use Rattle.std.specs.Prelude.{◌≡◌, ◌⊎◌, ℕ, ◌+◌, ◌<◌, ◌≤◌, ◌≤ℤ◌, ◌^◌, neg_ℤ, pos, All, sum_by, Bool, true, false, List, [], ◌∷◌, ◌++◌, length, take, drop, map, Option, None, Some, Result, Ok, Err, IsOk, is_some, nat_le, slice_get, if◌then◌else◌}
+use Rattle.std.specs.Option.{option_map}
+use Rattle.std.proofs.Common.{zero, suc, get_or, set, arith, ap, refl, sym, subst, ◌∙◌, ⊎_elim, inl, inr}
+use Rattle.std.proofs.lemmas.List.{map-set, set-get_or, take-append-drop, take_more, drop_more}
+use Rattle.std.proofs.lemmas.Option.{slice_get-map}
+use Rattle.std.proofs.lemmas.Bool.{true≢false, leb-true}
+use Rattle.crack_row.specs.Commands.{key_of}
+use Rattle.crack_row.specs.Ranges.{Range}
+use Rattle.crack_row.specs.declared.Bound.{Bound}
+use Rattle.crack_row.specs.declared.command.Command.{Command}
+use Rattle.crack_row.specs.declared.command.Reply.{Reply}
+use Rattle.std.proofs.lemmas.Int.{ints}
+use Rattle.std.proofs.lemmas.List.Sums.{sum_by-le}
+use Rattle.crack_row.specs.declared.command.Reply.TheVariants.{Placed, Gone, Changed, NoRow, Counted, Summed, Rows}
+use Rattle.crack_row.specs.declared.limit.Limits.{Limits}
+use Rattle.crack_row.specs.declared.refusal.Refusal.{Refusal}
+use Rattle.crack_row.specs.declared.refusal.Refusal.TheVariants.{KeyOutside, HistoryFull, NoSuchPartition, OutOfMemory, NoCell, LifeOver}
+use Rattle.crack_plain.specs.Plain.{PlainView, PlainState, accepted_of, checkpointed, IsSmall, reply_to, after}
+use Rattle.crack_core.specs.declared.asking.Query.{Query}
+use Rattle.crack_core.specs.Routes.{keys_of_part}
+use Rattle.crack_core.specs.Steps.{is_key_in, bounds_of, reply_unless, MayLackCell, IsOutcome, IsOutcomeAt, IsFoldOutcome, fresh_table, table_after, tables_after, tables_folded, expected}
+use Rattle.crack_core.specs.Asking.{lasting_bounds, lasting, IsLastingOutcome, lasting_after, Asks, is_full, AsksInTurn, replies, refuses, asking, counted, summed}
+
+-- a table that was just folded
+abbrev folded_table : PlainState → ℕ → PlainView
+folded_table s accepted = record { state = s; folded = accepted; since = 0 }
+
+-- a fold leaves how many commands were accepted, and a second one changes nothing more
+accepted-same : (table : PlainView) → accepted_of (checkpointed table) ≡ accepted_of table
+accepted-same table = omega arith
+
+checkpointed-twice : (table : PlainView) → checkpointed (checkpointed table) ≡ checkpointed table
+checkpointed-twice table = ap (folded_table table.state) (accepted-same table)
+
+-- a command that is answered comes to the same before a fold and after it
+once : (table : PlainView) (command : Command) → checkpointed (table_after table command) ≡ checkpointed (table_after (checkpointed table) command)
+once table command =
+    let same : table.folded + (table.since + 1) ≡ (table.folded + table.since) + (0 + 1) = omega arith in
+    ap (folded_table (after table.state command)) same
+
+get_or-lasting : (tables : List PlainView) (part : ℕ) → get_or (lasting tables) part fresh_table ≡ checkpointed (get_or tables part fresh_table)
+get_or-lasting [] part = refl
+get_or-lasting (t ∷ tables) zero = refl
+get_or-lasting (t ∷ tables) (suc part) = get_or-lasting tables part
+
+-- the partitions after an answer, as folds leave them
+after-lasting : (tables : List PlainView) (part : ℕ) (command : Command) (r : Result Reply Refusal) → lasting (tables_after tables part command r) ≡ lasting_after (lasting tables) part command r
+after-lasting tables part command (Err e) = refl
+after-lasting tables part command (Ok reply) =
+    map-set checkpointed tables part (table_after (get_or tables part fresh_table) command)
+    ∙ ap (set (lasting tables) part) (once (get_or tables part fresh_table) command ∙ ap (λ (t : PlainView). checkpointed (table_after t command)) (sym (get_or-lasting tables part)))
+
+-- the partitions after a fold, as folds leave them
+lasting-folded : (tables : List PlainView) (part : ℕ) → lasting (set tables part (checkpointed (get_or tables part fresh_table))) ≡ lasting tables
+lasting-folded tables part =
+    map-set checkpointed tables part (checkpointed (get_or tables part fresh_table))
+    ∙ ap (set (lasting tables) part) (checkpointed-twice (get_or tables part fresh_table) ∙ sym (get_or-lasting tables part))
+    ∙ set-get_or (lasting tables) part fresh_table
+
+get-folded : (tables : List PlainView) (part : ℕ) → slice_get (set tables part (checkpointed (get_or tables part fresh_table))) part ≡ option_map checkpointed (slice_get tables part)
+get-folded [] part = refl
+get-folded (t ∷ tables) zero = refl
+get-folded (t ∷ tables) (suc part) = get-folded tables part
+
+-- a refusal
+abbrev refused_with : Refusal → Result Reply Refusal
+refused_with e = Err e
+
+-- what is expected, by what is tested in turn
+abbrev by_tests : Bool → Bool → Bool → ℕ → Reply → Result Reply Refusal
+by_tests is_own is_full is_over limit said = if is_own then reply_unless (if is_full then Some (HistoryFull limit) else (if is_over then Some LifeOver else None)) said else Err KeyOutside
+
+abbrev Comes : Result Reply Refusal → Type 0 → Result Reply Refusal → Type 0
+Comes wanted Lacks r = (r ≡ wanted) ⊎ (IsOk wanted × ((r ≡ Err OutOfMemory) ⊎ ((r ≡ Err NoCell) × Lacks)))
+
+-- no refusal is an answer
+no-ok : {X : Type 0} (e : Refusal) → IsOk (refused_with e) → X
+no-ok e is = absurd (true≢false (sym is))
+
+-- where it isn't the history that refuses, the history is nothing to it
+without-history : (is_own full over : Bool) (limit : ℕ) (said : Reply) (Lacks : Type 0) (r : Result Reply Refusal) → (r ≡ Err (HistoryFull limit) → ⊥) → Comes (by_tests is_own full over limit said) Lacks r → Comes (by_tests is_own false over limit said) Lacks r
+without-history false full over limit said Lacks r other comes = comes
+without-history true false over limit said Lacks r other comes = comes
+without-history true true over limit said Lacks r other comes = elim comes [
+  | inl is ↦ absurd (other is)
+  | inr both ↦ no-ok (HistoryFull limit) both.0
+]
+
+-- what comes out of a partition, by its test
+last-same : (limits : Limits) (keys : Range) (t : PlainView) (command : Command) (r : Result Reply Refusal) → Comes (by_tests (is_key_in keys (key_of command)) false (nat_le limits.life (accepted_of t)) limits.history (reply_to t.state command)) (MayLackCell limits.cells (Some t) command) r → IsOutcome (lasting_bounds limits) keys (Some (checkpointed t)) command r
+last-same limits keys t command r comes = rw (accepted-same t) comes
+
+outcome-lasting : (limits : Limits) (keys : Range) (table : Option PlainView) (command : Command) (r : Result Reply Refusal) → (r ≡ Err (HistoryFull limits.history) → ⊥) → IsOutcome (bounds_of limits) keys table command r → IsOutcome (lasting_bounds limits) keys (option_map checkpointed table) command r
+outcome-lasting limits keys None command r other comes = comes
+outcome-lasting limits keys (Some t) command r other comes = last-same limits keys t command r (without-history (is_key_in keys (key_of command)) (nat_le limits.history t.since) (nat_le limits.life (accepted_of t)) limits.history (reply_to t.state command) (MayLackCell limits.cells (Some t) command) r other comes)
+
+-- a history that is empty isn't full
+not-full : (history : ℕ) → 1 ≤ history → nat_le history 0 ≡ false
+not-full history some = by_test (nat_le history 0) refl
+  where
+    by_test : (b : Bool) → nat_le history 0 ≡ b → b ≡ false
+    by_test false is = refl
+    by_test true is = absurd (omega (arith, some, leb-true history 0 is))
+
+outcome-folded : (limits : Limits) (keys : Range) (table : Option PlainView) (command : Command) (r : Result Reply Refusal) → 1 ≤ limits.history → IsOutcome (bounds_of limits) keys (option_map checkpointed table) command r → IsOutcome (lasting_bounds limits) keys (option_map checkpointed table) command r
+outcome-folded limits keys None command r some comes = comes
+outcome-folded limits keys (Some t) command r some comes = subst (λ (b : Bool). Comes (by_tests (is_key_in keys (key_of command)) b (nat_le limits.life (accepted_of (checkpointed t))) limits.history (reply_to t.state command)) (MayLackCell limits.cells (Some (checkpointed t)) command) r) (not-full limits.history some) comes
+
+-- a partition that isn't folded is asked
+pub asked-plain : (limits : Limits) (splits : List Bound) (tables new : List PlainView) (part : ℕ) (command : Command) (r : Result Reply Refusal) → (r ≡ Err (HistoryFull limits.history) → ⊥) → IsOutcomeAt (bounds_of limits) splits tables part command r → new ≡ tables_after tables part command r → Asks limits splits part command r (lasting tables) (lasting new)
+asked-plain limits splits tables new part command r other outcome left = record {
+  comes_out = inl (subst (λ (o : Option PlainView). IsOutcome (lasting_bounds limits) (keys_of_part splits part) o command r) (sym (slice_get-map checkpointed tables part)) (outcome-lasting limits (keys_of_part splits part) (slice_get tables part) command r other outcome));
+  leaves = ap lasting left ∙ after-lasting tables part command r;
+}
+
+-- a partition that was folded is asked
+pub asked-folded : (limits : Limits) (splits : List Bound) (tables between new : List PlainView) (part count : ℕ) (command : Command) (r : Result Reply Refusal) → 1 ≤ limits.history → between ≡ tables_folded tables part (Ok count) → IsOutcomeAt (bounds_of limits) splits between part command r → new ≡ tables_after between part command r → Asks limits splits part command r (lasting tables) (lasting new)
+asked-folded limits splits tables between new part count command r some fold outcome left =
+    let there : slice_get between part ≡ option_map checkpointed (slice_get tables part) = ap (λ (ts : List PlainView). slice_get ts part) fold ∙ get-folded tables part in
+    let keys = keys_of_part splits part in
+    let same : lasting between ≡ lasting tables = ap lasting fold ∙ lasting-folded tables part in record {
+      comes_out = inl (subst (λ (o : Option PlainView). IsOutcome (lasting_bounds limits) keys o command r) (sym (slice_get-map checkpointed tables part)) (outcome-folded limits keys (slice_get tables part) command r some (subst (λ (o : Option PlainView). IsOutcome (bounds_of limits) keys o command r) there outcome)));
+      leaves = ap lasting left ∙ after-lasting between part command r ∙ ap (λ (ts : List PlainView). lasting_after ts part command r) same;
+    }
+
+-- what no full history refused, and what one did
+pub not-full-is : (r : Result Reply Refusal) (limit : ℕ) → is_full r ≡ false → r ≡ Err (HistoryFull limit) → ⊥
+not-full-is r limit not is = true≢false (sym (ap is_full is) ∙ not)
+
+pub full-leaves : (tables : List PlainView) (part : ℕ) (command : Command) (r : Result Reply Refusal) → is_full r ≡ true → tables_after tables part command r ≡ tables
+full-leaves tables part command (Ok reply) full = absurd (true≢false (sym full))
+full-leaves tables part command (Err e) full = refl
+
+-- the fold of a full history found no memory
+short : (is_own full_now over : Bool) (limit : ℕ) (said : Reply) (Lacks Lacks' : Type 0) (r : Result Reply Refusal) → is_full r ≡ true → Comes (by_tests is_own full_now over limit said) Lacks r → Comes (by_tests is_own false over limit said) Lacks' (refused_with OutOfMemory) ⊎ ((refused_with OutOfMemory ≡ Err OutOfMemory) × (by_tests is_own false over limit said ≡ Err LifeOver))
+short false full_now over limit said Lacks Lacks' r full comes = elim comes [
+  | inl is ↦ absurd (true≢false (sym full ∙ ap is_full is))
+  | inr both ↦ no-ok KeyOutside both.0
+]
+short true full_now false limit said Lacks Lacks' r full comes = inl (inr (refl, inl refl))
+short true full_now true limit said Lacks Lacks' r full comes = inr (refl, refl)
+
+-- what comes out then
+abbrev Shortly : Limits → Range → Option PlainView → Command → Result Reply Refusal → Type 0
+Shortly limits keys table command r = IsOutcome (lasting_bounds limits) keys table command r ⊎ ((r ≡ Err OutOfMemory) × (expected (lasting_bounds limits) keys table command ≡ Err LifeOver))
+
+short-some : (limits : Limits) (keys : Range) (t : PlainView) (command : Command) (r : Result Reply Refusal) → is_full r ≡ true → IsOutcome (bounds_of limits) keys (Some t) command r → Shortly limits keys (Some (checkpointed t)) command (Err OutOfMemory)
+short-some limits keys t command r full outcome = rw (accepted-same t) (short (is_key_in keys (key_of command)) (nat_le limits.history t.since) (nat_le limits.life (accepted_of t)) limits.history (reply_to t.state command) (MayLackCell limits.cells (Some t) command) (MayLackCell limits.cells (Some t) command) r full outcome)
+
+outcome-short : (limits : Limits) (keys : Range) (table : Option PlainView) (command : Command) (r : Result Reply Refusal) (e : Refusal) → is_full r ≡ true → IsOutcome (bounds_of limits) keys table command r → IsFoldOutcome table (Err e) → Shortly limits keys (option_map checkpointed table) command (Err e)
+outcome-short limits keys None command r e full outcome fold = elim outcome [
+  | inl is ↦ absurd (true≢false (sym full ∙ ap is_full is))
+  | inr both ↦ no-ok NoSuchPartition both.0
+]
+outcome-short limits keys (Some t) command r e full outcome fold = elim fold [
+  | inl is ↦ cc is
+  | inr is ↦ subst (λ (x : Refusal). Shortly limits keys (Some (checkpointed t)) command (Err x)) (sym (same is)) (short-some limits keys t command r full outcome)
+]
+  where
+    gone : Result ℕ Refusal → Refusal
+    gone (Ok n) = OutOfMemory
+    gone (Err x) = x
+
+    same : {u v : Result ℕ Refusal} → u ≡ v → gone u ≡ gone v
+    same is = ap gone is
+
+pub asked-short : (limits : Limits) (splits : List Bound) (tables new : List PlainView) (part : ℕ) (command : Command) (r : Result Reply Refusal) (e : Refusal) → is_full r ≡ true → IsOutcomeAt (bounds_of limits) splits tables part command r → IsFoldOutcome (slice_get tables part) (Err e) → new ≡ tables → Asks limits splits part command (Err e) (lasting tables) (lasting new)
+asked-short limits splits tables new part command r e full outcome fold same = record {
+  comes_out = subst (λ (o : Option PlainView). Shortly limits (keys_of_part splits part) o command (Err e)) (sym (slice_get-map checkpointed tables part)) (outcome-short limits (keys_of_part splits part) (slice_get tables part) command r e full outcome fold);
+  leaves = ap lasting same;
+}
+
+-- what is replied is the reply of plain rows
+said-by : (limits : Limits) (keys : Range) (table : Option PlainView) (command : Command) (reply : Reply) → IsOutcome (lasting_bounds limits) keys table command (Ok reply) → (s : PlainState) × (reply ≡ reply_to s command)
+said-by limits keys None command reply outcome = elim outcome [
+  | inl is ↦ cc is
+  | inr both ↦ no-ok NoSuchPartition both.0
+]
+said-by limits keys (Some t) command reply outcome = (t.state, by_test (is_key_in keys (key_of command)) (nat_le limits.life (accepted_of t)) outcome)
+  where
+    none : (x : Refusal) → Comes (refused_with x) (MayLackCell limits.cells (Some t) command) (Ok reply) → reply ≡ reply_to t.state command
+    none x comes = elim comes [
+      | inl is ↦ cc is
+      | inr both ↦ no-ok x both.0
+    ]
+
+    by_test : (is_own over : Bool) → Comes (by_tests is_own false over limits.history (reply_to t.state command)) (MayLackCell limits.cells (Some t) command) (Ok reply) → reply ≡ reply_to t.state command
+    by_test false over comes = none KeyOutside comes
+    by_test true true comes = none LifeOver comes
+    by_test true false comes = elim comes [
+      | inl is ↦ cc is
+      | inr both ↦ elim both.1 [
+        | inl is ↦ cc is
+        | inr lacks ↦ cc lacks.0
+      ]
+    ]
+
+pub asks-said : (limits : Limits) (splits : List Bound) (part : ℕ) (command : Command) (reply : Reply) (old new : List PlainView) → Asks limits splits part command (Ok reply) old new → (s : PlainState) × (reply ≡ reply_to s command)
+asks-said limits splits part command reply old new asks = elim asks.comes_out [
+  | inl outcome ↦ said-by limits (keys_of_part splits part) (slice_get old part) command reply outcome
+  | inr both ↦ cc both.0
+]
+
+-- one partition more replies
+pub AsksInTurn-more : {limits : Limits} {splits : List Bound} (query : Query) (old : List PlainView) (parts : List (ℕ × Range)) (i : ℕ) (part : ℕ × Range) (command : Command) (said said' : List Reply) (reply : Reply) (between new : List PlainView) → i < length parts → part ≡ get_or parts i part → command ≡ asking query part.1 → said' ≡ said ++ reply ∷ [] → AsksInTurn limits splits query old (take i parts) (Ok said) between → Asks limits splits part.0 command (Ok reply) between new → AsksInTurn limits splits query old (take (i + 1) parts) (Ok said') new
+AsksInTurn-more query old parts i part command said said' reply between new below is asked grown so_far asks =
+    let more : take (i + 1) parts ≡ take i parts ++ part ∷ [] = take_more parts i part below ∙ ap (λ (p : ℕ × Range). take i parts ++ p ∷ []) (sym is) in
+    rw (more, grown) (replies (take i parts) part said reply between new so_far (rw asked at asks))
+
+-- the next one refuses
+pub AsksInTurn-stops : {limits : Limits} {splits : List Bound} (query : Query) (old : List PlainView) (parts : List (ℕ × Range)) (i : ℕ) (part : ℕ × Range) (command : Command) (said : List Reply) (e : Refusal) (between new : List PlainView) → i < length parts → part ≡ get_or parts i part → command ≡ asking query part.1 → AsksInTurn limits splits query old (take i parts) (Ok said) between → Asks limits splits part.0 command (Err e) between new → AsksInTurn limits splits query old parts (Err e) new
+AsksInTurn-stops {limits} {splits} query old parts i part command said e between new below is asked so_far asks =
+    let whole : take i parts ++ part ∷ drop (i + 1) parts ≡ parts = ap (λ (p : ℕ × Range). take i parts ++ p ∷ drop (i + 1) parts) is ∙ ap (λ (r : List (ℕ × Range)). take i parts ++ r) (sym (drop_more parts i part below)) ∙ take-append-drop i parts in
+    subst (λ (ps : List (ℕ × Range)). AsksInTurn limits splits query old ps (Err e) new) whole (refuses (take i parts) part (drop (i + 1) parts) said e between new so_far (rw asked at asks))
+
+-- what a small reply counts
+pub counted-small : (r : Reply) → IsSmall r → counted r ≤ 4294967295
+counted-small (Placed serial) small = omega arith
+counted-small (Gone row) small = omega arith
+counted-small Changed small = omega arith
+counted-small NoRow small = omega arith
+counted-small (Counted count) small = omega (arith, small)
+counted-small (Summed sum) small = omega arith
+counted-small (Rows rows) small = omega arith
+
+-- and what it sums up
+pub summed-small : (r : Reply) → IsSmall r → (neg_ℤ (pos (2 ^ 96)) ≤ℤ summed r) × (summed r ≤ℤ pos (2 ^ 96))
+summed-small (Placed serial) small = (omega (arith, ints), omega (arith, ints))
+summed-small (Gone row) small = (omega (arith, ints), omega (arith, ints))
+summed-small Changed small = (omega (arith, ints), omega (arith, ints))
+summed-small NoRow small = (omega (arith, ints), omega (arith, ints))
+summed-small (Counted count) small = (omega (arith, ints), omega (arith, ints))
+summed-small (Summed sum) small = (omega (arith, ints, small.0), omega (arith, ints, small.1))
+summed-small (Rows rows) small = (omega (arith, ints), omega (arith, ints))
+
+-- few small replies fit together
+pub counts-fit : (said : List Reply) → All IsSmall said → length said ≤ 64 → sum_by counted said < 2 ^ 64
+counts-fit said small few =
+    let most = sum_by-le counted 4294967295 said (λ i d below. counted-small _ (small i d below)) in
+    omega (arith, most, few)

@@ -1,0 +1,297 @@
+//! Commands before which a full history is folded, and ranges over all partitions.
+ghost use Rattle.std.specs.Prelude.{◌≡◌, ◌⊎◌, ℕ, ℤ, ◌<◌, ◌≤◌, ◌≤ℤ◌, ◌^◌, neg_ℤ, pos, [], All, length, vec_capacity, sum_by, Ok, Err, IfOk, IfErr};
+ghost use Rattle.crack_row.specs.Rows.{total_by};
+ghost use Rattle.crack_row.specs.declared.Key.{Key};
+ghost use Rattle.crack_row.specs.declared.Payload.{Payload};
+ghost use Rattle.crack_row.specs.declared.Serial.{Serial};
+ghost use Rattle.crack_row.specs.declared.command.Command.TheVariants.{Insert, Delete, Update};
+ghost use Rattle.crack_plain.specs.Plain.{PlainState, IsSmall, reply_to};
+ghost use Rattle.crack_core.specs.Steps.{tables_of};
+ghost use Rattle.crack_core.specs.Asking.{Asks, lasting, is_full, Inserts, Deletes, Updates, Counts, Sums, asking, AsksInTurn, counted, summed, gone_reply, changed_reply};
+
+use crate::{Core, Step};
+use crack_row::{Command, Key, KeyRange, Payload, Policy, Refusal, Reply, Row, RowNo, Serial};
+use std::alloc::Global;
+
+/// What is asked of a range.
+#[derive(Clone, Copy, Debug)]
+pub enum Query {
+    /// How many rows it has.
+    CountRows,
+    /// What their payloads come to.
+    SumPayloads,
+    /// The rows themselves.
+    SelectRows,
+}
+
+impl Query {
+    /// The command that asks it of one partition.
+    pub fn over(self, range: KeyRange) -> Command
+        ensures { result ≡ asking self range }
+    {
+        match self {
+            Query::CountRows => Command::Count(range),
+            Query::SumPayloads => Command::Sum(range),
+            Query::SelectRows => Command::Select(range),
+        }
+    }
+}
+
+impl Core {
+    /// Asks one partition as `step` does, but where its history is full, that is folded first, by `checkpoint`. So it is never refused with 6.
+    /// Refused, in this order: with 5, 4, 10, 9 and 8 as `step` is; with 8, before 10, where a fold finds no memory. Takes what these two take.
+    pub fn ask(&mut self, step: &Step) -> Result<Reply, Refusal>
+        ensures asks { Asks self.old.limits self.old.splits step.now.part step.now.command result (lasting (tables_of self.old.parts)) (lasting (tables_of self.new.parts)) }
+        ensures small { IfOk result IsSmall }
+        ensures opened { (self.new.splits ≡ self.old.splits) × (self.new.limits ≡ self.old.limits) }
+    {
+        self.facts();
+        let part = step.part;
+        let answered = self.step(*step);
+        if !is_full(&answered) {
+            return answered;
+        }
+        match self.checkpoint(part) {
+            Ok(_) => self.step(*step),
+            Err(refusal) => Err(refusal),
+        }
+    }
+
+    /// Places a row in the partition of its key. Refused as `ask` is, with 10, 9 and 8.
+    pub fn insert(&mut self, key: Key, payload: Payload) -> Result<RowNo, Refusal>
+        ensures inserts { Inserts self.old.limits self.old.splits key payload result (lasting (tables_of self.old.parts)) (lasting (tables_of self.new.parts)) }
+        ensures opened { (self.new.splits ≡ self.old.splits) × (self.new.limits ≡ self.old.limits) }
+    {
+        let part = self.route(key);
+        let command = Command::Insert { key, payload };
+        let policy = Policy::Gradual;
+        match self.ask(&Step {
+            worker: 0,
+            part,
+            command,
+            policy,
+        }) {
+            Ok(reply) => Ok(RowNo {
+                part,
+                serial: serial_in(&reply),
+            }),
+            Err(refusal) => Err(refusal),
+        }
+    }
+
+    /// Takes a row out, and returns it as it was; `None` where it isn't there. Refused as `ask` is, with 5, 10 and 8.
+    pub fn delete(&mut self, row: RowNo) -> Result<Option<Row>, Refusal>
+        ensures deletes { Deletes self.old.limits self.old.splits row result (lasting (tables_of self.old.parts)) (lasting (tables_of self.new.parts)) }
+        ensures opened { (self.new.splits ≡ self.old.splits) × (self.new.limits ≡ self.old.limits) }
+    {
+        let command = Command::Delete { serial: row.serial };
+        let policy = Policy::Gradual;
+        match self.ask(&Step {
+            worker: 0,
+            part: row.part,
+            command,
+            policy,
+        }) {
+            Ok(reply) => Ok(gone_in(&reply)),
+            Err(refusal) => Err(refusal),
+        }
+    }
+
+    /// Replaces the key and the payload of a row, which keeps its number; returns whether it is there. Refused as `ask` is.
+    pub fn update(&mut self, row: RowNo, key: Key, payload: Payload) -> Result<bool, Refusal>
+        ensures updates { Updates self.old.limits self.old.splits row key payload result (lasting (tables_of self.old.parts)) (lasting (tables_of self.new.parts)) }
+        ensures opened { (self.new.splits ≡ self.old.splits) × (self.new.limits ≡ self.old.limits) }
+    {
+        let command = Command::Update {
+            serial: row.serial,
+            key,
+            payload,
+        };
+        let policy = Policy::Gradual;
+        match self.ask(&Step {
+            worker: 0,
+            part: row.part,
+            command,
+            policy,
+        }) {
+            Ok(reply) => Ok(is_changed(&reply)),
+            Err(refusal) => Err(refusal),
+        }
+    }
+
+    /// Counts the rows of a range, over all partitions: each that holds a part of it is asked. Refused with 10 and 8 as `ask` is; the partitions
+    /// before the one that refused have then answered. Takes no memory of its own where it meets at most 8 partitions.
+    pub fn count(&mut self, range: KeyRange, policy: Policy) -> Result<u64, Refusal>
+        ensures counts { Counts self.old.limits self.old.splits range result (lasting (tables_of self.old.parts)) (lasting (tables_of self.new.parts)) }
+        ensures opened { (self.new.splits ≡ self.old.splits) × (self.new.limits ≡ self.old.limits) }
+    {
+        self.facts();
+        match self.parts_of(range) {
+            Ok(parts) => match self.read_parts(
+                Query::CountRows,
+                parts.as_slice(),
+                policy,
+                *parts.allocator(),
+            ) {
+                Ok(replies) => Ok(count_in(replies.as_slice())),
+                Err(refusal) => Err(refusal),
+            },
+            Err(refusal) => Err(refusal),
+        }
+    }
+
+    /// Adds up the payloads of the rows of a range, over all partitions, as `count` counts them. Refused as `count` is.
+    pub fn sum(&mut self, range: KeyRange, policy: Policy) -> Result<i128, Refusal>
+        ensures sums { Sums self.old.limits self.old.splits range result (lasting (tables_of self.old.parts)) (lasting (tables_of self.new.parts)) }
+        ensures small { IfOk result (λ sum. (neg_ℤ (pos (2 ^ 102)) ≤ℤ sum) × (sum ≤ℤ pos (2 ^ 102))) }
+        ensures opened { (self.new.splits ≡ self.old.splits) × (self.new.limits ≡ self.old.limits) }
+    {
+        self.facts();
+        match self.parts_of(range) {
+            Ok(parts) => match self.read_parts(
+                Query::SumPayloads,
+                parts.as_slice(),
+                policy,
+                *parts.allocator(),
+            ) {
+                Ok(replies) => Ok(sum_in(replies.as_slice())),
+                Err(refusal) => Err(refusal),
+            },
+            Err(refusal) => Err(refusal),
+        }
+    }
+
+    /// Asks partitions in turn, each for its part of a range, once there is room for their replies.
+    fn read_parts(
+        &mut self,
+        query: Query,
+        parts: &[(u32, KeyRange)],
+        policy: Policy,
+        alloc: Global,
+    ) -> Result<Vec<Reply>, Refusal>
+        requires few { length parts.now ≤ 64 }
+        ensures ok { IfOk result (λ replies. AsksInTurn self.old.limits self.old.splits query (lasting (tables_of self.old.parts)) parts.now (Ok replies.items) (lasting (tables_of self.new.parts))) }
+        ensures err { IfErr result (λ e. AsksInTurn self.old.limits self.old.splits query (lasting (tables_of self.old.parts)) parts.now (Err e) (lasting (tables_of self.new.parts)) ⊎ ((e ≡ Refusal.OutOfMemory) × (self.new ≡ self.old))) }
+        ensures small { IfOk result (λ replies. All IsSmall replies.items × (length replies.items ≤ 64)) }
+        ensures opened { (self.new.splits ≡ self.old.splits) × (self.new.limits ≡ self.old.limits) }
+    {
+        match Vec::with_capacity(alloc, parts.len()) {
+            Ok(mut replies) => match self.read_each(query, parts, policy, &mut replies) {
+                Ok(()) => Ok(replies),
+                Err(refusal) => Err(refusal),
+            },
+            Err(_) => Err(Refusal::OutOfMemory),
+        }
+    }
+
+    /// Asks one partition after the other, until one refuses.
+    fn read_each(
+        &mut self,
+        query: Query,
+        parts: &[(u32, KeyRange)],
+        policy: Policy,
+        replies: &mut Vec<Reply>,
+    ) -> Result<(), Refusal>
+        requires none { replies.old.items ≡ [] }
+        requires room { length parts.now ≤ vec_capacity replies.old }
+        ensures ok { IfOk result (λ _. AsksInTurn self.old.limits self.old.splits query (lasting (tables_of self.old.parts)) parts.now (Ok replies.new.items) (lasting (tables_of self.new.parts))) }
+        ensures err { IfErr result (λ e. AsksInTurn self.old.limits self.old.splits query (lasting (tables_of self.old.parts)) parts.now (Err e) (lasting (tables_of self.new.parts))) }
+        ensures small { All IsSmall replies.new.items }
+        ensures few { length replies.new.items ≤ length parts.now }
+        ensures opened { (self.new.splits ≡ self.old.splits) × (self.new.limits ≡ self.old.limits) }
+    {
+        'parts: for part in parts {
+            let command = query.over(part.1);
+            match self.ask(&Step {
+                worker: 0,
+                part: part.0,
+                command,
+                policy,
+            }) {
+                Ok(reply) => replies.push_reserved(reply),
+                Err(refusal) => return Err(refusal),
+            }
+        }
+        Ok(())
+    }
+}
+
+/// Whether a full history refused.
+fn is_full(answered: &Result<Reply, Refusal>) -> bool
+    ensures { result ≡ is_full answered.now }
+{
+    matches!(answered, Err(Refusal::HistoryFull { length: _ }))
+}
+
+/// The serial that a reply to an insertion gives.
+fn serial_in(reply: &Reply) -> Serial
+    ensures { (s : PlainState) (key : Key) (payload : Payload) → reply.now ≡ reply_to s (Insert key payload) → reply.now ≡ Reply.Placed result }
+{
+    match reply {
+        Reply::Placed(serial) => *serial,
+        _ => Serial(0),
+    }
+}
+
+/// The row that a reply to a deletion gives.
+fn gone_in(reply: &Reply) -> Option<Row>
+    ensures { (s : PlainState) (serial : Serial) → reply.now ≡ reply_to s (Delete serial) → reply.now ≡ gone_reply result }
+{
+    match reply {
+        Reply::Gone(row) => Some(*row),
+        _ => None,
+    }
+}
+
+/// Whether a reply to an update says that the row was there.
+fn is_changed(reply: &Reply) -> bool
+    ensures { (s : PlainState) (serial : Serial) (key : Key) (payload : Payload) → reply.now ≡ reply_to s (Update serial key payload) → reply.now ≡ changed_reply result }
+{
+    matches!(reply, Reply::Changed)
+}
+
+/// How many rows a reply counts.
+fn counted(reply: &Reply) -> u64
+    ensures { result ≡ counted reply.now }
+{
+    match reply {
+        Reply::Counted(count) => *count,
+        _ => 0,
+    }
+}
+
+/// The sum that a reply gives.
+fn summed(reply: &Reply) -> i128
+    ensures { result ≡ summed reply.now }
+{
+    match reply {
+        Reply::Summed(sum) => *sum,
+        _ => 0,
+    }
+}
+
+/// What replies count, all together.
+fn count_in(replies: &[Reply]) -> u64
+    requires { sum_by counted replies.now < 2 ^ 64 }
+    ensures { result ≡ sum_by counted replies.now }
+{
+    let mut total = 0;
+    'replies: for reply in replies {
+        total += counted(reply);
+    }
+    total
+}
+
+/// What the sums of replies come to.
+fn sum_in(replies: &[Reply]) -> i128
+    requires small { All IsSmall replies.now }
+    requires few { length replies.now ≤ 64 }
+    ensures value { result ≡ total_by summed replies.now }
+    ensures small { (neg_ℤ (pos (2 ^ 102)) ≤ℤ result) × (result ≤ℤ pos (2 ^ 102)) }
+{
+    let mut total = 0;
+    'replies: for reply in replies {
+        total += summed(reply);
+    }
+    total
+}
