@@ -120,7 +120,7 @@ impl Core {
     }
 
     /// Counts the rows of a range, over all partitions: each that holds a part of it is asked. Refused with 10 and 8 as `ask` is; the partitions
-    /// before the one that refused have then answered. Takes no memory of its own where it meets at most 8 partitions.
+    /// before the one that refused have then answered. Takes memory for one reply of each partition that it meets.
     pub fn count(&mut self, range: KeyRange, policy: Policy) -> Result<u64, Refusal>
         ensures counts { Counts self.old.limits self.old.splits range result (lasting (tables_of self.old.parts)) (lasting (tables_of self.new.parts)) }
         ensures opened { (self.new.splits ≡ self.old.splits) × (self.new.limits ≡ self.old.limits) }
