@@ -58,8 +58,8 @@ fn fifteen_and_twenty_five(rt: &impl Abort, alloc: Global) -> CrackerIndex {
 fn neighbours_and_piece_of_a_bound(rt: HostRuntime) {
     let index = fifteen_and_twenty_five(&rt, rt.alloc());
     let next = [
-        index.bound_above(Key::from_number(15)),
-        index.bound_above(Key::from_number(25)),
+        index.next_after(bound_at(15)),
+        index.next_after(bound_at(25)),
     ];
     assert_eq!(rt; next, [Some(mark(25, 2)), None]);
     let places = [index.position(bound_at(25)), index.position(bound_at(20))];

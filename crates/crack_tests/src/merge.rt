@@ -143,6 +143,22 @@ fn cracked(rt: &impl Abort, alloc: Global) -> Store
     store
 }
 
+/// A store of all keys whose column has the keys 10, 20, 30 and 40, cracked at 15 and 25.
+fn four(rt: &impl Abort, alloc: Global) -> Store
+    ensures low { result.keys.low ≡ 0 }
+    ensures high { result.keys.high ≡ GREATEST_BOUND }
+{
+    let mut store = Store::new(alloc, KeyRange::all());
+    insert(rt, &mut store, 10);
+    insert(rt, &mut store, 20);
+    insert(rt, &mut store, 30);
+    insert(rt, &mut store, 40);
+    let (mut store, report) = merge_at(rt, store, KeyRange::all(), Policy::Ripple);
+    assert_eq!(rt; [report.put_in, report.moved], [4, 0]);
+    crack_between(rt, &mut store, KeyRange::new(15, 25).expect(rt, "a range"));
+    store
+}
+
 /// Asserts how many rows stand in the column and in the pending insertions, and the sizes of the pieces, in rising order.
 fn assert_layout(rt: &impl Abort, store: &Store, rows: [u64; 2], sizes: &[u64]) {
     let layout = store.layout().expect(rt, "a layout");
@@ -380,5 +396,85 @@ fn ripple_fills_the_place_of_a_doomed_row(rt: HostRuntime) {
     };
     assert_eq!(rt; report, counted);
     assert_layout(&rt, &store, [3, 0], &[1, 0, 2]);
+    drop(store);
+}
+
+/// Asserts what a merge counts of two more rows over four, how many rows stand where then, and the sizes of the pieces.
+fn assert_two_more(
+    rt: &impl Abort,
+    alloc: Global,
+    policy: Policy,
+    counted: MergeReport,
+    rows: [u64; 2],
+    sizes: &[u64],
+) {
+    let store = four(rt, alloc);
+    let (store, report, count) = merge_two(rt, store, [17, 90], policy);
+    assert_eq!(rt; report, counted);
+    assert_eq!(rt; count, 2);
+    assert_layout(rt, &store, rows, sizes);
+    drop(store);
+}
+
+/// Both rows are put in, and the row in the way moves.
+#[test]
+fn complete_puts_two_more_rows_in(rt: HostRuntime) {
+    let counted = MergeReport {
+        put_in: 2,
+        moved: 1,
+        ..NONE_COUNTED
+    };
+    assert_two_more(
+        &rt,
+        rt.alloc(),
+        Policy::Complete,
+        counted,
+        [6, 0],
+        &[1, 2, 3],
+    );
+}
+
+/// The row of the range is put in, and the row in the way moves.
+#[test]
+fn gradual_puts_one_of_two_rows_in(rt: HostRuntime) {
+    let counted = MergeReport {
+        put_in: 1,
+        moved: 1,
+        ..NONE_COUNTED
+    };
+    assert_two_more(
+        &rt,
+        rt.alloc(),
+        Policy::Gradual,
+        counted,
+        [5, 1],
+        &[1, 2, 2],
+    );
+}
+
+/// The row of the range is put in, and the row in the way is evicted.
+#[test]
+fn ripple_puts_one_of_two_rows_in(rt: HostRuntime) {
+    let counted = MergeReport {
+        put_in: 1,
+        evicted: 1,
+        moved: 1,
+        ..NONE_COUNTED
+    };
+    assert_two_more(&rt, rt.alloc(), Policy::Ripple, counted, [4, 2], &[1, 2, 1]);
+}
+
+#[test]
+fn a_pull_over_four_goes_through_two_bounds(rt: HostRuntime) {
+    let mut store = four(&rt, rt.alloc());
+    doom(&rt, &mut store, 0);
+    let (store, report) = merge_doomed(&rt, store, Policy::Gradual);
+    let counted = MergeReport {
+        taken_out: 1,
+        pulled: 2,
+        ..NONE_COUNTED
+    };
+    assert_eq!(rt; report, counted);
+    assert_layout(&rt, &store, [3, 0], &[0, 1, 2]);
     drop(store);
 }

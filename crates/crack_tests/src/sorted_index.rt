@@ -176,6 +176,18 @@ fn the_index_stands_as_a_sorted_vector_does(rt: HostRuntime) -> Result<(), Fail>
     call(&rt, rt.alloc(), 2, 1000)
 }
 
+/// Bounds that are added in rising order: a tree that is never rotated would be seven high.
+#[test]
+fn seven_bounds_in_rising_order_stand_three_high(rt: HostRuntime) -> Result<(), Fail> {
+    let mut index = CrackerIndex::new(rt.alloc());
+    let mut marks: Vec<Mark> = Vec::new(rt.alloc());
+    'bounds: for number in 1..8 {
+        add(&rt, &mut index, &mut marks, bound_at(number))?;
+    }
+    assert_eq!(rt; [index.len(), index.height() as usize], [7, 3]);
+    Ok(())
+}
+
 /// Adds the bound at a place that rises with it, to both, where it isn't there.
 fn add_rising(
     rt: &impl Abort,

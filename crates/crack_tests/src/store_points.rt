@@ -50,6 +50,22 @@ fn remove(rt: &impl Abort, store: &mut Store, serial: u64) -> Option<Row> {
     store.remove(Serial(serial)).expect(rt, "memory")
 }
 
+/// Puts a row in the place of the one of its serial in a store of all keys, and tells the row as it was.
+fn replace(rt: &impl Abort, store: &mut Store, new: Row) -> Option<Row>
+    requires low { store.old.keys.low ≡ 0 }
+    requires high { store.old.keys.high ≡ GREATEST_BOUND }
+    ensures low { store.new.keys.low ≡ 0 }
+    ensures high { store.new.keys.high ≡ GREATEST_BOUND }
+{
+    let freed = store.freed();
+    let doomed = store.pending_out();
+    let cells = store.cells();
+    assert!(rt; freed < 1000);
+    assert!(rt; doomed < 1000);
+    assert!(rt; cells < 1000);
+    store.replace(new).expect(rt, "memory")
+}
+
 /// Rewrites a row of a store of all keys, and asserts that it reads so.
 fn rewrite(rt: &impl Abort, store: &mut Store, new: Row)
     requires low { store.old.keys.low ≡ 0 }
@@ -126,6 +142,19 @@ fn rows_of_the_column_are_doomed(rt: HostRuntime) {
     assert_numbers(&rt, &store, [2, 1, 4, 0]);
     doom(&rt, &mut store, row(0, 10, 5));
     assert_rows(&rt, &store, 2);
+    drop(store);
+}
+
+/// A row comes back as it was, whether it waits or stands in the column, and none where there is none.
+#[test]
+fn a_replaced_row_comes_back(rt: HostRuntime) {
+    let mut store = append_two(&rt, rt.alloc(), [10, 16, 24]);
+    let waiting = replace(&rt, &mut store, row(2, 25, 1));
+    assert_eq!(rt; waiting, Some(row(2, 24, 12)));
+    let stood = replace(&rt, &mut store, row(0, 11, 2));
+    assert_eq!(rt; stood, Some(row(0, 10, 5)));
+    assert_eq!(rt; replace(&rt, &mut store, row(7, 1, 1)), None);
+    assert_numbers(&rt, &store, [2, 1, 4, 0]);
     drop(store);
 }
 
