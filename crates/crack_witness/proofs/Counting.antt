@@ -7,7 +7,7 @@ use mathlib.Core.List.{IsPrefix}
 use Rattle.crack_row.specs.declared.command.Entry.{Entry}
 use Rattle.crack_witness.specs.declared.event.Event.{Event}
 use Rattle.crack_witness.specs.Histories.{calls_by, calls_at, history_of}
-use Rattle.crack_witness.specs.Rules.{AreCounts, IsAsker}
+use Rattle.crack_witness.specs.Keeps.{AreCounts, IsAsker}
 use Rattle.crack_witness.proofs.Lists.{prefix_trans, prefix_self, history_grows}
 
 pub calls_own : (w : ℕ) (es : List Entry) (e : Entry) → e.worker ≡ w → calls_by w (es ++ e ∷ []) ≡ calls_by w es ++ e ∷ []

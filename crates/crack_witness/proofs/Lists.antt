@@ -5,7 +5,8 @@ use Rattle.std.proofs.lemmas.Bool.Decides.{nat_tests}
 use mathlib.Core.List.{IsPrefix}
 use Rattle.crack_row.specs.declared.command.Entry.{Entry}
 use Rattle.crack_witness.specs.declared.event.Event.{Event}
-use Rattle.crack_witness.specs.Rules.{Every, Among, NoneOf, HasOwner}
+use Rattle.crack_witness.specs.Rules.{Every, NoneOf}
+use Rattle.crack_witness.specs.Keeps.{Among, HasOwner}
 use Rattle.crack_witness.specs.Histories.{history_of, entry_in}
 
 pub every_append : {X : Type 0} (P : X → Type 0) (xs ys : List X) → Every P xs → Every P ys → Every P (xs ++ ys)

@@ -6,7 +6,8 @@ use prog.Atomic.{either}
 use Rattle.logbook.specs.Pages.{Cell, cell, adds, gives, keeps, no_nib, nib, Nib, step, Moves, Goes, may_make, may_write}
 use Rattle.crack_witness.specs.declared.event.Event.{Event}
 use Rattle.crack_row.specs.declared.command.Entry.{Entry}
-use Rattle.crack_witness.specs.Rules.{Every, Among, HasWord, HasOwner, NoneOf, Home, Chain, IsKept, Makes, Opens, Adds, IsAlone, Looks, opening, place, row}
+use Rattle.crack_witness.specs.Rules.{Every, NoneOf, Home, Chain, IsKept, Makes, Opens, Adds, IsAlone, Looks, opening, place, row}
+use Rattle.crack_witness.specs.Keeps.{Among, HasWord, HasOwner}
 use Rattle.crack_witness.specs.Histories.{history_of, entry_in, IsHistory, AreHistories, AreEmpty}
 use Rattle.crack_witness.proofs.Lists.{among_prefix, among_every, every_weaker, every_append, every_right, every_left, among_right, among_left, prefix_trans, history_bare, history_none, history_own, history_other, history_rest}
 use Rattle.crack_witness.proofs.Cells.{length_set, home_set, set_home, home_more, chain_stays, chain_fresh, chain_adds, chain_push, alone}

@@ -6,7 +6,8 @@ use mathlib.Core.List.{IsPrefix}
 use Rattle.logbook.specs.Pages.{Book}
 use Rattle.crack_part.specs.Parts.{Part}
 use Rattle.crack_witness.specs.declared.event.Event.{Event}
-use Rattle.crack_witness.specs.Rules.{HasOwner, NoneOf, OwnerState, IsOwnerAt, AreOwners, IsNew}
+use Rattle.crack_witness.specs.Rules.{NoneOf, OwnerState}
+use Rattle.crack_witness.specs.Keeps.{HasOwner, IsOwnerAt, AreOwners, IsNew}
 use Rattle.crack_witness.specs.Witnesses.{OpenedState, WitnessedState, AreDistinct, AreNames, AreApart, IsNewAt, AreNewFrom}
 use Rattle.crack_witness.proofs.Lists.{owners_differ, among_prefix}
 

@@ -1,3 +1,4 @@
 pub mod Histories
-pub mod Witnesses
 pub mod Rules
+pub mod Witnesses
+pub mod Keeps

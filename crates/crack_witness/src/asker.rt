@@ -27,7 +27,7 @@ pub struct Asker<J: Naming> {
 
 impl<J: Naming> Model for Asker<J> {
     ghost use Rattle.crack_witness.specs.Witnesses.{AskerState};
-    ghost use Rattle.crack_witness.specs.Rules.{IsAsker};
+    ghost use Rattle.crack_witness.specs.Keeps.{IsAsker};
 
     ghost Value = { AskerState };
 

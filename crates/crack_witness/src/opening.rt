@@ -5,7 +5,8 @@ ghost use Rattle.crack_plain.specs.Past.{no_past};
 ghost use Rattle.crack_part.specs.Parts.{Part};
 ghost use Rattle.crack_witness.specs.Histories.{history_of, AreEmpty};
 ghost use Rattle.crack_witness.specs.Witnesses.{AreDistinct, AreNames, AreApart, AreNewFrom};
-ghost use Rattle.crack_witness.specs.Rules.{row, HasWord, HasOwner, NoneOf, IsNew, AreOwners};
+ghost use Rattle.crack_witness.specs.Rules.{row, NoneOf};
+ghost use Rattle.crack_witness.specs.Keeps.{HasWord, HasOwner, IsNew, AreOwners};
 
 use crate::event::{Head, Law, Nothing, Open, Row, Token, Update};
 use crate::scribe::Front;
@@ -41,7 +42,8 @@ pub(crate) struct Owner {
 
 impl Model for Owner {
     ghost use Rattle.crack_witness.specs.Histories.{AreHistories};
-    ghost use Rattle.crack_witness.specs.Rules.{IsScribe, OwnerState};
+    ghost use Rattle.crack_witness.specs.Rules.{OwnerState};
+    ghost use Rattle.crack_witness.specs.Keeps.{IsScribe};
 
     ghost Value = { OwnerState };
 
@@ -85,7 +87,8 @@ impl Model for Opened {
     ghost use Rattle.std.specs.Prelude.{◌≡◌, ◌<◌, ◌^◌, length, map, All};
     ghost use Rattle.crack_witness.specs.Histories.{AreEmpty};
     ghost use Rattle.crack_witness.specs.Witnesses.{OpenedState, AreDistinct};
-    ghost use Rattle.crack_witness.specs.Rules.{OwnerState, IsNew};
+    ghost use Rattle.crack_witness.specs.Rules.{OwnerState};
+    ghost use Rattle.crack_witness.specs.Keeps.{IsNew};
 
     ghost Value = { OpenedState };
 

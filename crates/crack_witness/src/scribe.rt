@@ -3,7 +3,7 @@ ghost use Rattle.std.specs.Prelude.{◌≡◌, [], ◌∷◌, ◌++◌, true};
 ghost use mathlib.Core.List.{IsPrefix};
 ghost use Rattle.logbook.specs.Pages.{may_write};
 ghost use Rattle.crack_witness.specs.Histories.{history_of, IsHistory, AreHistories, AreEmpty};
-ghost use Rattle.crack_witness.specs.Rules.{HasWord, IsOwnerAt};
+ghost use Rattle.crack_witness.specs.Keeps.{HasWord, IsOwnerAt};
 
 use crate::event::{Add, Event, Head, Look, Make, Nothing, Open, Token, Update};
 use crate::opening::{Naming, Owner};
@@ -93,7 +93,8 @@ pub(crate) struct Scribe<J: Naming> {
 
 impl<J: Naming> Model for Scribe<J> {
     ghost use Rattle.crack_witness.specs.Histories.{AreHistories};
-    ghost use Rattle.crack_witness.specs.Rules.{IsScribe, ScribeState};
+    ghost use Rattle.crack_witness.specs.Rules.{ScribeState};
+    ghost use Rattle.crack_witness.specs.Keeps.{IsScribe};
 
     ghost Value = { ScribeState };
 

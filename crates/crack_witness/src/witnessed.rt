@@ -7,7 +7,7 @@ ghost use Rattle.crack_plain.specs.Plain.{IsSmall, IsWithin, reply_to};
 ghost use Rattle.crack_part.specs.Parts.{IsSound, state_of, folded_part, LacksCell, Serves, Spares};
 ghost use Rattle.crack_witness.specs.Histories.{history_of, calls_by, AreHistories, IsPastOf};
 ghost use Rattle.crack_witness.specs.Witnesses.{IsNewAt, IsInStep};
-ghost use Rattle.crack_witness.specs.Rules.{IsOwnerAt};
+ghost use Rattle.crack_witness.specs.Keeps.{IsOwnerAt};
 
 use crate::opening::{Naming, Owner};
 use crate::scribe::{Front, Scribe};
@@ -29,7 +29,7 @@ impl<J: Naming> Model for Witnessed<J> {
     ghost use Rattle.std.specs.Prelude.{length};
     ghost use Rattle.crack_witness.specs.Histories.{history_of, IsPastOf};
     ghost use Rattle.crack_witness.specs.Witnesses.{WitnessedState};
-    ghost use Rattle.crack_witness.specs.Rules.{AreCounts};
+    ghost use Rattle.crack_witness.specs.Keeps.{AreCounts};
 
     ghost Value = { WitnessedState };
 

@@ -1,6 +1,7 @@
 use Rattle.std.proofs.Common.{sym, ◌∙◌, ap, subst, ◌≡◌, refl, ◌+◌, arith, ℕ}
 use Rattle.crack_witness.specs.declared.event.Event.{Event}
-use Rattle.crack_witness.specs.Rules.{HasWord, row}
+use Rattle.crack_witness.specs.Rules.{row}
+use Rattle.crack_witness.specs.Keeps.{HasWord}
 use Rattle.crack_witness.proofs.Lists.{among_prefix}
 use Rattle.crack_witness.proofs.Moving.{row_has}
 use Rattle.crack_witness.proofs.opening.next_owner.Goals as goal

@@ -2,7 +2,7 @@ use Rattle.std.proofs.Common.{◌≡◌, ◌<◌, ◌^◌, ◌+◌, ℕ, List, [
 use Rattle.crack_plain.specs.Past.{no_past}
 use Rattle.crack_part.specs.Parts.{Part}
 use Rattle.crack_witness.specs.Witnesses.{WitnessedState, IsNewAt}
-use Rattle.crack_witness.specs.Rules.{AreOwners}
+use Rattle.crack_witness.specs.Keeps.{AreOwners}
 use Rattle.crack_witness.proofs.Lists.{all_front}
 use Rattle.crack_witness.proofs.Opens.{AreDone, owners_begin, done_more}
 use Rattle.crack_witness.proofs.opening.witness_each.Goals as goal

@@ -1,7 +1,7 @@
 use Rattle.std.proofs.Common.{◌≡◌, ◌<◌, ◌^◌, length, reverse, All}
 use Rattle.crack_plain.specs.Past.{no_past}
 use Rattle.crack_part.specs.Parts.{Part}
-use Rattle.crack_witness.specs.Rules.{AreOwners}
+use Rattle.crack_witness.specs.Keeps.{AreOwners}
 use Rattle.crack_witness.proofs.Opens.{AreDone}
 use Rattle.crack_witness.proofs.opening.witness_each.Given as goal
 

@@ -1,6 +1,6 @@
 use Rattle.std.proofs.Common.{sym, ◌∙◌, ap, subst, ◌≡◌}
 use Rattle.logbook.specs.Pages.{no_nib}
-use Rattle.crack_witness.specs.Rules.{HasWord}
+use Rattle.crack_witness.specs.Keeps.{HasWord}
 use Rattle.crack_witness.proofs.Moving.{makes_moves}
 use Rattle.crack_witness.proofs.scribe.fresh.Goals as goal
 

@@ -4,7 +4,7 @@ use Rattle.crack_row.specs.declared.command.Entry.{Entry}
 use Rattle.crack_witness.specs.declared.event.Event.{Event}
 use Rattle.crack_witness.specs.Histories.{history_of, calls_by, calls_at}
 use Rattle.crack_witness.specs.Witnesses.{AskerState, IsGiven}
-use Rattle.crack_witness.specs.Rules.{IsAsker}
+use Rattle.crack_witness.specs.Keeps.{IsAsker}
 use Rattle.crack_witness.proofs.Counting.{given_exact, asker_after}
 use Rattle.crack_witness.proofs.asker.Asker.ask.Goals as goal
 

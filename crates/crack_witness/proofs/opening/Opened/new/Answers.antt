@@ -3,7 +3,8 @@ use Rattle.std.proofs.lemmas.List.Elements.{All-push}
 use mathlib.Core.List.{IsPrefix}
 use Rattle.crack_witness.specs.declared.event.Event.{Event}
 use Rattle.crack_witness.specs.Histories.{AreEmpty, IsHistory}
-use Rattle.crack_witness.specs.Rules.{row, IsNew, HasOwner, OwnerState}
+use Rattle.crack_witness.specs.Rules.{row, OwnerState}
+use Rattle.crack_witness.specs.Keeps.{IsNew, HasOwner}
 use Rattle.crack_witness.specs.Witnesses.{AreDistinct}
 use Rattle.crack_witness.proofs.Lists.{among_prefix, prefix_trans}
 use Rattle.crack_witness.proofs.Opens.{ids_of, distinct_push}

@@ -1,6 +1,7 @@
 use Rattle.std.proofs.Common.{◌≡◌, ◌+◌, length, All}
 use mathlib.Core.List.{IsPrefix}
-use Rattle.crack_witness.specs.Rules.{row, IsNew, HasOwner, OwnerState}
+use Rattle.crack_witness.specs.Rules.{row, OwnerState}
+use Rattle.crack_witness.specs.Keeps.{IsNew, HasOwner}
 use Rattle.crack_witness.specs.Witnesses.{AreDistinct}
 use Rattle.crack_witness.proofs.Opens.{ids_of}
 use Rattle.crack_witness.proofs.opening.Opened.new.Given as goal

@@ -2,7 +2,8 @@ use Rattle.std.proofs.Common.{sym, ◌∙◌, ap, subst, ◌≡◌, refl, [], �
 use mathlib.Core.List.{IsPrefix}
 use Rattle.crack_witness.specs.declared.event.Event.{Event}
 use Rattle.crack_witness.specs.Histories.{history_of}
-use Rattle.crack_witness.specs.Rules.{HasWord, HasOwner, NoneOf, opening}
+use Rattle.crack_witness.specs.Rules.{NoneOf, opening}
+use Rattle.crack_witness.specs.Keeps.{HasWord, HasOwner}
 use Rattle.crack_witness.proofs.Lists.{none_before, among_right}
 use Rattle.crack_witness.proofs.Moving.{opens_moves, opened_history}
 use Rattle.crack_witness.proofs.opening.Owner.open.Goals as goal

@@ -4,7 +4,8 @@ use Rattle.logbook.specs.Pages.{step}
 use Rattle.crack_row.specs.declared.command.Entry.{Entry}
 use Rattle.crack_witness.specs.declared.event.Event.{Event}
 use Rattle.crack_witness.specs.Histories.{history_of}
-use Rattle.crack_witness.specs.Rules.{HasWord, IsScribe, ScribeState, IsAlone}
+use Rattle.crack_witness.specs.Rules.{ScribeState, IsAlone}
+use Rattle.crack_witness.specs.Keeps.{HasWord, IsScribe}
 use Rattle.crack_witness.proofs.Lists.{among_right, among_prefix, prefix_trans, history_rest, history_grows}
 use Rattle.crack_witness.proofs.Moving.{looks_moves}
 use Rattle.crack_witness.proofs.scribe.Scribe.covers.Goals as goal

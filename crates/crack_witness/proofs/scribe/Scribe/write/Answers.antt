@@ -3,7 +3,8 @@ use mathlib.Core.List.{IsPrefix}
 use Rattle.crack_row.specs.declared.command.Entry.{Entry}
 use Rattle.crack_witness.specs.declared.event.Event.{Event}
 use Rattle.crack_witness.specs.Histories.{history_of, IsHistory}
-use Rattle.crack_witness.specs.Rules.{HasWord, IsScribe, ScribeState, Adds, IsAlone}
+use Rattle.crack_witness.specs.Rules.{ScribeState, Adds, IsAlone}
+use Rattle.crack_witness.specs.Keeps.{HasWord, IsScribe}
 use Rattle.logbook.specs.Pages.{step}
 use Rattle.crack_witness.proofs.Lists.{among_right, prefix_trans, history_rest, history_grows}
 use Rattle.crack_witness.proofs.Moving.{adds_moves, added_history}

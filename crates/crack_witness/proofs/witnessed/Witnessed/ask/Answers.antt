@@ -3,7 +3,7 @@ use Rattle.crack_row.specs.declared.command.Entry.{Entry}
 use Rattle.crack_plain.specs.Plain.{PlainState, no_rows, replay_from, reply_to}
 use Rattle.crack_plain.proofs.Laws.{AreReplies-push}
 use Rattle.crack_witness.specs.Histories.{history_of, calls_by, IsPastOf}
-use Rattle.crack_witness.specs.Rules.{AreCounts}
+use Rattle.crack_witness.specs.Keeps.{AreCounts}
 use Rattle.crack_witness.proofs.Keeping.{state_after-whole, IsPastOf-push, calls-le-accepted}
 use Rattle.crack_witness.proofs.Counting.{counts_set}
 use Rattle.crack_witness.proofs.witnessed.Witnessed.ask.Goals as goal
