@@ -164,9 +164,9 @@ fn until_eof_option<'a>(alloc: Global) -> Arg<'a> {
 fn idle_option<'a>(alloc: Global) -> Arg<'a> {
     Arg::new(alloc, "idle")
         .long("idle")
-        .value_name("SECONDS")
+        .value_name("N")
         .value_parser(value_parser!(u64))
-        .help("Ends a session that waits so long for its client [default: never]")
+        .help("Ends a session that waits N seconds for its client")
 }
 
 fn quiet_option<'a>(alloc: Global) -> Arg<'a> {
