@@ -290,6 +290,7 @@ fn limits_of(matches: &ArgMatches<'_>) -> Limits {
         history: matches.get_one::<u64>("limit").unwrap_or(greatest.history),
         cells: matches.get_one::<u64>("cells").unwrap_or(greatest.cells),
         life: matches.get_one::<u64>("life").unwrap_or(greatest.life),
+        upkeep: greatest.upkeep,
     }
 }
 

@@ -17,7 +17,8 @@ use Rattle.crack_core.specs.declared.step.Job.{Job}
 use Rattle.crack_core.specs.declared.step.Job.TheVariants.{Perform, Fold}
 use Rattle.crack_core.specs.declared.step.Done.{Done}
 use Rattle.crack_core.specs.declared.step.Done.TheVariants.{Folded}
-use Rattle.crack_core.specs.Steps.{Bounds, fresh_table, table_of, tables_of, pasts_of, accepted_by, IsFoldOutcome, tables_folded}
+use Rattle.crack_part.specs.Refusals.{table_of}
+use Rattle.crack_core.specs.Steps.{Bounds, fresh_table, tables_of, pasts_of, accepted_by, IsFoldOutcome, tables_folded}
 use Rattle.crack_core.specs.Jobs.{part_of, folding, past_after, past_at, KeepsJobs, IsJobOutcome, AreExpectedOutcomes, FoldsAt, Does, DoesAll}
 use Rattle.crack_core.proofs.StepLaws.{tables-pasts, get-last, get-front, get-set_same, get-set_other}
 

@@ -1,6 +1,6 @@
 -- What follows of a step, of the entry that it leaves, and of partitions of which one is replaced.
 use Rattle.std.specs.Prelude.{◌≡◌, ◌≢◌, ℕ, ◌+◌, ◌<◌, ◌≤◌, Bool, true, false, cond, List, [], ◌∷◌, ◌++◌, length, take, drop, Option, None, Some, Result, Ok, Err, is_ok, slice_get, IfSome, IfOk, IfErr, OnOk, OnErr, IsOk, ◌⊎◌, nat_le, nat_lt, if◌then◌else◌}
-use Rattle.std.specs.Option.{option_map}
+use Rattle.std.specs.Option.{option_map, option_or}
 use Rattle.std.proofs.Common.{zero, suc, get_or, set, arith, ap, refl, sym, subst, ◌∙◌, ⊎_elim, inl, inr, length-append, length-set}
 use Rattle.std.proofs.lemmas.Bool.{true≢false, both_ways, and_parts, and_from, leb-true, leb-false, le-leb, ltb-true, lt-ltb, eq-eqb, ne_eqb, cases_eq, cases_lt}
 use Rattle.std.proofs.lemmas.Option.{slice_get-map, slice_get-get_or, slice_get_past, slice_get_within}
@@ -8,7 +8,7 @@ use Rattle.std.proofs.lemmas.List.{map-set, get_or-map, get_or-set_same, get_or-
 use Rattle.std.proofs.lemmas.List.Elements.{All-set}
 use Rattle.std.proofs.lemmas.List.Sums.{sum_by-set}
 use Rattle.std.proofs.Math.Seq.{map-set_same}
-use Rattle.crack_row.specs.Commands.{key_of}
+use Rattle.crack_row.specs.Commands.{change_of, key_of}
 use Rattle.crack_row.specs.Ranges.{Range, IsIn, is_in}
 use Rattle.crack_row.specs.declared.Bound.{Bound}
 use Rattle.crack_row.specs.declared.Key.{Key}
@@ -27,20 +27,10 @@ use Rattle.crack_core.specs.declared.step.Job.TheVariants.{Perform}
 use Rattle.crack_core.specs.declared.step.Done.TheVariants.{Replied}
 use Rattle.crack_core.specs.Routes.{keys_of_part}
 use Rattle.crack_core.specs.Opening.{AreParts}
-use Rattle.crack_core.specs.Steps.{is_key_in, Bounds, bounds_of, reply_unless, MayLackCell, IsOutcome, IsOutcomeAt, fresh_table, table_after, tables_after, table_of, tables_of, pasts_of, accepted_by}
+use Rattle.crack_part.specs.Refusals.{is_key_in, table_of, stopped_by, lacks_cell, refusal_of}
+use Rattle.crack_part.proofs.RefusalLaws.{if_refused}
+use Rattle.crack_core.specs.Steps.{Bounds, bounds_of, reply_unless, MayLackCell, IsOutcome, IsOutcomeAt, fresh_table, table_after, tables_after, tables_of, pasts_of, accepted_by}
 use Rattle.crack_core.specs.Jobs.{performed, past_after, past_at, KeepsJobs}
-
--- whether a command brings a key of others, by the test
-pub within-true : (keys : Range) (key : Option Key) → is_key_in keys key ≡ true → IfSome key (λ (k : Key). IsIn keys k.0)
-within-true keys None is = tt
-within-true keys (Some key) is =
-    let parts = and_parts (nat_le keys.low key.0) (nat_lt key.0 keys.high) is in
-    (leb-true keys.low key.0 parts.0, ltb-true key.0 keys.high parts.1)
-
-pub within-false : (keys : Range) (key : Option Key) → is_key_in keys key ≡ false → IfSome key (λ (k : Key). IsIn keys k.0) → ⊥
-within-false keys None is within = true≢false is
-within-false keys (Some key) is within =
-    both_ways (is_in keys key.0) is (and_from (nat_le keys.low key.0) (nat_lt key.0 keys.high) (le-leb keys.low key.0 within.0) (lt-ltb key.0 keys.high within.1))
 
 -- what comes of an answer once the reply's copy is let go
 pub record Gives (answered : Result (Reply × Reply) Refusal) (given : Result Reply Refusal) : Type 0 where
@@ -63,54 +53,35 @@ small-given (Err e) r gives small = rw gives.err tt
 given-err : (a : Result (Reply × Reply) Refusal) (r : Result Reply Refusal) (e : Refusal) → Gives a r → a ≡ Err e → r ≡ Err e
 given-err a r e gives is = rw is at gives.err
 
--- why a command isn't answered that a partition may keep: for want of memory, or of a cell
-abbrev pub IsShort : Part → Command → Refusal → Type 0
-IsShort p command e = (e ≡ OutOfMemory) ⊎ ((e ≡ NoCell) × MayLackCell p.limits.cells (Some (table_of p.past)) command)
+-- what comes of a command that a partition doesn't refuse by itself
+kept-or-short : (said : Reply) (a : Result (Reply × Reply) Refusal) (r : Result Reply Refusal) → Gives a r → IfOk a (λ (replies : Reply × Reply). (replies.0 ≡ said) × (replies.1 ≡ replies.0)) → IfErr a (λ e. e ≡ OutOfMemory) → (r ≡ Ok said) ⊎ (r ≡ Err OutOfMemory)
+kept-or-short said (Ok replies) r gives says short = inl (gives.ok ∙ ap Ok says.0)
+kept-or-short said (Err e) r gives says short = inr (gives.err ∙ ap Err short)
 
--- what comes of a command that a partition may keep
-kept-or-short : (p : Part) (command : Command) (a : Result (Reply × Reply) Refusal) (r : Result Reply Refusal) → Gives a r → IfOk a (λ (replies : Reply × Reply). (replies.0 ≡ reply_to (state_after p.past) command) × (replies.1 ≡ replies.0)) → IfErr a (IsShort p command) → (r ≡ Ok (reply_to (state_after p.past) command)) ⊎ ((r ≡ Err OutOfMemory) ⊎ ((r ≡ Err NoCell) × MayLackCell p.limits.cells (Some (table_of p.past)) command))
-kept-or-short p command (Ok replies) r gives said short = inl (gives.ok ∙ ap Ok said.0)
-kept-or-short p command (Err e) r gives said short = ⊎_elim (λ (is : e ≡ OutOfMemory). inr (inl (gives.err ∙ ap Err is))) (λ (lacks : (e ≡ NoCell) × MayLackCell p.limits.cells (Some (table_of p.past)) command). inr (inr (gives.err ∙ ap Err lacks.0, lacks.1))) short
+-- the first cause to refuse a command, by what is tested
+abbrev cause : Bool → Option Refusal → Bool → Option Refusal
+cause is_own stop lacks = if is_own then option_or stop (if lacks then Some NoCell else None) else Some KeyOutside
 
--- what comes out, by what a partition tests in turn: whether the key is its own, whether its history is full, and whether its life is over
-by_tests : (is_own is_full is_over : Bool) (limit : ℕ) (said : Reply) (Lacks : Type 0) (r : Result Reply Refusal) → (is_own ≡ false → r ≡ Err KeyOutside) → (is_own ≡ true → is_full ≡ true → r ≡ Err (HistoryFull limit)) → (is_own ≡ true → is_full ≡ false → is_over ≡ true → r ≡ Err LifeOver) → (is_own ≡ true → is_full ≡ false → is_over ≡ false → (r ≡ Ok said) ⊎ ((r ≡ Err OutOfMemory) ⊎ ((r ≡ Err NoCell) × Lacks))) → (r ≡ (if is_own then reply_unless (if is_full then Some (HistoryFull limit) else (if is_over then Some LifeOver else None)) said else Err KeyOutside)) ⊎ (IsOk (if is_own then reply_unless (if is_full then Some (HistoryFull limit) else (if is_over then Some LifeOver else None)) said else Err KeyOutside) × ((r ≡ Err OutOfMemory) ⊎ ((r ≡ Err NoCell) × Lacks)))
-by_tests false is_full is_over limit said Lacks r outside full over rest = inl (outside refl)
-by_tests true true is_over limit said Lacks r outside full over rest = inl (full refl refl)
-by_tests true false true limit said Lacks r outside full over rest = inl (over refl refl refl)
-by_tests true false false limit said Lacks r outside full over rest = ⊎_elim (λ (is : r ≡ Ok said). inl is) (λ (short : (r ≡ Err OutOfMemory) ⊎ ((r ≡ Err NoCell) × Lacks)). inr (refl, short)) (rest refl refl refl)
+-- what comes out, by the first cause to refuse it
+by_cause : (is_own lacks : Bool) (stop : Option Refusal) (said : Reply) (Lacks : Type 0) (r : Result Reply Refusal) → IfSome (cause is_own stop lacks) (λ e. r ≡ Err e) → (cause is_own stop lacks ≡ None → (r ≡ Ok said) ⊎ (r ≡ Err OutOfMemory)) → (lacks ≡ true → Lacks) → (r ≡ reply_unless (cause is_own stop false) said) ⊎ (IsOk (reply_unless (cause is_own stop false) said) × ((r ≡ Err OutOfMemory) ⊎ ((r ≡ Err NoCell) × Lacks)))
+by_cause false lacks stop said Lacks r refused rest lack = inl refused
+by_cause true lacks (Some e) said Lacks r refused rest lack = inl refused
+by_cause true true None said Lacks r refused rest lack = inr (refl, inr (refused, lack refl))
+by_cause true false None said Lacks r refused rest lack = ⊎_elim (λ (is : r ≡ Ok said). inl is) (λ (short : r ≡ Err OutOfMemory). inr (refl, inl short)) (rest refl)
 
 -- what a partition answers is the reply of its plain rows, or the refusal that they call for, or a want of memory or of a cell in place of a reply
-pub outcome-given : (p : Part) (command : Command) (a : Result (Reply × Reply) Refusal) (r : Result Reply Refusal) → Gives a r → IfOk a (λ (replies : Reply × Reply). (replies.0 ≡ reply_to (state_after p.past) command) × (replies.1 ≡ replies.0)) → ((IsWithin p.keys command → ⊥) → a ≡ Err KeyOutside) → (IsWithin p.keys command → p.limits.history ≤ length p.past.tail → a ≡ Err (HistoryFull p.limits.history)) → (IsWithin p.keys command → length p.past.tail < p.limits.history → p.limits.life ≤ accepted_in p.past → a ≡ Err LifeOver) → (IsWithin p.keys command → length p.past.tail < p.limits.history → accepted_in p.past < p.limits.life → IfErr a (IsShort p command)) → IsOutcome (bounds_of p.limits) p.keys (Some (table_of p.past)) command r
-outcome-given p command a r gives said outside full over short =
-    let own = is_key_in p.keys (key_of command) in
-    let entries = length p.past.tail in
-    let accepted = accepted_in p.past in
-    by_tests own (nat_le p.limits.history entries) (nat_le p.limits.life accepted) p.limits.history (reply_to (state_after p.past) command) (MayLackCell p.limits.cells (Some (table_of p.past)) command) r
-    (λ not_own. given-err a r KeyOutside gives (outside (within-false p.keys (key_of command) not_own)))
-    (λ is_own is_full. given-err a r (HistoryFull p.limits.history) gives (full (within-true p.keys (key_of command) is_own) (leb-true p.limits.history entries is_full)))
-    (λ is_own not_full is_over. given-err a r LifeOver gives (over (within-true p.keys (key_of command) is_own) (leb-false p.limits.history entries not_full) (leb-true p.limits.life accepted is_over)))
-    (λ is_own not_full not_over. kept-or-short p command a r gives said (short (within-true p.keys (key_of command) is_own) (leb-false p.limits.history entries not_full) (leb-false p.limits.life accepted not_over)))
+pub outcome-given : (p q : Part) (command : Command) (a : Result (Reply × Reply) Refusal) (r : Result Reply Refusal) → Gives a r → IfOk a (λ (replies : Reply × Reply). (replies.0 ≡ reply_to (state_after p.past) command) × (replies.1 ≡ replies.0)) → IfSome (refusal_of p command) (λ e. (a ≡ Err e) × (q ≡ p)) → (refusal_of p command ≡ None → IfErr a (λ e. e ≡ OutOfMemory)) → (lacks_cell p.limits.cells p.store (change_of command) ≡ true → MayLackCell p.limits.cells (Some (table_of p.past)) command) → IsOutcome (bounds_of p.limits) p.keys (Some (table_of p.past)) command r
+outcome-given p q command a r gives said refused memory lack =
+    by_cause (is_key_in p.keys (key_of command)) (lacks_cell p.limits.cells p.store (change_of command)) (stopped_by p.limits (table_of p.past)) (reply_to (state_after p.past) command) (MayLackCell p.limits.cells (Some (table_of p.past)) command) r
+    (if_refused (refusal_of p command) (λ e. (a ≡ Err e) × (q ≡ p)) (λ e. r ≡ Err e) (λ e is. given-err a r e gives is.0) refused)
+    (λ none. kept-or-short (reply_to (state_after p.past) command) a r gives said (memory none))
+    lack
 
 -- a refusal for another cause than want of memory leaves a partition as it was
-pub same-given : (p q : Part) (command : Command) (a : Result (Reply × Reply) Refusal) (r : Result Reply Refusal) → Gives a r → ((IsWithin p.keys command → ⊥) → q ≡ p) → (IsWithin p.keys command → p.limits.history ≤ length p.past.tail → q ≡ p) → (IsWithin p.keys command → length p.past.tail < p.limits.history → p.limits.life ≤ accepted_in p.past → q ≡ p) → (IsWithin p.keys command → length p.past.tail < p.limits.history → accepted_in p.past < p.limits.life → IfErr a (λ e. e ≢ OutOfMemory → q ≡ p)) → IfErr r (λ e. e ≢ OutOfMemory → q ≡ p)
-same-given p q command (Ok replies) r gives outside full over short = rw gives.ok tt
-same-given p q command (Err e) r gives outside full over short = rw gives.err (by_key (is_key_in p.keys (key_of command)) refl)
-  where
-    by_life : IsWithin p.keys command → length p.past.tail < p.limits.history → e ≢ OutOfMemory → q ≡ p
-    by_life within room other = elim (cases_lt (accepted_in p.past) p.limits.life) [
-      | inl lives ↦ short within room lives other
-      | inr ended ↦ over within room ended
-    ]
-
-    by_length : IsWithin p.keys command → e ≢ OutOfMemory → q ≡ p
-    by_length within other = elim (cases_lt (length p.past.tail) p.limits.history) [
-      | inl room ↦ by_life within room other
-      | inr none ↦ full within none
-    ]
-
-    by_key : (b : Bool) → is_key_in p.keys (key_of command) ≡ b → e ≢ OutOfMemory → q ≡ p
-    by_key true is other = by_length (within-true p.keys (key_of command) is) other
-    by_key false is other = outside (within-false p.keys (key_of command) is)
+pub same-given : (p q : Part) (o : Option Refusal) (a : Result (Reply × Reply) Refusal) (r : Result Reply Refusal) → Gives a r → IfSome o (λ e. (a ≡ Err e) × (q ≡ p)) → (o ≡ None → IfErr a (λ e. e ≡ OutOfMemory)) → IfErr r (λ e. e ≢ OutOfMemory → q ≡ p)
+same-given p q o (Ok replies) r gives refused memory = rw gives.ok tt
+same-given p q None (Err e) r gives refused memory = rw gives.err (λ other. absurd (other (memory refl)))
+same-given p q (Some x) (Err e) r gives refused memory = rw gives.err (λ other. refused.1)
 
 -- one entry more
 pub table_of-push : (past : Past) (e : Entry) → table_of (with_entry past e) ≡ table_after (table_of past) e.command

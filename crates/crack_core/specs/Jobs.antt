@@ -12,7 +12,8 @@ use Rattle.crack_plain.specs.Past.{Past, with_entry, folded}
 use Rattle.crack_part.specs.Parts.{Part, Serves, Spares, folded_part}
 use Rattle.crack_core.specs.Routes.{keys_of_part}
 use Rattle.crack_core.specs.Opening.{AreParts}
-use Rattle.crack_core.specs.Steps.{Bounds, IsOutcome, IsFoldOutcome, table_of, pasts_of}
+use Rattle.crack_part.specs.Refusals.{table_of}
+use Rattle.crack_core.specs.Steps.{Bounds, IsOutcome, IsFoldOutcome, pasts_of}
 use Rattle.crack_core.specs.declared.step.Step.{Step}
 use Rattle.crack_core.specs.declared.step.Job.{Job}
 use Rattle.crack_core.specs.declared.step.Job.TheVariants.{Perform, Fold}

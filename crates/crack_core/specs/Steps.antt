@@ -1,35 +1,25 @@
 -- What a step and a checkpoint are to be answered, and what they leave of the plain rows.
-use Rattle.std.specs.Prelude.{◌≡◌, ◌⊎◌, ℕ, ◌+◌, ◌≤◌, Bool, true, List, length, map, Option, None, Some, Result, Ok, Err, IsOk, is_some, nat_le, slice_get, slice_set, slice_index_or, sum_by, if◌then◌else◌}
-use Rattle.crack_row.specs.Ranges.{Range, is_in}
+use Rattle.std.specs.Prelude.{◌≡◌, ◌⊎◌, ℕ, ◌+◌, ◌≤◌, true, false, List, length, map, Option, None, Some, Result, Ok, Err, IsOk, is_some, slice_get, slice_set, slice_index_or, sum_by, if◌then◌else◌}
+use Rattle.crack_row.specs.Ranges.{Range}
 use Rattle.crack_row.specs.Commands.{key_of}
 use Rattle.crack_row.specs.Layouts.{IsLayout}
 use Rattle.crack_row.specs.declared.Bound.{Bound}
 use Rattle.crack_row.specs.declared.limit.Limits.{Limits}
-use Rattle.crack_row.specs.declared.Key.{Key}
 use Rattle.crack_row.specs.declared.command.Command.{Command}
 use Rattle.crack_row.specs.declared.command.Reply.{Reply}
 use Rattle.crack_row.specs.declared.layout.Layout.{Layout}
 use Rattle.crack_row.specs.declared.refusal.Refusal.{Refusal}
-use Rattle.crack_row.specs.declared.refusal.Refusal.TheVariants.{KeyOutside, NoSuchPartition, HistoryFull, OutOfMemory, NoCell, LifeOver}
+use Rattle.crack_row.specs.declared.refusal.Refusal.TheVariants.{NoSuchPartition, OutOfMemory, NoCell}
 use Rattle.crack_plain.specs.Plain.{PlainView, accepted_of, checkpointed, no_rows, reply_to, after}
-use Rattle.crack_plain.specs.Past.{Past, state_after, accepted_in}
+use Rattle.crack_plain.specs.Past.{Past, accepted_in}
 use Rattle.crack_part.specs.Parts.{Part}
+use Rattle.crack_part.specs.Refusals.{table_of, stopped_by, first_cause}
 use Rattle.crack_core.specs.Routes.{keys_of_part}
-
--- whether a key, if there is one, is one of these
-abbrev pub is_key_in : Range → Option Key → Bool
-is_key_in keys None = true
-is_key_in keys (Some key) = is_in keys key.0
 
 -- what bounds the partitions of a table: why one accepts no command more, if so, and how many cells its rows may take
 pub record Bounds : Type 0 where
   pub stop : PlainView → Option Refusal
   pub cells : ℕ
-
--- why a partition of these limits accepts no command more: as many were accepted since its last checkpoint as its history may have, or as
--- many since its opening as it may accept in all
-abbrev pub stopped_by : Limits → PlainView → Option Refusal
-stopped_by limits table = if nat_le limits.history table.since then Some (HistoryFull limits.history) else (if nat_le limits.life (accepted_of table) then Some LifeOver else None)
 
 -- what these limits are for the partitions of a table
 abbrev pub bounds_of : Limits → Bounds
@@ -43,7 +33,7 @@ reply_unless (Some e) reply = Err e
 -- what a partition of these keys and bounds is to answer; there may be none
 abbrev pub expected : Bounds → Range → Option PlainView → Command → Result Reply Refusal
 expected bounds keys None command = Err NoSuchPartition
-expected bounds keys (Some table) command = if is_key_in keys (key_of command) then reply_unless (bounds.stop table) (reply_to table.state command) else Err KeyOutside
+expected bounds keys (Some table) command = reply_unless (first_cause keys (bounds.stop table) false command) (reply_to table.state command)
 
 -- a partition may lack a cell for a command that brings a key, once it has accepted as many commands as its rows may take cells
 abbrev pub MayLackCell : ℕ → Option PlainView → Command → Type 0
@@ -89,11 +79,7 @@ abbrev pub tables_folded : List PlainView → ℕ → Result ℕ Refusal → Lis
 tables_folded tables part (Ok count) = slice_set tables part (checkpointed (slice_index_or tables part fresh_table))
 tables_folded tables part (Err e) = tables
 
--- the plain rows that a past left, how many commands its base comes to, and how many entries its tail has
-abbrev pub table_of : Past → PlainView
-table_of past = record { state = state_after past; folded = past.base.folded; since = length past.tail }
-
--- the same of each partition
+-- the tables of partitions
 abbrev pub tables_of : List Part → List PlainView
 tables_of parts = map (λ (part : Part). table_of part.past) parts
 

@@ -1,10 +1,11 @@
 //! The book of a worker.
-ghost use Rattle.std.specs.Prelude.{◌≡◌, ◌⊎◌, ◌<◌, ◌≤◌, [], ◌∷◌, ◌++◌, length, IsOk, IfOk, IfErr, OnErr, OnOk, Err};
-ghost use Rattle.crack_row.specs.Commands.{change_of, range_of};
+ghost use Rattle.std.specs.Prelude.{◌≡◌, ◌<◌, [], ◌∷◌, ◌++◌, None, IsOk, IfOk, IfErr, IfSome, OnErr, OnOk, Err};
+ghost use Rattle.crack_row.specs.Commands.{range_of};
 ghost use Rattle.crack_plain.specs.Past.{with_entry, accepted_in};
-ghost use Rattle.crack_plain.specs.Plain.{IsWithin, IsSmall, reply_to, after};
+ghost use Rattle.crack_plain.specs.Plain.{IsSmall, reply_to, after};
 ghost use Rattle.crack_plain.specs.Totals.{accepted, inserted, deleted, is_placed, is_gone};
-ghost use Rattle.crack_part.specs.Parts.{state_of, LacksCell, Serves, Spares};
+ghost use Rattle.crack_part.specs.Parts.{state_of, Serves, Spares};
+ghost use Rattle.crack_part.specs.Refusals.{refusal_of};
 ghost use Rattle.crack_core.specs.Receipts.{entries_of};
 
 use crate::Receipt;
@@ -117,12 +118,8 @@ impl Book {
 
         ensures err { OnErr result ((self.new.receipts ≡ self.old.receipts) × (partition.new.past ≡ partition.old.past)) }
         ensures spared { OnErr result (Spares policy partition.old.keys (range_of command) partition.old.store partition.new.store) }
-        ensures same { (IsWithin partition.old.keys command → ⊥) ⊎ (partition.old.limits.history ≤ length partition.old.past.tail) ⊎ (partition.old.limits.life ≤ accepted_in partition.old.past) ⊎ LacksCell partition.old.limits.cells partition.old.store (change_of command) → partition.new ≡ partition.old }
-        ensures outside { (IsWithin partition.old.keys command → ⊥) → result ≡ Err Refusal.KeyOutside }
-        ensures full { IsWithin partition.old.keys command → partition.old.limits.history ≤ length partition.old.past.tail → result ≡ Err (Refusal.HistoryFull partition.old.limits.history) }
-        ensures over { IsWithin partition.old.keys command → length partition.old.past.tail < partition.old.limits.history → partition.old.limits.life ≤ accepted_in partition.old.past → result ≡ Err Refusal.LifeOver }
-        ensures no_cell { IsWithin partition.old.keys command → length partition.old.past.tail < partition.old.limits.history → accepted_in partition.old.past < partition.old.limits.life → LacksCell partition.old.limits.cells partition.old.store (change_of command) → result ≡ Err Refusal.NoCell }
-        ensures memory { IsWithin partition.old.keys command → length partition.old.past.tail < partition.old.limits.history → accepted_in partition.old.past < partition.old.limits.life → (LacksCell partition.old.limits.cells partition.old.store (change_of command) → ⊥) → IfErr result (λ e. e ≡ Refusal.OutOfMemory) }
+        ensures refused { IfSome (refusal_of partition.old command) (λ e. (result ≡ Err e) × (partition.new ≡ partition.old)) }
+        ensures memory { refusal_of partition.old command ≡ None → IfErr result (λ e. e ≡ Refusal.OutOfMemory) }
     {
         let position = partition.accepted();
         let kept = command;

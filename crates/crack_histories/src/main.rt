@@ -14,7 +14,7 @@ mod gate;
 mod pool;
 mod texts;
 
-use crack_row::{Limits, Policy, Refusal, Watched};
+use crack_row::{Limits, Policy, Refusal, Upkeep, Watched};
 use pool::{Plan, Pool, write_closed};
 use std::alloc::Global;
 use std::io::{BufWriter, Write};
@@ -48,6 +48,7 @@ fn plan_of(words: &[&str]) -> anyhow::Result<Plan> {
                 history: limit.parse()?,
                 cells: cells.parse()?,
                 life: life.parse()?,
+                upkeep: Upkeep::OnRequest,
             },
         }),
         _ => Err(anyhow::anyhow!("SEED WORKERS STATEMENTS POLICY LIMIT CELLS LIFE")),

@@ -7,7 +7,7 @@ use Rattle.std.proofs.lemmas.List.Elements.{All-nil, All-cons, All-head, All-tai
 use Rattle.std.proofs.lemmas.List.Sums.{sum_by-cons}
 use Rattle.crack_row.specs.declared.Bound.{Bound}
 use Rattle.crack_row.specs.declared.layout.PieceSize.{PieceSize}
-use Rattle.crack_row.specs.Layouts.{AreJoined}
+use Rattle.crack_row.specs.Layouts.{AreJoined, LeadTo}
 use Rattle.crack_index.specs.declared.mark.Mark.{Mark}
 use Rattle.crack_index.specs.Marks.{InOrder, Rising, Fits, bounds_of, HasBound, position_of, next_mark, last_mark, first_behind, last_before, start_of, end_of, size_between, pieces_from, added, raised, lowered, lowered_at}
 use Rattle.crack_index.specs.Steps.{one_up, one_down}
@@ -437,14 +437,19 @@ last_before-kept high place (n ∷ ns) m found = elim (cases_lt n.position place
 
 -- The sizes of the pieces
 
--- bounds that rise and lie between the ends make pieces that are joined
-pub AreJoined-pieces : (low : Bound) (from : ℕ) (marks : List Mark) (high : Bound) (to : ℕ) → low.0 ≤ high.0 → Rising marks → All (λ m. (low.0 ≤ m.bound.0) × (m.bound.0 ≤ high.0)) marks → AreJoined low.0 high.0 (pieces_from low from marks high to)
-AreJoined-pieces low from [] high to order rising between = (refl, order, refl)
-AreJoined-pieces low from (m ∷ ms) high to order rising between =
+-- bounds that rise and lie between the ends make pieces that lead from one end to the other
+LeadTo-pieces : (low : Bound) (from : ℕ) (marks : List Mark) (high : Bound) (to : ℕ) → low.0 ≤ high.0 → Rising marks → All (λ m. (low.0 ≤ m.bound.0) × (m.bound.0 ≤ high.0)) marks → LeadTo low.0 high.0 (pieces_from low from marks high to)
+LeadTo-pieces low from [] high to order rising between = (refl, order, refl)
+LeadTo-pieces low from (m ∷ ms) high to order rising between =
     let first = All-head (λ n. (low.0 ≤ n.bound.0) × (n.bound.0 ≤ high.0)) m ms between in
     let rest = All-tail (λ n. (low.0 ≤ n.bound.0) × (n.bound.0 ≤ high.0)) m ms between in
     let above = Rising-head m ms rising in
-    (refl, first.0, AreJoined-pieces (record { 0 = m.bound.0 }) m.position ms high to first.1 (Rising-tail m ms rising) (λ k d h. (omega (arith, (above k d h).bounds), (rest k d h).1)))
+    (refl, first.0, LeadTo-pieces (record { 0 = m.bound.0 }) m.position ms high to first.1 (Rising-tail m ms rising) (λ k d h. (omega (arith, (above k d h).bounds), (rest k d h).1)))
+
+-- and there is one piece at least
+pub AreJoined-pieces : (low : Bound) (from : ℕ) (marks : List Mark) (high : Bound) (to : ℕ) → low.0 ≤ high.0 → Rising marks → All (λ m. (low.0 ≤ m.bound.0) × (m.bound.0 ≤ high.0)) marks → AreJoined low.0 high.0 (pieces_from low from marks high to)
+AreJoined-pieces low from [] high to order rising between = LeadTo-pieces low from [] high to order rising between
+AreJoined-pieces low from (m ∷ ms) high to order rising between = LeadTo-pieces low from (m ∷ ms) high to order rising between
 
 -- the sizes add up to what lies between the ends
 pub sum_of_sizes : (low : Bound) (from : ℕ) (marks : List Mark) (high : Bound) (to : ℕ) → Rising marks → All (λ m. from ≤ m.position) marks → All (λ m. m.position ≤ to) marks → from ≤ to → sum_by (λ (p : PieceSize). p.size) (pieces_from low from marks high to) + from ≡ to

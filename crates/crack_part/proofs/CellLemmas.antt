@@ -1,8 +1,8 @@
 -- How many cells a partition's rows take: never more than their limit.
-use Rattle.std.proofs.Common.{◌≡◌, ℕ, ◌+◌, ◌<◌, ◌≤◌, Bool, true, false, List, [], ◌∷◌, length, Option, Some, None, arith, refl, ap, inl, inr, length-set}
+use Rattle.std.proofs.Common.{◌≡◌, ℕ, ◌+◌, ◌<◌, ◌≤◌, Bool, true, false, List, [], ◌∷◌, length, Option, Some, None, arith, refl, ap, inl, inr, length-set, ◌&&◌, ◌==◌, nat_le}
 use Rattle.std.specs.List.{filter_map, cons_option, range_with_len}
 use Rattle.std.specs.List.Sorted.{IsPermutation}
-use Rattle.std.proofs.lemmas.Bool.{cases_lt}
+use Rattle.std.proofs.lemmas.Bool.{cases_lt, both_ways, and_from, le-leb, eq-eqb}
 use Rattle.std.proofs.lemmas.List.{length_push}
 use Rattle.std.proofs.lemmas.List.FromFn.{length-range_with_len}
 use Rattle.std.proofs.lemmas.List.Sorted.{length_permutation}
@@ -19,7 +19,8 @@ use Rattle.crack_arena.specs.Arena.{Cell, cell_at, slots, cells_with}
 use Rattle.crack_state.specs.State.{State, live_at, live_rows}
 use Rattle.crack_state.specs.Steps.{SameButRoom, admitted}
 use Rattle.crack_state.specs.Points.{pending_by, handle_by, Removes, Rewrites}
-use Rattle.crack_part.specs.Parts.{TakesCell, LacksCell, Performs, Serves, placed}
+use Rattle.crack_part.specs.Parts.{Performs, Serves, placed}
+use Rattle.crack_part.specs.Refusals.{takes_cell, lacks_cell}
 use Rattle.crack_part.proofs.KeepLemmas.{Keeps-prepared}
 
 length-cons_option : (o : Option Row) (rows : List Row) → length (cons_option o rows) ≤ length rows + 1
@@ -42,10 +43,10 @@ length-cells_with row cells [] most few room = omega (arith, room refl, length_p
 length-cells_with row cells (n ∷ ns) most few room = omega (arith, length-set cells n (record { generation = (cell_at cells n).generation; value = Some row }))
 
 -- where a change doesn't lack a cell, there is room for one that it takes
-room : (most : ℕ) (s : State) (change : Option Change) → (LacksCell most s change → ⊥) → TakesCell s change → length s.free ≡ 0 → length s.cells < most
+room : (most : ℕ) (s : State) (change : Option Change) → lacks_cell most s change ≡ false → takes_cell s change ≡ true → length s.free ≡ 0 → length s.cells < most
 room most s change not takes none = elim (cases_lt (length s.cells) most) [
   | inl less ↦ less
-  | inr many ↦ absurd (not (record { takes = takes; none = none; many = many }))
+  | inr many ↦ absurd (both_ways (lacks_cell most s change) not (and_from (nat_le most (length s.cells)) ((length s.free == 0) && takes_cell s change) (le-leb most (length s.cells) many) (and_from (length s.free == 0) (takes_cell s change) (eq-eqb (length s.free) 0 none) takes)))
 ]
 
 fits-admitted : (most : ℕ) (row : Row) (s t : State) → length s.cells ≤ most → (length s.free ≡ 0 → length s.cells < most) → SameButRoom (admitted row s) t → length t.cells ≤ most
@@ -69,16 +70,16 @@ fits-replaced most row s t (Some false) few free renews =
     omega (arith, ap (λ (u : State). length u.cells) renews.after.same, length-cells_with row s.cells s.free most few (free refl))
 
 -- a change that doesn't lack a cell leaves no more than may be
-fits-performed : (most next : ℕ) (change : Option Change) (s t : State) → length s.cells ≤ most → (LacksCell most s change → ⊥) → Performs next change s t → length t.cells ≤ most
+fits-performed : (most next : ℕ) (change : Option Change) (s t : State) → length s.cells ≤ most → lacks_cell most s change ≡ false → Performs next change s t → length t.cells ≤ most
 fits-performed most next None s t few not same = omega (arith, ap (λ (u : State). length u.cells) same)
 fits-performed most next (Some (Place key payload)) s t few not admits =
-    fits-admitted most (placed next key payload) s t few (room most s (Some (Place key payload)) not tt) admits
+    fits-admitted most (placed next key payload) s t few (room most s (Some (Place key payload)) not refl) admits
 fits-performed most next (Some (Remove serial)) s t few not removes = fits-removed most serial.0 s t (pending_by s serial.0) few removes
 fits-performed most next (Some (Rewrite serial key payload)) s t few not replaces =
-    fits-replaced most (row_with serial key payload) s t (pending_by s serial.0) few (room most s (Some (Rewrite serial key payload)) not) replaces
+    fits-replaced most (row_with serial key payload) s t (pending_by s serial.0) few (λ stands. room most s (Some (Rewrite serial key payload)) not (rw stands refl)) replaces
 
 -- no more do a command's merges: they make no cell
-pub fits-served : (policy : Policy) (keys : Range) (most next : ℕ) (command : Command) (s t : State) → length s.cells ≤ most → (LacksCell most s (change_of command) → ⊥) → Serves policy keys next command s t → length t.cells ≤ most
+pub fits-served : (policy : Policy) (keys : Range) (most next : ℕ) (command : Command) (s t : State) → length s.cells ≤ most → lacks_cell most s (change_of command) ≡ false → Serves policy keys next command s t → length t.cells ≤ most
 fits-served policy keys most next (Insert key payload) s t few not served = fits-performed most next (Some (Place key payload)) s t few not (rw served.prepared at served.performed)
 fits-served policy keys most next (Delete serial) s t few not served = fits-performed most next (Some (Remove serial)) s t few not (rw served.prepared at served.performed)
 fits-served policy keys most next (Update serial key payload) s t few not served = fits-performed most next (Some (Rewrite serial key payload)) s t few not (rw served.prepared at served.performed)

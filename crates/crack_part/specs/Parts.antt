@@ -63,18 +63,6 @@ pub record IsSound (part : Part) : Type 0 where
 abbrev pub folded_part : Part → Part
 folded_part part = record part { past = folded part.past }
 
--- a change needs a cell more for a row: for one that is placed, and for one that takes the place of a row of the column
-abbrev pub TakesCell : State → Option Change → Type 0
-TakesCell s (Some (Place key payload)) = Unit {0}
-TakesCell s (Some (Rewrite serial key payload)) = pending_by s serial.0 ≡ Some false
-TakesCell s _ = ⊥
-
--- a change needs a cell where none is free, and there are as many as may be
-pub record LacksCell (most : ℕ) (s : State) (change : Option Change) : Type 0 where
-  pub takes : TakesCell s change
-  pub none : length s.free ≡ 0
-  pub many : most ≤ length s.cells
-
 -- a row as a change places it
 abbrev pub placed : ℕ → Key → Payload → Row
 placed serial key payload = row_with (record { 0 = serial }) key payload

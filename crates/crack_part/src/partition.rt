@@ -1,13 +1,13 @@
 //! Commands and their history.
-ghost use Rattle.std.specs.Prelude.{◌≡◌, ◌⊎◌, None, Some, ◌+◌, ◌<◌, ◌≤◌, ◌<ℤ◌, neg_ℤ, pos, ◌↔◌, ◌^◌, List, [], ◌∷◌, ◌++◌, length, map, filter, count_by, IsTrue, true, false, IsOk, IfOk, IfErr, IfSome, OnErr, OnOk, Err, vec_len, vec_capacity};
+ghost use Rattle.std.specs.Prelude.{◌≡◌, ◌⊎◌, None, Some, ◌+◌, ◌<◌, ◌≤◌, ◌<ℤ◌, neg_ℤ, pos, ◌^◌, List, [], ◌∷◌, ◌++◌, length, map, filter, count_by, IsTrue, IsFalse, true, false, IsOk, IfOk, IfErr, IfSome, OnErr, OnOk, Err, vec_len, vec_capacity};
 ghost use Rattle.std.specs.List.Sorted.{IsPermutation};
-ghost use Rattle.crack_row.specs.Commands.{change_of, range_of};
+ghost use Rattle.crack_row.specs.Commands.{change_of, key_of, range_of};
 ghost use Rattle.crack_row.specs.Ranges.{Range, IsIn, in_range};
 ghost use Rattle.crack_row.specs.Replies.{IsFlat};
 ghost use Rattle.crack_row.specs.Rows.{is_other, replaced, sum_of};
 ghost use Rattle.crack_row.specs.Layouts.{IsLayout};
 ghost use Rattle.crack_row.specs.Limits.{AreLimits, of_history};
-ghost use Rattle.crack_plain.specs.Plain.{PlainState, IsNumbered, reply_to, row_in, rows_in, after, IsSmall, IsWithin};
+ghost use Rattle.crack_plain.specs.Plain.{PlainState, IsNumbered, reply_to, row_in, rows_in, after, IsSmall};
 ghost use Rattle.crack_plain.specs.Past.{no_past, with_entry, accepted_in, IsLegal};
 ghost use Rattle.crack_plain.specs.Inside.{gone, rewritten};
 ghost use Rattle.crack_state.specs.State.{State, IsIntact, live_rows};
@@ -16,7 +16,9 @@ ghost use Rattle.crack_state.specs.Points.{pending_by, MayFree, IsRenewable, Rem
 ghost use Rattle.crack_state.specs.Merge.{IsCracked, IsSettled, Merges, Tallies};
 ghost use Rattle.crack_merge.specs.Merges.{Stops};
 ghost use Rattle.crack_store.specs.Inside.{no_cells, IsLayoutOf};
-ghost use Rattle.crack_part.specs.Parts.{state_of, folded_part, IsLimit, TakesCell, LacksCell, IsSound, IsFaithful, LeavesNear, has_many_pending, is_merged_first, read_by, CracksAndMerges, Readies, Settles, StopsAt, StopsRead, Serves, Spares, Prepares, Performs, placed};
+ghost use Rattle.crack_part.specs.Parts.{state_of, folded_part, IsLimit, IsSound, IsFaithful, LeavesNear, has_many_pending, is_merged_first, read_by, CracksAndMerges, Readies, Settles, StopsAt, StopsRead, Serves, Spares, Prepares, Performs, placed};
+ghost use Rattle.crack_part.specs.Folding.{Applies, AppliesFolding, told};
+ghost use Rattle.crack_part.specs.Refusals.{is_key_in, takes_cell, lacks_cell, refusal_of};
 ghost use Rattle.crack_part.specs.Inside.{IsCommon, AreCommon, MayPerform};
 
 use crack_merge::{merge_complete, merge_gradual};
@@ -257,12 +259,8 @@ impl Partition {
 
         ensures err { OnErr result (self.new.past ≡ self.old.past) }
         ensures spared { OnErr result (Spares policy self.old.keys (range_of command) self.old.store self.new.store) }
-        ensures same { (IsWithin self.old.keys command → ⊥) ⊎ (self.old.limits.history ≤ length self.old.past.tail) ⊎ (self.old.limits.life ≤ accepted_in self.old.past) ⊎ LacksCell self.old.limits.cells self.old.store (change_of command) → self.new ≡ self.old }
-        ensures outside { (IsWithin self.old.keys command → ⊥) → result ≡ Err Refusal.KeyOutside }
-        ensures full { IsWithin self.old.keys command → self.old.limits.history ≤ length self.old.past.tail → result ≡ Err (Refusal.HistoryFull self.old.limits.history) }
-        ensures over { IsWithin self.old.keys command → length self.old.past.tail < self.old.limits.history → self.old.limits.life ≤ accepted_in self.old.past → result ≡ Err Refusal.LifeOver }
-        ensures no_cell { IsWithin self.old.keys command → length self.old.past.tail < self.old.limits.history → accepted_in self.old.past < self.old.limits.life → LacksCell self.old.limits.cells self.old.store (change_of command) → result ≡ Err Refusal.NoCell }
-        ensures room { IsWithin self.old.keys command → length self.old.past.tail < self.old.limits.history → accepted_in self.old.past < self.old.limits.life → (LacksCell self.old.limits.cells self.old.store (change_of command) → ⊥) → IfErr result (λ e. e ≡ Refusal.OutOfMemory) }
+        ensures refused { IfSome (refusal_of self.old command) (λ e. (result ≡ Err e) × (self.new ≡ self.old)) }
+        ensures memory { refusal_of self.old command ≡ None → IfErr result (λ e. e ≡ Refusal.OutOfMemory) }
     {
         self.may_keep(&command)?;
         make_room(&mut self.history)?;
@@ -285,16 +283,55 @@ impl Partition {
         Ok((copies.reply, copies.receipt))
     }
 
-    /// Refuses, in this order, a command that brings a key that isn't the partition's, any where the history is full or the life is over,
-    /// and one that needs a cell where there is none.
+    /// Answers one command of a worker as `apply` does, but where that would refuse it with 6: there it makes a checkpoint first. So 6
+    /// never comes. Refused with 4 as `apply` is; then, where a checkpoint is due, with 8 if that finds no memory, and nothing has changed;
+    /// then with 10, 9 and 8 as `apply` is, after the checkpoint, which stands also where the command is then refused.
+    /// Where none is due, it costs what `apply` does, and a comparison.
+    #[inline(always)]
+    pub fn apply_folding(
+        &mut self,
+        worker: u32,
+        command: Command,
+        policy: Policy,
+    ) -> Result<(Reply, Reply), Refusal>
+        ensures applies { AppliesFolding worker command policy (told result) self.old self.new }
+        ensures copy { IfOk result (λ replies. replies.1 ≡ replies.0) }
+    {
+        if !self.is_full_for(&command) {
+            return self.apply(worker, command, policy);
+        }
+        self.fold_and_apply(worker, command, policy)
+    }
+
+    /// Makes a checkpoint, and answers a command.
+    #[inline(never)]
+    fn fold_and_apply(
+        &mut self,
+        worker: u32,
+        command: Command,
+        policy: Policy,
+    ) -> Result<(Reply, Reply), Refusal>
+        ensures applies { Applies worker command policy (told result) (folded_part self.old) self.new ⊎ ((told result ≡ Err Refusal.OutOfMemory) × (self.new ≡ self.old)) }
+        ensures copy { IfOk result (λ replies. replies.1 ≡ replies.0) }
+    {
+        self.checkpoint()?;
+        self.apply(worker, command, policy)
+    }
+
+    /// Whether a command would be refused because the history is full.
+    #[inline(always)]
+    fn is_full_for(&self, command: &Command) -> bool
+        ensures full { IsTrue result → refusal_of self.now command.now ≡ Some (Refusal.HistoryFull self.now.limits.history) }
+        ensures room { IsFalse result → refusal_of self.now command.now ≡ Some (Refusal.HistoryFull self.now.limits.history) → ⊥ }
+    {
+        self.history.len() as u64 >= self.limits.history && allows(self.keys, command)
+    }
+
+    /// Refuses a command for the first cause, before any memory is looked for.
     #[inline(always)]
     fn may_keep(&self, command: &Command) -> Result<(), Refusal>
-        ensures ok { OnOk result (IsWithin self.now.keys command.now × (length self.now.past.tail < self.now.limits.history) × (accepted_in self.now.past < self.now.limits.life) × (LacksCell self.now.limits.cells self.now.store (change_of command.now) → ⊥)) }
-        ensures err { OnErr result ((IsWithin self.now.keys command.now → ⊥) ⊎ (self.now.limits.history ≤ length self.now.past.tail) ⊎ (self.now.limits.life ≤ accepted_in self.now.past) ⊎ LacksCell self.now.limits.cells self.now.store (change_of command.now)) }
-        ensures outside { (IsWithin self.now.keys command.now → ⊥) → result ≡ Err Refusal.KeyOutside }
-        ensures full { IsWithin self.now.keys command.now → self.now.limits.history ≤ length self.now.past.tail → result ≡ Err (Refusal.HistoryFull self.now.limits.history) }
-        ensures over { IsWithin self.now.keys command.now → length self.now.past.tail < self.now.limits.history → self.now.limits.life ≤ accepted_in self.now.past → result ≡ Err Refusal.LifeOver }
-        ensures no_cell { IsWithin self.now.keys command.now → length self.now.past.tail < self.now.limits.history → accepted_in self.now.past < self.now.limits.life → LacksCell self.now.limits.cells self.now.store (change_of command.now) → result ≡ Err Refusal.NoCell }
+        ensures ok { OnOk result (refusal_of self.now command.now ≡ None) }
+        ensures err { IfErr result (λ e. refusal_of self.now command.now ≡ Some e) }
     {
         if !allows(self.keys, command) {
             return Err(Refusal::KeyOutside);
@@ -317,14 +354,14 @@ impl Partition {
 /// Whether a command needs a cell where none is free and there are as many as may be. O(1).
 #[inline(always)]
 fn lacks_cell(store: &Store, most: u64, command: &Command) -> bool
-    ensures { IsTrue result ↔ LacksCell most store.now (change_of command.now) }
+    ensures { result ≡ lacks_cell most store.now (change_of command.now) }
 {
     store.cells() as u64 >= most && store.free_cells() == 0 && takes_cell(store, command)
 }
 
 /// Whether a command needs a cell more: an insert, or an update of a row of the column. O(1).
 fn takes_cell(store: &Store, command: &Command) -> bool
-    ensures { IsTrue result ↔ TakesCell store.now (change_of command.now) }
+    ensures { result ≡ takes_cell store.now (change_of command.now) }
 {
     match command.change() {
         Some(Change::Place { .. }) => true,
@@ -347,7 +384,7 @@ struct Copies {
 /// Whether the key that a command brings, if any, is one of these.
 #[inline(always)]
 fn allows(keys: KeyRange, command: &Command) -> bool
-    ensures { IsTrue result ↔ IsWithin keys command.now }
+    ensures { result ≡ is_key_in keys (key_of command.now) }
 {
     match command.key() {
         Some(key) => keys.contains(key),

@@ -4,10 +4,15 @@ use Rattle.crack_row.specs.Ranges.{Range}
 use Rattle.crack_row.specs.declared.layout.PieceSize.{PieceSize}
 use Rattle.crack_row.specs.declared.layout.Layout.{Layout}
 
--- the pieces lead from one end to the other, each from where the one before it ends, and none ends before it begins
+-- the pieces, if there are any, lead from one end to the other, each from where the one before it ends, and none ends before it begins
+abbrev pub LeadTo : ℕ → ℕ → List PieceSize → Type 0
+LeadTo low high [] = low ≡ high
+LeadTo low high (p ∷ ps) = (p.low.0 ≡ low) × (p.low.0 ≤ p.high.0) × LeadTo p.high.0 high ps
+
+-- there are pieces, and they lead from one end to the other
 abbrev pub AreJoined : ℕ → ℕ → List PieceSize → Type 0
-AreJoined low high [] = low ≡ high
-AreJoined low high (p ∷ ps) = (p.low.0 ≡ low) × (p.low.0 ≤ p.high.0) × AreJoined p.high.0 high ps
+AreJoined low high [] = ⊥
+AreJoined low high (p ∷ ps) = LeadTo low high (p ∷ ps)
 
 -- the layout equations: each cell is counted once, each row once, and the pieces make up the column
 pub record IsLayout (keys : Range) (layout : Layout) : Type 0 where

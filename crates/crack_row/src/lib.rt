@@ -12,7 +12,7 @@ pub mod watched;
 
 pub use command::{Change, Command, Entry, Policy, Reply};
 pub use layout::{Layout, PieceList, PieceSize};
-pub use limit::Limits;
+pub use limit::{Limits, Upkeep};
 pub use number::{BoundNumber, KeyNumber, PayloadNumber};
 pub use range::KeyRange;
 pub use refusal::Refusal;

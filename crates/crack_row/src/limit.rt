@@ -4,17 +4,27 @@ ghost use Rattle.crack_row.specs.Limits.{AreLimits, are_limits, is_limit, of_his
 
 use crate::{GREATEST_CELLS, GREATEST_LIFE, GREATEST_LIMIT};
 
+/// What a partition does at its limits.
+#[derive(Clone, Copy, PartialEq, Eq, Hash, Debug)]
+pub enum Upkeep {
+    /// It refuses the command: checkpoints are made where they are asked for.
+    OnRequest,
+    /// It makes the checkpoint that is due, or takes out the rows that were deleted, and then answers the command.
+    Automatic,
+}
+
 /// What bounds a partition: how many entries its history may have (1 to `GREATEST_LIMIT`), how many cells its rows may take (1 to
-/// `GREATEST_CELLS`), and how many commands it may accept in all (1 to `GREATEST_LIFE`).
+/// `GREATEST_CELLS`), and how many commands it may accept in all (1 to `GREATEST_LIFE`); and what it does at these limits.
 #[derive(Clone, Copy, PartialEq, Eq, Hash, Debug)]
 pub struct Limits {
     pub history: u64,
     pub cells: u64,
     pub life: u64,
+    pub upkeep: Upkeep,
 }
 
 impl Limits {
-    /// This limit of a history, which isn't tested, and the greatest of the others.
+    /// This limit of a history, which isn't tested, and the greatest of the others. Upkeep is on request.
     pub fn of_history(history: u64) -> Limits
         ensures { result ≡ of_history history }
     {
@@ -22,6 +32,7 @@ impl Limits {
             history,
             cells: GREATEST_CELLS,
             life: GREATEST_LIFE,
+            upkeep: Upkeep::OnRequest,
         }
     }
 

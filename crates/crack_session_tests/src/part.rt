@@ -2,7 +2,7 @@
 use crack_part::Partition;
 use crack_row::{
     Command, Entry, GREATEST_BOUND, GREATEST_CELLS, GREATEST_LIFE, GREATEST_LIMIT, Key, KeyNumber,
-    KeyRange, Limits, Payload, PayloadNumber, Policy, Refusal, Reply, Serial,
+    KeyRange, Limits, Payload, PayloadNumber, Policy, Refusal, Reply, Serial, Upkeep,
 };
 use std::process::Abort;
 
@@ -37,6 +37,7 @@ fn assert_opened(rt: &impl Abort, partition: &Partition) {
         history: GREATEST_LIMIT,
         cells: GREATEST_CELLS,
         life: GREATEST_LIFE,
+        upkeep: Upkeep::OnRequest,
     };
     assert_eq!(rt; partition.limit(), GREATEST_LIMIT);
     assert!(rt; partition.limits() == greatest);

@@ -12,8 +12,6 @@ use Rattle.crack_table.specs.declared.kinds.KindsLeft.{KindsLeft}
 use Rattle.crack_table.specs.declared.marks.Naming.{Naming}
 use Rattle.crack_table.specs.declared.marks.Naming.TheVariants.{Unnamed, Met, Failed}
 use Rattle.crack_table.specs.Cover.{KeptState, Place, IsRight, place_at, place_in, names, folded_entries, is_late}
-use Rattle.crack_row.specs.declared.refusal.Refusal.{Refusal}
-use Rattle.crack_row.specs.declared.refusal.Refusal.TheVariants.{HistoryFull}
 
 -- what stands at a place of a list of lists, if there is such a place
 abbrev pub at : {X : Type 0} → List (List X) → ℕ → ℕ → Option X
@@ -108,8 +106,3 @@ Tracks last done = (r : Receipt) → list_any (λ earlier. is_late earlier r) do
 -- the place that a receipt names
 abbrev pub named_place : Receipt → ℕ × ℕ
 named_place r = (r.part, r.position)
-
--- a refusal, with this limit where it tells of a full history
-abbrev pub with_limit : ℕ → Refusal → Refusal
-with_limit limit (HistoryFull entries) = HistoryFull limit
-with_limit limit e = e

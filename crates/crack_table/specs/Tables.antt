@@ -1,6 +1,5 @@
 -- What contracts see of a table and of its workers, and what these are answered.
-use Rattle.std.specs.Prelude.{ℕ, ◌≡◌, ◌+◌, ◌<◌, ◌≤◌, List, [], ◌∷◌, ◌++◌, length, Some, Result, Err, IsSome, IfOk, IfErr, OnErr, OnOk, slice_get}
-use Rattle.crack_row.specs.Commands.{key_of}
+use Rattle.std.specs.Prelude.{ℕ, ◌≡◌, ◌+◌, ◌<◌, ◌≤◌, ◌⊎◌, List, [], ◌∷◌, ◌++◌, length, Some, Result, Err, IfOk, IfErr, OnErr, OnOk, slice_get}
 use Rattle.crack_row.specs.Layouts.{IsLayout}
 use Rattle.crack_row.specs.Ranges.{Range}
 use Rattle.crack_row.specs.declared.Bound.{Bound}
@@ -9,8 +8,10 @@ use Rattle.crack_row.specs.declared.command.Command.{Command}
 use Rattle.crack_row.specs.declared.command.Reply.{Reply}
 use Rattle.crack_row.specs.declared.layout.Layout.{Layout}
 use Rattle.crack_row.specs.declared.refusal.Refusal.{Refusal}
-use Rattle.crack_row.specs.declared.refusal.Refusal.TheVariants.{KeyOutside, NoSuchPartition, HistoryFull, GateGaveUp, OutOfMemory, NoCell, LifeOver}
+use Rattle.crack_row.specs.declared.refusal.Refusal.TheVariants.{NoSuchPartition, HistoryFull, GateGaveUp, OutOfMemory}
 use Rattle.crack_plain.specs.Plain.{IsSmall}
+use Rattle.crack_part.specs.Parts.{Part}
+use Rattle.crack_part.specs.Refusals.{refusal_of}
 use Rattle.crack_core.specs.Receipts.{BookState}
 use Rattle.crack_table.specs.declared.TheConstants.{GATE_TURNS}
 
@@ -24,16 +25,19 @@ pub record TableState : Type 0 where
 abbrev pub AreNew : List BookState → Type 0
 AreNew books = (number : ℕ) (book : BookState) → slice_get books number ≡ Some book → (book.worker ≡ number) × (book.receipts ≡ [])
 
--- each refusal for its cause, as far as it shows outside of the lock: may_refuse tells at which turns the gate may say no
+-- a refusal as a worker is given it: a full history with this limit, since nothing outside of the lock tells the partition's own
+abbrev pub with_limit : ℕ → Refusal → Refusal
+with_limit limit (HistoryFull entries) = HistoryFull limit
+with_limit limit e = e
+
+-- each refusal for its cause: there is no such partition, the gate may say no at each turn, no memory was found, or a partition refuses the
+-- command so, with the table's limit of a history
 abbrev pub MayRefuse : TableState → (ℕ → Type 0) → ℕ → Command → Refusal → Type 0
-MayRefuse table may_refuse part command KeyOutside = IsSome (key_of command)
-MayRefuse table may_refuse part command NoSuchPartition = length table.splits < part
-MayRefuse table may_refuse part command (HistoryFull entries) = entries ≡ table.limits.history
-MayRefuse table may_refuse part command GateGaveUp = (turn : ℕ) → turn < GATE_TURNS → may_refuse turn
-MayRefuse table may_refuse part command OutOfMemory = Unit {0}
-MayRefuse table may_refuse part command NoCell = IsSome (key_of command)
-MayRefuse table may_refuse part command LifeOver = Unit {0}
-MayRefuse table may_refuse part command _ = ⊥
+MayRefuse table may_refuse part command e =
+    ((e ≡ NoSuchPartition) × (length table.splits < part))
+    ⊎ ((e ≡ GateGaveUp) × ((turn : ℕ) → turn < GATE_TURNS → may_refuse turn))
+    ⊎ (e ≡ OutOfMemory)
+    ⊎ ((p : Part) × (cause : Refusal) × (refusal_of p command ≡ Some cause) × (e ≡ with_limit table.limits.history cause))
 
 -- A worker asks one partition: it is answered, and its book has a receipt of that, or refused for a cause, and its book has those that it had.
 pub record AsksTable (table : TableState) (may_refuse : ℕ → Type 0) (part : ℕ) (command : Command) (result : Result Reply Refusal) (old new : BookState) : Type 0 where

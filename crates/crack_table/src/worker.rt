@@ -1,7 +1,6 @@
 //! Workers.
-ghost use Rattle.std.specs.Prelude.{◌≡◌, []};
-ghost use Rattle.crack_table.specs.Tables.{AsksTable, FoldsAt, LooksAt};
-ghost use Rattle.crack_table.specs.Marks.{with_limit};
+ghost use Rattle.std.specs.Prelude.{◌≡◌, [], Ok, Err, MatchResult};
+ghost use Rattle.crack_table.specs.Tables.{AsksTable, FoldsAt, LooksAt, with_limit};
 
 use crate::gate::{Gate, pass};
 use crate::table::Table;
@@ -64,9 +63,8 @@ impl Worker {
         self.book.reserve()?;
         let mut partition = lock.lock(rt);
         pass(gate, part)?;
-        self.book
-            .ask(part, &mut partition, command, policy)
-            .map_err(|refusal| with_limit(refusal, table.limits.history))
+        let answered = self.book.ask(part, &mut partition, command, policy);
+        with_table_limit(answered, table.limits.history)
     }
 
     /// Folds the history of partition `part` of a table into its base, under its lock, which it may wait for, and tells how many entries
@@ -93,6 +91,16 @@ impl Worker {
         };
         let partition = lock.lock(rt);
         partition.layout()
+    }
+}
+
+/// What came of asking, with the table's limit where it tells of a full history: a lock tells nothing of its partition's own.
+fn with_table_limit(answered: Result<Reply, Refusal>, limit: u64) -> Result<Reply, Refusal>
+    ensures { MatchResult answered (λ reply. result ≡ Ok reply) (λ e. result ≡ Err (with_limit limit e)) }
+{
+    match answered {
+        Ok(reply) => Ok(reply),
+        Err(refusal) => Err(with_limit(refusal, limit)),
     }
 }
 

@@ -5,10 +5,11 @@ use Rattle.crack_row.specs.declared.command.Reply.{Reply}
 use Rattle.crack_row.specs.declared.refusal.Refusal.{Refusal}
 use Rattle.crack_row.specs.declared.refusal.Refusal.TheVariants.{OutOfMemory}
 use Rattle.crack_part.specs.Parts.{Part, IsSound, Serves, Spares}
+use Rattle.crack_part.specs.Refusals.{refusal_of}
 use Rattle.crack_core.specs.Jobs.{performed, past_after}
 use Rattle.crack_core.specs.declared.step.Job.TheVariants.{Perform}
 use Rattle.crack_core.proofs.StepLaws.{Gives, outcome-given, kept-given, small-given, same-given, ok_given, err_given, outcome-at, Keeps-set, tables-set, accepted-set, AreParts-set, get-set_other, replaced-at}
-use Rattle.crack_core.proofs.ShortLaws.{short-given, same-short}
+use Rattle.crack_core.proofs.ShortLaws.{may-lack}
 use Rattle.crack_core.proofs.cores.ask_at.Goals as goal
 
 -- what the partition answered, and what is left of it
@@ -34,7 +35,7 @@ returns-clause-outcome c = λ splits limits are.
     let answered = c.apply-answered.result in
     let within : c.args.step.part < length c.args.partitions.now = omega arith in
     let sound : IsSound (asked c) = are.sound c.args.step.part c.index-partitions-part.result within in
-    outcome-at splits limits c.args.partitions.now c.args.step c.without_receipt.result c.index-partitions-part.result are within (outcome-given (asked c) command answered c.without_receipt.result (gives c) e.replies e.outside e.full e.over (λ own room lives. short-given (asked c) command answered sound (e.no_cell own room lives) (e.room own room lives)))
+    outcome-at splits limits c.args.partitions.now c.args.step c.without_receipt.result c.index-partitions-part.result are within (outcome-given (asked c) c.apply-answered.new.self command answered c.without_receipt.result (gives c) e.replies e.refused e.memory (may-lack (asked c) command sound))
 
 pub returns-clause-after : goal.returns-clause-after
 returns-clause-after c =
@@ -87,5 +88,5 @@ returns-clause-same c =
     let parts = c.args.partitions.now in
     let new = c.apply-answered.new.self in
     let e = c.apply-answered.ensures in
-    let kept = same-given (asked c) new s.command c.apply-answered.result c.without_receipt.result (gives c) (λ outside. e.same (inl outside)) (λ own full. e.same (inr (inl full))) (λ own room over. e.same (inr (inr (inl over)))) (λ own room lives. same-short (asked c) new s.command c.apply-answered.result (λ lacks. e.same (inr (inr (inr lacks)))) (e.room own room lives)) in
+    let kept = same-given (asked c) new (refusal_of (asked c) s.command) c.apply-answered.result c.without_receipt.result (gives c) e.refused e.memory in
     if_err c.without_receipt.result (λ e. e ≢ OutOfMemory → new ≡ asked c) (λ e. e ≢ OutOfMemory → set parts s.part new ≡ parts) (λ e same other. ap (set parts s.part) (same other) ∙ set-get_or parts s.part c.index-partitions-part.result) kept

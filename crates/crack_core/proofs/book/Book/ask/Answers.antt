@@ -1,4 +1,6 @@
-use Rattle.std.proofs.Common.{rules}
+use Rattle.std.proofs.Common.{rules, ◌≡◌, ◌∙◌, ap, Err}
+use Rattle.crack_part.specs.Refusals.{refusal_of}
+use Rattle.crack_part.proofs.RefusalLaws.{if_refused}
 use Rattle.crack_core.proofs.book.Book.ask.Goals as goal
 
 pub returns-clause-receipt : goal.returns-clause-receipt
@@ -31,20 +33,14 @@ returns-clause-err c = search rules
 pub returns-clause-spared : goal.returns-clause-spared
 returns-clause-spared c = search rules
 
-pub returns-clause-same : goal.returns-clause-same
-returns-clause-same c = search rules
-
-pub returns-clause-outside : goal.returns-clause-outside
-returns-clause-outside c = search rules
-
-pub returns-clause-full : goal.returns-clause-full
-returns-clause-full c = search rules
-
-pub returns-clause-over : goal.returns-clause-over
-returns-clause-over c = search rules
-
-pub returns-clause-no_cell : goal.returns-clause-no_cell
-returns-clause-no_cell c = search rules
+pub returns-clause-refused : goal.returns-clause-refused
+returns-clause-refused c = search rules
 
 pub returns-clause-memory : goal.returns-clause-memory
 returns-clause-memory c = search rules
+
+pub returns-in_err-reply-clause-refused : goal.returns-in_err-reply-clause-refused
+returns-in_err-reply-clause-refused c =
+    let given : c.from_residual.result ≡ Err c.in_err-reply.field-0.0 = search rules in
+    if_refused (refusal_of c.args.partition.now c.args.command) (λ e. (Err c.in_err-reply.field-0.0 ≡ Err e) × (c.apply.new.self ≡ c.args.partition.now)) (λ e. (c.from_residual.result ≡ Err e) × (c.apply.new.self ≡ c.args.partition.now))
+    (λ e is. (given ∙ ap Err (cc is.0), is.1)) c.in_err-reply.ensures.refused

@@ -4,7 +4,7 @@ use Rattle.std.proofs.lemmas.List.Elements.{All-map}
 use Rattle.crack_plain.specs.Plain.{PlainView, IsNumbered}
 use Rattle.crack_plain.proofs.PastLaws.{IsNumbered-after_past}
 use Rattle.crack_part.specs.Parts.{Part, IsSound}
-use Rattle.crack_core.specs.Steps.{table_of}
+use Rattle.crack_part.specs.Refusals.{table_of}
 use Rattle.crack_core.proofs.cores.Core.splits.Goals as goal
 
 pub returns-clause-numbered : goal.returns-clause-numbered

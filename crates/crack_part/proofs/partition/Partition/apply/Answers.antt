@@ -6,16 +6,20 @@ use Rattle.crack_row.specs.declared.command.Reply.{Reply}
 use Rattle.crack_plain.specs.Past.{Past, state_after}
 use Rattle.crack_plain.specs.Plain.{IsSmall}
 use Rattle.crack_plain.proofs.PastLaws.{state_after-push, IsNumbered-after_past}
+use Rattle.crack_part.specs.Parts.{Part}
 use Rattle.crack_part.proofs.CellLemmas.{fits-served}
 use Rattle.crack_part.proofs.KeepLemmas.{Keeps-spared, IsIntact-spared, Keeps-prepared, Spares-same, Spares-prepared}
 use Rattle.crack_part.proofs.SoundLemmas.{lived, few_rows, next-le-life, MayPerform-prepared, IsSound-kept, IsSound-served, Spends-served}
 use Rattle.crack_part.proofs.PointLemmas.{on_err}
+use Rattle.crack_part.proofs.RefusalLaws.{may-keep}
 use Rattle.crack_part.proofs.partition.Partition.apply.Goals as goal
 
 pub answer-requires-clause-admissible : goal.answer-requires-clause-admissible
 answer-requires-clause-admissible c =
-    let kept = rw (← c.self.view_is) at c.in_ok-may_keep.ensures.ok in
-    λ ready prepared. MayPerform-prepared c.args.policy _ c.args.command ready c.self.invariant kept.0 prepared
+    let at = c.self.inside in
+    let part : Part = record { keys = at.keys; limits = at.limits; past = lived at.base.rows.items at.base.folded at.base.placed at.base.gone at.history.items; next = at.next; store = at.store } in
+    let kept = may-keep part c.args.command (rw (← c.self.view_is) at c.in_ok-may_keep.ensures.ok) in
+    λ ready prepared. MayPerform-prepared c.args.policy _ c.args.command ready c.self.invariant kept.within prepared
 
 pub answer-requires-clause-small : goal.answer-requires-clause-small
 answer-requires-clause-small c = let next = next-le-life _ c.self.invariant in omega (arith, next)
@@ -52,15 +56,17 @@ returns-in_err-copies-clause-spared c = elim c.in_ok-reply.ensures.lists [
 pub invariant_of-self-2 : goal.invariant_of-self-2
 invariant_of-self-2 c =
     let e : Entry = record { worker = c.args.worker; command = c.args.command; reply = c.in_ok-copies.copies.kept } in
-    let kept = rw (← c.self.view_is) at c.in_ok-may_keep.ensures.ok in
+    let at = c.self.inside in
+    let part : Part = record { keys = at.keys; limits = at.limits; past = lived at.base.rows.items at.base.folded at.base.placed at.base.gone at.history.items; next = at.next; store = at.store } in
+    let kept = may-keep part c.args.command (rw (← c.self.view_is) at c.in_ok-may_keep.ensures.ok) in
     let past = lived c.self.inside.base.rows.items c.self.inside.base.folded c.self.inside.base.placed c.self.inside.base.gone c.self.inside.history.items in
     let plain = state_after past in
     let said = c.in_ok-reply.ensures.replies plain (IsNumbered-after_past past c.self.invariant.legal.base) c.self.invariant.faithful in
     let faithful = c.in_ok-reply.ensures.faithful plain c.self.invariant.faithful in
-    let spends = Spends-served c.args.policy _ c.args.command c.answer.new.store c.self.invariant kept.0 c.in_ok-reply.ensures.served in
+    let spends = Spends-served c.args.policy _ c.args.command c.answer.new.store c.self.invariant kept.within c.in_ok-reply.ensures.served in
     let grown = c.push_reserved.ensures ∙ ap (λ (h : List Entry). h ++ e ∷ []) c.make_room.ensures.same in
-    let fits = fits-served c.args.policy c.self.inside.keys _ c.self.inside.next c.args.command c.self.inside.store c.answer.new.store c.self.invariant.cells kept.3 c.in_ok-reply.ensures.served in
-    rw grown (IsSound-served _ e c.answer.new.next c.answer.new.store c.self.invariant kept.1 kept.2 fits kept.0 (c.in_ok-copies.ensures.ok.2 ∙ said) c.in_ok-reply.ensures.intact faithful spends)
+    let fits = fits-served c.args.policy c.self.inside.keys _ c.self.inside.next c.args.command c.self.inside.store c.answer.new.store c.self.invariant.cells kept.cell c.in_ok-reply.ensures.served in
+    rw grown (IsSound-served _ e c.answer.new.next c.answer.new.store c.self.invariant kept.room kept.lives fits kept.within (c.in_ok-copies.ensures.ok.2 ∙ said) c.in_ok-reply.ensures.intact faithful spends)
 
 pub returns-clause-state : goal.returns-clause-state
 returns-clause-state c =

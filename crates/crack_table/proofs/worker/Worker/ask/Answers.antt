@@ -1,5 +1,6 @@
 use Rattle.std.proofs.Common.{rules}
-use Rattle.crack_table.proofs.Causes.{causes-given}
+use Rattle.crack_table.specs.Tables.{TableState, MayRefuse}
+use Rattle.crack_table.proofs.Causes.{causes-given, causes-told}
 use Rattle.crack_table.proofs.worker.Worker.ask.Goals as goal
 
 pub returns : goal.returns
@@ -10,8 +11,9 @@ returns g c = record {
   there = search rules;
   err = search rules;
   causes =
-      let e = c.ask.ensures in
-      let given = causes-given c.args.table.now (g.G.Gate.may_refuse c.args.gate.now c.args.part) c.args.part c.deref_mut.result.now c.args.command c.ask.result e.outside e.full e.over e.no_cell e.memory in
-      search rules;
+      let e = c.ask-answered.ensures in
+      let table : TableState = record { splits = c.table.inside.splits.items; limits = c.table.inside.limits; workers = c.table.inside.workers } in
+      rw (← c.table.view_is) (causes-told c.table.inside.limits.history (MayRefuse table (g.G.Gate.may_refuse c.args.gate.now c.args.part) c.args.part c.args.command) c.ask-answered.result c.with_table_limit.result c.with_table_limit.ensures
+      (causes-given table (g.G.Gate.may_refuse c.args.gate.now c.args.part) c.args.part c.deref_mut.result.now c.ask-answered.new.partition c.args.command c.ask-answered.result e.refused e.memory));
   nowhere = search rules;
 }

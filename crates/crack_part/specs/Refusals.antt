@@ -1,0 +1,49 @@
+-- What a partition refuses a command with, whatever memory there is.
+use Rattle.std.specs.Prelude.{ℕ, ◌&&◌, ◌==◌, not, Bool, true, false, length, Option, None, Some, nat_le, unwrap_or, option_map, if◌then◌else◌}
+use Rattle.std.specs.Option.{option_or}
+use Rattle.crack_row.specs.Commands.{change_of, key_of}
+use Rattle.crack_row.specs.Ranges.{Range, is_in}
+use Rattle.crack_row.specs.declared.Key.{Key}
+use Rattle.crack_row.specs.declared.command.Change.{Change}
+use Rattle.crack_row.specs.declared.command.Change.TheVariants.{Place, Rewrite}
+use Rattle.crack_row.specs.declared.command.Command.{Command}
+use Rattle.crack_row.specs.declared.limit.Limits.{Limits}
+use Rattle.crack_row.specs.declared.refusal.Refusal.{Refusal}
+use Rattle.crack_row.specs.declared.refusal.Refusal.TheVariants.{KeyOutside, HistoryFull, NoCell, LifeOver}
+use Rattle.crack_plain.specs.Past.{Past, state_after}
+use Rattle.crack_plain.specs.Plain.{PlainView, accepted_of}
+use Rattle.crack_state.specs.State.{State}
+use Rattle.crack_state.specs.Points.{pending_by}
+use Rattle.crack_part.specs.Parts.{Part}
+
+-- the plain rows that a past left, how many commands its base comes to, and how many entries its tail has
+abbrev pub table_of : Past → PlainView
+table_of past = record { state = state_after past; folded = past.base.folded; since = length past.tail }
+
+-- whether a key, if there is one, is one of these
+abbrev pub is_key_in : Range → Option Key → Bool
+is_key_in keys None = true
+is_key_in keys (Some key) = is_in keys key.0
+
+-- whether a change needs a cell more for a row: for one that is placed, and for one that takes the place of a row of the column
+abbrev pub takes_cell : State → Option Change → Bool
+takes_cell s (Some (Place key payload)) = true
+takes_cell s (Some (Rewrite serial key payload)) = unwrap_or (option_map not (pending_by s serial.0)) false
+takes_cell s _ = false
+
+-- whether a change needs a cell where none is free, and there are as many as may be
+abbrev pub lacks_cell : ℕ → State → Option Change → Bool
+lacks_cell most s change = nat_le most (length s.cells) && ((length s.free == 0) && takes_cell s change)
+
+-- why a partition of these limits accepts no command more: as many were accepted since its last checkpoint as its history may have, or as
+-- many since its opening as it may accept in all
+abbrev pub stopped_by : Limits → PlainView → Option Refusal
+stopped_by limits table = if nat_le limits.history table.since then Some (HistoryFull limits.history) else (if nat_le limits.life (accepted_of table) then Some LifeOver else None)
+
+-- the first cause to refuse a command: its key is none of these, no command more is accepted, it lacks a cell
+abbrev pub first_cause : Range → Option Refusal → Bool → Command → Option Refusal
+first_cause keys stop lacks command = if is_key_in keys (key_of command) then option_or stop (if lacks then Some NoCell else None) else Some KeyOutside
+
+-- what a partition refuses a command with, if anything
+abbrev pub refusal_of : Part → Command → Option Refusal
+refusal_of part command = first_cause part.keys (stopped_by part.limits (table_of part.past)) (lacks_cell part.limits.cells part.store (change_of command)) command
