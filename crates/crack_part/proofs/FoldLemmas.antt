@@ -9,6 +9,7 @@ use Rattle.crack_state.specs.State.{live_rows}
 use Rattle.crack_state.specs.Stretch.{serial_of}
 use Rattle.crack_state.proofs.StretchLaws.{sorted_is}
 use Rattle.crack_part.specs.Parts.{Part, IsSound, state_of}
+use Rattle.crack_part.specs.Inside.{base_of}
 
 -- the live rows, in rising serial, are the plain rows
 pub rows-folded : (p : Part) (rows : List Row) → IsSound p → IsPermutation (live_rows p.store) rows → IsNonDecreasingBy serial_of rows → rows ≡ (state_of p).rows
@@ -24,13 +25,13 @@ pub gone-folded : (p : Part) (rows : List Row) → IsSound p → rows ≡ (state
 gone-folded p rows sound is = omega (arith, ap length is, placed-folded p sound, length_rows-after_past p.past sound.legal.base sound.legal.replies)
 
 -- a base by its fields
-abbrev pub base_of : List Row → ℕ → ℕ → ℕ → ℕ → Base
-base_of rows next folded placed gone = record { state = record { rows = rows; next = next }; folded = folded; placed = placed; gone = gone }
+abbrev base_by : List Row → ℕ → ℕ → ℕ → ℕ → Base
+base_by rows next folded placed gone = record { state = record { rows = rows; next = next }; folded = folded; placed = placed; gone = gone }
 
-same_base : (rows left : List Row) (next after folded placed added gone taken : ℕ) → rows ≡ left → next ≡ after → placed ≡ added → gone ≡ taken → base_of rows next folded placed gone ≡ base_of left after folded added taken
+same_base : (rows left : List Row) (next after folded placed added gone taken : ℕ) → rows ≡ left → next ≡ after → placed ≡ added → gone ≡ taken → base_by rows next folded placed gone ≡ base_by left after folded added taken
 same_base rows left next after folded placed added gone taken a b c d = rw (a, b, c, d) refl
 
 -- the base that a checkpoint writes is what the past comes to
-pub base-folded : (p : Part) (rows : List Row) → IsSound p → rows ≡ (state_of p).rows → base_of rows p.next (p.past.base.folded + length p.past.tail) p.next (p.next - length rows) ≡ base_after p.past
+pub base-folded : (p : Part) (rows : List Row) → IsSound p → rows ≡ (state_of p).rows → base_of rows (p.past.base.folded + length p.past.tail) p.next (p.next - length rows) ≡ base_after p.past
 base-folded p rows sound is =
     same_base rows (state_of p).rows p.next (state_of p).next _ p.next (inserted_in p.past) (p.next - length rows) (deleted_in p.past) is sound.faithful.serial (placed-folded p sound) (omega (arith, gone-folded p rows sound is))

@@ -1,10 +1,10 @@
 pub mod CellLemmas
 pub mod CountLemmas
 pub mod FoldLemmas
-pub mod FoldingLaws
 pub mod IdleLemmas
 pub mod KeepLemmas
 pub mod PointLemmas
 pub mod RefusalLaws
 pub mod SoundLemmas
 pub mod Crosses
+pub mod UpkeepLaws

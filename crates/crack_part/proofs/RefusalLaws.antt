@@ -1,8 +1,8 @@
 -- What follows where a partition refuses no command, or one for a cause.
-use Rattle.std.specs.Prelude.{◌≡◌, ◌<◌, Bool, true, false, Option, None, Some, IfSome, length, nat_le, nat_lt, ◌&&◌, if◌then◌else◌}
+use Rattle.std.specs.Prelude.{◌≡◌, ◌<◌, Bool, true, false, Option, None, Some, IfSome, length, nat_le, nat_lt, if◌then◌else◌}
 use Rattle.std.specs.Option.{option_or}
-use Rattle.std.proofs.Common.{ℕ, refl, sym}
-use Rattle.std.proofs.lemmas.Bool.{true≢false, and_parts, leb-true, leb-false, ltb-true}
+use Rattle.std.proofs.Common.{refl}
+use Rattle.std.proofs.lemmas.Bool.{and_parts, leb-true, leb-false, ltb-true}
 use Rattle.crack_row.specs.Commands.{change_of, key_of}
 use Rattle.crack_row.specs.Ranges.{Range, IsIn}
 use Rattle.crack_row.specs.declared.Key.{Key}
@@ -13,6 +13,7 @@ use Rattle.crack_plain.specs.Past.{accepted_in}
 use Rattle.crack_plain.specs.Plain.{IsWithin}
 use Rattle.crack_part.specs.Parts.{Part}
 use Rattle.crack_part.specs.Refusals.{is_key_in, lacks_cell, refusal_of}
+use Rattle.crack_part.specs.Upkeep.{is_full}
 
 -- whether a command brings a key of others, by the test
 pub within-true : (keys : Range) (key : Option Key) → is_key_in keys key ≡ true → IfSome key (λ (k : Key). IsIn keys k.0)
@@ -24,20 +25,20 @@ within-true keys (Some key) is =
 -- what is so where a partition refuses a command for no cause
 pub record MayKeep (p : Part) (command : Command) : Type 0 where
   pub within : IsWithin p.keys command
-  pub room : length p.past.tail < p.limits.history
+  pub goes_on : is_full p.limits (length p.past.tail) ≡ false
   pub lives : accepted_in p.past < p.limits.life
   pub cell : lacks_cell p.limits.cells p.store (change_of command) ≡ false
 
 pub may-keep : (p : Part) (command : Command) → refusal_of p command ≡ None → MayKeep p command
 may-keep p command none =
     let own = is_key_in p.keys (key_of command) in
-    let full = nat_le p.limits.history (length p.past.tail) in
+    let full = is_full p.limits (length p.past.tail) in
     let over = nat_le p.limits.life (accepted_in p.past) in
     let lacks = lacks_cell p.limits.cells p.store (change_of command) in
     let tests = passed own full over lacks none in
     record {
       within = within-true p.keys (key_of command) tests.0;
-      room = leb-false p.limits.history (length p.past.tail) tests.1;
+      goes_on = tests.1;
       lives = leb-false p.limits.life (accepted_in p.past) tests.2;
       cell = tests.3;
     }
@@ -53,30 +54,3 @@ may-keep p command none =
 pub if_refused : (o : Option Refusal) (P Q : Refusal → Type 0) → ((e : Refusal) → P e → Q e) → IfSome o P → IfSome o Q
 if_refused None P Q f is = tt
 if_refused (Some e) P Q f is = f e is
-
--- whether a partition refuses a command because its history is full, by what is tested
-abbrev refused_by : Bool → Bool → Bool → Bool → ℕ → Option Refusal
-refused_by is_own is_full is_over lacks limit = if is_own then option_or (if is_full then Some (HistoryFull limit) else (if is_over then Some LifeOver else None)) (if lacks then Some NoCell else None) else Some KeyOutside
-
-full-tested : (is_own is_full is_over lacks : Bool) (limit : ℕ) → (is_full && is_own) ≡ true → refused_by is_own is_full is_over lacks limit ≡ Some (HistoryFull limit)
-full-tested true true is_over lacks limit is = refl
-full-tested true false is_over lacks limit is = absurd (true≢false (sym is))
-full-tested false true is_over lacks limit is = absurd (true≢false (sym is))
-full-tested false false is_over lacks limit is = absurd (true≢false (sym is))
-
-not-full-tested : (is_own is_full is_over lacks : Bool) (limit : ℕ) → (is_full && is_own) ≡ false → refused_by is_own is_full is_over lacks limit ≡ Some (HistoryFull limit) → ⊥
-not-full-tested true true is_over lacks limit is refused = absurd (true≢false is)
-not-full-tested true false true lacks limit is refused = cc refused
-not-full-tested true false false true limit is refused = cc refused
-not-full-tested true false false false limit is refused = cc refused
-not-full-tested false is_full is_over lacks limit is refused = cc refused
-
--- a history is full for a command whose key is the partition's
-abbrev pub is_full_for : Part → Command → Bool
-is_full_for p command = nat_le p.limits.history (length p.past.tail) && is_key_in p.keys (key_of command)
-
-pub refused-full : (p : Part) (command : Command) → is_full_for p command ≡ true → refusal_of p command ≡ Some (HistoryFull p.limits.history)
-refused-full p command is = full-tested (is_key_in p.keys (key_of command)) (nat_le p.limits.history (length p.past.tail)) (nat_le p.limits.life (accepted_in p.past)) (lacks_cell p.limits.cells p.store (change_of command)) p.limits.history is
-
-pub refused-not_full : (p : Part) (command : Command) → is_full_for p command ≡ false → refusal_of p command ≡ Some (HistoryFull p.limits.history) → ⊥
-refused-not_full p command is = not-full-tested (is_key_in p.keys (key_of command)) (nat_le p.limits.history (length p.past.tail)) (nat_le p.limits.life (accepted_in p.past)) (lacks_cell p.limits.cells p.store (change_of command)) p.limits.history is

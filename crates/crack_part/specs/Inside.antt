@@ -1,8 +1,10 @@
 -- What private clauses alone cite.
-use Rattle.std.specs.Prelude.{◌≡◌, ℕ, ◌<◌, ◌≤◌, Option, Some, None}
+use Rattle.std.specs.Prelude.{◌≡◌, ℕ, ◌<◌, ◌≤◌, List, Option, Some, None}
 use Rattle.crack_row.specs.Ranges.{Range, IsIn, clipped}
+use Rattle.crack_row.specs.declared.Row.{Row}
 use Rattle.crack_row.specs.declared.command.Change.{Change}
 use Rattle.crack_row.specs.declared.command.Change.TheVariants.{Place, Remove, Rewrite}
+use Rattle.crack_plain.specs.Past.{Base}
 use Rattle.crack_state.specs.State.{State}
 use Rattle.crack_state.specs.Steps.{IsAdmissible}
 use Rattle.crack_state.specs.Points.{MayFree, IsRenewable}
@@ -24,3 +26,7 @@ MayPerform next None s = Unit {0}
 MayPerform next (Some (Place key payload)) s = IsAdmissible (placed next key payload) s
 MayPerform next (Some (Remove serial)) s = MayFree s
 MayPerform next (Some (Rewrite serial key payload)) s = IsIn s.keys key.0 × IsRenewable s
+
+-- a base by its fields
+abbrev pub base_of : List Row → ℕ → ℕ → ℕ → Base
+base_of rows folded placed gone = record { state = record { rows = rows; next = placed }; folded = folded; placed = placed; gone = gone }

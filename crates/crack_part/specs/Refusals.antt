@@ -15,6 +15,7 @@ use Rattle.crack_plain.specs.Plain.{PlainView, accepted_of}
 use Rattle.crack_state.specs.State.{State}
 use Rattle.crack_state.specs.Points.{pending_by}
 use Rattle.crack_part.specs.Parts.{Part}
+use Rattle.crack_part.specs.Upkeep.{is_full}
 
 -- the plain rows that a past left, how many commands its base comes to, and how many entries its tail has
 abbrev pub table_of : Past → PlainView
@@ -35,10 +36,10 @@ takes_cell s _ = false
 abbrev pub lacks_cell : ℕ → State → Option Change → Bool
 lacks_cell most s change = nat_le most (length s.cells) && ((length s.free == 0) && takes_cell s change)
 
--- why a partition of these limits accepts no command more: as many were accepted since its last checkpoint as its history may have, or as
--- many since its opening as it may accept in all
+-- why a partition of these limits accepts no command more: as many were accepted since its last checkpoint as its history may have, and it
+-- makes none by itself, or as many since its opening as it may accept in all
 abbrev pub stopped_by : Limits → PlainView → Option Refusal
-stopped_by limits table = if nat_le limits.history table.since then Some (HistoryFull limits.history) else (if nat_le limits.life (accepted_of table) then Some LifeOver else None)
+stopped_by limits table = if is_full limits table.since then Some (HistoryFull limits.history) else (if nat_le limits.life (accepted_of table) then Some LifeOver else None)
 
 -- the first cause to refuse a command: its key is none of these, no command more is accepted, it lacks a cell
 abbrev pub first_cause : Range → Option Refusal → Bool → Command → Option Refusal

@@ -1,6 +1,8 @@
 //! A partition: the rows of a range of keys, and every command that it answered.
 #![tactic(auto)]
 
+mod history;
 pub mod partition;
+mod reads;
 
 pub use partition::Partition;

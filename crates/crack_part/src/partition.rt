@@ -1,14 +1,14 @@
 //! Commands and their history.
-ghost use Rattle.std.specs.Prelude.{◌≡◌, ◌⊎◌, None, Some, ◌+◌, ◌<◌, ◌≤◌, ◌<ℤ◌, neg_ℤ, pos, ◌^◌, List, [], ◌∷◌, ◌++◌, length, map, filter, count_by, IsTrue, IsFalse, true, false, IsOk, IfOk, IfErr, IfSome, OnErr, OnOk, Err, vec_len, vec_capacity};
+ghost use Rattle.std.specs.Prelude.{◌≡◌, ◌⊎◌, None, Some, ◌+◌, ◌<◌, ◌≤◌, ◌^◌, List, [], ◌∷◌, ◌++◌, length, map, filter, true, false, IsOk, IfOk, IfErr, IfSome, OnErr, OnOk, Err, vec_len, vec_capacity};
 ghost use Rattle.std.specs.List.Sorted.{IsPermutation};
 ghost use Rattle.crack_row.specs.Commands.{change_of, key_of, range_of};
-ghost use Rattle.crack_row.specs.Ranges.{Range, IsIn, in_range};
+ghost use Rattle.crack_row.specs.Ranges.{IsIn};
 ghost use Rattle.crack_row.specs.Replies.{IsFlat};
-ghost use Rattle.crack_row.specs.Rows.{is_other, replaced, sum_of};
+ghost use Rattle.crack_row.specs.Rows.{is_other, replaced};
 ghost use Rattle.crack_row.specs.Layouts.{IsLayout};
 ghost use Rattle.crack_row.specs.Limits.{AreLimits, of_history};
-ghost use Rattle.crack_plain.specs.Plain.{PlainState, IsNumbered, reply_to, row_in, rows_in, after, IsSmall};
-ghost use Rattle.crack_plain.specs.Past.{no_past, with_entry, accepted_in, IsLegal};
+ghost use Rattle.crack_plain.specs.Plain.{PlainState, IsNumbered, reply_to, row_in, after, IsSmall};
+ghost use Rattle.crack_plain.specs.Past.{no_past, with_entry, accepted_in, base_after, IsLegal};
 ghost use Rattle.crack_plain.specs.Inside.{gone, rewritten};
 ghost use Rattle.crack_state.specs.State.{State, IsIntact, live_rows};
 ghost use Rattle.crack_state.specs.Steps.{SameButRoom, admitted, IsAdmissible};
@@ -17,27 +17,22 @@ ghost use Rattle.crack_state.specs.Merge.{IsCracked, IsSettled, Merges, Tallies}
 ghost use Rattle.crack_merge.specs.Merges.{Stops};
 ghost use Rattle.crack_store.specs.Inside.{no_cells, IsLayoutOf};
 ghost use Rattle.crack_part.specs.Parts.{state_of, folded_part, IsLimit, IsSound, IsFaithful, LeavesNear, has_many_pending, is_merged_first, read_by, CracksAndMerges, Readies, Settles, StopsAt, StopsRead, Serves, Spares, Prepares, Performs, placed};
-ghost use Rattle.crack_part.specs.Folding.{Applies, AppliesFolding, told};
 ghost use Rattle.crack_part.specs.Refusals.{is_key_in, takes_cell, lacks_cell, refusal_of};
-ghost use Rattle.crack_part.specs.Inside.{IsCommon, AreCommon, MayPerform};
+ghost use Rattle.crack_part.specs.Upkeep.{is_automatic, is_full, upkept};
+ghost use Rattle.crack_part.specs.Inside.{IsCommon, AreCommon, MayPerform, base_of};
 
+use crate::history::{fresh_list, make_room, push_reserved};
+use crate::reads::{count, select, sum};
 use crack_merge::{merge_complete, merge_gradual};
 use crack_ripple::merge_ripple;
 use crack_row::{
     Change, Command, Entry, GREATEST_LIMIT, Key, KeyRange, Layout, Limits, Payload, Policy,
-    Refusal, Reply, Row, RowList, Serial,
+    Refusal, Reply, Row, RowList, Serial, Upkeep,
 };
 use crack_store::{MergeReport, Store};
 use std::alloc::Global;
 use std::marker::Model;
 use std::mem;
-
-/// How many entries a history has room for at first: so large a block of memory is mapped by itself, so that it grows without being copied,
-/// and what isn't used of it takes no memory.
-const FIRST_ENTRIES: usize = 2048;
-
-/// For how many entries a history that was folded keeps its room.
-const KEPT_ENTRIES: usize = 4096;
 
 /// What commands that are kept no more left: the rows, in rising serial (24 bytes each), how many commands these were, and how many
 /// rows they placed and took out.
@@ -47,6 +42,14 @@ struct Base {
     folded: u64,
     placed: u64,
     gone: u64,
+}
+
+/// What a checkpoint needs, before it is made.
+#[derive(Drop)]
+struct Fold {
+    base: Base,
+    /// The list of the history that begins anew; `None` where the present one is emptied.
+    fresh: Option<Vec<Entry>>,
 }
 
 /// The rows whose keys lie in one range, and every command that was answered since the last checkpoint, with the worker who asked and the
@@ -177,20 +180,33 @@ impl Partition {
         ensures err { IfErr result (λ e. e ≡ Refusal.OutOfMemory) }
         ensures same { OnErr result (self.new ≡ self.old) }
     {
-        let rows = self.store.live_rows()?;
         let count = self.history.len() as u64;
+        let fold = self.fold()?;
+        self.store.shrink_pending();
+        begin_anew(&mut self.base, &mut self.history, fold);
+        Ok(count)
+    }
+
+    /// Takes what a checkpoint needs of memory: the base that it comes to, and the list of a history that begins anew.
+    fn fold(&self) -> Result<Fold, Refusal>
+        ensures base { IfOk result (λ fold. base_of fold.base.rows.items fold.base.folded fold.base.placed fold.base.gone ≡ base_after self.now.past) }
+        ensures fresh { IfOk result (λ fold. IfSome fold.fresh (λ list. (list.items ≡ []) × (0 < vec_capacity list))) }
+        ensures err { IfErr result (λ e. e ≡ Refusal.OutOfMemory) }
+    {
+        let rows = self.store.live_rows()?;
+        let fresh = fresh_list(&self.history, self.alloc)?;
         let folded = self.accepted();
         let placed = self.next;
         let gone = placed - rows.len() as u64;
-        empty(&mut self.history, self.alloc)?;
-        self.store.shrink_pending();
-        self.base = Base {
-            rows,
-            folded,
-            placed,
-            gone,
-        };
-        Ok(count)
+        Ok(Fold {
+            base: Base {
+                rows,
+                folded,
+                placed,
+                gone,
+            },
+            fresh,
+        })
     }
 
     /// The keys that its rows may have.
@@ -235,10 +251,11 @@ impl Partition {
     }
 
     /// Answers one command of a worker and keeps it in the history. The second reply is a copy, for a receipt.
-    /// Refused, in this order: with 4 where the command brings a key that isn't the partition's, with 6 where the history
-    /// is full, with 10 where it has accepted as many commands as its life, with 9 where an insert, or an update of a row of the
+    /// Where the history is full and upkeep is automatic, it makes a checkpoint first, as `checkpoint` does, and the history is then this
+    /// command alone. Refused, in this order: with 4 where the command brings a key that isn't the partition's, with 6 where the history
+    /// is full and upkeep is on request, with 10 where it has accepted as many commands as its life, with 9 where an insert, or an update of a row of the
     /// column, finds no free cell and as many cells as their limit, with 8 where no memory is found. After 4, 6, 10 and 9 nothing has changed.
-    /// After 8 a command that reads no range has
+    /// After 8 no checkpoint is made; a command that reads no range has
     /// changed nothing, and one that reads a range has at most cracked the column at its ends and merged in part, or in whole.
     /// An insert, a delete and an update are O(1), amortised. A command that reads a range cracks the pieces in which its ends fall
     /// and merges by the policy what its range needs; a count is then O(log pieces), a sum O(m), and a select O(m log m) for m rows
@@ -252,7 +269,7 @@ impl Partition {
     ) -> Result<(Reply, Reply), Refusal>
         ensures replies { IfOk result (λ replies. (replies.0 ≡ reply_to (state_of self.old) command) × (replies.1 ≡ replies.0)) }
         ensures small { IfOk result (λ replies. IsSmall replies.0) }
-        ensures kept { IfOk result (λ replies. self.new.past ≡ with_entry self.old.past (record { worker = worker; command = command; reply = replies.0 })) }
+        ensures kept { IfOk result (λ replies. self.new.past ≡ with_entry (upkept self.old.limits self.old.past) (record { worker = worker; command = command; reply = replies.0 })) }
         ensures state { OnOk result (state_of self.new ≡ after (state_of self.old) command) }
         ensures store { OnOk result (Serves policy self.old.keys self.old.next command self.old.store self.new.store) }
         ensures opened { (self.new.keys ≡ self.old.keys) × (self.new.limits ≡ self.old.limits) }
@@ -262,6 +279,9 @@ impl Partition {
         ensures refused { IfSome (refusal_of self.old command) (λ e. (result ≡ Err e) × (self.new ≡ self.old)) }
         ensures memory { refusal_of self.old command ≡ None → IfErr result (λ e. e ≡ Refusal.OutOfMemory) }
     {
+        if self.history.len() as u64 >= self.limits.history {
+            return self.apply_when_full(worker, command, policy);
+        }
         self.may_keep(&command)?;
         make_room(&mut self.history)?;
         let reply = answer(
@@ -283,48 +303,57 @@ impl Partition {
         Ok((copies.reply, copies.receipt))
     }
 
-    /// Answers one command of a worker as `apply` does, but where that would refuse it with 6: there it makes a checkpoint first. So 6
-    /// never comes. Refused with 4 as `apply` is; then, where a checkpoint is due, with 8 if that finds no memory, and nothing has changed;
-    /// then with 10, 9 and 8 as `apply` is, after the checkpoint, which stands also where the command is then refused.
-    /// Where none is due, it costs what `apply` does, and a comparison.
-    #[inline(always)]
-    pub fn apply_folding(
-        &mut self,
-        worker: u32,
-        command: Command,
-        policy: Policy,
-    ) -> Result<(Reply, Reply), Refusal>
-        ensures applies { AppliesFolding worker command policy (told result) self.old self.new }
-        ensures copy { IfOk result (λ replies. replies.1 ≡ replies.0) }
-    {
-        if !self.is_full_for(&command) {
-            return self.apply(worker, command, policy);
-        }
-        self.fold_and_apply(worker, command, policy)
-    }
-
-    /// Makes a checkpoint, and answers a command.
+    /// Answers a command where the history is full, as `apply` does. What the checkpoint needs of memory is taken before the command is
+    /// answered, so that nothing is folded where that finds none.
     #[inline(never)]
-    fn fold_and_apply(
+    fn apply_when_full(
         &mut self,
         worker: u32,
         command: Command,
         policy: Policy,
     ) -> Result<(Reply, Reply), Refusal>
-        ensures applies { Applies worker command policy (told result) (folded_part self.old) self.new ⊎ ((told result ≡ Err Refusal.OutOfMemory) × (self.new ≡ self.old)) }
-        ensures copy { IfOk result (λ replies. replies.1 ≡ replies.0) }
+        requires full { self.old.limits.history ≤ length self.old.past.tail }
+        ensures replies { IfOk result (λ replies. (replies.0 ≡ reply_to (state_of self.old) command) × (replies.1 ≡ replies.0)) }
+        ensures small { IfOk result (λ replies. IsSmall replies.0) }
+        ensures kept { IfOk result (λ replies. self.new.past ≡ with_entry (upkept self.old.limits self.old.past) (record { worker = worker; command = command; reply = replies.0 })) }
+        ensures state { OnOk result (state_of self.new ≡ after (state_of self.old) command) }
+        ensures store { OnOk result (Serves policy self.old.keys self.old.next command self.old.store self.new.store) }
+        ensures opened { (self.new.keys ≡ self.old.keys) × (self.new.limits ≡ self.old.limits) }
+
+        ensures err { OnErr result (self.new.past ≡ self.old.past) }
+        ensures spared { OnErr result (Spares policy self.old.keys (range_of command) self.old.store self.new.store) }
+        ensures refused { IfSome (refusal_of self.old command) (λ e. (result ≡ Err e) × (self.new ≡ self.old)) }
+        ensures memory { refusal_of self.old command ≡ None → IfErr result (λ e. e ≡ Refusal.OutOfMemory) }
     {
-        self.checkpoint()?;
-        self.apply(worker, command, policy)
+        self.may_keep(&command)?;
+        let ready = self.fold()?;
+        let reply = answer(
+            &mut self.store,
+            &mut self.next,
+            self.alloc,
+            self.keys,
+            &command,
+            policy,
+        )?;
+        let copies = copied(reply, self.alloc)?;
+        let kept = copies.kept;
+        let first = Entry {
+            worker,
+            command,
+            reply: kept,
+        };
+        self.store.shrink_pending();
+        begin_anew(&mut self.base, &mut self.history, ready);
+        push_reserved(&mut self.history, first);
+        Ok((copies.reply, copies.receipt))
     }
 
-    /// Whether a command would be refused because the history is full.
+    /// Whether the history is full, and upkeep is on request.
     #[inline(always)]
-    fn is_full_for(&self, command: &Command) -> bool
-        ensures full { IsTrue result → refusal_of self.now command.now ≡ Some (Refusal.HistoryFull self.now.limits.history) }
-        ensures room { IsFalse result → refusal_of self.now command.now ≡ Some (Refusal.HistoryFull self.now.limits.history) → ⊥ }
+    fn is_full(&self) -> bool
+        ensures { result ≡ is_full self.now.limits (length self.now.past.tail) }
     {
-        self.history.len() as u64 >= self.limits.history && allows(self.keys, command)
+        self.history.len() as u64 >= self.limits.history && !is_automatic(self.limits.upkeep)
     }
 
     /// Refuses a command for the first cause, before any memory is looked for.
@@ -336,7 +365,7 @@ impl Partition {
         if !allows(self.keys, command) {
             return Err(Refusal::KeyOutside);
         }
-        if self.history.len() as u64 >= self.limits.history {
+        if self.is_full() {
             return Err(Refusal::HistoryFull {
                 length: self.limits.history,
             });
@@ -348,6 +377,17 @@ impl Partition {
             return Err(Refusal::NoCell);
         }
         Ok(())
+    }
+}
+
+/// Whether checkpoints are made where they are due, unasked.
+#[inline(always)]
+fn is_automatic(upkeep: Upkeep) -> bool
+    ensures { result ≡ is_automatic upkeep }
+{
+    match upkeep {
+        Upkeep::OnRequest => false,
+        Upkeep::Automatic => true,
     }
 }
 
@@ -519,49 +559,6 @@ fn rewritten(row: Option<Row>) -> Reply
     match row {
         Some(_) => Reply::Changed,
         None => Reply::NoRow,
-    }
-}
-
-/// How many rows have their key in a range: the difference of two places of the column, which is settled for what is common to the
-/// range and the keys.
-#[inline(never)]
-fn count(store: &Store, common: Option<KeyRange>) -> u64
-    requires settled { IfSome common (λ r. IsSettled store.now r) }
-    ensures { (range : Range) → IsCommon range store.now.keys common → (plain : List Row) → IsPermutation (live_rows store.now) plain → result ≡ count_by (in_range range) plain }
-{
-    store.facts();
-    match common {
-        Some(range) => store.count_between(range),
-        None => 0,
-    }
-}
-
-/// The sum of the payloads of the rows whose key is in a range: of those between two places of the column, as for a count.
-#[inline(never)]
-fn sum(store: &Store, common: Option<KeyRange>) -> i128
-    requires settled { IfSome common (λ r. IsSettled store.now r) }
-    ensures is { (range : Range) → IsCommon range store.now.keys common → (plain : List Row) → IsPermutation (live_rows store.now) plain → result ≡ sum_of (rows_in range plain) }
-    ensures small { (neg_ℤ (pos (2 ^ 96)) <ℤ result) × (result <ℤ pos (2 ^ 96)) }
-{
-    store.facts();
-    match common {
-        Some(range) => store.sum_between(range),
-        None => 0,
-    }
-}
-
-/// The rows whose key is in a range, in rising serial: those between two places of the column, as for a count.
-/// Refused with 8 where it finds no memory.
-#[inline(never)]
-fn select(store: &Store, alloc: Global, common: Option<KeyRange>) -> Result<Vec<Row>, Refusal>
-    requires settled { IfSome common (λ r. IsSettled store.now r) }
-    ensures rows { IfOk result (λ rows. (range : Range) → IsCommon range store.now.keys common → (plain : PlainState) → IsNumbered plain → IsPermutation (live_rows store.now) plain.rows → rows.items ≡ rows_in range plain.rows) }
-    ensures err { IfErr result (λ e. e ≡ Refusal.OutOfMemory) }
-{
-    store.facts();
-    match common {
-        Some(range) => store.rows_between(range),
-        None => Ok(Vec::new(alloc)),
     }
 }
 
@@ -765,50 +762,16 @@ fn rewrite(store: &mut Store, row: Row) -> Result<Reply, Refusal>
     Ok(rewritten(before))
 }
 
-/// Makes room for one entry: O(1), amortised. Takes no memory where there is room.
-#[inline(always)]
-fn make_room(history: &mut Vec<Entry>) -> Result<(), Refusal>
-    ensures same { history.new.items ≡ history.old.items }
-    ensures room { OnOk result (vec_len history.old < vec_capacity history.new) }
-    ensures err { IfErr result (λ e. e ≡ Refusal.OutOfMemory) }
+/// Puts a base in the place of what was kept, and empties the history, which has room if it had. Takes no memory.
+fn begin_anew(base: &mut Base, history: &mut Vec<Entry>, fold: Fold)
+    requires fresh { IfSome fold.fresh (λ list. (list.items ≡ []) × (0 < vec_capacity list)) }
+    ensures base { base.new ≡ fold.base }
+    ensures empty { history.new.items ≡ [] }
+    ensures room { 0 < vec_capacity history.old → vec_len history.new < vec_capacity history.new }
 {
-    if history.len() < history.capacity() {
-        return Ok(());
+    *base = fold.base;
+    match fold.fresh {
+        Some(fresh) => *history = fresh,
+        None => history.clear(),
     }
-    lengthen(history)
-}
-
-/// Makes room for twice as many entries, and for `FIRST_ENTRIES` at first.
-#[inline(never)]
-fn lengthen(history: &mut Vec<Entry>) -> Result<(), Refusal>
-    ensures same { history.new.items ≡ history.old.items }
-    ensures room { OnOk result (vec_len history.old < vec_capacity history.new) }
-    ensures err { IfErr result (λ e. e ≡ Refusal.OutOfMemory) }
-{
-    history.reserve(history.len().max(FIRST_ENTRIES))?;
-    Ok(())
-}
-
-/// Empties a history, and gives back what it took but for the room of `KEPT_ENTRIES` entries, which are taken first.
-#[inline(never)]
-fn empty(history: &mut Vec<Entry>, alloc: Global) -> Result<(), Refusal>
-    ensures ok { OnOk result (history.new.items ≡ []) }
-    ensures same { OnErr result (history.new.items ≡ history.old.items) }
-    ensures err { IfErr result (λ e. e ≡ Refusal.OutOfMemory) }
-{
-    if history.capacity() > KEPT_ENTRIES {
-        let kept = Vec::with_capacity(alloc, KEPT_ENTRIES)?;
-        *history = kept;
-    } else {
-        history.clear();
-    }
-    Ok(())
-}
-
-/// Adds an element where there is room.
-fn push_reserved<T: Drop>(items: &mut Vec<T>, item: T)
-    requires { vec_len items.old < vec_capacity items.old }
-    ensures { items.new.items ≡ items.old.items ++ item ∷ [] }
-{
-    items.push_reserved(item);
 }

@@ -3,7 +3,7 @@ use Rattle.std.proofs.lemmas.Bool.{false≢true}
 use Rattle.crack_row.specs.Commands.{range_of}
 use Rattle.crack_row.specs.declared.command.Entry.{Entry}
 use Rattle.crack_row.specs.declared.command.Reply.{Reply}
-use Rattle.crack_plain.specs.Past.{Past, state_after}
+use Rattle.crack_plain.specs.Past.{Past, state_after, with_entry}
 use Rattle.crack_plain.specs.Plain.{IsSmall}
 use Rattle.crack_plain.proofs.PastLaws.{state_after-push, IsNumbered-after_past}
 use Rattle.crack_part.specs.Parts.{Part}
@@ -12,6 +12,7 @@ use Rattle.crack_part.proofs.KeepLemmas.{Keeps-spared, IsIntact-spared, Keeps-pr
 use Rattle.crack_part.proofs.SoundLemmas.{lived, few_rows, next-le-life, MayPerform-prepared, IsSound-kept, IsSound-served, Spends-served}
 use Rattle.crack_part.proofs.PointLemmas.{on_err}
 use Rattle.crack_part.proofs.RefusalLaws.{may-keep}
+use Rattle.crack_part.proofs.UpkeepLaws.{upkept-room}
 use Rattle.crack_part.proofs.partition.Partition.apply.Goals as goal
 
 pub answer-requires-clause-admissible : goal.answer-requires-clause-admissible
@@ -66,7 +67,8 @@ invariant_of-self-2 c =
     let spends = Spends-served c.args.policy _ c.args.command c.answer.new.store c.self.invariant kept.within c.in_ok-reply.ensures.served in
     let grown = c.push_reserved.ensures ∙ ap (λ (h : List Entry). h ++ e ∷ []) c.make_room.ensures.same in
     let fits = fits-served c.args.policy c.self.inside.keys _ c.self.inside.next c.args.command c.self.inside.store c.answer.new.store c.self.invariant.cells kept.cell c.in_ok-reply.ensures.served in
-    rw grown (IsSound-served _ e c.answer.new.next c.answer.new.store c.self.invariant kept.room kept.lives fits kept.within (c.in_ok-copies.ensures.ok.2 ∙ said) c.in_ok-reply.ensures.intact faithful spends)
+    let room : length at.history.items < at.limits.history = omega arith in
+    rw grown (IsSound-served _ e c.answer.new.next c.answer.new.store c.self.invariant room kept.lives fits kept.within (c.in_ok-copies.ensures.ok.2 ∙ said) c.in_ok-reply.ensures.intact faithful spends)
 
 pub returns-clause-state : goal.returns-clause-state
 returns-clause-state c =
@@ -85,7 +87,13 @@ pub returns-clause-kept : goal.returns-clause-kept
 returns-clause-kept c =
     let entry : Reply → Entry = λ r. record { worker = c.args.worker; command = c.args.command; reply = r } in
     let grown = c.push_reserved.ensures ∙ ap (λ (h : List Entry). h ++ entry c.in_ok-copies.copies.kept ∷ []) c.make_room.ensures.same in
-    rw (← c.self.view_is) (ap (λ (h : List Entry). lived c.self.inside.base.rows.items c.self.inside.base.folded c.self.inside.base.placed c.self.inside.base.gone h) (grown ∙ ap (λ r. c.self.inside.history.items ++ entry r ∷ []) (c.in_ok-copies.ensures.ok.2 ∙ sym c.in_ok-copies.ensures.ok.0)))
+    let at = c.self.inside in
+    let past = lived at.base.rows.items at.base.folded at.base.placed at.base.gone at.history.items in
+    let room : length at.history.items < at.limits.history = omega arith in
+    rw (← c.self.view_is) (
+    ap (λ (h : List Entry). lived at.base.rows.items at.base.folded at.base.placed at.base.gone h) (grown ∙ ap (λ r. at.history.items ++ entry r ∷ []) (c.in_ok-copies.ensures.ok.2 ∙ sym c.in_ok-copies.ensures.ok.0))
+    ∙ ap (λ (p : Past). with_entry p (entry c.in_ok-copies.copies.reply)) (sym (upkept-room at.limits past room))
+    )
 
 pub returns-clause-store : goal.returns-clause-store
 returns-clause-store c = rw (← c.self.view_is) c.in_ok-reply.ensures.served

@@ -3,7 +3,7 @@ use Rattle.std.specs.Int.{w128}
 use Rattle.std.proofs.lemmas.Int.{ints, to_z-of_z, fits_signed_from_abs}
 use Rattle.crack_row.specs.Rows.{sum_of}
 use Rattle.crack_part.proofs.CountLemmas.{rows-none, sum-places}
-use Rattle.crack_part.proofs.partition.sum.Goals as goal
+use Rattle.crack_part.proofs.reads.sum.Goals as goal
 
 pub returns-in-Some-clause-is : goal.returns-in-Some-clause-is
 returns-in-Some-clause-is c = λ range common plain same.

@@ -1,6 +1,6 @@
 use Rattle.std.proofs.Common.{sym, ◌∙◌}
 use Rattle.crack_part.proofs.CountLemmas.{rows-none, rows-answered}
-use Rattle.crack_part.proofs.partition.select.Goals as goal
+use Rattle.crack_part.proofs.reads.select.Goals as goal
 
 pub returns-in-Some-clause-rows : goal.returns-in-Some-clause-rows
 returns-in-Some-clause-rows c =

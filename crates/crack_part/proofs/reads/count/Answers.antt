@@ -1,6 +1,6 @@
 use Rattle.std.proofs.Common.{◌∙◌}
 use Rattle.crack_part.proofs.CountLemmas.{count-none, count-places}
-use Rattle.crack_part.proofs.partition.count.Goals as goal
+use Rattle.crack_part.proofs.reads.count.Goals as goal
 
 pub returns-in-Some : goal.returns-in-Some
 returns-in-Some c = λ range common plain same.

@@ -1,0 +1,57 @@
+//! The list of a history.
+ghost use Rattle.std.specs.Prelude.{◌≡◌, ◌<◌, ◌++◌, [], ◌∷◌, IfOk, IfErr, IfSome, OnOk, vec_len, vec_capacity};
+
+use crack_row::{Entry, Refusal};
+use std::alloc::Global;
+
+/// How many entries a history has room for at first: so large a block of memory is mapped by itself, so that it grows without being copied,
+/// and what isn't used of it takes no memory.
+const FIRST_ENTRIES: usize = 2048;
+
+/// For how many entries a history that was folded keeps its room.
+const KEPT_ENTRIES: usize = 4096;
+
+/// Makes room for one entry: O(1), amortised. Takes no memory where there is room.
+#[inline(always)]
+pub(crate) fn make_room(history: &mut Vec<Entry>) -> Result<(), Refusal>
+    ensures same { history.new.items ≡ history.old.items }
+    ensures room { OnOk result (vec_len history.old < vec_capacity history.new) }
+    ensures err { IfErr result (λ e. e ≡ Refusal.OutOfMemory) }
+{
+    if history.len() < history.capacity() {
+        return Ok(());
+    }
+    lengthen(history)
+}
+
+/// Makes room for twice as many entries, and for `FIRST_ENTRIES` at first.
+#[inline(never)]
+fn lengthen(history: &mut Vec<Entry>) -> Result<(), Refusal>
+    ensures same { history.new.items ≡ history.old.items }
+    ensures room { OnOk result (vec_len history.old < vec_capacity history.new) }
+    ensures err { IfErr result (λ e. e ≡ Refusal.OutOfMemory) }
+{
+    history.reserve(history.len().max(FIRST_ENTRIES))?;
+    Ok(())
+}
+
+/// Where a history has more room than `KEPT_ENTRIES` entries, an empty list with room for these.
+#[inline(never)]
+pub(crate) fn fresh_list(history: &Vec<Entry>, alloc: Global) -> Result<Option<Vec<Entry>>, Refusal>
+    ensures ok { IfOk result (λ fresh. IfSome fresh (λ list. (list.items ≡ []) × (0 < vec_capacity list))) }
+    ensures err { IfErr result (λ e. e ≡ Refusal.OutOfMemory) }
+{
+    if history.capacity() <= KEPT_ENTRIES {
+        return Ok(None);
+    }
+    let fresh = Vec::with_capacity(alloc, KEPT_ENTRIES)?;
+    Ok(Some(fresh))
+}
+
+/// Adds an element where there is room.
+pub(crate) fn push_reserved<T: Drop>(items: &mut Vec<T>, item: T)
+    requires { vec_len items.old < vec_capacity items.old }
+    ensures { items.new.items ≡ items.old.items ++ item ∷ [] }
+{
+    items.push_reserved(item);
+}

@@ -1,0 +1,60 @@
+//! Reads of a range of a store that is settled for it.
+ghost use Rattle.std.specs.Prelude.{◌≡◌, ◌<ℤ◌, neg_ℤ, pos, ◌^◌, List, count_by, IfOk, IfErr, IfSome};
+ghost use Rattle.std.specs.List.Sorted.{IsPermutation};
+ghost use Rattle.crack_row.specs.Ranges.{Range, in_range};
+ghost use Rattle.crack_row.specs.Rows.{sum_of};
+ghost use Rattle.crack_plain.specs.Plain.{PlainState, IsNumbered, rows_in};
+ghost use Rattle.crack_state.specs.State.{live_rows};
+ghost use Rattle.crack_state.specs.Merge.{IsSettled};
+ghost use Rattle.crack_part.specs.Inside.{IsCommon};
+
+use crack_row::{KeyRange, Refusal, Row};
+use crack_store::Store;
+use std::alloc::Global;
+
+/// How many rows have their key in a range: the difference of two places of the column, which is settled for what is common to the
+/// range and the keys.
+#[inline(never)]
+pub(crate) fn count(store: &Store, common: Option<KeyRange>) -> u64
+    requires settled { IfSome common (λ r. IsSettled store.now r) }
+    ensures { (range : Range) → IsCommon range store.now.keys common → (plain : List Row) → IsPermutation (live_rows store.now) plain → result ≡ count_by (in_range range) plain }
+{
+    store.facts();
+    match common {
+        Some(range) => store.count_between(range),
+        None => 0,
+    }
+}
+
+/// The sum of the payloads of the rows whose key is in a range: of those between two places of the column, as for a count.
+#[inline(never)]
+pub(crate) fn sum(store: &Store, common: Option<KeyRange>) -> i128
+    requires settled { IfSome common (λ r. IsSettled store.now r) }
+    ensures is { (range : Range) → IsCommon range store.now.keys common → (plain : List Row) → IsPermutation (live_rows store.now) plain → result ≡ sum_of (rows_in range plain) }
+    ensures small { (neg_ℤ (pos (2 ^ 96)) <ℤ result) × (result <ℤ pos (2 ^ 96)) }
+{
+    store.facts();
+    match common {
+        Some(range) => store.sum_between(range),
+        None => 0,
+    }
+}
+
+/// The rows whose key is in a range, in rising serial: those between two places of the column, as for a count.
+/// Refused with 8 where it finds no memory.
+#[inline(never)]
+pub(crate) fn select(
+    store: &Store,
+    alloc: Global,
+    common: Option<KeyRange>,
+) -> Result<Vec<Row>, Refusal>
+    requires settled { IfSome common (λ r. IsSettled store.now r) }
+    ensures rows { IfOk result (λ rows. (range : Range) → IsCommon range store.now.keys common → (plain : PlainState) → IsNumbered plain → IsPermutation (live_rows store.now) plain.rows → rows.items ≡ rows_in range plain.rows) }
+    ensures err { IfErr result (λ e. e ≡ Refusal.OutOfMemory) }
+{
+    store.facts();
+    match common {
+        Some(range) => store.rows_between(range),
+        None => Ok(Vec::new(alloc)),
+    }
+}
