@@ -1,0 +1,3 @@
+pub mod BulkLaws
+pub mod PieceLaws
+pub mod CarryLaws

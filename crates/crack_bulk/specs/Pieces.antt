@@ -1,0 +1,28 @@
+-- The pieces of a cracked column, and what they are of its rows and marks.
+use Rattle.std.specs.Prelude.{ℕ, ◌+◌, ◌<◌, ◌≤◌, List, [], ◌∷◌, ◌++◌, length}
+use Rattle.std.specs.List.{All}
+use Rattle.crack_row.specs.declared.InnerBound.{InnerBound}
+use Rattle.crack_index.specs.declared.mark.Mark.{Mark}
+
+-- the pieces of a column, from the lowest up
+pub data Pieces (X : Type 0) : Type 0 where
+  -- the last piece: its rows
+  last : List X → Pieces X
+  -- the rows of a piece, the bound where it ends, and the pieces above it
+  below : List X → InnerBound → Pieces X → Pieces X
+
+module _ {X : Type 0} where
+  -- the rows of all pieces, one piece after the other
+  abbrev pub column_of : Pieces X → List X
+  column_of (last rows) = rows
+  column_of (below rows bound pieces) = rows ++ column_of pieces
+
+  -- the marks of the bounds between them, where the first piece begins at this place
+  abbrev pub marks_of : ℕ → Pieces X → List Mark
+  marks_of place (last rows) = []
+  marks_of place (below rows bound pieces) = record { bound = bound; position = place + length rows } ∷ marks_of (place + length rows) pieces
+
+  -- the key of each row lies between the bounds of its piece; the first piece begins at this bound
+  abbrev pub AreDivided : (X → ℕ) → ℕ → Pieces X → Type 0
+  AreDivided key low (last rows) = All (λ x. low ≤ key x) rows
+  AreDivided key low (below rows bound pieces) = All (λ x. (low ≤ key x) × (key x < bound.0)) rows × (low ≤ bound.0) × AreDivided key bound.0 pieces

@@ -1,0 +1,85 @@
+-- What a row that comes in does to the pieces of a column: to one piece, rows that come in are a queue.
+use Rattle.std.specs.Prelude.{ℕ, suc, Bool, true, false, cond, nat_lt, List, [], ◌∷◌, ◌++◌}
+use Rattle.crack_row.specs.declared.InnerBound.{InnerBound}
+use Rattle.crack_bulk.specs.Pieces.{Pieces, last, below}
+
+-- how far a carry has come when it reaches a piece
+pub data Event (X : Type 0) : Type 0 where
+  -- the row that comes in is in hand, and its own piece is this one or one above
+  comes : X → Event X
+  -- the row in hand is of a lower piece; so many rows made way before
+  turns : ℕ → Event X
+  -- the carry has ended below, with this row in hand, after so many rows made way
+  stopped : ℕ → X → Event X
+
+-- `key` of each row, and whether a carry ends with it in hand: it is doomed, or at or above a ceiling
+module _ {X : Type 0} (key : X → ℕ) (stops : X → Bool) where
+  -- whether a row is of a piece or of one below, by the bound where the piece ends
+  abbrev pub is_below : InnerBound → X → Bool
+  is_below bound x = nat_lt (key x) bound.0
+
+  -- each row is of the last piece or of one below
+  abbrev pub any_row : X → Bool
+  any_row x = true
+
+  -- what a turn leaves: the first row, which makes way, goes behind the last, unless a carry ends with it in hand
+  abbrev pub after_turn : List X → List X
+  after_turn [] = []
+  after_turn (y ∷ ys) = cond (stops y) ys (ys ++ y ∷ [])
+
+  -- how far a carry has come once it turned a piece
+  abbrev pub onward : ℕ → List X → Event X
+  onward moved [] = turns moved
+  onward moved (y ∷ ys) = cond (stops y) (stopped (suc moved) y) (turns (suc moved))
+
+  -- what an event leaves of a piece
+  abbrev pub after : (X → Bool) → Event X → List X → List X
+  after own (comes x) rows = cond (own x) (rows ++ x ∷ []) rows
+  after own (turns moved) rows = after_turn rows
+  after own (stopped moved y) rows = rows
+
+  -- the event that reaches the next piece
+  abbrev pub next : (X → Bool) → Event X → List X → Event X
+  next own (comes x) rows = cond (own x) (turns 0) (comes x)
+  next own (turns moved) rows = onward moved rows
+  next own (stopped moved y) rows = stopped moved y
+
+  -- what one event leaves of the pieces that it reaches, one after the other
+  abbrev pub reached : Event X → Pieces X → Pieces X
+  reached e (last rows) = last (after any_row e rows)
+  reached e (below rows bound pieces) = below (after (is_below bound) e rows) bound (reached (next (is_below bound) e rows) pieces)
+
+  -- how it has ended
+  abbrev pub outcome : Event X → Pieces X → Event X
+  outcome e (last rows) = next any_row e rows
+  outcome e (below rows bound pieces) = outcome (next (is_below bound) e rows) pieces
+
+  -- what one event after the other leaves
+  abbrev pub one_at_a_time : List (Event X) → Pieces X → Pieces X
+  one_at_a_time [] pieces = pieces
+  one_at_a_time (e ∷ es) pieces = one_at_a_time es (reached e pieces)
+
+  -- how each has ended
+  abbrev pub outcomes : List (Event X) → Pieces X → List (Event X)
+  outcomes [] pieces = []
+  outcomes (e ∷ es) pieces = outcome e pieces ∷ outcomes es (reached e pieces)
+
+  -- what is left of one piece by all events that reach it
+  abbrev pub left : (X → Bool) → List (Event X) → List X → List X
+  left own [] rows = rows
+  left own (e ∷ es) rows = left own es (after own e rows)
+
+  -- the events that reach the next piece
+  abbrev pub passed : (X → Bool) → List (Event X) → List X → List (Event X)
+  passed own [] rows = []
+  passed own (e ∷ es) rows = next own e rows ∷ passed own es (after own e rows)
+
+  -- piece by piece: what is left of each by all events that reach it
+  abbrev pub in_bulk : List (Event X) → Pieces X → Pieces X
+  in_bulk es (last rows) = last (left any_row es rows)
+  in_bulk es (below rows bound pieces) = below (left (is_below bound) es rows) bound (in_bulk (passed (is_below bound) es rows) pieces)
+
+  -- and how the events have ended that leave the last piece
+  abbrev pub bulk_outcomes : List (Event X) → Pieces X → List (Event X)
+  bulk_outcomes es (last rows) = passed any_row es rows
+  bulk_outcomes es (below rows bound pieces) = bulk_outcomes (passed (is_below bound) es rows) pieces
