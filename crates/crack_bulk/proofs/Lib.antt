@@ -1,3 +1,4 @@
 pub mod BulkLaws
-pub mod PieceLaws
 pub mod CarryLaws
+pub mod CutLaws
+pub mod PieceLaws

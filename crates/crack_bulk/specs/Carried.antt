@@ -6,7 +6,12 @@ use Rattle.crack_index.specs.declared.mark.Mark.{Mark}
 use Rattle.crack_state.specs.declared.MergeReport.{MergeReport}
 use Rattle.crack_state.specs.State.{State, Carried, greatest}
 use Rattle.crack_state.specs.Steps.{hand_key, piece_end, IsDoomed, IsBelow, pushed_on, appended, buried, returned}
+use Rattle.crack_bulk.specs.Pieces.{Pieces, cut}
 use Rattle.crack_bulk.specs.Queues.{Event, comes, turns, stopped}
+
+-- the pieces of a store's column
+abbrev pub pieces_of : State → Pieces Handle
+pieces_of s = cut 0 s.marks s.column
 
 -- a carry, step by step, each by the first rule that holds
 pub data Leads (ceiling : Option ℕ) : Carried → State → Type 0 where

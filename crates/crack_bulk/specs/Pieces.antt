@@ -1,5 +1,5 @@
 -- The pieces of a cracked column, and what they are of its rows and marks.
-use Rattle.std.specs.Prelude.{ℕ, ◌+◌, ◌<◌, ◌≤◌, List, [], ◌∷◌, ◌++◌, length}
+use Rattle.std.specs.Prelude.{ℕ, ◌+◌, ◌-◌, ◌<◌, ◌≤◌, List, [], ◌∷◌, ◌++◌, length, take, drop}
 use Rattle.std.specs.List.{All}
 use Rattle.crack_row.specs.declared.InnerBound.{InnerBound}
 use Rattle.crack_index.specs.declared.mark.Mark.{Mark}
@@ -21,6 +21,11 @@ module _ {X : Type 0} where
   abbrev pub marks_of : ℕ → Pieces X → List Mark
   marks_of place (last rows) = []
   marks_of place (below rows bound pieces) = record { bound = bound; position = place + length rows } ∷ marks_of (place + length rows) pieces
+
+  -- the pieces of these rows, the first of which stands at this place, by the marks of the bounds between them
+  abbrev pub cut : ℕ → List Mark → List X → Pieces X
+  cut place [] rows = last rows
+  cut place (m ∷ ms) rows = below (take (m.position - place) rows) m.bound (cut m.position ms (drop (m.position - place) rows))
 
   -- the key of each row lies between the bounds of its piece; the first piece begins at this bound
   abbrev pub AreDivided : (X → ℕ) → ℕ → Pieces X → Type 0
