@@ -11,12 +11,26 @@ use Rattle.crack_arena.specs.Rows.{key_at}
 use Rattle.crack_index.specs.declared.mark.Mark.{Mark}
 use Rattle.crack_index.specs.Marks.{next_mark, raised, end_of}
 use Rattle.crack_state.specs.State.{State, Carried, greatest}
-use Rattle.crack_state.specs.Steps.{hand_key, piece_end, raise_next, more, IsDoomed, IsBelow, pushed_on, appended}
+use Rattle.crack_state.specs.Steps.{hand_key, piece_end, raise_next, more, IsDoomed, IsBelow, pushed_on, appended, buried, returned}
 use Rattle.crack_bulk.specs.Pieces.{Pieces, last, below, column_of, marks_of, AreDivided}
 use Rattle.crack_bulk.specs.Queues.{Event, comes, turns, stopped, reached, outcome}
-use Rattle.crack_bulk.specs.Carried.{Leads, buries, evicts, ends, goes_on, is_over, is_doomed, ends_with, moved_by, carried_with, landed}
+use Rattle.crack_bulk.specs.Carried.{Leads, buries, evicts, ends, goes_on, is_over, is_doomed, ends_with, moved_by, carried_with}
 use Rattle.crack_bulk.proofs.BulkLaws.{reached-stopped, outcome-stopped}
 use Rattle.crack_bulk.proofs.PieceLaws.{mark_at, next_mark-skips, raised-here, raised-lower, raised-behind_first}
+
+-- what is left where a carry has ended so, with this column and these marks
+abbrev pub landed : State → List Handle → List Mark → Event Handle → State
+landed s column marks (comes x) = record s { column = column; marks = marks }
+landed s column marks (turns moved) =
+    record s {
+      column = column;
+      marks = marks;
+      tally = moved_by moved s.tally;
+      column_room = s.column_room - 1;
+    }
+landed s column marks (stopped moved hand) =
+    let c = carried_with s column marks moved hand in
+    cond (is_doomed s hand) (buried c) (returned c)
 
 -- a counter raised by so many, and by one more
 more-min : (n k : ℕ) → more (min (n + k) greatest) ≡ min (n + suc k) greatest

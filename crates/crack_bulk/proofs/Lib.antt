@@ -1,4 +1,6 @@
+pub mod AgreeLaws
 pub mod BulkLaws
 pub mod CarryLaws
 pub mod CutLaws
+pub mod LeadLaws
 pub mod PieceLaws

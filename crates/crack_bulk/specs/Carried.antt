@@ -1,13 +1,16 @@
 -- What a carry leaves of a store whose column stands in pieces.
-use Rattle.std.specs.Prelude.{◌≡◌, ℕ, ◌+◌, ◌-◌, ◌<◌, Bool, true, false, cond, nat_lt, nat_le, ◌||◌, min, List, [], ◌∷◌, ◌++◌, length, Option, Some, None}
-use Rattle.crack_arena.specs.Arena.{Handle, times, slots}
+use Rattle.std.specs.Prelude.{◌≡◌, ℕ, ◌+◌, ◌-◌, ◌<◌, Bool, true, false, cond, nat_lt, nat_le, ◌||◌, min, map, filter, List, [], ◌∷◌, ◌++◌, length, Option, Some, None}
+use Rattle.crack_row.specs.Ranges.{Range, is_in}
+use Rattle.crack_row.specs.declared.Row.{Row}
+use Rattle.crack_arena.specs.Arena.{Cell, Handle, times, slots}
 use Rattle.crack_arena.specs.Rows.{key_at}
 use Rattle.crack_index.specs.declared.mark.Mark.{Mark}
 use Rattle.crack_state.specs.declared.MergeReport.{MergeReport}
 use Rattle.crack_state.specs.State.{State, Carried, greatest}
 use Rattle.crack_state.specs.Steps.{hand_key, piece_end, IsDoomed, IsBelow, pushed_on, appended, buried, returned}
-use Rattle.crack_bulk.specs.Pieces.{Pieces, cut}
-use Rattle.crack_bulk.specs.Queues.{Event, comes, turns, stopped}
+use Rattle.crack_state.specs.Merge.{outside_of}
+use Rattle.crack_bulk.specs.Pieces.{Pieces, column_of, marks_of, cut}
+use Rattle.crack_bulk.specs.Queues.{Event, comes, turns, stopped, in_bulk, bulk_outcomes}
 
 -- the pieces of a store's column
 abbrev pub pieces_of : State → Pieces Handle
@@ -53,16 +56,42 @@ carried_with s column marks moved hand =
       hand = hand;
     }
 
--- what is left where a carry has ended so, with this column and these marks
-abbrev pub landed : State → List Handle → List Mark → Event Handle → State
-landed s column marks (comes x) = s
-landed s column marks (turns moved) =
-    record s {
-      column = column;
-      marks = marks;
-      tally = moved_by moved s.tally;
-      column_room = s.column_room - 1;
-    }
-landed s column marks (stopped moved hand) =
-    let c = carried_with s column marks moved hand in
-    cond (is_doomed s hand) (buried c) (returned c)
+-- what an outcome leaves of a store, but for its column, its marks and its room: rows made way, and the hand that ended the carry is buried, where
+-- it is doomed, else it is evicted
+abbrev pub ended_so : Event Handle → State → State
+ended_so (comes x) s = s
+ended_so (turns moved) s = record s { tally = moved_by moved s.tally }
+ended_so (stopped moved hand) s =
+    let c = carried_with s s.column s.marks moved hand in
+    record (cond (is_doomed s hand) (buried c) (returned c)) { in_room = s.in_room }
+
+-- what one outcome after the other leaves
+abbrev pub ended_by : List (Event Handle) → State → State
+ended_by [] s = s
+ended_by (e ∷ es) s = ended_by es (ended_so e s)
+
+-- those of the handles whose key is in the range, in their order
+abbrev pub inside_of : List (Cell Row) → Range → List Handle → List Handle
+inside_of cells r hs = filter (λ h. is_in r (key_at cells h)) hs
+
+-- so many rows more were put in
+abbrev pub put_in_by : ℕ → MergeReport → MergeReport
+put_in_by count tally = record tally { put_in = min (tally.put_in + count) greatest }
+
+-- the pending insertions of a range come in, in the order of arrival
+abbrev pub arrivals : Range → State → List (Event Handle)
+arrivals r s = map comes (inside_of s.cells r s.pending_in)
+
+-- what all carries of a range leave, room aside: each piece has what the rows that reach it leave of it, each bound stands where its piece ends,
+-- and the carries have ended one after the other as their outcomes say
+abbrev pub carried_in_bulk : Option ℕ → Range → State → State
+carried_in_bulk ceiling r s =
+    let key = key_at s.cells in
+    let stops = ends_with ceiling s in
+    let pieces = in_bulk key stops (arrivals r s) (pieces_of s) in
+    ended_by (bulk_outcomes key stops (arrivals r s) (pieces_of s)) (record s {
+      column = column_of pieces;
+      marks = marks_of 0 pieces;
+      pending_in = outside_of s.cells r s.pending_in;
+      tally = put_in_by (length (arrivals r s)) s.tally;
+    })
