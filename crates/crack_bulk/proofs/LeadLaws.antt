@@ -8,7 +8,7 @@ use Rattle.crack_arena.specs.Rows.{key_at}
 use Rattle.crack_arena.proofs.Times.{times_map_at, times_other}
 use Rattle.crack_index.specs.declared.mark.Mark.{Mark}
 use Rattle.crack_state.specs.State.{State, Carried, IsIntact}
-use Rattle.crack_state.specs.Steps.{hand_key, lifted, pushed_on, buried, SameButRoom}
+use Rattle.crack_state.specs.Steps.{hand_key, lifted, pushed_on, buried}
 use Rattle.crack_state.proofs.OwnedLaws.{times-places, times-taken, once-most, hand_apart, apart_from_times}
 use Rattle.crack_state.proofs.CellLaws.{AgreeOff-set, key_at-off}
 use Rattle.crack_state.proofs.BuryLaws.{IsIntact-buried, doomed_stands}
@@ -87,7 +87,7 @@ carried_at ceiling place s =
     record (ended_so (outcome key stops (comes c.hand) (pieces_of s)) c.store) { column = column_of pieces; marks = marks_of 0 pieces }
 
 -- room is made, it is carried, and then there is this room
-pub Leads-at : (ceiling : Option ℕ) (place : ℕ) (s : State) (a b : ℕ) → place < length s.pending_in → is_over ceiling (key_at s.cells (get_or s.pending_in place no_handle)) ≡ false → IsIntact s [] → (u : State) × SameButRoom s u × Leads ceiling (lifted place u) (record (carried_at ceiling place s) { column_room = a; in_room = b })
+pub Leads-at : (ceiling : Option ℕ) (place : ℕ) (s : State) (a b : ℕ) → place < length s.pending_in → is_over ceiling (key_at s.cells (get_or s.pending_in place no_handle)) ≡ false → IsIntact s [] → (x : ℕ) × (y : ℕ) × Leads ceiling (lifted place (record s { column_room = x; in_room = y })) (record (carried_at ceiling place s) { column_room = a; in_room = b })
 Leads-at ceiling place s a b within under intact =
     let h = get_or s.pending_in place no_handle in
     let key = key_at s.cells in
@@ -98,4 +98,4 @@ Leads-at ceiling place s a b within under intact =
     let u : State = record s { column_room = made.0; in_room = made.1 } in
     let cut = IsCut-intact s [] intact in
     let leads = Leads-reached ceiling (lifted place u) (pieces_of s) 0 cut.column cut.marks intact.counted.moved cut.divided (rw (pending-lasts s place within intact, under) refl) in
-    (u, record { same = refl }, rw made.2 at leads)
+    (made.0, made.1, rw made.2 at leads)

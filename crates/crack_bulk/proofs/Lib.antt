@@ -3,4 +3,5 @@ pub mod BulkLaws
 pub mod CarryLaws
 pub mod CutLaws
 pub mod LeadLaws
+pub mod ManyLaws
 pub mod PieceLaws
