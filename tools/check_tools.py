@@ -287,6 +287,12 @@ class Numbers(unittest.TestCase):
     def test_numbers_of_the_documents_are_the_constants_of_the_code(self):
         self.assertEqual(numbers_held.mismatches(), [])
 
+    def test_figures_of_readme_are_those_of_the_benchmarks(self):
+        self.assertEqual(numbers_held.figure_mismatches(), [])
+
+    def test_readme_is_one_screen_or_two(self):
+        self.assertLessEqual(len((crates.TOP / "README.md").read_text(encoding="utf-8").splitlines()), 120)
+
     def test_a_number_that_differs_is_found(self):
         with tempfile.TemporaryDirectory() as room:
             top = pathlib.Path(room)

@@ -11,12 +11,20 @@ TOP = pathlib.Path(__file__).resolve().parent.parent
 CONSTANT = re.compile(r"^(?:pub(?:\(crate\))? )?const ([A-Z_]+): \w+ =\s+(-?[0-9_]+);", re.MULTILINE)
 
 NUMBERS = [
-    ("README.md", "A partition takes at most {} rows.", "crack_row", "GREATEST_CELLS"),
-    ("README.md", "**{} cells** a partition", "crack_row", "GREATEST_CELLS"),
-    ("README.md", "**{} commands** a partition since its start", "crack_row", "GREATEST_LIFE"),
-    ("README.md", "but for the room of {} entries", "crack_part", "KEPT_ENTRIES"),
-    ("README.md", "clients are connected at a time: {} at most", "crack_table", "MOST_WORKERS"),
-    ("README.md", "12 (more than {} splits)", "crack_core", "MOST_SPLITS"),
+    ("README.md", "one has at most {} rows,", "crack_row", "GREATEST_CELLS"),
+    ("docs/GUIDE.md", "A partition has at most {} rows.", "crack_row", "GREATEST_CELLS"),
+    ("docs/GUIDE.md", "After {} of them, or as many as `--limit` says", "crack_row", "GREATEST_LIMIT"),
+    ("docs/GUIDE.md", "**{} cells** a partition", "crack_row", "GREATEST_CELLS"),
+    ("docs/GUIDE.md", "**{} commands** a partition since its start", "crack_row", "GREATEST_LIFE"),
+    ("docs/GUIDE.md", "except the room of {} entries", "crack_part", "KEPT_ENTRIES"),
+    ("docs/GUIDE.md", "clients are connected at a time: {} at most", "crack_table", "MOST_WORKERS"),
+    ("docs/GUIDE.md", "| 12 | more than {} splits |", "crack_core", "MOST_SPLITS"),
+    ("docs/GUIDE.md", "`--limit` 1 to {}, `--cells`", "crack_row", "GREATEST_LIMIT"),
+    ("docs/GUIDE.md", "`--cells` 1 to {}, `--life`", "crack_row", "GREATEST_CELLS"),
+    ("docs/GUIDE.md", "`--life` 1 to {} |", "crack_row", "GREATEST_LIFE"),
+    ("docs/GUIDE.md", "Keys are 0 to {}, payloads", "crack_row", "GREATEST_KEY"),
+    ("docs/GUIDE.md", "payloads {} to", "crack_row", "LEAST_PAYLOAD"),
+    ("docs/GUIDE.md", "Range ends are 0 to {}, which is", "crack_row", "GREATEST_BOUND"),
     ("docs/SPECIFICATION.md", "| key | 0 to {} |", "crack_row", "GREATEST_KEY"),
     ("docs/SPECIFICATION.md", "| payload | {} to", "crack_row", "LEAST_PAYLOAD"),
     ("docs/SPECIFICATION.md", "to {} | | sum of payloads", "crack_row", "GREATEST_PAYLOAD"),
@@ -52,6 +60,16 @@ NUMBERS = [
     ("docs/DECISIONS.md", "A plain table accepts {} commands", "crack_plain", "MOST_ACCEPTED"),
 ]
 
+# of README's table of figures: the row of docs/BENCHMARKS.md for each column, and the column there for each row
+SERIES = {"crackd": "crackd's partition", "a sorted array": "a sorted array", "a BTreeMap": "a BTreeMap", "a scan": "a scan"}
+FIGURES = {
+    "load": ["loading"],
+    "first count of everything": ["first count of everything"],
+    "first sum": ["first sum"],
+    "median of the last hundred sums": ["median of the last hundred"],
+    "load and all queries": ["loading", "first count of everything", "all sums"],
+}
+
 
 def constants(crate, top=TOP):
     """The constants of a crate that are whole numbers, by their names: all values that a name has there."""
@@ -74,4 +92,30 @@ def mismatches(numbers=None, top=TOP):
         [value] = values
         if not any(text.format(it) in written for it in (str(value), f"{value:,}")):
             wrong.append(f"{document} doesn't say {text.format(value)!r}")
+    return wrong
+
+
+def table(text, first):
+    """The table of a text whose first row begins with these cells: its cells by the first of a row and the first of a column."""
+    rows = [[it.strip() for it in line.strip("|").split("|")] for line in text.splitlines() if line.startswith("|")]
+    start = next(at for at, row in enumerate(rows) if row[: len(first)] == first)
+    columns, found = rows[start], {}
+    for row in rows[start + 2 :]:
+        if len(row) != len(columns):
+            break
+        found[row[0]] = dict(zip(columns[1:], row[1:]))
+    return found
+
+
+def figure_mismatches(top=TOP):
+    """The figures of README's table that aren't those of docs/BENCHMARKS.md, in milliseconds, to as many digits as they are written with."""
+    ours = table((top / "README.md").read_text(encoding="utf-8"), ["", "crackd"])
+    measured = table((top / "docs" / "BENCHMARKS.md").read_text(encoding="utf-8"), ["What", "loading", "first count of everything"])
+    wrong = [] if list(ours) == list(FIGURES) else [f"README has rows {list(ours)}"]
+    for row, columns in FIGURES.items():
+        for name, cell in ours.get(row, {}).items():
+            value = sum(float(measured[SERIES[name]][it].removesuffix(" ms")) for it in columns)
+            digits = len(cell.partition(".")[2])
+            if f"{value:,.{digits}f}" != cell:
+                wrong.append(f"README says {row}, {name}: {cell}, and docs/BENCHMARKS.md {value}")
     return wrong
