@@ -4,6 +4,8 @@ import math
 import statistics
 
 WIDTH, HEIGHT, LEFT, BELOW = 720, 360, 70, 40
+# how wide a picture of curves is, and what of it their names have
+CURVES_WIDTH, NAMES = 760, 230
 COLOURS = ["#c0392b", "#2471a3", "#229954", "#7d3c98", "#b9770e", "#566573", "#16a085", "#d35400"]
 
 
@@ -11,9 +13,9 @@ def text(x, y, words, anchor="start"):
     return f'<text x="{x:.0f}" y="{y:.0f}" text-anchor="{anchor}">{words}</text>'
 
 
-def svg(parts, height=HEIGHT):
-    head = f'<svg xmlns="http://www.w3.org/2000/svg" viewBox="0 0 {WIDTH} {height}" font-family="sans-serif" font-size="12">'
-    return "\n".join([head, f'<rect width="{WIDTH}" height="{height}" fill="white"/>', *parts, "</svg>\n"])
+def svg(parts, height=HEIGHT, width=WIDTH):
+    head = f'<svg xmlns="http://www.w3.org/2000/svg" viewBox="0 0 {width} {height}" font-family="sans-serif" font-size="12">'
+    return "\n".join([head, f'<rect width="{width}" height="{height}" fill="white"/>', *parts, "</svg>\n"])
 
 
 def curves(series):
@@ -24,21 +26,21 @@ def curves(series):
     last = math.log10(max(2, *(len(times) for times in series.values())))
 
     def place(x, y):
-        across = LEFT + math.log10(x) / last * (WIDTH - LEFT - 190)
+        across = LEFT + math.log10(x) / last * (CURVES_WIDTH - LEFT - NAMES)
         return across, 20 + (high - math.log10(max(y, 0.01))) / max(1, high - low) * (HEIGHT - 20 - BELOW)
 
     parts = [text(LEFT, HEIGHT - 8, "query, from the first one"), text(LEFT, 14, "microseconds")]
     for power in range(low, high + 1):
         _, y = place(1, 10**power)
-        parts += [f'<path d="M{LEFT} {y:.1f}H{WIDTH - 190}" stroke="#ddd"/>', text(LEFT - 6, y + 4, f"{10**power:g}", "end")]
+        parts += [f'<path d="M{LEFT} {y:.1f}H{CURVES_WIDTH - NAMES}" stroke="#ddd"/>', text(LEFT - 6, y + 4, f"{10**power:g}", "end")]
     for power in range(int(last) + 1):
         x, _ = place(10**power, 1)
         parts.append(text(x, HEIGHT - BELOW + 16, f"{10**power}", "middle"))
     for (name, line), colour, at in zip(points.items(), COLOURS, range(len(points))):
         path = "L".join(f"{x:.1f} {y:.1f}" for x, y in (place(*point) for point in line))
         parts.append(f'<path d="M{path}" fill="none" stroke="{colour}" stroke-width="1.5"/>')
-        parts.append(f'<g fill="{colour}">{text(WIDTH - 182, 34 + 18 * at, name)}</g>')
-    return svg(parts)
+        parts.append(f'<g fill="{colour}">{text(CURVES_WIDTH - NAMES + 8, 34 + 18 * at, name)}</g>')
+    return svg(parts, width=CURVES_WIDTH)
 
 
 def smoothed(times):

@@ -1,4 +1,5 @@
-"""python3 -m crackd shell ..: a shell over a server; python3 -m crackd splits FILE.csv N: where to cut keys, for `crackd serve`."""
+"""python3 -m crackd shell ..: a shell over a server; python3 -m crackd splits FILE.csv N: where to cut keys, for `crackd serve`; python3 -m crackd picture SCRIPT:
+a column as queries crack it, as SVG."""
 
 from __future__ import annotations
 
@@ -10,6 +11,7 @@ from .base import MOST_PARTS
 from .csvfile import Column, CsvFile
 from .errors import Error
 from .keys import quantiles
+from .picture import main as picture
 
 
 def splits(words: list[str]) -> int:
@@ -37,11 +39,11 @@ def main(words: list[str]) -> int:
         from .shell import main as shell
 
         return shell(words[1:])
-    if words[:1] != ["splits"]:
+    if words[:1] not in (["splits"], ["picture"]):
         print(__doc__, file=sys.stdout if words[:1] in (["--help"], ["-h"]) else sys.stderr)
         return 0 if words[:1] in (["--help"], ["-h"]) else 2
     try:
-        return splits(words[1:])
+        return picture(words[1:]) if words[0] == "picture" else splits(words[1:])
     except (Error, UnicodeDecodeError) as error:
         print(f"crackd: {error}", file=sys.stderr)
     except OSError as error:
