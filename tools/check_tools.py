@@ -8,13 +8,16 @@ import unittest
 sys.path.insert(0, str(pathlib.Path(__file__).resolve().parent))
 
 import crates
+import defined
 import definitions
 import due
 import edits
 import functions
 import lanes
+import links
 import numbers_held
 import reading
+import tested
 import trust
 
 SOURCE = """use crate::low;
@@ -290,9 +293,6 @@ class Numbers(unittest.TestCase):
     def test_figures_of_readme_are_those_of_the_benchmarks(self):
         self.assertEqual(numbers_held.figure_mismatches(), [])
 
-    def test_readme_is_one_screen_or_two(self):
-        self.assertLessEqual(len((crates.TOP / "README.md").read_text(encoding="utf-8").splitlines()), 120)
-
     def test_a_number_that_differs_is_found(self):
         with tempfile.TemporaryDirectory() as room:
             top = pathlib.Path(room)
@@ -301,6 +301,32 @@ class Numbers(unittest.TestCase):
             (top / "page.md").write_text("It has 4,096\nplaces, and 4097 names.\n", encoding="utf-8")
             lines = [("page.md", text, "a", name) for text, name in [("has {} places", "PLACES"), ("and {} names", "PLACES"), ("has {}", "NAMES")]]
             self.assertEqual(numbers_held.mismatches(lines, top), ["page.md doesn't say 'and 4096 names'", "a has 0 values of NAMES"])
+
+
+class Documents(unittest.TestCase):
+    def test_readme_has_120_lines_at_most(self):
+        self.assertLessEqual(len((crates.TOP / "README.md").read_text(encoding="utf-8").splitlines()), 120)
+
+    def test_definitions_are_the_comments_of_specs(self):
+        self.assertEqual(defined.main(["--check"]), 0, "python3 tools/defined.py writes docs/DEFINITIONS.md anew")
+        self.assertEqual(defined.uncommented(), ["crack_arena.Links.content_value"])
+
+    def test_tests_that_proofs_name_are_where_their_links_lead(self):
+        self.assertEqual(tested.main(["--check"]), 0, "python3 tools/tested.py has them lead there")
+
+    def test_a_test_that_is_not_there_is_found(self):
+        page = f"{tested.HEADING}\nseen by `no_such_test` and `check_tools`\n\n## Next\n"
+        self.assertEqual(tested.linked(page), (page, ["no_such_test", "check_tools"]))
+
+    def test_links_lead_somewhere(self):
+        self.assertEqual(links.broken(), [])
+
+    def test_a_link_that_leads_nowhere_is_found(self):
+        with tempfile.TemporaryDirectory() as room:
+            top = pathlib.Path(room)
+            (top / "page.md").write_text("# A page\n\n## The `end`, at last\n", encoding="utf-8")
+            (top / "other.md").write_text("[a](page.md#the-end-at-last) [b](page.md#begin) [c](none.md) [d](https://e.org)\n", encoding="utf-8")
+            self.assertEqual(links.broken(top), ["other.md leads to page.md#begin", "other.md leads to none.md"])
 
 
 def run_all():

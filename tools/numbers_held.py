@@ -41,7 +41,7 @@ NUMBERS = [
     ("docs/SPECIFICATION.md", "before a worker starts: at most {}", "crack_server", "MOST_INPUT_BYTES"),
     ("docs/SPECIFICATION.md", "a record behind the {}th that isn't a header", "crack_csv", "MOST_RECORDS"),
     ("docs/PROOFS.md", "is answered until {} were accepted", "crack_plain", "MOST_ACCEPTED"),
-    ("docs/PROOFS.md", "or behind {} reads", "crack_session", "MOST_READS"),
+    ("docs/PROOFS.md", "or after {} reads", "crack_session", "MOST_READS"),
     ("docs/PROOFS.md", "n is at most {}. On a fault", "crack_csv", "MOST_RECORDS"),
     ("docs/PROOFS.md", "each read asks for {} bytes", "crack_session", "READ_BYTES"),
     ("docs/ARCHITECTURE.md", "each session has a buffer of {} bytes for its replies", "crack_server", "REPLY_BYTES"),

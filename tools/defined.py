@@ -1,0 +1,98 @@
+#!/usr/bin/env python3
+"""Writes docs/DEFINITIONS.md from the comments in specs/, or says whether it is up to date: defined.py [--check]
+
+Each definition of specs/ stands there with the comment above it, crate by crate and file by file; one without a comment shares that of the definition before
+it. Modules that private clauses alone cite are left out, as nobody has to read them to know what is promised.
+"""
+
+import itertools
+import pathlib
+import re
+import sys
+
+import crates
+import definitions
+import reading
+
+PAGE = crates.TOP / "docs" / "DEFINITIONS.md"
+PRIVATE = "-- What private clauses alone cite."
+HEAD = """# Definitions
+
+The words that public contracts cite, with the comments that stand above them in the crates' `specs` folders. Every definition is over lists, finite maps and
+whole numbers. [PROOFS.md](PROOFS.md) says what is proved with them, and `make trust` prints those that a promise needs, whole.
+
+This page is written by `python3 tools/defined.py`.
+"""
+
+
+def is_private(path):
+    """Whether private clauses alone cite what stands in a file."""
+    return path.read_text(encoding="utf-8").startswith(PRIVATE)
+
+
+def said(item):
+    """The comment above a definition, as one text."""
+    start = min(number for number, _ in item.lines)
+    return " ".join(line.strip().removeprefix("--").strip() for number, line in sorted(item.beside) if number < start)
+
+
+def sentence(text):
+    """A comment as a sentence of a table."""
+    # (a name of code at its beginning stays as it is)
+    if not text:
+        return ""
+    begun = text[:1].upper() + text[1:] if re.match(r"[a-z][a-z',]*(?:\s|$)", text) else text
+    return begun.replace("|", "\\|") + ("" if begun.endswith((".", ":")) else ".")
+
+
+def purpose(path):
+    """What a file of definitions says of itself: the comment that it begins with."""
+    lines = itertools.takewhile(lambda line: line.startswith("--"), path.read_text(encoding="utf-8").splitlines())
+    return " ".join(line.removeprefix("--").strip() for line in lines)
+
+
+def table_of(path, items):
+    """The table of a file's definitions."""
+    rows = []
+    for it in items:
+        text = said(it)
+        if text or not rows:
+            rows.append(([], text))
+        rows[-1][0].append(f"`{it.name.rpartition('.')[2]}`")
+    link = f"[{path.parent.parent.name}/specs/{path.name}](../{path.relative_to(crates.TOP).as_posix()})"
+    lines = [f"**{link}** {purpose(path)}".rstrip(), "", "| Name | What it is |", "|---|---|"]
+    return "\n".join([*lines, *(f"| {', '.join(names)} | {sentence(text)} |" for names, text in rows)])
+
+
+def page():
+    """The whole page."""
+    parts = [HEAD]
+    for crate in crates.listed().values():
+        if crate.name in reading.LEFT_OUT:
+            continue
+        by_file = itertools.groupby(definitions.definitions_of(crate.folder), lambda it: it.path)
+        tables = [table_of(path, list(items)) for path, items in by_file if not is_private(path)]
+        parts += [f"## {crate.name}\n", *(f"{it}\n" for it in tables)] if tables else []
+    return "\n".join(parts)
+
+
+def uncommented():
+    """The definitions on the page that begin a file without a comment, which none before them could share."""
+    folders = [it.folder for it in crates.listed().values() if it.name not in reading.LEFT_OUT]
+    every = [it for folder in folders for it in definitions.definitions_of(folder) if not is_private(it.path)]
+    first = {it.path: it for it in reversed(every)}
+    return [it.name for it in first.values() if not said(it)]
+
+
+def main(words):
+    text = page()
+    if words == ["--check"]:
+        return 0 if PAGE.read_text(encoding="utf-8") == text else 1
+    if words:
+        sys.exit(__doc__)
+    pathlib.Path(PAGE).write_text(text, encoding="utf-8")
+    return 0
+
+
+if __name__ == "__main__":
+    sys.exit(main(sys.argv[1:]))
