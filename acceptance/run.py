@@ -1,132 +1,289 @@
 #!/usr/bin/env python3
-"""Runs the program on the acceptance cases: run.py PROGRAM [WORD]
+"""Runs the program on the acceptance cases: run.py PROGRAM [WORD ..]
 
-With WORD only the cases whose name has it. A case is a folder of cases/, whose name says what it shows, with the files
+With words only the cases whose name, or whose file's name, has one of them. A file of cases/ has the cases of a topic, with a blank line before each:
 
-    args        the words of the command line, one a line
-    stdin       what the program reads; or stdin-from: the path that it reads from
-    stdout      what it must write; or stdout-has: words, each line of which must stand in it; or stdout-to: the path that it writes to
-    stdout-fits the most lines that it may write, and the most columns of each
-    stderr      what it must write on standard error
-    status      the exit status that it must end with, where that isn't 0
+    == a-full-history-refuses §full-history
+    $ script --limit 2
+    insert 1 1          | row 0.0
+    select 0 5          | rows 1
+                        | 0.0 1 1
+    count 0 5           | refused 6 2
 
-of which any may be left out: no words, nothing to read, nothing written. A path is one of the system, or '.', an empty folder.
-Prints a line for each case that fails, with what was wanted and what came, and last 'acceptance: N passed, M failed'.
+    == NAME §RULE ..    a case begins; a RULE is a word that marks a rule of docs/SPECIFICATION.md, which the case shows
+    $ WORD ..           the words of the command line
+    STATEMENT | REPLY   a line of input and the first line of its reply; each further one stands behind a `|` of its own
+    < LINE              a line of input that has no reply
+    > LINE              a line of output that is no statement's reply
+    ! LINE              a line of standard error
+    = STATUS            the exit status, where it isn't 0
+    ~ TEXT              a text that the output has, where it isn't given line by line
+    @ from PATH         what is read in place of a pipe: a path of the system, or `.`, an empty folder; `@ to PATH`: what is written
+    @ fits LINES WIDTH  how many lines the output has at most, and how many columns each
+    # TEXT              a comment
+
+In a batch the replies of a worker's statements stand together, behind `worker N`: that line is put there, for each worker, by the runner.
+In a line `\\r` is a carriage return, `\\t` a tab, `\\s` a space (at an end, where it would be dropped), `\\\\` a backslash, `\\xHH` a byte, `\\{N TEXT}` N times
+a text, and `\\c` at the end says that no line feed follows.
+
+Prints for each case that fails its file, the first line of it that differs, what was wanted there and what came, and last 'acceptance: N passed, M failed'.
 """
 
+from __future__ import annotations
+
 import contextlib
+import dataclasses
 import os
 import pathlib
+import re
 import subprocess
 import sys
 import tempfile
+import typing
 
 CASES = pathlib.Path(__file__).resolve().parent / "cases"
-FILES = {"args", "stdin", "stdin-from", "stdout", "stdout-has", "stdout-to", "stdout-fits", "stderr", "status"}
-ONE_OF = [["stdin", "stdin-from"], ["stdout", "stdout-has", "stdout-to"]]
 SECONDS = 20
+LINE = re.compile(rb"[^\n]*\n|[^\n]+")
+REPEATED = re.compile(rb"\\\{(\d+) ([^}]*)\}")
+ESCAPED = re.compile(rb"\\(x[0-9a-f]{2}|.)", re.DOTALL)
+PLAIN = {b"r": b"\r", b"t": b"\t", b"s": b" ", b"\\": b"\\", b"c": b""}
+REPLY = re.compile(r"(.*?)\s*(?<!\S)\|(?: (.*))?")
+DEVICE = re.compile(r"(from|to) (\S+)|fits (\d+) (\d+)")
 
 
-def read(case, name):
-    path = case / name
-    return path.read_bytes() if path.exists() else b""
+class Misfit(Exception):
+    """What a file of cases says that it can't."""
 
 
-def words_of(case, name):
-    return read(case, name).decode().splitlines()
+@dataclasses.dataclass
+class Wanted:
+    """A line that must come: its bytes, the line of the file that says so, and the worker of a batch whose it is."""
+
+    text: bytes
+    line: int
+    worker: int | None = None
 
 
-def opened(room, words, flags, stack):
-    """The file, folder or device that a file stdin-from or stdout-to names, or None."""
-    if not words:
+@dataclasses.dataclass
+class Case:
+    """A case of a file."""
+
+    path: pathlib.Path
+    line: int
+    name: str
+    rules: list[str]
+    words: list[str] | None = None
+    given: bytes = b""
+    wanted: list[Wanted] = dataclasses.field(default_factory=list)
+    complaints: list[Wanted] = dataclasses.field(default_factory=list)
+    texts: list[Wanted] = dataclasses.field(default_factory=list)
+    status: Wanted | None = None
+    source: str = ""
+    target: str = ""
+    fits: tuple[int, int] | None = None
+
+    def workers(self) -> int:
+        """How many workers its batch has; 0 where it is none."""
+        words = self.words or []
+        return int(words[words.index("--workers") + 1]) if "batch" in words[:2] and "--workers" in words else 0
+
+    def output(self) -> list[Wanted]:
+        """The lines of output, those of a batch worker by worker."""
+        workers = self.workers() if self.wanted else 0
+        heads = [Wanted(b"worker %d\n" % it, self.line, it) for it in range(workers)]
+        said = sorted((it for it in [*heads, *self.wanted] if it.worker is not None), key=lambda it: it.worker % workers if workers else 0)
+        return said + [it for it in self.wanted if it.worker is None]
+
+    def place(self, line: int) -> str:
+        """A line of its file, as it is told."""
+        return f"{self.path.relative_to(CASES.parent.parent)}:{line}"
+
+
+def unescaped(text: str) -> bytes:
+    """The bytes of a line, with its line feed, if it has one."""
+
+    def byte(found: re.Match[bytes]) -> bytes:
+        what = found[1]
+        if what[:1] == b"x" and len(what) == 3:
+            return bytes.fromhex(what[1:].decode())
+        if what not in PLAIN:
+            raise Misfit(f"no escape: {found[0].decode(errors='replace')!r}")
+        return PLAIN[what]
+
+    repeated = REPEATED.sub(lambda it: int(it[1]) * it[2], text.encode())
+    return ESCAPED.sub(byte, repeated) + (b"" if text.endswith("\\c") else b"\n")
+
+
+def worker_of(statement: bytes) -> int:
+    """The number before a statement of a batch; 0 where there is none."""
+    number = statement.split(b" ")[0].strip()
+    return int(number) if number.isdigit() else 0
+
+
+def take_device(case: Case, text: str) -> None:
+    """Takes a line of what is read, written or fitted in."""
+    found = DEVICE.fullmatch(text)
+    if not found:
+        raise Misfit("no path and no size")
+    if found[3]:
+        case.fits = int(found[3]), int(found[4])
+    elif found[1] == "from":
+        case.source = found[2]
+    else:
+        case.target = found[2]
+
+
+def take_statement(case: Case, text: str, number: int) -> None:
+    """Takes a statement with a line of its reply, or a further line of one."""
+    found = REPLY.fullmatch(text)
+    if not found:
+        raise Misfit("no statement with its reply")
+    statement = unescaped(found[1].strip()) if found[1].strip() else b""
+    case.given += statement
+    worker = worker_of(statement) if statement else (case.wanted[-1].worker if case.wanted else None)
+    if worker is None:
+        raise Misfit("no statement is above this line of a reply")
+    case.wanted.append(Wanted(unescaped(found[2] or ""), number, worker))
+
+
+def take(case: Case, text: str, number: int) -> None:
+    """Takes a line of a case."""
+    kind, rest = text[:1], text[2:]
+    if kind not in "$<>!=~@#" or text[1:2] not in ("", " "):
+        take_statement(case, text, number)
+    elif kind == "$":
+        case.words = [unescaped(it)[:-1].decode() for it in rest.split()]
+    elif kind == "<":
+        case.given += unescaped(rest)
+    elif kind == ">":
+        case.wanted.append(Wanted(unescaped(rest), number))
+    elif kind == "!":
+        case.complaints.append(Wanted(unescaped(rest), number))
+    elif kind == "=":
+        case.status = Wanted(rest.encode(), number)
+    elif kind == "~":
+        case.texts.append(Wanted(unescaped(rest)[:-1], number))
+    elif kind == "@":
+        take_device(case, rest)
+
+
+def held(case: Case) -> Case:
+    """A case that is read whole. A misfit where what it says doesn't go together."""
+    if case.words is None:
+        raise Misfit("no line with the words of the command line")
+    if bool(case.given) + bool(case.source) > 1 or bool(case.wanted) + bool(case.texts) + bool(case.target) > 1:
+        raise Misfit("what is read, or what is written, is given twice")
+    return case
+
+
+def cases_of(path: pathlib.Path) -> typing.Iterator[Case]:
+    """The cases of a file. A misfit tells its line."""
+    case = None
+    for number, text in enumerate(path.read_text(encoding="utf-8").split("\n"), 1):
+        try:
+            if text.startswith("== "):
+                if case:
+                    yield held(case)
+                name, *rules = text[3:].split()
+                case = Case(path, number, name, [it.removeprefix("§") for it in rules])
+            elif text.strip() and not (text.startswith("#") and case is None):
+                if case is None:
+                    raise Misfit("no case has begun")
+                take(case, text, number)
+        except (Misfit, ValueError) as error:
+            raise Misfit(f"{path.name}:{number}: {error}") from error
+    if case:
+        yield held(case)
+
+
+def all_cases(words: typing.Iterable[str] = ()) -> list[Case]:
+    """The cases of all files in their order; with words those whose name, or whose file's name, has one of them."""
+    found = [case for path in sorted(CASES.glob("*.cases")) for case in cases_of(path)]
+    names = [it.name for it in found]
+    twice = sorted({it for it in names if names.count(it) > 1})
+    if twice:
+        raise Misfit(f"two cases of one name: {', '.join(twice)}")
+    words = list(words)
+    return [it for it in found if not words or any(word in it.name or word in it.path.stem for word in words)]
+
+
+def opened(room: str, name: str, flags: int, stack: contextlib.ExitStack) -> int | None:
+    """The file, folder or device of this name, or None where there is no name."""
+    if not name:
         return None
-    handle = os.open(pathlib.Path(room) / words[0], flags)
+    handle = os.open(pathlib.Path(room) / name, flags)
     stack.callback(os.close, handle)
     return handle
 
 
-def run(program, case):
+def ran(program: str, case: Case) -> tuple[int, bytes | None, bytes]:
     """What came: the status, standard output (None where it went elsewhere) and standard error."""
     with tempfile.TemporaryDirectory() as room, contextlib.ExitStack() as stack:
-        source = opened(room, words_of(case, "stdin-from"), os.O_RDONLY, stack)
-        target = opened(room, words_of(case, "stdout-to"), os.O_WRONLY, stack)
-        how = {"stdin": source} if source is not None else {"input": read(case, "stdin")}
-        ran = subprocess.run(
-            [program, *words_of(case, "args")],
-            stdout=subprocess.PIPE if target is None else target,
-            stderr=subprocess.PIPE,
-            cwd=room,
-            timeout=SECONDS,
-            check=False,
-            **how,
-        )
-    return ran.returncode, ran.stdout, ran.stderr
+        source, target = opened(room, case.source, os.O_RDONLY, stack), opened(room, case.target, os.O_WRONLY, stack)
+        given: dict = {"stdin": source} if source is not None else {"input": case.given}
+        to = subprocess.PIPE if target is None else target
+        it = subprocess.run([program, *(case.words or [])], stdout=to, stderr=subprocess.PIPE, cwd=room, timeout=SECONDS, check=False, **given)
+    return it.returncode, it.stdout, it.stderr
 
 
-def misfits(case):
-    """What is wrong with a case's files, a line each."""
-    names = {it.name for it in case.iterdir()}
-    groups = [[it for it in group if it in names] for group in ONE_OF]
-    return [f"unknown file {it}" for it in sorted(names - FILES)] + [
-        f"only one is allowed of {' and '.join(it)}" for it in groups if len(it) > 1
-    ]
+def first_difference(case: Case, what: str, wanted: list[Wanted], wrote: bytes) -> list[str]:
+    """The first line that differs from what was wanted."""
+    got = LINE.findall(wrote)
+    for at, it in enumerate(wanted):
+        came = got[at] if at < len(got) else b""
+        if it.text != came:
+            return [f"{case.place(it.line)}: {what}: wanted {it.text!r}, got {came or 'no more'!r}"]
+    more = got[len(wanted) :]
+    return [f"{case.place(case.line)}: {what}: {len(more)} lines more than are wanted, the first {more[0]!r}"] if more else []
 
 
-def excess(case, wrote):
-    """What of standard output goes beyond the lines and the columns that a case allows, a line each."""
-    most, width = (int(it) for it in words_of(case, "stdout-fits"))
+def excess(case: Case, wrote: bytes) -> list[str]:
+    """What of the output goes beyond the lines and the columns that a case allows, a line each."""
+    most, width = case.fits or (0, 0)
     lines = wrote.decode().splitlines()
-    wide = [f"stdout: more than {width} columns: {it!r}" for it in lines if len(it) > width]
-    return [f"stdout: {len(lines)} lines, and at most {most} are allowed"] * (len(lines) > most) + wide
+    wide = [f"{case.place(case.line)}: more than {width} columns: {it!r}" for it in lines if len(it) > width]
+    return [f"{case.place(case.line)}: {len(lines)} lines, and at most {most} are allowed"] * (len(lines) > most) + wide
 
 
-def faults(program, case):
+def faults(program: str, case: Case) -> list[str]:
     """What is wrong with a case, a line each."""
-    wrong = misfits(case)
-    if wrong:
-        return wrong
     try:
-        status, wrote, complained = run(program, case)
+        status, wrote, complained = ran(program, case)
     except subprocess.TimeoutExpired:
-        return [f"it had not ended after {SECONDS} seconds"]
+        return [f"{case.place(case.line)}: it had not ended after {SECONDS} seconds"]
     except OSError as error:
-        return [f"it could not be run: {error}"]
-    wanted_status = int(read(case, "status") or b"0")
+        return [f"{case.place(case.line)}: it could not be run: {error}"]
     found = []
-    if status != wanted_status:
-        found.append(f"status: wanted {wanted_status}, got {status}")
-    if (case / "stdout-has").exists():
-        found += [f"stdout: lacks {it!r}" for it in words_of(case, "stdout-has") if it not in wrote.decode()]
-    elif wrote is not None and wrote != read(case, "stdout"):
-        found.append(f"stdout: wanted {read(case, 'stdout')!r}, got {wrote!r}")
-    if (case / "stdout-fits").exists():
+    if case.texts and wrote is not None:
+        found += [f"{case.place(it.line)}: the output lacks {it.text!r}" for it in case.texts if it.text not in wrote]
+    elif wrote is not None:
+        found += first_difference(case, "output", case.output(), wrote)
+    if case.fits and wrote is not None:
         found += excess(case, wrote)
-    if complained != read(case, "stderr"):
-        found.append(f"stderr: wanted {read(case, 'stderr')!r}, got {complained!r}")
+    found += first_difference(case, "standard error", case.complaints, complained)
+    wanted = case.status or Wanted(b"0", case.line)
+    if status != int(wanted.text):
+        found.append(f"{case.place(wanted.line)}: status: wanted {int(wanted.text)}, got {status}")
     return found
 
 
-def run_all(program, word=""):
-    """Runs the cases whose name has the word. How many passed, and how many failed."""
+def run_all(program: str | pathlib.Path, *words: str) -> tuple[int, int]:
+    """Runs the cases whose name, or whose file's name, has one of the words. How many passed, and how many failed."""
     program = str(pathlib.Path(program).resolve())
     passed = failed = 0
-    for case in sorted(it for it in CASES.iterdir() if it.is_dir() and word in it.name):
+    for case in all_cases(words):
         found = faults(program, case)
+        passed, failed = passed + (not found), failed + bool(found)
         if found:
-            failed += 1
-            print(f"acceptance: {case.name} FAILED")
-            for it in found:
-                print(f"    {it}")
-        else:
-            passed += 1
+            print(f"acceptance: {case.name} FAILED", *found, sep="\n    ")
     if not passed and not failed:
-        print(f"acceptance: no case's name has {word!r}")
+        print(f"acceptance: no case's name has {' or '.join(map(repr, words))}")
         failed = 1
     print(f"acceptance: {passed} passed, {failed} failed", flush=True)
     return passed, failed
 
 
 if __name__ == "__main__":
-    if not 2 <= len(sys.argv) <= 3:
+    if len(sys.argv) < 2:
         sys.exit(__doc__)
     sys.exit(1 if run_all(*sys.argv[1:])[1] else 0)
