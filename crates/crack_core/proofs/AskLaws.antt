@@ -1,7 +1,7 @@
 -- What follows of asking a partition whose full history is folded first.
-use Rattle.std.specs.Prelude.{◌≡◌, ◌⊎◌, ℕ, ◌+◌, ◌<◌, ◌≤◌, ◌≤ℤ◌, ◌^◌, neg_ℤ, pos, All, sum_by, Bool, true, false, List, [], ◌∷◌, ◌++◌, length, take, drop, map, Option, None, Some, Result, Ok, Err, IsOk, is_some, nat_le, slice_get, if◌then◌else◌}
-use Rattle.std.specs.Option.{option_map}
-use Rattle.std.proofs.Common.{zero, suc, get_or, set, arith, ap, refl, sym, subst, ◌∙◌, ⊎_elim, inl, inr}
+use Rattle.std.specs.Prelude.{◌≡◌, ◌⊎◌, ℕ, ◌+◌, ◌<◌, ◌≤◌, ◌≤ℤ◌, ◌^◌, neg_ℤ, pos, All, sum_by, Bool, true, false, cond, ◌&&◌, not, List, [], ◌∷◌, ◌++◌, length, take, drop, Option, None, Some, Result, Ok, Err, IsOk, nat_le, slice_get, if◌then◌else◌}
+use Rattle.std.specs.Option.{option_map, option_or}
+use Rattle.std.proofs.Common.{zero, suc, get_or, set, arith, ap, refl, sym, subst, ◌∙◌, inl, inr}
 use Rattle.std.proofs.lemmas.List.{map-set, set-get_or, take-append-drop, take_more, drop_more}
 use Rattle.std.proofs.lemmas.Option.{slice_get-map}
 use Rattle.std.proofs.lemmas.Bool.{true≢false, leb-true}
@@ -19,8 +19,10 @@ use Rattle.crack_row.specs.declared.refusal.Refusal.TheVariants.{KeyOutside, His
 use Rattle.crack_plain.specs.Plain.{PlainView, PlainState, accepted_of, checkpointed, IsSmall, reply_to, after}
 use Rattle.crack_core.specs.declared.asking.Query.{Query}
 use Rattle.crack_core.specs.Routes.{keys_of_part}
-use Rattle.crack_core.specs.Steps.{is_key_in, bounds_of, reply_unless, MayLackCell, IsOutcome, IsOutcomeAt, IsFoldOutcome, fresh_table, table_after, tables_after, tables_folded, expected}
-use Rattle.crack_core.specs.Asking.{lasting_bounds, lasting, IsLastingOutcome, lasting_after, Asks, is_full, AsksInTurn, replies, refuses, asking, counted, summed}
+use Rattle.crack_part.specs.Refusals.{is_key_in}
+use Rattle.crack_part.specs.Upkeep.{is_automatic, is_due, upkept_table, is_full as shuts}
+use Rattle.crack_core.specs.Steps.{bounds_of, reply_unless, MayLackCell, IsOutcome, IsOutcomeAt, IsFoldOutcome, fresh_table, table_after, tables_after, tables_folded, expected}
+use Rattle.crack_core.specs.Asking.{lasting_bounds, lasting, lasting_after, Asks, is_full, AsksInTurn, replies, refuses, asking, counted, summed}
 
 -- a table that was just folded
 abbrev folded_table : PlainState → ℕ → PlainView
@@ -39,17 +41,25 @@ once table command =
     let same : table.folded + (table.since + 1) ≡ (table.folded + table.since) + (0 + 1) = omega arith in
     ap (folded_table (after table.state command)) same
 
+-- upkeep shows in no table as folds leave it
+once-upkept : (limits : Limits) (table : PlainView) (command : Command) → checkpointed (table_after (upkept_table limits table) command) ≡ checkpointed (table_after (checkpointed table) command)
+once-upkept limits table command = by_test (is_due limits table.since)
+  where
+    by_test : (b : Bool) → checkpointed (table_after (cond b (checkpointed table) table) command) ≡ checkpointed (table_after (checkpointed table) command)
+    by_test true = refl
+    by_test false = once table command
+
 get_or-lasting : (tables : List PlainView) (part : ℕ) → get_or (lasting tables) part fresh_table ≡ checkpointed (get_or tables part fresh_table)
 get_or-lasting [] part = refl
 get_or-lasting (t ∷ tables) zero = refl
 get_or-lasting (t ∷ tables) (suc part) = get_or-lasting tables part
 
 -- the partitions after an answer, as folds leave them
-after-lasting : (tables : List PlainView) (part : ℕ) (command : Command) (r : Result Reply Refusal) → lasting (tables_after tables part command r) ≡ lasting_after (lasting tables) part command r
-after-lasting tables part command (Err e) = refl
-after-lasting tables part command (Ok reply) =
-    map-set checkpointed tables part (table_after (get_or tables part fresh_table) command)
-    ∙ ap (set (lasting tables) part) (once (get_or tables part fresh_table) command ∙ ap (λ (t : PlainView). checkpointed (table_after t command)) (sym (get_or-lasting tables part)))
+after-lasting : (limits : Limits) (tables : List PlainView) (part : ℕ) (command : Command) (r : Result Reply Refusal) → lasting (tables_after (bounds_of limits) tables part command r) ≡ lasting_after (lasting tables) part command r
+after-lasting limits tables part command (Err e) = refl
+after-lasting limits tables part command (Ok reply) =
+    map-set checkpointed tables part (table_after (upkept_table limits (get_or tables part fresh_table)) command)
+    ∙ ap (set (lasting tables) part) (once-upkept limits (get_or tables part fresh_table) command ∙ ap (λ (t : PlainView). checkpointed (table_after t command)) (sym (get_or-lasting tables part)))
 
 -- the partitions after a fold, as folds leave them
 lasting-folded : (tables : List PlainView) (part : ℕ) → lasting (set tables part (checkpointed (get_or tables part fresh_table))) ≡ lasting tables
@@ -69,7 +79,7 @@ refused_with e = Err e
 
 -- what is expected, by what is tested in turn
 abbrev by_tests : Bool → Bool → Bool → ℕ → Reply → Result Reply Refusal
-by_tests is_own is_full is_over limit said = if is_own then reply_unless (if is_full then Some (HistoryFull limit) else (if is_over then Some LifeOver else None)) said else Err KeyOutside
+by_tests is_own is_full is_over limit said = reply_unless (if is_own then option_or (if is_full then Some (HistoryFull limit) else (if is_over then Some LifeOver else None)) None else Some KeyOutside) said
 
 abbrev Comes : Result Reply Refusal → Type 0 → Result Reply Refusal → Type 0
 Comes wanted Lacks r = (r ≡ wanted) ⊎ (IsOk wanted × ((r ≡ Err OutOfMemory) ⊎ ((r ≡ Err NoCell) × Lacks)))
@@ -93,44 +103,44 @@ last-same limits keys t command r comes = rw (accepted-same t) comes
 
 outcome-lasting : (limits : Limits) (keys : Range) (table : Option PlainView) (command : Command) (r : Result Reply Refusal) → (r ≡ Err (HistoryFull limits.history) → ⊥) → IsOutcome (bounds_of limits) keys table command r → IsOutcome (lasting_bounds limits) keys (option_map checkpointed table) command r
 outcome-lasting limits keys None command r other comes = comes
-outcome-lasting limits keys (Some t) command r other comes = last-same limits keys t command r (without-history (is_key_in keys (key_of command)) (nat_le limits.history t.since) (nat_le limits.life (accepted_of t)) limits.history (reply_to t.state command) (MayLackCell limits.cells (Some t) command) r other comes)
+outcome-lasting limits keys (Some t) command r other comes = last-same limits keys t command r (without-history (is_key_in keys (key_of command)) (shuts limits t.since) (nat_le limits.life (accepted_of t)) limits.history (reply_to t.state command) (MayLackCell limits.cells (Some t) command) r other comes)
 
 -- a history that is empty isn't full
-not-full : (history : ℕ) → 1 ≤ history → nat_le history 0 ≡ false
-not-full history some = by_test (nat_le history 0) refl
+not-full : (limits : Limits) → 1 ≤ limits.history → shuts limits 0 ≡ false
+not-full limits some = ap (λ (b : Bool). b && not (is_automatic limits.upkeep)) (by_test (nat_le limits.history 0) refl)
   where
-    by_test : (b : Bool) → nat_le history 0 ≡ b → b ≡ false
+    by_test : (b : Bool) → nat_le limits.history 0 ≡ b → b ≡ false
     by_test false is = refl
-    by_test true is = absurd (omega (arith, some, leb-true history 0 is))
+    by_test true is = absurd (omega (arith, some, leb-true limits.history 0 is))
 
 outcome-folded : (limits : Limits) (keys : Range) (table : Option PlainView) (command : Command) (r : Result Reply Refusal) → 1 ≤ limits.history → IsOutcome (bounds_of limits) keys (option_map checkpointed table) command r → IsOutcome (lasting_bounds limits) keys (option_map checkpointed table) command r
 outcome-folded limits keys None command r some comes = comes
-outcome-folded limits keys (Some t) command r some comes = subst (λ (b : Bool). Comes (by_tests (is_key_in keys (key_of command)) b (nat_le limits.life (accepted_of (checkpointed t))) limits.history (reply_to t.state command)) (MayLackCell limits.cells (Some (checkpointed t)) command) r) (not-full limits.history some) comes
+outcome-folded limits keys (Some t) command r some comes = subst (λ (b : Bool). Comes (by_tests (is_key_in keys (key_of command)) b (nat_le limits.life (accepted_of (checkpointed t))) limits.history (reply_to t.state command)) (MayLackCell limits.cells (Some (checkpointed t)) command) r) (not-full limits some) comes
 
 -- a partition that isn't folded is asked
-pub asked-plain : (limits : Limits) (splits : List Bound) (tables new : List PlainView) (part : ℕ) (command : Command) (r : Result Reply Refusal) → (r ≡ Err (HistoryFull limits.history) → ⊥) → IsOutcomeAt (bounds_of limits) splits tables part command r → new ≡ tables_after tables part command r → Asks limits splits part command r (lasting tables) (lasting new)
+pub asked-plain : (limits : Limits) (splits : List Bound) (tables new : List PlainView) (part : ℕ) (command : Command) (r : Result Reply Refusal) → (r ≡ Err (HistoryFull limits.history) → ⊥) → IsOutcomeAt (bounds_of limits) splits tables part command r → new ≡ tables_after (bounds_of limits) tables part command r → Asks limits splits part command r (lasting tables) (lasting new)
 asked-plain limits splits tables new part command r other outcome left = record {
   comes_out = inl (subst (λ (o : Option PlainView). IsOutcome (lasting_bounds limits) (keys_of_part splits part) o command r) (sym (slice_get-map checkpointed tables part)) (outcome-lasting limits (keys_of_part splits part) (slice_get tables part) command r other outcome));
-  leaves = ap lasting left ∙ after-lasting tables part command r;
+  leaves = ap lasting left ∙ after-lasting limits tables part command r;
 }
 
 -- a partition that was folded is asked
-pub asked-folded : (limits : Limits) (splits : List Bound) (tables between new : List PlainView) (part count : ℕ) (command : Command) (r : Result Reply Refusal) → 1 ≤ limits.history → between ≡ tables_folded tables part (Ok count) → IsOutcomeAt (bounds_of limits) splits between part command r → new ≡ tables_after between part command r → Asks limits splits part command r (lasting tables) (lasting new)
+pub asked-folded : (limits : Limits) (splits : List Bound) (tables between new : List PlainView) (part count : ℕ) (command : Command) (r : Result Reply Refusal) → 1 ≤ limits.history → between ≡ tables_folded tables part (Ok count) → IsOutcomeAt (bounds_of limits) splits between part command r → new ≡ tables_after (bounds_of limits) between part command r → Asks limits splits part command r (lasting tables) (lasting new)
 asked-folded limits splits tables between new part count command r some fold outcome left =
     let there : slice_get between part ≡ option_map checkpointed (slice_get tables part) = ap (λ (ts : List PlainView). slice_get ts part) fold ∙ get-folded tables part in
     let keys = keys_of_part splits part in
     let same : lasting between ≡ lasting tables = ap lasting fold ∙ lasting-folded tables part in record {
       comes_out = inl (subst (λ (o : Option PlainView). IsOutcome (lasting_bounds limits) keys o command r) (sym (slice_get-map checkpointed tables part)) (outcome-folded limits keys (slice_get tables part) command r some (subst (λ (o : Option PlainView). IsOutcome (bounds_of limits) keys o command r) there outcome)));
-      leaves = ap lasting left ∙ after-lasting between part command r ∙ ap (λ (ts : List PlainView). lasting_after ts part command r) same;
+      leaves = ap lasting left ∙ after-lasting limits between part command r ∙ ap (λ (ts : List PlainView). lasting_after ts part command r) same;
     }
 
 -- what no full history refused, and what one did
 pub not-full-is : (r : Result Reply Refusal) (limit : ℕ) → is_full r ≡ false → r ≡ Err (HistoryFull limit) → ⊥
 not-full-is r limit not is = true≢false (sym (ap is_full is) ∙ not)
 
-pub full-leaves : (tables : List PlainView) (part : ℕ) (command : Command) (r : Result Reply Refusal) → is_full r ≡ true → tables_after tables part command r ≡ tables
-full-leaves tables part command (Ok reply) full = absurd (true≢false (sym full))
-full-leaves tables part command (Err e) full = refl
+pub full-leaves : (limits : Limits) (tables : List PlainView) (part : ℕ) (command : Command) (r : Result Reply Refusal) → is_full r ≡ true → tables_after (bounds_of limits) tables part command r ≡ tables
+full-leaves limits tables part command (Ok reply) full = absurd (true≢false (sym full))
+full-leaves limits tables part command (Err e) full = refl
 
 -- the fold of a full history found no memory
 short : (is_own full_now over : Bool) (limit : ℕ) (said : Reply) (Lacks Lacks' : Type 0) (r : Result Reply Refusal) → is_full r ≡ true → Comes (by_tests is_own full_now over limit said) Lacks r → Comes (by_tests is_own false over limit said) Lacks' (refused_with OutOfMemory) ⊎ ((refused_with OutOfMemory ≡ Err OutOfMemory) × (by_tests is_own false over limit said ≡ Err LifeOver))
@@ -146,7 +156,7 @@ abbrev Shortly : Limits → Range → Option PlainView → Command → Result Re
 Shortly limits keys table command r = IsOutcome (lasting_bounds limits) keys table command r ⊎ ((r ≡ Err OutOfMemory) × (expected (lasting_bounds limits) keys table command ≡ Err LifeOver))
 
 short-some : (limits : Limits) (keys : Range) (t : PlainView) (command : Command) (r : Result Reply Refusal) → is_full r ≡ true → IsOutcome (bounds_of limits) keys (Some t) command r → Shortly limits keys (Some (checkpointed t)) command (Err OutOfMemory)
-short-some limits keys t command r full outcome = rw (accepted-same t) (short (is_key_in keys (key_of command)) (nat_le limits.history t.since) (nat_le limits.life (accepted_of t)) limits.history (reply_to t.state command) (MayLackCell limits.cells (Some t) command) (MayLackCell limits.cells (Some t) command) r full outcome)
+short-some limits keys t command r full outcome = rw (accepted-same t) (short (is_key_in keys (key_of command)) (shuts limits t.since) (nat_le limits.life (accepted_of t)) limits.history (reply_to t.state command) (MayLackCell limits.cells (Some t) command) (MayLackCell limits.cells (Some t) command) r full outcome)
 
 outcome-short : (limits : Limits) (keys : Range) (table : Option PlainView) (command : Command) (r : Result Reply Refusal) (e : Refusal) → is_full r ≡ true → IsOutcome (bounds_of limits) keys table command r → IsFoldOutcome table (Err e) → Shortly limits keys (option_map checkpointed table) command (Err e)
 outcome-short limits keys None command r e full outcome fold = elim outcome [

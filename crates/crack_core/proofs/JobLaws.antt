@@ -18,55 +18,55 @@ use Rattle.crack_core.specs.declared.step.Job.TheVariants.{Perform, Fold}
 use Rattle.crack_core.specs.declared.step.Done.{Done}
 use Rattle.crack_core.specs.declared.step.Done.TheVariants.{Folded}
 use Rattle.crack_part.specs.Refusals.{table_of}
-use Rattle.crack_core.specs.Steps.{Bounds, fresh_table, tables_of, pasts_of, accepted_by, IsFoldOutcome, tables_folded}
+use Rattle.crack_core.specs.Steps.{bounds_of, fresh_table, tables_of, pasts_of, accepted_by, IsFoldOutcome, tables_folded}
 use Rattle.crack_core.specs.Jobs.{part_of, folding, past_after, past_at, KeepsJobs, IsJobOutcome, AreExpectedOutcomes, FoldsAt, Does, DoesAll}
 use Rattle.crack_core.proofs.StepLaws.{tables-pasts, get-last, get-front, get-set_same, get-set_other}
 
 -- one job more
-past_at-push : (part : ℕ) (jobs : List Job) (results : List (Result Done Refusal)) (job : Job) (result : Result Done Refusal) (past : Past) → length results ≡ length jobs → past_at part (jobs ++ job ∷ []) (results ++ result ∷ []) past ≡ past_after part job result (past_at part jobs results past)
-past_at-push part [] [] job result past same = refl
-past_at-push part [] (r ∷ results) job result past same = absurd (omega (arith, same))
-past_at-push part (j ∷ jobs) [] job result past same = absurd (omega (arith, same))
-past_at-push part (j ∷ jobs) (r ∷ results) job result past same = past_at-push part jobs results job result (past_after part j r past) (omega (arith, same))
+past_at-push : (limits : Limits) (part : ℕ) (jobs : List Job) (results : List (Result Done Refusal)) (job : Job) (result : Result Done Refusal) (past : Past) → length results ≡ length jobs → past_at limits part (jobs ++ job ∷ []) (results ++ result ∷ []) past ≡ past_after limits part job result (past_at limits part jobs results past)
+past_at-push limits part [] [] job result past same = refl
+past_at-push limits part [] (r ∷ results) job result past same = absurd (omega (arith, same))
+past_at-push limits part (j ∷ jobs) [] job result past same = absurd (omega (arith, same))
+past_at-push limits part (j ∷ jobs) (r ∷ results) job result past same = past_at-push limits part jobs results job result (past_after limits part j r past) (omega (arith, same))
 
-pub KeepsJobs-push : (old now new : List Past) (jobs : List Job) (results : List (Result Done Refusal)) (job : Job) (result : Result Done Refusal) → length results ≡ length jobs → KeepsJobs old jobs results now → KeepsJobs now (job ∷ []) (result ∷ []) new → KeepsJobs old (jobs ++ job ∷ []) (results ++ result ∷ []) new
-KeepsJobs-push old now new jobs results job result same before last = λ part.
-    last part ∙ ap (option_map (past_at part (job ∷ []) (result ∷ []))) (before part) ∙ joined part (slice_get old part)
+pub KeepsJobs-push : (limits : Limits) (old now new : List Past) (jobs : List Job) (results : List (Result Done Refusal)) (job : Job) (result : Result Done Refusal) → length results ≡ length jobs → KeepsJobs limits old jobs results now → KeepsJobs limits now (job ∷ []) (result ∷ []) new → KeepsJobs limits old (jobs ++ job ∷ []) (results ++ result ∷ []) new
+KeepsJobs-push limits old now new jobs results job result same before last = λ part.
+    last part ∙ ap (option_map (past_at limits part (job ∷ []) (result ∷ []))) (before part) ∙ joined part (slice_get old part)
   where
-    joined : (part : ℕ) (o : Option Past) → option_map (past_at part (job ∷ []) (result ∷ [])) (option_map (past_at part jobs results) o) ≡ option_map (past_at part (jobs ++ job ∷ []) (results ++ result ∷ [])) o
+    joined : (part : ℕ) (o : Option Past) → option_map (past_at limits part (job ∷ []) (result ∷ [])) (option_map (past_at limits part jobs results) o) ≡ option_map (past_at limits part (jobs ++ job ∷ []) (results ++ result ∷ [])) o
     joined part None = refl
-    joined part (Some past) = ap Some (sym (past_at-push part jobs results job result past same))
+    joined part (Some past) = ap Some (sym (past_at-push limits part jobs results job result past same))
 
 -- no job
 option-same : (o : Option Past) → o ≡ option_map (λ (past : Past). past) o
 option-same None = refl
 option-same (Some past) = refl
 
-pub KeepsJobs-nil : (pasts : List Past) → KeepsJobs pasts [] [] pasts
-KeepsJobs-nil pasts = λ part. option-same (slice_get pasts part)
+pub KeepsJobs-nil : (limits : Limits) (pasts : List Past) → KeepsJobs limits pasts [] [] pasts
+KeepsJobs-nil limits pasts = λ part. option-same (slice_get pasts part)
 
 -- a job that was refused
-refused-past : (part : ℕ) (job : Job) (e : Refusal) (past : Past) → past_after part job (Err e) past ≡ past
-refused-past part (Perform step) e past = refl
-refused-past part (Fold number) e past = refl
+refused-past : (limits : Limits) (part : ℕ) (job : Job) (e : Refusal) (past : Past) → past_after limits part job (Err e) past ≡ past
+refused-past limits part (Perform step) e past = refl
+refused-past limits part (Fold number) e past = refl
 
-pub KeepsJobs-refused : (pasts : List Past) (job : Job) (e : Refusal) → KeepsJobs pasts (job ∷ []) (Err e ∷ []) pasts
-KeepsJobs-refused pasts job e = λ part. by_past part (slice_get pasts part)
+pub KeepsJobs-refused : (limits : Limits) (pasts : List Past) (job : Job) (e : Refusal) → KeepsJobs limits pasts (job ∷ []) (Err e ∷ []) pasts
+KeepsJobs-refused limits pasts job e = λ part. by_past part (slice_get pasts part)
   where
-    by_past : (part : ℕ) (o : Option Past) → o ≡ option_map (past_at part (job ∷ []) (Err e ∷ [])) o
+    by_past : (part : ℕ) (o : Option Past) → o ≡ option_map (past_at limits part (job ∷ []) (Err e ∷ [])) o
     by_past part None = refl
-    by_past part (Some past) = ap Some (sym (refused-past part job e past))
+    by_past part (Some past) = ap Some (sym (refused-past limits part job e past))
 
 -- a checkpoint: its partition is folded
-pub KeepsJobs-fold : (old new : List Part) (number count : ℕ) → FoldsAt number old new → KeepsJobs (pasts_of old) (Fold number ∷ []) (Ok (Folded count) ∷ []) (pasts_of new)
-KeepsJobs-fold old new number count folds = λ part.
-    slice_get-map (λ (p : Part). p.past) new part ∙ ap (option_map (λ (p : Part). p.past)) (folds part) ∙ by_part part (slice_get old part) ∙ ap (option_map (past_at part (Fold number ∷ []) (Ok (Folded count) ∷ []))) (sym (slice_get-map (λ (p : Part). p.past) old part))
+pub KeepsJobs-fold : (limits : Limits) (old new : List Part) (number count : ℕ) → FoldsAt number old new → KeepsJobs limits (pasts_of old) (Fold number ∷ []) (Ok (Folded count) ∷ []) (pasts_of new)
+KeepsJobs-fold limits old new number count folds = λ part.
+    slice_get-map (λ (p : Part). p.past) new part ∙ ap (option_map (λ (p : Part). p.past)) (folds part) ∙ by_part part (slice_get old part) ∙ ap (option_map (past_at limits part (Fold number ∷ []) (Ok (Folded count) ∷ []))) (sym (slice_get-map (λ (p : Part). p.past) old part))
   where
     by_test : (b : Bool) (p : Part) → (cond b (folded_part p) p).past ≡ cond b (folded p.past) p.past
     by_test true p = refl
     by_test false p = refl
 
-    by_part : (part : ℕ) (o : Option Part) → option_map (λ (p : Part). p.past) (option_map (λ (p : Part). if number == part then folded_part p else p) o) ≡ option_map (past_at part (Fold number ∷ []) (Ok (Folded count) ∷ [])) (option_map (λ (p : Part). p.past) o)
+    by_part : (part : ℕ) (o : Option Part) → option_map (λ (p : Part). p.past) (option_map (λ (p : Part). if number == part then folded_part p else p) o) ≡ option_map (past_at limits part (Fold number ∷ []) (Ok (Folded count) ∷ [])) (option_map (λ (p : Part). p.past) o)
     by_part part None = refl
     by_part part (Some p) = ap Some (by_test (number == part) p)
 
@@ -124,9 +124,9 @@ pub folds-fold : (parts : List Part) (i : ℕ) (q d : Part) (r : Result ℕ Refu
 folds-fold parts i q d (Ok count) within is = FoldsAt-set parts i q d within is.0
 folds-fold parts i q d (Err e) within is = tt
 
-pub kept-fold : (parts : List Part) (i : ℕ) (q d : Part) (r : Result ℕ Refusal) → i < length parts → Refolds parts i q d r → KeepsJobs (pasts_of parts) (Fold i ∷ []) (folding r ∷ []) (pasts_of (set parts i q))
-kept-fold parts i q d (Ok count) within is = KeepsJobs-fold parts (set parts i q) i count (FoldsAt-set parts i q d within is.0)
-kept-fold parts i q d (Err e) within is = subst (λ (ps : List Part). KeepsJobs (pasts_of parts) (Fold i ∷ []) (Err e ∷ []) (pasts_of ps)) (sym (ap (set parts i) is.1 ∙ set-get_or parts i d)) (KeepsJobs-refused (pasts_of parts) (Fold i) e)
+pub kept-fold : (limits : Limits) (parts : List Part) (i : ℕ) (q d : Part) (r : Result ℕ Refusal) → i < length parts → Refolds parts i q d r → KeepsJobs limits (pasts_of parts) (Fold i ∷ []) (folding r ∷ []) (pasts_of (set parts i q))
+kept-fold limits parts i q d (Ok count) within is = KeepsJobs-fold limits parts (set parts i q) i count (FoldsAt-set parts i q d within is.0)
+kept-fold limits parts i q d (Err e) within is = subst (λ (ps : List Part). KeepsJobs limits (pasts_of parts) (Fold i ∷ []) (Err e ∷ []) (pasts_of ps)) (sym (ap (set parts i) is.1 ∙ set-get_or parts i d)) (KeepsJobs-refused limits (pasts_of parts) (Fold i) e)
 
 pub accepted-fold : (parts : List Part) (i : ℕ) (q d : Part) (r : Result ℕ Refusal) → i < length parts → Refolds parts i q d r → accepted_by (set parts i q) ≡ accepted_by parts
 accepted-fold parts i q d (Ok count) within is = accepted-folded parts i q d within is.0
@@ -141,20 +141,20 @@ opened-fold parts i q d (Ok count) is = (ap (λ (p : Part). p.keys) is.0, ap (λ
 opened-fold parts i q d (Err e) is = (ap (λ (p : Part). p.keys) is.1, ap (λ (p : Part). p.limits) is.1)
 
 -- the plain rows of the partitions after jobs, by what they lived through before
-pub tables-kept : (old now : List Part) (part : ℕ) (jobs : List Job) (results : List (Result Done Refusal)) → KeepsJobs (pasts_of old) jobs results (pasts_of now) → slice_get (tables_of now) part ≡ option_map (λ (past : Past). table_of (past_at part jobs results past)) (slice_get (pasts_of old) part)
-tables-kept old now part jobs results kept = tables-pasts now part ∙ ap (option_map table_of) (kept part) ∙ by_past (slice_get (pasts_of old) part)
+pub tables-kept : (limits : Limits) (old now : List Part) (part : ℕ) (jobs : List Job) (results : List (Result Done Refusal)) → KeepsJobs limits (pasts_of old) jobs results (pasts_of now) → slice_get (tables_of now) part ≡ option_map (λ (past : Past). table_of (past_at limits part jobs results past)) (slice_get (pasts_of old) part)
+tables-kept limits old now part jobs results kept = tables-pasts now part ∙ ap (option_map table_of) (kept part) ∙ by_past (slice_get (pasts_of old) part)
   where
-    by_past : (o : Option Past) → option_map table_of (option_map (past_at part jobs results) o) ≡ option_map (λ (past : Past). table_of (past_at part jobs results past)) o
+    by_past : (o : Option Past) → option_map table_of (option_map (past_at limits part jobs results) o) ≡ option_map (λ (past : Past). table_of (past_at limits part jobs results past)) o
     by_past None = refl
     by_past (Some past) = refl
 
 -- no job
-pub AreExpectedOutcomes-nil : (bounds : Bounds) (splits : List Bound) (pasts : List Past) → AreExpectedOutcomes bounds splits pasts [] []
-AreExpectedOutcomes-nil bounds splits pasts = record { each = refl; outcomes = λ k j r at. absurd (omega (arith, slice_get_within {A = Job} [] k j at)) }
+pub AreExpectedOutcomes-nil : (limits : Limits) (splits : List Bound) (pasts : List Past) → AreExpectedOutcomes limits splits pasts [] []
+AreExpectedOutcomes-nil limits splits pasts = record { each = refl; outcomes = λ k j r at. absurd (omega (arith, slice_get_within {A = Job} [] k j at)) }
 
 -- one job more
-pub AreExpectedOutcomes-push : (bounds : Bounds) (splits : List Bound) (pasts : List Past) (jobs : List Job) (results : List (Result Done Refusal)) (j : Job) (r : Result Done Refusal) → AreExpectedOutcomes bounds splits pasts jobs results → IsJobOutcome bounds splits (option_map (λ (past : Past). table_of (past_at (part_of j) jobs results past)) (slice_get pasts (part_of j))) j r → AreExpectedOutcomes bounds splits pasts (jobs ++ j ∷ []) (results ++ r ∷ [])
-AreExpectedOutcomes-push bounds splits pasts jobs results j r before now = record {
+pub AreExpectedOutcomes-push : (limits : Limits) (splits : List Bound) (pasts : List Past) (jobs : List Job) (results : List (Result Done Refusal)) (j : Job) (r : Result Done Refusal) → AreExpectedOutcomes limits splits pasts jobs results → IsJobOutcome (bounds_of limits) splits (option_map (λ (past : Past). table_of (past_at limits (part_of j) jobs results past)) (slice_get pasts (part_of j))) j r → AreExpectedOutcomes limits splits pasts (jobs ++ j ∷ []) (results ++ r ∷ [])
+AreExpectedOutcomes-push limits splits pasts jobs results j r before now = record {
   each = omega (arith, before.each, length-append jobs (j ∷ []), length-append results (r ∷ []));
   outcomes = λ k j' r' at_job at_result. ⊎_elim
       (λ (front : k < length jobs).

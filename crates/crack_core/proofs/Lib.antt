@@ -3,3 +3,4 @@ pub mod JobLaws
 pub mod RouteLaws
 pub mod ShortLaws
 pub mod StepLaws
+pub mod UpkeepLaws

@@ -1,25 +1,23 @@
 -- What follows of a step, of the entry that it leaves, and of partitions of which one is replaced.
-use Rattle.std.specs.Prelude.{◌≡◌, ◌≢◌, ℕ, ◌+◌, ◌<◌, ◌≤◌, Bool, true, false, cond, List, [], ◌∷◌, ◌++◌, length, take, drop, Option, None, Some, Result, Ok, Err, is_ok, slice_get, IfSome, IfOk, IfErr, OnOk, OnErr, IsOk, ◌⊎◌, nat_le, nat_lt, if◌then◌else◌}
+use Rattle.std.specs.Prelude.{◌≡◌, ◌≢◌, ℕ, ◌+◌, ◌<◌, ◌≤◌, Bool, true, false, cond, List, [], ◌∷◌, ◌++◌, length, take, drop, Option, None, Some, Result, Ok, Err, is_ok, slice_get, IfSome, IfOk, IfErr, OnOk, OnErr, IsOk, ◌⊎◌, if◌then◌else◌}
 use Rattle.std.specs.Option.{option_map, option_or}
 use Rattle.std.proofs.Common.{zero, suc, get_or, set, arith, ap, refl, sym, subst, ◌∙◌, ⊎_elim, inl, inr, length-append, length-set}
-use Rattle.std.proofs.lemmas.Bool.{true≢false, both_ways, and_parts, and_from, leb-true, leb-false, le-leb, ltb-true, lt-ltb, eq-eqb, ne_eqb, cases_eq, cases_lt}
+use Rattle.std.proofs.lemmas.Bool.{eq-eqb, ne_eqb, cases_eq}
 use Rattle.std.proofs.lemmas.Option.{slice_get-map, slice_get-get_or, slice_get_past, slice_get_within}
 use Rattle.std.proofs.lemmas.List.{map-set, get_or-map, get_or-set_same, get_or-set_other, length-map, take-append-le, take_all}
 use Rattle.std.proofs.lemmas.List.Elements.{All-set}
 use Rattle.std.proofs.lemmas.List.Sums.{sum_by-set}
 use Rattle.std.proofs.Math.Seq.{map-set_same}
 use Rattle.crack_row.specs.Commands.{change_of, key_of}
-use Rattle.crack_row.specs.Ranges.{Range, IsIn, is_in}
 use Rattle.crack_row.specs.declared.Bound.{Bound}
-use Rattle.crack_row.specs.declared.Key.{Key}
 use Rattle.crack_row.specs.declared.command.Command.{Command}
 use Rattle.crack_row.specs.declared.command.Entry.{Entry}
 use Rattle.crack_row.specs.declared.command.Reply.{Reply}
 use Rattle.crack_row.specs.declared.refusal.Refusal.{Refusal}
-use Rattle.crack_row.specs.declared.refusal.Refusal.TheVariants.{KeyOutside, NoSuchPartition, HistoryFull, OutOfMemory, NoCell, LifeOver}
+use Rattle.crack_row.specs.declared.refusal.Refusal.TheVariants.{KeyOutside, NoSuchPartition, OutOfMemory, NoCell}
 use Rattle.crack_row.specs.declared.limit.Limits.{Limits}
 use Rattle.crack_plain.specs.Past.{Past, with_entry, state_after, accepted_in}
-use Rattle.crack_plain.specs.Plain.{PlainView, IsWithin, IsSmall, reply_to}
+use Rattle.crack_plain.specs.Plain.{PlainView, IsSmall, reply_to}
 use Rattle.crack_plain.proofs.PastLaws.{state_after-push, accepted_in-push}
 use Rattle.crack_part.specs.Parts.{Part, IsSound}
 use Rattle.crack_core.specs.declared.step.Step.{Step}
@@ -28,7 +26,9 @@ use Rattle.crack_core.specs.declared.step.Done.TheVariants.{Replied}
 use Rattle.crack_core.specs.Routes.{keys_of_part}
 use Rattle.crack_core.specs.Opening.{AreParts}
 use Rattle.crack_part.specs.Refusals.{is_key_in, table_of, stopped_by, lacks_cell, refusal_of}
+use Rattle.crack_part.specs.Upkeep.{upkept, upkept_table}
 use Rattle.crack_part.proofs.RefusalLaws.{if_refused}
+use Rattle.crack_part.proofs.UpkeepLaws.{table_of-upkept, accepted_in-upkept}
 use Rattle.crack_core.specs.Steps.{Bounds, bounds_of, reply_unless, MayLackCell, IsOutcome, IsOutcomeAt, fresh_table, table_after, tables_after, tables_of, pasts_of, accepted_by}
 use Rattle.crack_core.specs.Jobs.{performed, past_after, past_at, KeepsJobs}
 
@@ -99,17 +99,17 @@ tables-pasts parts part =
     both (Some p) = refl
 
 -- a partition's past after a step: an answered one adds its entry at its own partition alone
-past-own : (s : Step) (reply : Reply) (past : Past) → past_after s.part (Perform s) (Ok (Replied reply)) past ≡ with_entry past (record { worker = s.worker; command = s.command; reply = reply })
-past-own s reply past = ap (λ (b : Bool). cond b (with_entry past (record { worker = s.worker; command = s.command; reply = reply })) past) (eq-eqb s.part s.part refl)
+past-own : (limits : Limits) (s : Step) (reply : Reply) (past : Past) → past_after limits s.part (Perform s) (Ok (Replied reply)) past ≡ with_entry (upkept limits past) (record { worker = s.worker; command = s.command; reply = reply })
+past-own limits s reply past = ap (λ (b : Bool). cond b (with_entry (upkept limits past) (record { worker = s.worker; command = s.command; reply = reply })) past) (eq-eqb s.part s.part refl)
 
-past-other : (part : ℕ) (s : Step) (r : Result Reply Refusal) (past : Past) → s.part ≢ part → past_after part (Perform s) (performed r) past ≡ past
-past-other part s (Ok reply) past differs = ap (λ (b : Bool). cond b (with_entry past (record { worker = s.worker; command = s.command; reply = reply })) past) (ne_eqb s.part part differs)
-past-other part s (Err e) past differs = refl
+past-other : (limits : Limits) (part : ℕ) (s : Step) (r : Result Reply Refusal) (past : Past) → s.part ≢ part → past_after limits part (Perform s) (performed r) past ≡ past
+past-other limits part s (Ok reply) past differs = ap (λ (b : Bool). cond b (with_entry (upkept limits past) (record { worker = s.worker; command = s.command; reply = reply })) past) (ne_eqb s.part part differs)
+past-other limits part s (Err e) past differs = refl
 
 -- the past has the entry of a step that was answered
-pub kept-given : (past new : Past) (s : Step) (a : Result (Reply × Reply) Refusal) (r : Result Reply Refusal) → Gives a r → IfOk a (λ (replies : Reply × Reply). new ≡ with_entry past (record { worker = s.worker; command = s.command; reply = replies.0 })) → OnErr a (new ≡ past) → new ≡ past_after s.part (Perform s) (performed r) past
-kept-given past new s (Ok replies) r gives kept same = rw gives.ok (kept ∙ sym (past-own s replies.0 past))
-kept-given past new s (Err e) r gives kept same = rw gives.err same
+pub kept-given : (limits : Limits) (past new : Past) (s : Step) (a : Result (Reply × Reply) Refusal) (r : Result Reply Refusal) → Gives a r → IfOk a (λ (replies : Reply × Reply). new ≡ with_entry (upkept limits past) (record { worker = s.worker; command = s.command; reply = replies.0 })) → OnErr a (new ≡ past) → new ≡ past_after limits s.part (Perform s) (performed r) past
+kept-given limits past new s (Ok replies) r gives kept same = rw gives.ok (kept ∙ sym (past-own limits s replies.0 past))
+kept-given limits past new s (Err e) r gives kept same = rw gives.err same
 
 -- the last of a list
 pub get-last : {X : Type 0} (xs : List X) (x : X) → slice_get (xs ++ x ∷ []) (length xs) ≡ Some x
@@ -135,9 +135,9 @@ get-set_other (x ∷ xs) (suc i) zero y differs = refl
 get-set_other (x ∷ xs) (suc i) (suc k) y differs = get-set_other xs i k y (λ e. differs (ap suc e))
 
 -- the partition of a step is replaced by one that keeps its entry
-pub Keeps-set : (parts : List Part) (q d : Part) (s : Step) (r : Result Reply Refusal) → s.part < length parts → q.past ≡ past_after s.part (Perform s) (performed r) (get_or parts s.part d).past → KeepsJobs (pasts_of parts) (Perform s ∷ []) (performed r ∷ []) (pasts_of (set parts s.part q))
-Keeps-set parts q d s r within kept = λ k. ⊎_elim
-    (λ (same : k ≡ s.part). subst (λ (n : ℕ). slice_get (pasts_of (set parts s.part q)) n ≡ option_map (past_at n (Perform s ∷ []) (performed r ∷ [])) (slice_get (pasts_of parts) n)) (sym same) own)
+pub Keeps-set : (limits : Limits) (parts : List Part) (q d : Part) (s : Step) (r : Result Reply Refusal) → s.part < length parts → q.past ≡ past_after limits s.part (Perform s) (performed r) (get_or parts s.part d).past → KeepsJobs limits (pasts_of parts) (Perform s ∷ []) (performed r ∷ []) (pasts_of (set parts s.part q))
+Keeps-set limits parts q d s r within kept = λ k. ⊎_elim
+    (λ (same : k ≡ s.part). subst (λ (n : ℕ). slice_get (pasts_of (set parts s.part q)) n ≡ option_map (past_at limits n (Perform s ∷ []) (performed r ∷ [])) (slice_get (pasts_of parts) n)) (sym same) own)
     (λ (other : k ≢ s.part).
     slice_get-map (λ (p : Part). p.past) (set parts s.part q) k
     ∙ ap (option_map (λ (p : Part). p.past)) (get-set_other parts s.part k q other)
@@ -145,37 +145,39 @@ Keeps-set parts q d s r within kept = λ k. ⊎_elim
     ∙ same_past k (slice_get (pasts_of parts) k) (λ e. other (sym e)))
     (cases_eq k s.part)
   where
-    same_past : (k : ℕ) (o : Option Past) → s.part ≢ k → o ≡ option_map (past_at k (Perform s ∷ []) (performed r ∷ [])) o
+    same_past : (k : ℕ) (o : Option Past) → s.part ≢ k → o ≡ option_map (past_at limits k (Perform s ∷ []) (performed r ∷ [])) o
     same_past k None differs = refl
-    same_past k (Some past) differs = ap Some (sym (past-other k s r past differs))
+    same_past k (Some past) differs = ap Some (sym (past-other limits k s r past differs))
 
-    own : slice_get (pasts_of (set parts s.part q)) s.part ≡ option_map (past_at s.part (Perform s ∷ []) (performed r ∷ [])) (slice_get (pasts_of parts) s.part)
+    own : slice_get (pasts_of (set parts s.part q)) s.part ≡ option_map (past_at limits s.part (Perform s ∷ []) (performed r ∷ [])) (slice_get (pasts_of parts) s.part)
     own =
         slice_get-map (λ (p : Part). p.past) (set parts s.part q) s.part
         ∙ ap (option_map (λ (p : Part). p.past)) (get-set_same parts s.part q within)
         ∙ ap Some kept
-        ∙ ap (λ (o : Option Part). option_map (past_at s.part (Perform s ∷ []) (performed r ∷ [])) (option_map (λ (p : Part). p.past) o)) (sym (slice_get-get_or parts s.part d within))
-        ∙ ap (option_map (past_at s.part (Perform s ∷ []) (performed r ∷ []))) (sym (slice_get-map (λ (p : Part). p.past) parts s.part))
+        ∙ ap (λ (o : Option Part). option_map (past_at limits s.part (Perform s ∷ []) (performed r ∷ [])) (option_map (λ (p : Part). p.past) o)) (sym (slice_get-get_or parts s.part d within))
+        ∙ ap (option_map (past_at limits s.part (Perform s ∷ []) (performed r ∷ []))) (sym (slice_get-map (λ (p : Part). p.past) parts s.part))
 
-pub tables-set : (parts : List Part) (q d : Part) (s : Step) (r : Result Reply Refusal) → s.part < length parts → q.past ≡ past_after s.part (Perform s) (performed r) (get_or parts s.part d).past → tables_of (set parts s.part q) ≡ tables_after (tables_of parts) s.part s.command r
-tables-set parts q d s (Ok reply) within kept =
+pub tables-set : (limits : Limits) (parts : List Part) (q d : Part) (s : Step) (r : Result Reply Refusal) → s.part < length parts → q.past ≡ past_after limits s.part (Perform s) (performed r) (get_or parts s.part d).past → tables_of (set parts s.part q) ≡ tables_after (bounds_of limits) (tables_of parts) s.part s.command r
+tables-set limits parts q d s (Ok reply) within kept =
     let table = λ (p : Part). table_of p.past in
     let entry : Entry = record { worker = s.worker; command = s.command; reply = reply } in
     let old = get_or parts s.part d in
-    let grown = kept ∙ past-own s reply old.past in
-    map-set table parts s.part q ∙ ap (set (tables_of parts) s.part) (ap table_of grown ∙ table_of-push old.past entry ∙ ap (λ (t : PlainView). table_after t s.command) (sym (get_or-map table parts s.part d fresh_table within)))
-tables-set parts q d s (Err e) within kept =
+    let grown = kept ∙ past-own limits s reply old.past in
+    let there = table_of-upkept limits old.past ∙ ap (upkept_table limits) (sym (get_or-map table parts s.part d fresh_table within)) in
+    map-set table parts s.part q ∙ ap (set (tables_of parts) s.part) (ap table_of grown ∙ table_of-push (upkept limits old.past) entry ∙ ap (λ (t : PlainView). table_after t s.command) there)
+tables-set limits parts q d s (Err e) within kept =
     map-set_same (λ (p : Part). table_of p.past) parts s.part q d (ap table_of kept)
 
-pub accepted-set : (parts : List Part) (q d : Part) (s : Step) (r : Result Reply Refusal) → s.part < length parts → q.past ≡ past_after s.part (Perform s) (performed r) (get_or parts s.part d).past → accepted_by (set parts s.part q) ≡ (if is_ok r then accepted_by parts + 1 else accepted_by parts)
-accepted-set parts q d s (Ok reply) within kept =
+pub accepted-set : (limits : Limits) (parts : List Part) (q d : Part) (s : Step) (r : Result Reply Refusal) → s.part < length parts → q.past ≡ past_after limits s.part (Perform s) (performed r) (get_or parts s.part d).past → accepted_by (set parts s.part q) ≡ (if is_ok r then accepted_by parts + 1 else accepted_by parts)
+accepted-set limits parts q d s (Ok reply) within kept =
     let old = get_or parts s.part d in
     let entry : Entry = record { worker = s.worker; command = s.command; reply = reply } in
     let sum = sum_by-set (λ (p : Part). accepted_in p.past) parts s.part q d within in
-    let grown = ap accepted_in (kept ∙ past-own s reply old.past) in
-    let long = accepted_in-push old.past entry in
-    omega (arith, sum, grown, long)
-accepted-set parts q d s (Err e) within kept =
+    let grown = ap accepted_in (kept ∙ past-own limits s reply old.past) in
+    let long = accepted_in-push (upkept limits old.past) entry in
+    let same = accepted_in-upkept limits old.past in
+    omega (arith, sum, grown, long, same)
+accepted-set limits parts q d s (Err e) within kept =
     let old = get_or parts s.part d in
     let sum = sum_by-set (λ (p : Part). accepted_in p.past) parts s.part q d within in
     let same = ap accepted_in kept in

@@ -11,7 +11,7 @@ use Rattle.crack_row.specs.declared.limit.Limits.{Limits}
 use Rattle.crack_row.specs.declared.command.Command.{Command}
 use Rattle.crack_row.specs.declared.command.Command.TheVariants.{Insert, Delete, Update, Count, Sum, Select}
 use Rattle.crack_row.specs.declared.command.Reply.{Reply}
-use Rattle.crack_row.specs.declared.command.Reply.TheVariants.{Placed, Gone, Changed, NoRow, Counted, Summed, Rows}
+use Rattle.crack_row.specs.declared.command.Reply.TheVariants.{Placed, Gone, Changed, NoRow, Counted, Summed}
 use Rattle.crack_row.specs.declared.refusal.Refusal.{Refusal}
 use Rattle.crack_row.specs.declared.refusal.Refusal.TheVariants.{HistoryFull, OutOfMemory, LifeOver}
 use Rattle.crack_plain.specs.Plain.{PlainView, accepted_of, checkpointed}
@@ -22,7 +22,7 @@ use Rattle.crack_core.specs.declared.asking.Query.TheVariants.{CountRows, SumPay
 
 -- what bounds partitions whose full histories are folded: no history, but their lives, and the cells of their rows
 abbrev pub lasting_bounds : Limits → Bounds
-lasting_bounds limits = record { stop = λ table. if nat_le limits.life (accepted_of table) then Some LifeOver else None; cells = limits.cells }
+lasting_bounds limits = record { stop = λ table. if nat_le limits.life (accepted_of table) then Some LifeOver else None; cells = limits.cells; due = λ table. false }
 
 -- the partitions as folds leave them: their plain rows, and how many commands each accepted; so no fold shows here
 abbrev pub lasting : List PlainView → List PlainView

@@ -13,7 +13,8 @@ use Rattle.crack_part.specs.Parts.{Part, Serves, Spares, folded_part}
 use Rattle.crack_core.specs.Routes.{keys_of_part}
 use Rattle.crack_core.specs.Opening.{AreParts}
 use Rattle.crack_part.specs.Refusals.{table_of}
-use Rattle.crack_core.specs.Steps.{Bounds, IsOutcome, IsFoldOutcome, pasts_of}
+use Rattle.crack_part.specs.Upkeep.{upkept}
+use Rattle.crack_core.specs.Steps.{Bounds, bounds_of, IsOutcome, IsFoldOutcome, pasts_of}
 use Rattle.crack_core.specs.declared.step.Step.{Step}
 use Rattle.crack_core.specs.declared.step.Job.{Job}
 use Rattle.crack_core.specs.declared.step.Job.TheVariants.{Perform, Fold}
@@ -35,21 +36,21 @@ abbrev pub folding : Result ℕ Refusal → Result Done Refusal
 folding (Ok count) = Ok (Folded count)
 folding (Err e) = Err e
 
--- what one partition lived through, after a job: a step of its own that was answered is one entry more, and a checkpoint of its own folds
--- its tail into its base
-abbrev pub past_after : ℕ → Job → Result Done Refusal → Past → Past
-past_after part (Perform step) (Ok (Replied reply)) past = if step.part == part then with_entry past (record { worker = step.worker; command = step.command; reply = reply }) else past
-past_after part (Fold number) (Ok (Folded count)) past = if number == part then folded past else past
-past_after part job result past = past
+-- what one partition of these limits lived through, after a job: a step of its own that was answered is one entry more, once upkeep is done,
+-- and a checkpoint of its own folds its tail into its base
+abbrev pub past_after : Limits → ℕ → Job → Result Done Refusal → Past → Past
+past_after limits part (Perform step) (Ok (Replied reply)) past = if step.part == part then with_entry (upkept limits past) (record { worker = step.worker; command = step.command; reply = reply }) else past
+past_after limits part (Fold number) (Ok (Folded count)) past = if number == part then folded past else past
+past_after limits part job result past = past
 
 -- the same after these jobs, one after the other
-abbrev pub past_at : ℕ → List Job → List (Result Done Refusal) → Past → Past
-past_at part (job ∷ jobs) (result ∷ results) past = past_at part jobs results (past_after part job result past)
-past_at part _ _ past = past
+abbrev pub past_at : Limits → ℕ → List Job → List (Result Done Refusal) → Past → Past
+past_at limits part (job ∷ jobs) (result ∷ results) past = past_at limits part jobs results (past_after limits part job result past)
+past_at limits part _ _ past = past
 
--- each partition lived through what it had, and then through its own jobs
-abbrev pub KeepsJobs : List Past → List Job → List (Result Done Refusal) → List Past → Type 0
-KeepsJobs old jobs results new = (part : ℕ) → slice_get new part ≡ option_map (past_at part jobs results) (slice_get old part)
+-- each partition of these limits lived through what it had, and then through its own jobs
+abbrev pub KeepsJobs : Limits → List Past → List Job → List (Result Done Refusal) → List Past → Type 0
+KeepsJobs limits old jobs results new = (part : ℕ) → slice_get new part ≡ option_map (past_at limits part jobs results) (slice_get old part)
 
 -- what holds of the partition of this number, if there is one, and of the one that takes its place
 abbrev pub AtPart : ℕ → (Part → Part → Type 0) → List Part → List Part → Type 0
@@ -59,7 +60,7 @@ AtPart part Holds old new = (p q : Part) → slice_get old part ≡ Some p → s
 -- step's policy, the others are as they were, and so are all after any refusal but 8
 pub record Makes (splits : List Bound) (limits : Limits) (step : Step) (result : Result Reply Refusal) (old new : List Part) : Type 0 where
   pub parts : AreParts splits limits new
-  pub kept : KeepsJobs (pasts_of old) (Perform step ∷ []) (performed result ∷ []) (pasts_of new)
+  pub kept : KeepsJobs limits (pasts_of old) (Perform step ∷ []) (performed result ∷ []) (pasts_of new)
   pub others : (k : ℕ) → k ≢ step.part → slice_get new k ≡ slice_get old k
   pub store : OnOk result (AtPart step.part (λ p q. Serves step.policy p.keys p.next step.command p.store q.store) old new)
   pub spared : OnErr result (AtPart step.part (λ p q. Spares step.policy p.keys (range_of step.command) p.store q.store) old new)
@@ -73,10 +74,10 @@ IsJobOutcome bounds splits table (Fold part) result = (outcome : Result ℕ Refu
 
 -- the expected replies over jobs: each comes out as its partition is to answer from what it lived through before the first job and its own
 -- jobs done before; neither workers nor policies nor other partitions' jobs matter
-pub record AreExpectedOutcomes (bounds : Bounds) (splits : List Bound) (pasts : List Past) (jobs : List Job) (results : List (Result Done Refusal)) : Type 0 where
+pub record AreExpectedOutcomes (limits : Limits) (splits : List Bound) (pasts : List Past) (jobs : List Job) (results : List (Result Done Refusal)) : Type 0 where
   pub each : length results ≡ length jobs
   pub outcomes : (k : ℕ) (job : Job) (result : Result Done Refusal) → slice_get jobs k ≡ Some job → slice_get results k ≡ Some result →
-      IsJobOutcome bounds splits (option_map (λ (past : Past). table_of (past_at (part_of job) (take k jobs) (take k results) past)) (slice_get pasts (part_of job))) job result
+      IsJobOutcome (bounds_of limits) splits (option_map (λ (past : Past). table_of (past_at limits (part_of job) (take k jobs) (take k results) past)) (slice_get pasts (part_of job))) job result
 
 -- the partition of this number is folded, and the others are as they were
 abbrev pub FoldsAt : ℕ → List Part → List Part → Type 0

@@ -5,3 +5,4 @@ pub mod Opening
 pub mod Receipts
 pub mod Routes
 pub mod Steps
+pub mod Upkeep

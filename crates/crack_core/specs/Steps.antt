@@ -1,5 +1,5 @@
 -- What a step and a checkpoint are to be answered, and what they leave of the plain rows.
-use Rattle.std.specs.Prelude.{◌≡◌, ◌⊎◌, ℕ, ◌+◌, ◌≤◌, true, false, List, length, map, Option, None, Some, Result, Ok, Err, IsOk, is_some, slice_get, slice_set, slice_index_or, sum_by, if◌then◌else◌}
+use Rattle.std.specs.Prelude.{◌≡◌, ◌⊎◌, ℕ, ◌+◌, ◌≤◌, Bool, true, false, List, length, map, Option, None, Some, Result, Ok, Err, IsOk, is_some, slice_get, slice_set, slice_index_or, sum_by, if◌then◌else◌}
 use Rattle.crack_row.specs.Ranges.{Range}
 use Rattle.crack_row.specs.Commands.{key_of}
 use Rattle.crack_row.specs.Layouts.{IsLayout}
@@ -14,16 +14,19 @@ use Rattle.crack_plain.specs.Plain.{PlainView, accepted_of, checkpointed, no_row
 use Rattle.crack_plain.specs.Past.{Past, accepted_in}
 use Rattle.crack_part.specs.Parts.{Part}
 use Rattle.crack_part.specs.Refusals.{table_of, stopped_by, first_cause}
+use Rattle.crack_part.specs.Upkeep.{is_due}
 use Rattle.crack_core.specs.Routes.{keys_of_part}
 
--- what bounds the partitions of a table: why one accepts no command more, if so, and how many cells its rows may take
+-- what bounds the partitions of a table: why one accepts no command more, if so, how many cells its rows may take, and whether a checkpoint
+-- is made before the next command is added
 pub record Bounds : Type 0 where
   pub stop : PlainView → Option Refusal
   pub cells : ℕ
+  pub due : PlainView → Bool
 
 -- what these limits are for the partitions of a table
 abbrev pub bounds_of : Limits → Bounds
-bounds_of limits = record { stop = stopped_by limits; cells = limits.cells }
+bounds_of limits = record { stop = stopped_by limits; cells = limits.cells; due = λ table. is_due limits table.since }
 
 -- a reply, unless there is a refusal
 abbrev pub reply_unless : Option Refusal → Reply → Result Reply Refusal
@@ -56,10 +59,14 @@ fresh_table = record { state = no_rows; folded = 0; since = 0 }
 abbrev pub table_after : PlainView → Command → PlainView
 table_after table command = record { state = after table.state command; folded = table.folded; since = table.since + 1 }
 
--- the partitions after what came out of asking one of them: a refusal leaves all as they were
-abbrev pub tables_after : List PlainView → ℕ → Command → Result Reply Refusal → List PlainView
-tables_after tables part command (Ok reply) = slice_set tables part (table_after (slice_index_or tables part fresh_table) command)
-tables_after tables part command (Err e) = tables
+-- the table to which the next command is added: after a checkpoint, where one is due
+abbrev pub upkept_by : Bounds → PlainView → PlainView
+upkept_by bounds table = if bounds.due table then checkpointed table else table
+
+-- the partitions after what came out of asking one of them: an answer is added after the checkpoint that is due, and a refusal leaves all as they were
+abbrev pub tables_after : Bounds → List PlainView → ℕ → Command → Result Reply Refusal → List PlainView
+tables_after bounds tables part command (Ok reply) = slice_set tables part (table_after (upkept_by bounds (slice_index_or tables part fresh_table)) command)
+tables_after bounds tables part command (Err e) = tables
 
 -- what comes out of asking for a layout: 5 where there is no such partition, else any layout between the partition's ends
 -- that has as many rows as there are plain rows, or a want of memory

@@ -6,6 +6,7 @@ ghost use Rattle.crack_plain.specs.Plain.{IsSmall, reply_to, after};
 ghost use Rattle.crack_plain.specs.Totals.{accepted, inserted, deleted, is_placed, is_gone};
 ghost use Rattle.crack_part.specs.Parts.{state_of, Serves, Spares};
 ghost use Rattle.crack_part.specs.Refusals.{refusal_of};
+ghost use Rattle.crack_part.specs.Upkeep.{upkept};
 ghost use Rattle.crack_core.specs.Receipts.{entries_of};
 
 use crate::Receipt;
@@ -111,7 +112,7 @@ impl Book {
 
         ensures reply { IfOk result (λ reply. reply ≡ reply_to (state_of partition.old) command) }
         ensures small { IfOk result IsSmall }
-        ensures kept { IfOk result (λ reply. partition.new.past ≡ with_entry partition.old.past (record { worker = self.old.worker; command = command; reply = reply })) }
+        ensures kept { IfOk result (λ reply. partition.new.past ≡ with_entry (upkept partition.old.limits partition.old.past) (record { worker = self.old.worker; command = command; reply = reply })) }
         ensures state { OnOk result (state_of partition.new ≡ after (state_of partition.old) command) }
         ensures store { OnOk result (Serves policy partition.old.keys partition.old.next command partition.old.store partition.new.store) }
         ensures opened { (partition.new.keys ≡ partition.old.keys) × (partition.new.limits ≡ partition.old.limits) }

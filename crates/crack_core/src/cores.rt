@@ -126,16 +126,16 @@ impl Core {
     }
 
     /// Asks one partition, by one `Partition::apply`. Refused, in this order: with 5 where there is no such partition, with 4 where the
-    /// command brings a key that isn't the partition's, with 6 where its history is full, with 10 where it has accepted as many commands as
-    /// it may in all, with 9 where no cell is free for a row and it has as many as it may have, and with 8 where no memory is found. Nothing
-    /// has changed then, but after 8, which leaves what `Partition::apply` says.
+    /// command brings a key that isn't the partition's, with 6 where its history is full and upkeep is on request,
+    /// with 10 where it has accepted as many commands as it may in all, with 9 where no cell is free for a row and it has as many as it may
+    /// have, and with 8 where no memory is found. Nothing has changed then, but after 8, which leaves what `Partition::apply` says.
     #[inline(always)]
     pub fn step(&mut self, step: Step) -> Result<Reply, Refusal>
         // It is the reply of the partition's plain rows, or the refusal that they call for; in place of a reply it may be 8, or 9.
         ensures outcome { IsOutcomeAt (bounds_of self.old.limits) self.old.splits (tables_of self.old.parts) step.part step.command result }
         // The plain rows change as the reply says, and a refusal leaves them.
-        ensures after { tables_of self.new.parts ≡ tables_after (tables_of self.old.parts) step.part step.command result }
-        ensures kept { KeepsJobs (pasts_of self.old.parts) (Job.Perform step ∷ []) (performed result ∷ []) (pasts_of self.new.parts) }
+        ensures after { tables_of self.new.parts ≡ tables_after (bounds_of self.old.limits) (tables_of self.old.parts) step.part step.command result }
+        ensures kept { KeepsJobs self.old.limits (pasts_of self.old.parts) (Job.Perform step ∷ []) (performed result ∷ []) (pasts_of self.new.parts) }
         ensures accepted { accepted_by self.new.parts ≡ (if is_ok result then accepted_by self.old.parts + 1 else accepted_by self.old.parts) }
         ensures small { IfOk result IsSmall }
         ensures opened { (self.new.splits ≡ self.old.splits) × (self.new.limits ≡ self.old.limits) }
@@ -151,8 +151,8 @@ impl Core {
     /// Makes these steps one after the other, and answers what comes out of each. A step that is refused leaves what `step` says, and the
     /// next one is made. Refused with 8, before the first step, where the list of the answers finds no memory.
     pub fn run_steps(&mut self, steps: &[Step]) -> Result<Vec<Result<Reply, Refusal>>, Refusal>
-        ensures replies { IfOk result (λ results. AreExpectedOutcomes (bounds_of self.old.limits) self.old.splits (pasts_of self.old.parts) (map Job.Perform steps.now) (map performed results.items)) }
-        ensures kept { IfOk result (λ results. KeepsJobs (pasts_of self.old.parts) (map Job.Perform steps.now) (map performed results.items) (pasts_of self.new.parts)) }
+        ensures replies { IfOk result (λ results. AreExpectedOutcomes self.old.limits self.old.splits (pasts_of self.old.parts) (map Job.Perform steps.now) (map performed results.items)) }
+        ensures kept { IfOk result (λ results. KeepsJobs self.old.limits (pasts_of self.old.parts) (map Job.Perform steps.now) (map performed results.items) (pasts_of self.new.parts)) }
         // Each store is served by the policy of its own steps, in their order, and by nothing else.
         ensures stores { IfOk result (λ results. DoesAll self.old.splits self.old.limits (map Job.Perform steps.now) (map performed results.items) self.old.parts self.new.parts) }
         ensures opened { (self.new.splits ≡ self.old.splits) × (self.new.limits ≡ self.old.limits) }
@@ -182,8 +182,8 @@ impl Core {
     /// Does these jobs one after the other, and answers what comes out of each. A job that is refused leaves what `step` and `checkpoint` say,
     /// and the next one is done. Refused with 8, before the first job, where the list of the answers finds no memory.
     pub fn run_jobs(&mut self, jobs: &[Job]) -> Result<Vec<Result<Done, Refusal>>, Refusal>
-        ensures replies { IfOk result (λ results. AreExpectedOutcomes (bounds_of self.old.limits) self.old.splits (pasts_of self.old.parts) jobs.now results.items) }
-        ensures kept { IfOk result (λ results. KeepsJobs (pasts_of self.old.parts) jobs.now results.items (pasts_of self.new.parts)) }
+        ensures replies { IfOk result (λ results. AreExpectedOutcomes self.old.limits self.old.splits (pasts_of self.old.parts) jobs.now results.items) }
+        ensures kept { IfOk result (λ results. KeepsJobs self.old.limits (pasts_of self.old.parts) jobs.now results.items (pasts_of self.new.parts)) }
         // Each store is served by the policy of its own steps, in their order, and by nothing else; a checkpoint leaves it as it is.
         ensures stores { IfOk result (λ results. DoesAll self.old.splits self.old.limits jobs.now results.items self.old.parts self.new.parts) }
         ensures opened { (self.new.splits ≡ self.old.splits) × (self.new.limits ≡ self.old.limits) }
@@ -212,8 +212,8 @@ impl Core {
 #[inline(always)]
 fn ask_at(partitions: &mut [Partition], step: Step) -> Result<Reply, Refusal>
     ensures outcome { (splits : List Bound) (limits : Limits) → AreParts splits limits partitions.old → IsOutcomeAt (bounds_of limits) splits (tables_of partitions.old) step.part step.command result }
-    ensures after { tables_of partitions.new ≡ tables_after (tables_of partitions.old) step.part step.command result }
-    ensures kept { KeepsJobs (pasts_of partitions.old) (Job.Perform step ∷ []) (performed result ∷ []) (pasts_of partitions.new) }
+    ensures after { (splits : List Bound) (limits : Limits) → AreParts splits limits partitions.old → tables_of partitions.new ≡ tables_after (bounds_of limits) (tables_of partitions.old) step.part step.command result }
+    ensures kept { (splits : List Bound) (limits : Limits) → AreParts splits limits partitions.old → KeepsJobs limits (pasts_of partitions.old) (Job.Perform step ∷ []) (performed result ∷ []) (pasts_of partitions.new) }
     ensures accepted { accepted_by partitions.new ≡ (if is_ok result then accepted_by partitions.old + 1 else accepted_by partitions.old) }
     ensures parts { (splits : List Bound) (limits : Limits) → AreParts splits limits partitions.old → AreParts splits limits partitions.new }
     ensures small { IfOk result IsSmall }
@@ -248,8 +248,8 @@ fn without_receipt(answered: Result<(Reply, Reply), Refusal>) -> Result<Reply, R
 fn run_all(partitions: &mut [Partition], steps: &[Step], results: &mut Vec<Result<Reply, Refusal>>)
     requires empty { results.old.items ≡ [] }
     requires room { length steps.now ≤ vec_capacity results.old }
-    ensures replies { (splits : List Bound) (limits : Limits) → AreParts splits limits partitions.old → AreExpectedOutcomes (bounds_of limits) splits (pasts_of partitions.old) (map Job.Perform steps.now) (map performed results.new.items) }
-    ensures kept { KeepsJobs (pasts_of partitions.old) (map Job.Perform steps.now) (map performed results.new.items) (pasts_of partitions.new) }
+    ensures replies { (splits : List Bound) (limits : Limits) → AreParts splits limits partitions.old → AreExpectedOutcomes limits splits (pasts_of partitions.old) (map Job.Perform steps.now) (map performed results.new.items) }
+    ensures kept { (splits : List Bound) (limits : Limits) → AreParts splits limits partitions.old → KeepsJobs limits (pasts_of partitions.old) (map Job.Perform steps.now) (map performed results.new.items) (pasts_of partitions.new) }
     ensures stores { (splits : List Bound) (limits : Limits) → AreParts splits limits partitions.old → DoesAll splits limits (map Job.Perform steps.now) (map performed results.new.items) partitions.old partitions.new }
     ensures parts { (splits : List Bound) (limits : Limits) → AreParts splits limits partitions.old → AreParts splits limits partitions.new }
 {
@@ -264,7 +264,7 @@ fn fold_at(partitions: &mut [Partition], part: u32) -> Result<u64, Refusal>
     ensures outcome { IsFoldOutcome (slice_get (tables_of partitions.old) part) result }
     ensures after { tables_of partitions.new ≡ tables_folded (tables_of partitions.old) part result }
     ensures folds { OnOk result (FoldsAt part partitions.old partitions.new) }
-    ensures kept { KeepsJobs (pasts_of partitions.old) (Job.Fold part ∷ []) (folding result ∷ []) (pasts_of partitions.new) }
+    ensures kept { (limits : Limits) → KeepsJobs limits (pasts_of partitions.old) (Job.Fold part ∷ []) (folding result ∷ []) (pasts_of partitions.new) }
     ensures accepted { accepted_by partitions.new ≡ accepted_by partitions.old }
     ensures parts { (splits : List Bound) (limits : Limits) → AreParts splits limits partitions.old → AreParts splits limits partitions.new }
     ensures same { OnErr result (partitions.new ≡ partitions.old) }
@@ -282,7 +282,7 @@ fn fold_at(partitions: &mut [Partition], part: u32) -> Result<u64, Refusal>
 /// Does one job.
 fn do_job(partitions: &mut [Partition], job: Job) -> Result<Done, Refusal>
     ensures outcome { (splits : List Bound) (limits : Limits) → AreParts splits limits partitions.old → IsJobOutcome (bounds_of limits) splits (slice_get (tables_of partitions.old) (part_of job)) job result }
-    ensures kept { KeepsJobs (pasts_of partitions.old) (job ∷ []) (result ∷ []) (pasts_of partitions.new) }
+    ensures kept { (splits : List Bound) (limits : Limits) → AreParts splits limits partitions.old → KeepsJobs limits (pasts_of partitions.old) (job ∷ []) (result ∷ []) (pasts_of partitions.new) }
     ensures does { (splits : List Bound) (limits : Limits) → AreParts splits limits partitions.old → Does splits limits job result partitions.old partitions.new }
     ensures parts { (splits : List Bound) (limits : Limits) → AreParts splits limits partitions.old → AreParts splits limits partitions.new }
 {
@@ -316,8 +316,8 @@ fn folding(folded: Result<u64, Refusal>) -> Result<Done, Refusal>
 fn do_all(partitions: &mut [Partition], jobs: &[Job], results: &mut Vec<Result<Done, Refusal>>)
     requires empty { results.old.items ≡ [] }
     requires room { length jobs.now ≤ vec_capacity results.old }
-    ensures replies { (splits : List Bound) (limits : Limits) → AreParts splits limits partitions.old → AreExpectedOutcomes (bounds_of limits) splits (pasts_of partitions.old) jobs.now results.new.items }
-    ensures kept { KeepsJobs (pasts_of partitions.old) jobs.now results.new.items (pasts_of partitions.new) }
+    ensures replies { (splits : List Bound) (limits : Limits) → AreParts splits limits partitions.old → AreExpectedOutcomes limits splits (pasts_of partitions.old) jobs.now results.new.items }
+    ensures kept { (splits : List Bound) (limits : Limits) → AreParts splits limits partitions.old → KeepsJobs limits (pasts_of partitions.old) jobs.now results.new.items (pasts_of partitions.new) }
     ensures stores { (splits : List Bound) (limits : Limits) → AreParts splits limits partitions.old → DoesAll splits limits jobs.now results.new.items partitions.old partitions.new }
     ensures parts { (splits : List Bound) (limits : Limits) → AreParts splits limits partitions.old → AreParts splits limits partitions.new }
 {

@@ -8,6 +8,7 @@ pub mod opening;
 pub mod receipt;
 pub mod routes;
 pub mod step;
+pub mod upkeep;
 
 pub use asking::Query;
 pub use book::Book;
@@ -16,6 +17,7 @@ pub use opening::{limits_fault, open_partitions, splits_fault};
 pub use receipt::Receipt;
 pub use routes::{keys_of_part, only_part, parts_of, route};
 pub use step::{Done, Job, Step};
+pub use upkeep::upkeep_is_checkpoints;
 
 /// The greatest number of splits, one fewer than that of partitions.
 pub const MOST_SPLITS: usize = 63;

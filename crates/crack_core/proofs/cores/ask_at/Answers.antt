@@ -1,4 +1,4 @@
-use Rattle.std.proofs.Common.{◌≡◌, ◌≢◌, ◌<◌, length, get_or, set, arith, ap, ◌∙◌, inl, inr, Result, Ok, Err, IfErr}
+use Rattle.std.proofs.Common.{◌≡◌, ◌≢◌, ◌<◌, length, get_or, set, arith, ap, subst, [], ◌∷◌, ◌∙◌, Result, Ok, Err, IfErr}
 use Rattle.std.proofs.lemmas.List.{set-get_or}
 use Rattle.crack_row.specs.Commands.{range_of}
 use Rattle.crack_row.specs.declared.command.Reply.{Reply}
@@ -6,7 +6,9 @@ use Rattle.crack_row.specs.declared.refusal.Refusal.{Refusal}
 use Rattle.crack_row.specs.declared.refusal.Refusal.TheVariants.{OutOfMemory}
 use Rattle.crack_part.specs.Parts.{Part, IsSound, Serves, Spares}
 use Rattle.crack_part.specs.Refusals.{refusal_of}
-use Rattle.crack_core.specs.Jobs.{performed, past_after}
+use Rattle.crack_row.specs.declared.limit.Limits.{Limits}
+use Rattle.crack_core.specs.Steps.{bounds_of, tables_of, tables_after, pasts_of}
+use Rattle.crack_core.specs.Jobs.{performed, past_after, KeepsJobs}
 use Rattle.crack_core.specs.declared.step.Job.TheVariants.{Perform}
 use Rattle.crack_core.proofs.StepLaws.{Gives, outcome-given, kept-given, small-given, same-given, ok_given, err_given, outcome-at, Keeps-set, tables-set, accepted-set, AreParts-set, get-set_other, replaced-at}
 use Rattle.crack_core.proofs.ShortLaws.{may-lack}
@@ -21,8 +23,8 @@ abbrev asked : (c : goal.After-without_receipt) → Part
 asked c = get_or c.args.partitions.now c.args.step.part c.index-partitions-part.result
 
 -- its past has the step's entry, if it was answered
-kept : (c : goal.After-without_receipt) → c.apply-answered.new.self.past ≡ past_after c.args.step.part (Perform c.args.step) (performed c.without_receipt.result) (asked c).past
-kept c = kept-given (asked c).past c.apply-answered.new.self.past c.args.step c.apply-answered.result c.without_receipt.result (gives c) c.apply-answered.ensures.kept c.apply-answered.ensures.err
+kept : (c : goal.After-without_receipt) → c.apply-answered.new.self.past ≡ past_after (asked c).limits c.args.step.part (Perform c.args.step) (performed c.without_receipt.result) (asked c).past
+kept c = kept-given (asked c).limits (asked c).past c.apply-answered.new.self.past c.args.step c.apply-answered.result c.without_receipt.result (gives c) c.apply-answered.ensures.kept c.apply-answered.ensures.err
 
 if_err : (r : Result Reply Refusal) (P Q : Refusal → Type 0) → ((e : Refusal) → P e → Q e) → IfErr r P → IfErr r Q
 if_err (Ok reply) P Q f h = tt
@@ -38,19 +40,22 @@ returns-clause-outcome c = λ splits limits are.
     outcome-at splits limits c.args.partitions.now c.args.step c.without_receipt.result c.index-partitions-part.result are within (outcome-given (asked c) c.apply-answered.new.self command answered c.without_receipt.result (gives c) e.replies e.refused e.memory (may-lack (asked c) command sound))
 
 pub returns-clause-after : goal.returns-clause-after
-returns-clause-after c =
+returns-clause-after c = λ splits limits are.
     let within : c.args.step.part < length c.args.partitions.now = omega arith in
-    tables-set c.args.partitions.now c.apply-answered.new.self c.index-partitions-part.result c.args.step c.without_receipt.result within (kept c)
+    let own : (asked c).limits ≡ limits = are.alike c.args.step.part c.index-partitions-part.result within in
+    subst (λ (l : Limits). tables_of (set c.args.partitions.now c.args.step.part c.apply-answered.new.self) ≡ tables_after (bounds_of l) (tables_of c.args.partitions.now) c.args.step.part c.args.step.command c.without_receipt.result) own (tables-set (asked c).limits c.args.partitions.now c.apply-answered.new.self c.index-partitions-part.result c.args.step c.without_receipt.result within (kept c))
 
 pub returns-clause-kept : goal.returns-clause-kept
-returns-clause-kept c =
+returns-clause-kept c = λ splits limits are.
     let within : c.args.step.part < length c.args.partitions.now = omega arith in
-    Keeps-set c.args.partitions.now c.apply-answered.new.self c.index-partitions-part.result c.args.step c.without_receipt.result within (kept c)
+    let own : (asked c).limits ≡ limits = are.alike c.args.step.part c.index-partitions-part.result within in
+    subst (λ (l : Limits). KeepsJobs l (pasts_of c.args.partitions.now) (Perform c.args.step ∷ []) (performed c.without_receipt.result ∷ []) (pasts_of (set c.args.partitions.now c.args.step.part c.apply-answered.new.self))) own
+    (Keeps-set (asked c).limits c.args.partitions.now c.apply-answered.new.self c.index-partitions-part.result c.args.step c.without_receipt.result within (kept c))
 
 pub returns-clause-accepted : goal.returns-clause-accepted
 returns-clause-accepted c =
     let within : c.args.step.part < length c.args.partitions.now = omega arith in
-    accepted-set c.args.partitions.now c.apply-answered.new.self c.index-partitions-part.result c.args.step c.without_receipt.result within (kept c)
+    accepted-set (asked c).limits c.args.partitions.now c.apply-answered.new.self c.index-partitions-part.result c.args.step c.without_receipt.result within (kept c)
 
 pub returns-clause-parts : goal.returns-clause-parts
 returns-clause-parts c = λ splits limits are.

@@ -24,9 +24,9 @@ jobs-preserved c =
     record {
       room = omega (arith, before.room, c.push_reserved.ensures.capacity);
       count = omega (arith, before.count, ap length c.push_reserved.ensures.items, length-append results (r ∷ []));
-      replies = λ splits limits are. rw (grown, c.push_reserved.ensures.items) (AreExpectedOutcomes-push (bounds_of limits) splits (pasts_of old) front results j r (before.replies splits limits are)
-          (subst (λ (t : Option PlainView). IsJobOutcome (bounds_of limits) splits t j r) (tables-kept old now (part_of j) front results before.kept) (c.do_job-result.ensures.outcome splits limits (before.parts splits limits are))));
-      kept = rw (grown, c.push_reserved.ensures.items) (KeepsJobs-push (pasts_of old) (pasts_of now) (pasts_of c.do_job-result.new.partitions) front results j r long before.kept c.do_job-result.ensures.kept);
+      replies = λ splits limits are. rw (grown, c.push_reserved.ensures.items) (AreExpectedOutcomes-push limits splits (pasts_of old) front results j r (before.replies splits limits are)
+          (subst (λ (t : Option PlainView). IsJobOutcome (bounds_of limits) splits t j r) (tables-kept limits old now (part_of j) front results (before.kept splits limits are)) (c.do_job-result.ensures.outcome splits limits (before.parts splits limits are))));
+      kept = λ splits limits are. rw (grown, c.push_reserved.ensures.items) (KeepsJobs-push limits (pasts_of old) (pasts_of now) (pasts_of c.do_job-result.new.partitions) front results j r long (before.kept splits limits are) (c.do_job-result.ensures.kept splits limits (before.parts splits limits are)));
       stores = λ splits limits are. rw (grown, c.push_reserved.ensures.items) (DoesAll-push splits limits front results j r old now c.do_job-result.new.partitions (before.stores splits limits are) (c.do_job-result.ensures.does splits limits (before.parts splits limits are)));
       parts = λ splits limits are. c.do_job-result.ensures.parts splits limits (before.parts splits limits are);
     }
@@ -40,3 +40,8 @@ pub returns-clause-stores : goal.returns-clause-stores
 returns-clause-stores c = λ splits limits are.
     let all : take c.jobs.job-index c.args.jobs.now ≡ c.args.jobs.now = take_all c.jobs.job-index c.args.jobs.now (omega arith) in
     rw all at (c.jobs.invariant.stores splits limits are)
+
+pub returns-clause-kept : goal.returns-clause-kept
+returns-clause-kept c = λ splits limits are.
+    let all : take c.jobs.job-index c.args.jobs.now ≡ c.args.jobs.now = take_all c.jobs.job-index c.args.jobs.now (omega arith) in
+    rw all at (c.jobs.invariant.kept splits limits are)

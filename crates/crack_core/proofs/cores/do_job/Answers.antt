@@ -8,7 +8,7 @@ returns-in-Perform-clause-does c = λ splits limits are.
       c.performed.ensures,
       record {
         parts = made.parts splits limits are;
-        kept = made.kept;
+        kept = made.kept splits limits are;
         others = made.others;
         store = made.store;
         spared = made.spared;
@@ -28,3 +28,9 @@ returns-in-Fold-clause-does c = λ splits limits are.
         same = made.same;
       },
     )
+
+pub returns-in-Perform-clause-kept : goal.returns-in-Perform-clause-kept
+returns-in-Perform-clause-kept c = λ splits limits are. rw (c.in-Perform.is, c.performed.ensures) (c.ask_at.ensures.kept splits limits are)
+
+pub returns-in-Fold-clause-kept : goal.returns-in-Fold-clause-kept
+returns-in-Fold-clause-kept c = λ splits limits are. rw (c.in-Fold.is, c.folding.ensures) (c.fold_at.ensures.kept limits)

@@ -28,9 +28,9 @@ returns-clause-folds c =
     folds-fold c.args.partitions.now c.args.part c.checkpoint-folded.new.self c.index-partitions-number.result c.checkpoint-folded.result within (refolds c)
 
 pub returns-clause-kept : goal.returns-clause-kept
-returns-clause-kept c =
+returns-clause-kept c = λ limits.
     let within : c.args.part < length c.args.partitions.now = omega arith in
-    kept-fold c.args.partitions.now c.args.part c.checkpoint-folded.new.self c.index-partitions-number.result c.checkpoint-folded.result within (refolds c)
+    kept-fold limits c.args.partitions.now c.args.part c.checkpoint-folded.new.self c.index-partitions-number.result c.checkpoint-folded.result within (refolds c)
 
 pub returns-clause-accepted : goal.returns-clause-accepted
 returns-clause-accepted c =

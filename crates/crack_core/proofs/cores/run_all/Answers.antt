@@ -29,15 +29,15 @@ steps-preserved c =
     record {
       room = omega (arith, before.room, c.push_reserved.ensures.capacity);
       count = omega (arith, before.count, ap length c.push_reserved.ensures.items, length-append results (r ∷ []));
-      replies = λ splits limits are. rw (grown, more) (AreExpectedOutcomes-push (bounds_of limits) splits (pasts_of old) jobs done (Perform s) (performed r) (before.replies splits limits are)
-          (subst (λ (t : Option PlainView). IsJobOutcome (bounds_of limits) splits t (Perform s) (performed r)) (tables-kept old now s.part jobs done before.kept) (r, refl, c.ask_at-result.ensures.outcome splits limits (before.parts splits limits are))));
-      kept = rw (grown, more) (KeepsJobs-push (pasts_of old) (pasts_of now) (pasts_of after) jobs done (Perform s) (performed r) long before.kept c.ask_at-result.ensures.kept);
+      replies = λ splits limits are. rw (grown, more) (AreExpectedOutcomes-push limits splits (pasts_of old) jobs done (Perform s) (performed r) (before.replies splits limits are)
+          (subst (λ (t : Option PlainView). IsJobOutcome (bounds_of limits) splits t (Perform s) (performed r)) (tables-kept limits old now s.part jobs done (before.kept splits limits are)) (r, refl, c.ask_at-result.ensures.outcome splits limits (before.parts splits limits are))));
+      kept = λ splits limits are. rw (grown, more) (KeepsJobs-push limits (pasts_of old) (pasts_of now) (pasts_of after) jobs done (Perform s) (performed r) long (before.kept splits limits are) (c.ask_at-result.ensures.kept splits limits (before.parts splits limits are)));
       stores = λ splits limits are. rw (grown, more) (DoesAll-push splits limits jobs done (Perform s) (performed r) old now after (before.stores splits limits are) (
         r,
         refl,
         record {
           parts = c.ask_at-result.ensures.parts splits limits (before.parts splits limits are);
-          kept = c.ask_at-result.ensures.kept;
+          kept = c.ask_at-result.ensures.kept splits limits (before.parts splits limits are);
           others = c.ask_at-result.ensures.others;
           store = c.ask_at-result.ensures.store;
           spared = c.ask_at-result.ensures.spared;
@@ -56,3 +56,8 @@ pub returns-clause-stores : goal.returns-clause-stores
 returns-clause-stores c = λ splits limits are.
     let all : take c.steps.step-index c.args.steps.now ≡ c.args.steps.now = take_all c.steps.step-index c.args.steps.now (omega arith) in
     rw all at (c.steps.invariant.stores splits limits are)
+
+pub returns-clause-kept : goal.returns-clause-kept
+returns-clause-kept c = λ splits limits are.
+    let all : take c.steps.step-index c.args.steps.now ≡ c.args.steps.now = take_all c.steps.step-index c.args.steps.now (omega arith) in
+    rw all at (c.steps.invariant.kept splits limits are)

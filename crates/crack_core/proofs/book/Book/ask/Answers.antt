@@ -1,4 +1,6 @@
-use Rattle.std.proofs.Common.{rules, ◌≡◌, ◌∙◌, ap, Err}
+use Rattle.std.proofs.Common.{rules, ◌≡◌, ◌∙◌, ap, Result, Ok, Err}
+use Rattle.crack_row.specs.declared.command.Reply.{Reply}
+use Rattle.crack_row.specs.declared.refusal.Refusal.{Refusal}
 use Rattle.crack_part.specs.Refusals.{refusal_of}
 use Rattle.crack_part.proofs.RefusalLaws.{if_refused}
 use Rattle.crack_core.proofs.book.Book.ask.Goals as goal
@@ -34,7 +36,9 @@ pub returns-clause-spared : goal.returns-clause-spared
 returns-clause-spared c = search rules
 
 pub returns-clause-refused : goal.returns-clause-refused
-returns-clause-refused c = search rules
+returns-clause-refused c =
+    if_refused (refusal_of c.args.partition.now c.args.command) (λ e. (◌≡◌ {A = Result (Reply × Reply) Refusal} (Ok (c.in_ok-reply.reply, c.in_ok-reply.copy)) (Err e)) × (c.apply.new.self ≡ c.args.partition.now)) (λ e. (◌≡◌ {A = Result Reply Refusal} (Ok c.in_ok-reply.reply) (Err e)) × (c.apply.new.self ≡ c.args.partition.now))
+    (λ e is. absurd (cc is.0)) c.in_ok-reply.ensures.refused
 
 pub returns-clause-memory : goal.returns-clause-memory
 returns-clause-memory c = search rules

@@ -1,4 +1,4 @@
-use Rattle.std.proofs.Common.{◌≡◌, arith, ap, ◌∙◌}
+use Rattle.std.proofs.Common.{◌≡◌, arith, ◌∙◌}
 use Rattle.std.specs.Prelude.{true, false}
 use Rattle.crack_core.specs.Asking.{is_full}
 use Rattle.crack_core.specs.Steps.{tables_of}
@@ -10,18 +10,18 @@ returns-in-Ok-clause-asks c =
     let tables = tables_of c.args.self.now.parts in
     let s = c.args.step.now in
     let full : is_full c.step-answered.result ≡ true = grind arith in
-    let left = c.step-answered.ensures.after ∙ full-leaves tables s.part s.command c.step-answered.result full in
+    let left = c.step-answered.ensures.after ∙ full-leaves c.args.self.now.limits tables s.part s.command c.step-answered.result full in
     let limits = c.checkpoint.ensures.opened.1 ∙ c.step-answered.ensures.opened.1 in
     let splits = c.checkpoint.ensures.opened.0 ∙ c.step-answered.ensures.opened.0 in
     asked-folded c.args.self.now.limits c.args.self.now.splits tables (tables_of c.checkpoint.new.self.parts) (tables_of c.step.new.self.parts) s.part c.in-Ok.field-0 s.command c.step.result
-    c.facts.ensures.limited.history.0 (rw left at c.in-Ok.ensures.after) (rw (limits, splits) at c.step.ensures.outcome) c.step.ensures.after
+    c.facts.ensures.limited.history.0 (rw left at c.in-Ok.ensures.after) (rw (limits, splits) at c.step.ensures.outcome) (rw limits at c.step.ensures.after)
 
 pub returns-clause-asks : goal.returns-clause-asks
 returns-clause-asks c =
     let tables = tables_of c.args.self.now.parts in
     let s = c.args.step.now in
     let full : is_full c.step-answered.result ≡ true = grind arith in
-    let left = c.step-answered.ensures.after ∙ full-leaves tables s.part s.command c.step-answered.result full in
+    let left = c.step-answered.ensures.after ∙ full-leaves c.args.self.now.limits tables s.part s.command c.step-answered.result full in
     asked-short c.args.self.now.limits c.args.self.now.splits tables (tables_of c.checkpoint.new.self.parts) s.part s.command c.step-answered.result c.in-Err.refusal full
     c.step-answered.ensures.outcome (rw left at c.in-Err.ensures.outcome) (c.in-Err.ensures.after ∙ left)
 
