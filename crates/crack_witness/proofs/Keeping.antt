@@ -1,5 +1,6 @@
 -- What a partition keeps, beside its whole history.
-use Rattle.std.proofs.Common.{◌≡◌, ℕ, ◌+◌, ◌≤◌, ◌<◌, ◌==◌, List, [], ◌∷◌, ◌++◌, refl, ap, sym, ◌∙◌, subst, arith, length, length-append, append_assoc, Result, Ok, Err, OnOk, OnErr}
+use Rattle.std.specs.Prelude.{if◌then◌else◌}
+use Rattle.std.proofs.Common.{◌≡◌, ℕ, Bool, true, false, ◌+◌, ◌≤◌, ◌<◌, ◌==◌, List, [], ◌∷◌, ◌++◌, refl, ap, sym, ◌∙◌, subst, arith, length, length-append, append_assoc, Result, Ok, Err, OnOk, OnErr}
 use Rattle.std.proofs.lemmas.List.{append-nil}
 use Rattle.std.proofs.lemmas.List.Sums.{length-filter, count_by-le-length}
 use Rattle.crack_row.specs.declared.command.Entry.{Entry}
@@ -9,7 +10,9 @@ use Rattle.crack_plain.specs.Past.{Base, Past, no_base, no_past, with_entry, sta
 use Rattle.crack_plain.specs.Totals.{accepted, inserted, deleted}
 use Rattle.crack_plain.proofs.Laws.{replay_from-append}
 use Rattle.crack_plain.proofs.TotalLaws.{inserted-append, deleted-append}
+use Rattle.crack_row.specs.declared.limit.Limits.{Limits}
 use Rattle.crack_part.specs.Parts.{Part, folded_part}
+use Rattle.crack_part.specs.Upkeep.{is_due, upkept}
 use Rattle.crack_witness.specs.Histories.{IsPastOf, calls_by}
 
 -- nothing was answered
@@ -54,6 +57,14 @@ IsPastOf-folded h past k = record {
   base = same_base (state_after past) (replay_from no_rows h) (accepted_in past) (0 + accepted h) (inserted_in past) (0 + inserted h) (deleted_in past) (0 + deleted h) (state_after-whole h past k) (omega (arith, accepted_in-whole h past k)) (omega (arith, inserted_in-whole h past k)) (omega (arith, deleted_in-whole h past k));
   all = sym (append-nil h);
 }
+
+-- what a partition has once the checkpoint is made that is due
+pub IsPastOf-upkept : (h : List Entry) (limits : Limits) (past : Past) → IsPastOf h past → IsPastOf h (upkept limits past)
+IsPastOf-upkept h limits past k = by_test (is_due limits (length past.tail))
+  where
+    by_test : (b : Bool) → IsPastOf h (if b then folded past else past)
+    by_test true = IsPastOf-folded h past k
+    by_test false = k
 
 pub IsPastOf-either : (h : List Entry) (old new : Part) (r : Result ℕ Refusal) → OnOk r (new ≡ folded_part old) → OnErr r (new ≡ old) → IsPastOf h old.past → IsPastOf h new.past
 IsPastOf-either h old new (Ok n) ok err k = subst (λ (p : Part). IsPastOf h p.past) (sym ok) (IsPastOf-folded h old.past k)

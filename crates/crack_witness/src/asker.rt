@@ -5,6 +5,7 @@ ghost use Rattle.crack_row.specs.declared.command.Entry.{Entry};
 ghost use Rattle.crack_plain.specs.Plain.{IsSmall, reply_to};
 ghost use Rattle.crack_plain.specs.Past.{with_entry};
 ghost use Rattle.crack_part.specs.Parts.{state_of};
+ghost use Rattle.crack_part.specs.Upkeep.{upkept};
 ghost use Rattle.crack_witness.specs.Histories.{history_of, calls_at, AreHistories, AreEmpty};
 ghost use Rattle.crack_witness.specs.Witnesses.{IsInStep, IsGiven, HasJustItsOwn};
 
@@ -88,7 +89,7 @@ impl<J: Naming> Asker<J> {
         ensures fronts { OnOk result (self.new.fronts ≡ slice_set self.old.fronts part self.new.seen) }
         ensures legal { OnOk result (AreHistories self.new.seen) }
         ensures whole { OnOk result ((witnessed.old.part ≡ part) × (self.new.seen ≡ witnessed.new.log)) }
-        ensures kept { IfOk result (λ replies. witnessed.new.held.past ≡ with_entry witnessed.old.held.past (record { worker = self.old.worker; command = command; reply = replies.0 })) }
+        ensures kept { IfOk result (λ replies. witnessed.new.held.past ≡ with_entry (upkept witnessed.old.held.limits witnessed.old.held.past) (record { worker = self.old.worker; command = command; reply = replies.0 })) }
         ensures opened { (witnessed.new.held.keys ≡ witnessed.old.held.keys) × (witnessed.new.held.limits ≡ witnessed.old.held.limits) × (witnessed.new.part ≡ witnessed.old.part) }
         ensures seen { IsPrefix self.old.seen self.new.seen × IsPrefix witnessed.old.log witnessed.new.log }
         ensures worker { self.new.worker ≡ self.old.worker }

@@ -1,10 +1,12 @@
 //! What lies under a lock: a partition, and the scribe of its whole history.
 ghost use Rattle.std.specs.Prelude.{◌≡◌, ◌⊎◌, ◌+◌, ◌<◌, ◌≤◌, [], ◌∷◌, ◌++◌, length, vec_len, IfOk, IfErr, IfSome, IsTrue, OnErr, OnOk, Err, None, ◌≢◌, ◌↔◌, ◌^◌, slice_index_or};
 ghost use mathlib.Core.List.{IsPrefix};
-ghost use Rattle.crack_row.specs.Commands.{change_of, range_of};
-ghost use Rattle.crack_plain.specs.Past.{no_past, with_entry, accepted_in};
-ghost use Rattle.crack_plain.specs.Plain.{IsSmall, IsWithin, reply_to};
-ghost use Rattle.crack_part.specs.Parts.{IsSound, state_of, folded_part, LacksCell, Serves, Spares};
+ghost use Rattle.crack_row.specs.Commands.{range_of};
+ghost use Rattle.crack_plain.specs.Past.{no_past, with_entry};
+ghost use Rattle.crack_plain.specs.Plain.{IsSmall, reply_to};
+ghost use Rattle.crack_part.specs.Parts.{IsSound, state_of, folded_part, Serves, Spares};
+ghost use Rattle.crack_part.specs.Refusals.{refusal_of};
+ghost use Rattle.crack_part.specs.Upkeep.{upkept};
 ghost use Rattle.crack_witness.specs.Histories.{history_of, calls_by, AreHistories, IsPastOf};
 ghost use Rattle.crack_witness.specs.Witnesses.{IsNewAt, IsInStep};
 ghost use Rattle.crack_witness.specs.Keeps.{IsOwnerAt};
@@ -106,7 +108,7 @@ impl<J: Naming> Witnessed<J> {
         ensures replies { IfOk result (λ replies. (replies.0 ≡ reply_to (state_of self.old.held) command) × (replies.1 ≡ replies.0)) }
         ensures small { IfOk result (λ replies. IsSmall replies.0) }
         ensures written { IfOk result (λ replies. history_of (J.owner self.old.part) self.new.log ≡ history_of (J.owner self.old.part) self.old.log ++ record { worker = worker; command = command; reply = replies.0 } ∷ []) }
-        ensures kept { IfOk result (λ replies. self.new.held.past ≡ with_entry self.old.held.past (record { worker = worker; command = command; reply = replies.0 })) }
+        ensures kept { IfOk result (λ replies. self.new.held.past ≡ with_entry (upkept self.old.held.limits self.old.held.past) (record { worker = worker; command = command; reply = replies.0 })) }
         ensures store { OnOk result (Serves policy self.old.held.keys self.old.held.next command self.old.held.store self.new.held.store) }
         ensures opened { (self.new.held.keys ≡ self.old.held.keys) × (self.new.held.limits ≡ self.old.held.limits) }
         ensures part { (self.new.part ≡ self.old.part) × (self.new.workers ≡ self.old.workers) }
@@ -119,11 +121,8 @@ impl<J: Naming> Witnessed<J> {
         ensures strange { (IsInStep J.owner self.old worker count → ⊥) → (result ≡ Err (Refusal.StrangeReceipt self.old.part count)) × (self.new ≡ self.old) }
         ensures err { OnErr result ((self.new.log ≡ self.old.log) × (self.new.held.past ≡ self.old.held.past) × (me.new ≡ me.old)) }
         ensures spared { IsInStep J.owner self.old worker count → OnErr result (Spares policy self.old.held.keys (range_of command) self.old.held.store self.new.held.store) }
-        ensures outside { IsInStep J.owner self.old worker count → (IsWithin self.old.held.keys command → ⊥) → result ≡ Err Refusal.KeyOutside }
-        ensures full { IsInStep J.owner self.old worker count → IsWithin self.old.held.keys command → self.old.held.limits.history ≤ length self.old.held.past.tail → result ≡ Err (Refusal.HistoryFull self.old.held.limits.history) }
-        ensures over { IsInStep J.owner self.old worker count → IsWithin self.old.held.keys command → length self.old.held.past.tail < self.old.held.limits.history → self.old.held.limits.life ≤ accepted_in self.old.held.past → result ≡ Err Refusal.LifeOver }
-        ensures no_cell { IsInStep J.owner self.old worker count → IsWithin self.old.held.keys command → length self.old.held.past.tail < self.old.held.limits.history → accepted_in self.old.held.past < self.old.held.limits.life → LacksCell self.old.held.limits.cells self.old.held.store (change_of command) → result ≡ Err Refusal.NoCell }
-        ensures room { IsInStep J.owner self.old worker count → IsWithin self.old.held.keys command → length self.old.held.past.tail < self.old.held.limits.history → accepted_in self.old.held.past < self.old.held.limits.life → (LacksCell self.old.held.limits.cells self.old.held.store (change_of command) → ⊥) → IfErr result (λ e. e ≡ Refusal.OutOfMemory) }
+        ensures refused { IsInStep J.owner self.old worker count → IfSome (refusal_of self.old.held command) (λ e. (result ≡ Err e) × (self.new ≡ self.old)) }
+        ensures memory { IsInStep J.owner self.old worker count → refusal_of self.old.held command ≡ None → IfErr result (λ e. e ≡ Refusal.OutOfMemory) }
     {
         let part = self.scribe.part();
         self.partition.facts();

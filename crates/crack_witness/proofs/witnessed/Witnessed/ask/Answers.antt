@@ -1,10 +1,15 @@
-use Rattle.std.proofs.Common.{◌≡◌, ◌<◌, ◌+◌, ◌∙◌, ap, sym, subst, ℕ, List, [], ◌∷◌, ◌++◌, length, arith, slice_set, slice_index_or}
+use Rattle.std.proofs.Common.{rules, Err, ◌≡◌, ◌<◌, ◌+◌, ◌∙◌, ap, sym, subst, ℕ, List, [], ◌∷◌, ◌++◌, length, arith, slice_set, slice_index_or}
 use Rattle.crack_row.specs.declared.command.Entry.{Entry}
 use Rattle.crack_plain.specs.Plain.{PlainState, no_rows, replay_from, reply_to}
 use Rattle.crack_plain.proofs.Laws.{AreReplies-push}
+use Rattle.crack_part.specs.Parts.{Part}
+use Rattle.crack_part.specs.Refusals.{refusal_of}
+use Rattle.crack_part.specs.Upkeep.{upkept}
+use Rattle.crack_part.proofs.RefusalLaws.{if_refused}
 use Rattle.crack_witness.specs.Histories.{history_of, calls_by, IsPastOf}
+use Rattle.crack_witness.specs.Witnesses.{WitnessedState}
 use Rattle.crack_witness.specs.Keeps.{AreCounts}
-use Rattle.crack_witness.proofs.Keeping.{state_after-whole, IsPastOf-push, calls-le-accepted}
+use Rattle.crack_witness.proofs.Keeping.{state_after-whole, IsPastOf-push, IsPastOf-upkept, calls-le-accepted}
 use Rattle.crack_witness.proofs.Counting.{counts_set}
 use Rattle.crack_witness.proofs.witnessed.Witnessed.ask.Goals as goal
 
@@ -38,7 +43,7 @@ invariant_of-self-2 g c =
     let is : slice_index_or c.self.inside.answered.items c.args.worker 0 ≡ c.args.count = subst (λ (l : List ℕ). slice_index_or l c.args.worker 0 ≡ c.args.count) items at.1 in
     let counts : AreCounts (slice_set c.self.inside.answered.items c.args.worker (c.args.count + 1)) (h ++ e ∷ []) = counts_set c.self.inside.answered.items h e (c.args.count + 1) c.self.invariant.1 (omega (arith, is)) less in
     let new : history_of (own c.write.new.self.part) c.write.new.self.log ≡ h ++ e ∷ [] = ap (λ (p : ℕ). history_of (own p) c.write.new.self.log) c.write.ensures.part ∙ c.write.ensures.history in
-    let past : IsPastOf (h ++ e ∷ []) c.apply.new.self.past = subst (IsPastOf (h ++ e ∷ [])) (sym c.in_ok-reply.ensures.kept) (IsPastOf-push h c.self.inside.partition.past e c.self.invariant.0) in
+    let past : IsPastOf (h ++ e ∷ []) c.apply.new.self.past = subst (IsPastOf (h ++ e ∷ [])) (sym c.in_ok-reply.ensures.kept) (IsPastOf-push h (upkept c.self.inside.partition.limits c.self.inside.partition.past) e (IsPastOf-upkept h c.self.inside.partition.limits c.self.inside.partition.past c.self.invariant.0)) in
     (subst (λ (l : List Entry). IsPastOf l c.apply.new.self.past) (sym new) past, subst (AreCounts (slice_set c.self.inside.answered.items c.args.worker (c.args.count + 1))) (sym new) counts)
 
 pub returns-clause-few : goal.returns-clause-few
@@ -50,3 +55,12 @@ returns-clause-few g c =
     let is : slice_index_or c.self.inside.answered.items c.args.worker 0 ≡ c.args.count = subst (λ (l : List ℕ). slice_index_or l c.args.worker 0 ≡ c.args.count) items at.1 in
     let counted : slice_index_or c.self.inside.answered.items c.args.worker 0 ≡ length (calls_by c.args.worker h) = c.self.invariant.1 c.args.worker less in
     omega (arith, is, counted, calls-le-accepted c.args.worker h c.self.inside.partition.past c.self.invariant.0, c.facts.ensures.legal.lived, c.facts.ensures.limited.life.1)
+
+pub returns-in_err-reply-clause-refused : goal.returns-in_err-reply-clause-refused
+returns-in_err-reply-clause-refused g c = λ in_step.
+    let e0 = c.in_err-reply.field-0.0 in
+    let given : c.from_residual.result ≡ Err e0 = search rules in
+    let p = c.self.inside.partition in
+    let with : Part → WitnessedState = λ held. record { part = c.self.inside.scribe.part; log = c.self.inside.scribe.log; held = held; workers = length c.self.inside.answered.items } in
+    rw (← c.self.view_is) (if_refused (refusal_of p c.args.command) (λ e. (Err e0 ≡ Err e) × (c.apply.new.self ≡ p)) (λ e. (c.from_residual.result ≡ Err e) × (with c.apply.new.self ≡ with p))
+    (λ e is. (given ∙ ap Err (cc is.0), ap with is.1)) c.in_err-reply.ensures.refused)
