@@ -111,3 +111,31 @@ module _ {X : Type 0} (key key' : X → ℕ) (stops stops' : X → Bool) where
       let first = All-head (OfComing Agrees) e es all in
       let rest = outcomes-agree es (reached key stops e pieces) (All-tail (OfComing Agrees) e es all) (Each-reached key stops Agrees e pieces first each) in
       rw (rest, reached-agree e pieces first each, outcome-agree e pieces first each) refl
+
+-- of the row in hand where a carry has ended this holds
+abbrev pub OfEnd : {X : Type 0} → (X → Type 0) → Event X → Type 0
+OfEnd P (comes x) = Unit {0}
+OfEnd P (turns moved) = Unit {0}
+OfEnd P (stopped moved y) = P y
+
+module _ {X : Type 0} (key : X → ℕ) (stops : X → Bool) where
+  abbrev Stops : X → Type 0
+  Stops x = stops x ≡ true
+
+  next-ends : (own : X → Bool) (e : Event X) (rows : List X) → OfEnd Stops e → OfEnd Stops (next key stops own e rows)
+  next-ends own (comes x) rows one = elim (cases_Bool (own x)) [
+    | inl is ↦ rw is tt
+    | inr not ↦ rw not tt
+  ]
+  next-ends own (turns moved) [] one = tt
+  next-ends own (turns moved) (y ∷ ys) one = elim (cases_Bool (stops y)) [
+    | inl is ↦ rw is is
+    | inr not ↦ rw not tt
+  ]
+  next-ends own (stopped moved y) rows one = one
+
+  -- a carry that has ended with a row in hand has ended with one that ends it
+  pub outcome-ends : (e : Event X) (pieces : Pieces X) → OfEnd Stops e → OfEnd Stops (outcome key stops e pieces)
+  outcome-ends e (last rows) one = next-ends (any_row key stops) e rows one
+  outcome-ends e (below rows bound pieces) one =
+      outcome-ends (next key stops (is_below key stops bound) e rows) pieces (next-ends (is_below key stops bound) e rows one)

@@ -1,0 +1,1 @@
+-- What private clauses alone cite.
