@@ -5,3 +5,4 @@ pub mod CutLaws
 pub mod LeadLaws
 pub mod ManyLaws
 pub mod PieceLaws
+pub mod SiftLaws

@@ -1,0 +1,131 @@
+-- Where no carry ends with a row in hand, sifting leaves what the carries do.
+use Rattle.std.proofs.Common.{◌≡◌, ◌⊎◌, ℕ, ◌+◌, ◌<◌, ◌≤◌, Bool, true, false, cond, ltb, zero, suc, List, [], ◌∷◌, ◌++◌, take, refl, sym, ap, ◌∙◌, inl, inr, arith}
+use Rattle.std.specs.List.{All, filter, sum_by}
+use Rattle.std.proofs.lemmas.Bool.{cases_lt, cases_Bool, lt-ltb, le-ltb}
+use Rattle.std.proofs.lemmas.List.Elements.{All-nil, All-cons, All-head, All-tail, All-take, All-push}
+use Rattle.std.proofs.lemmas.List.Sums.{sum_by-cons}
+use Rattle.crack_row.specs.declared.InnerBound.{InnerBound}
+use Rattle.crack_bulk.specs.Pieces.{Pieces, last, below, AreDivided}
+use Rattle.crack_bulk.specs.Queues.{Event, comes, turns, stopped, is_below, any_row, after_turn, onward, after, next, left, passed, in_bulk, bulk_outcomes}
+use Rattle.crack_bulk.specs.Sifts.{turned, one_if_some, below_bound, queued, made_way, sifted, all_made_way, count_below, OfMet}
+
+-- one more behind them
+All-take_push : {X : Type 0} (P : X → Type 0) (n : ℕ) (xs : List X) (x : X) → All P (take n xs) → P x → All P (take n (xs ++ x ∷ []))
+All-take_push P zero xs x all one = All-nil P
+All-take_push P (suc n) [] x all one = All-take P (suc n) (x ∷ []) (All-cons P x [] one (All-nil P))
+All-take_push P (suc n) (y ∷ ys) x all one = All-cons P y (take n (ys ++ x ∷ [])) (All-head P y (take n ys) all) (All-take_push P n ys x (All-tail P y (take n ys) all) one)
+
+-- how many rows made way before an event
+abbrev pub moved_of : {X : Type 0} → Event X → ℕ
+moved_of (comes x) = 0
+moved_of (turns moved) = moved
+moved_of (stopped moved y) = moved
+
+-- no event has ended below
+abbrev pub IsTurn : {X : Type 0} → Event X → Type 0
+IsTurn (comes x) = ⊥
+IsTurn (turns moved) = Unit {0}
+IsTurn (stopped moved y) = ⊥
+
+module _ {X : Type 0} (key : X → ℕ) (stops : X → Bool) where
+  abbrev Goes : X → Type 0
+  Goes x = stops x ≡ false
+
+  -- the event is that of a row which comes in, where it reaches a piece that begins at this bound
+  abbrev IsOf : ℕ → X → Event X → Type 0
+  IsOf low x (comes y) = (y ≡ x) × (low ≤ key x)
+  IsOf low x (turns moved) = key x < low
+  IsOf low x (stopped moved y) = ⊥
+
+  -- the events are those of the rows
+  abbrev pub AreOf : ℕ → List X → List (Event X) → Type 0
+  AreOf low [] [] = Unit {0}
+  AreOf low [] (e ∷ es) = ⊥
+  AreOf low (x ∷ xs) [] = ⊥
+  AreOf low (x ∷ xs) (e ∷ es) = IsOf low x e × AreOf low xs es
+
+  -- the event is that of a row which comes in, where it has left a piece, whose own rows and those of lower ones pass this test
+  abbrev IsNext : (X → Bool) → X → Event X → Type 0
+  IsNext own x (comes y) = (y ≡ x) × (own x ≡ false)
+  IsNext own x (turns moved) = own x ≡ true
+  IsNext own x (stopped moved y) = ⊥
+
+  abbrev AreNext : (X → Bool) → List X → List (Event X) → Type 0
+  AreNext own [] [] = Unit {0}
+  AreNext own [] (e ∷ es) = ⊥
+  AreNext own (x ∷ xs) [] = ⊥
+  AreNext own (x ∷ xs) (e ∷ es) = IsNext own x e × AreNext own xs es
+
+  total : List (Event X) → ℕ
+  total es = sum_by moved_of es
+
+  -- what the events leave of a piece, how many of its rows make way, and what goes on
+  record Through (low : ℕ) (own : X → Bool) (xs : List X) (es : List (Event X)) (rows : List X) : Type 0 where
+    left_is : left key stops own es rows ≡ queued key low (filter own xs) rows
+    total_is : sum_by moved_of (passed key stops own es rows) ≡ sum_by moved_of es + made_way key low (filter own xs) rows
+    next_are : AreNext own xs (passed key stops own es rows)
+
+  below_count : (low : ℕ) (x : X) (xs : List X) → key x < low → count_below key low (x ∷ xs) ≡ suc (count_below key low xs)
+  below_count low x xs under = sum_by-cons (λ y. cond {A = ℕ} (ltb (key y) low) 1 0) x xs ∙ rw (lt-ltb (key x) low under) (omega arith)
+
+  above_count : (low : ℕ) (x : X) (xs : List X) → low ≤ key x → count_below key low (x ∷ xs) ≡ count_below key low xs
+  above_count low x xs over = sum_by-cons (λ y. cond {A = ℕ} (ltb (key y) low) 1 0) x xs ∙ rw (le-ltb (key x) low over) (omega arith)
+
+  queued-own : (low : ℕ) (x : X) (xs rows : List X) → low ≤ key x → queued key low (x ∷ xs) rows ≡ queued key low xs (rows ++ x ∷ [])
+  queued-own low x xs rows over = ap (λ b. queued key low xs (cond b (turned rows) (rows ++ x ∷ []))) (le-ltb (key x) low over)
+
+  queued-turn : (low : ℕ) (x : X) (xs rows : List X) → key x < low → queued key low (x ∷ xs) rows ≡ queued key low xs (turned rows)
+  queued-turn low x xs rows under = ap (λ b. queued key low xs (cond b (turned rows) (rows ++ x ∷ []))) (lt-ltb (key x) low under)
+
+  made_way-own : (low : ℕ) (x : X) (xs rows : List X) → low ≤ key x → made_way key low (x ∷ xs) rows ≡ made_way key low xs (rows ++ x ∷ [])
+  made_way-own low x xs rows over = ap (λ b. cond b (one_if_some rows + made_way key low xs (turned rows)) (made_way key low xs (rows ++ x ∷ []))) (le-ltb (key x) low over)
+
+  made_way-turn : (low : ℕ) (x : X) (xs rows : List X) → key x < low → made_way key low (x ∷ xs) rows ≡ one_if_some rows + made_way key low xs (turned rows)
+  made_way-turn low x xs rows under = ap (λ b. cond b (one_if_some rows + made_way key low xs (turned rows)) (made_way key low xs (rows ++ x ∷ []))) (lt-ltb (key x) low under)
+
+  through : (low : ℕ) (own : X → Bool) → ((x : X) → key x < low → own x ≡ true) → (xs : List X) (es : List (Event X)) (rows : List X) → AreOf low xs es → All Goes xs → All Goes (take (count_below key low xs) rows) → Through low own xs es rows
+  through low own lower [] [] rows are coming met = record { left_is = refl; total_is = omega arith; next_are = tt }
+  through low own lower [] (e ∷ es) rows are coming met = absurd are
+  through low own lower (x ∷ xs) [] rows are coming met = absurd are
+  through low own lower (x ∷ xs) (comes y ∷ es) rows are coming met =
+      let over : low ≤ key x = are.0.1 in
+      let met_on : All Goes (take (count_below key low xs) rows) = rw (above_count low x xs over) at met in
+      let others = All-tail Goes x xs coming in
+      elim (cases_Bool (own x)) [
+        | inl is ↦
+            let rest = through low own lower xs es (rows ++ x ∷ []) are.1 others (All-take_push Goes (count_below key low xs) rows x met_on (All-head Goes x xs coming)) in
+            rw are.0.0 (record {
+              left_is = rw is (rest.left_is ∙ sym (queued-own low x (filter own xs) rows over));
+              total_is = rw is (omega (arith, rest.total_is, made_way-own low x (filter own xs) rows over, sum_by-cons moved_of (turns 0) (passed key stops own es (rows ++ x ∷ [])), sum_by-cons moved_of (comes x) es));
+              next_are = rw is (is, rest.next_are);
+            })
+        | inr beyond ↦
+            let rest = through low own lower xs es rows are.1 others met_on in
+            rw are.0.0 (record {
+              left_is = rw beyond rest.left_is;
+              total_is = rw beyond (omega (arith, rest.total_is, sum_by-cons moved_of (comes x) (passed key stops own es rows), sum_by-cons moved_of (comes x) es));
+              next_are = rw beyond ((refl, beyond), rest.next_are);
+            })
+      ]
+  through low own lower (x ∷ xs) (turns moved ∷ es) [] are coming met =
+      let under : key x < low = are.0 in
+      let is : own x ≡ true = lower x under in
+      let rest = through low own lower xs es [] are.1 (All-tail Goes x xs coming) (All-take Goes (count_below key low xs) [] (All-nil Goes)) in
+      record {
+        left_is = rw is (rest.left_is ∙ sym (queued-turn low x (filter own xs) [] under));
+        total_is = rw is (omega (arith, rest.total_is, made_way-turn low x (filter own xs) [] under, sum_by-cons moved_of (turns moved) (passed key stops own es []), sum_by-cons moved_of (turns moved) es));
+        next_are = (is, rest.next_are);
+      }
+  through low own lower (x ∷ xs) (turns moved ∷ es) (y ∷ ys) are coming met =
+      let under : key x < low = are.0 in
+      let is : own x ≡ true = lower x under in
+      let met_all : All Goes (y ∷ take (count_below key low xs) ys) = rw (below_count low x xs under) at met in
+      let goes : stops y ≡ false = All-head Goes y (take (count_below key low xs) ys) met_all in
+      let met_on : All Goes (take (count_below key low xs) (ys ++ y ∷ [])) = All-take_push Goes (count_below key low xs) ys y (All-tail Goes y (take (count_below key low xs) ys) met_all) goes in
+      let rest = through low own lower xs es (ys ++ y ∷ []) are.1 (All-tail Goes x xs coming) met_on in
+      record {
+        left_is = rw (goes, is) (rest.left_is ∙ sym (queued-turn low x (filter own xs) (y ∷ ys) under));
+        total_is = rw (goes, is) (omega (arith, rest.total_is, made_way-turn low x (filter own xs) (y ∷ ys) under, sum_by-cons moved_of (turns (suc moved)) (passed key stops own es (ys ++ y ∷ [])), sum_by-cons moved_of (turns moved) es));
+        next_are = rw goes (is, rest.next_are);
+      }
+  through low own lower (x ∷ xs) (stopped moved y ∷ es) rows are coming met = absurd are.0
