@@ -1,13 +1,14 @@
 -- Where no carry ends with a row in hand, sifting leaves what the carries do.
-use Rattle.std.proofs.Common.{◌≡◌, ◌⊎◌, ℕ, ◌+◌, ◌<◌, ◌≤◌, Bool, true, false, cond, ltb, zero, suc, List, [], ◌∷◌, ◌++◌, take, refl, sym, ap, ◌∙◌, inl, inr, arith}
+use Rattle.std.proofs.Common.{◌≡◌, ◌⊎◌, ℕ, ◌+◌, ◌<◌, ◌≤◌, Bool, true, false, cond, ltb, zero, suc, List, [], ◌∷◌, ◌++◌, take, map, length, refl, sym, ap, ◌∙◌, inl, inr, arith}
 use Rattle.std.specs.List.{All, filter, sum_by}
-use Rattle.std.proofs.lemmas.Bool.{cases_lt, cases_Bool, lt-ltb, le-ltb}
+use Rattle.std.proofs.lemmas.Bool.{cases_lt, cases_Bool, lt-ltb, le-ltb, ltb-true, ltb-false, true≢false}
+use Rattle.std.proofs.lemmas.List.{length_push}
 use Rattle.std.proofs.lemmas.List.Elements.{All-nil, All-cons, All-head, All-tail, All-take, All-push}
 use Rattle.std.proofs.lemmas.List.Sums.{sum_by-cons}
 use Rattle.crack_row.specs.declared.InnerBound.{InnerBound}
-use Rattle.crack_bulk.specs.Pieces.{Pieces, last, below, AreDivided}
+use Rattle.crack_bulk.specs.Pieces.{Pieces, last, below, marks_of, AreDivided}
 use Rattle.crack_bulk.specs.Queues.{Event, comes, turns, stopped, is_below, any_row, after_turn, onward, after, next, left, passed, in_bulk, bulk_outcomes}
-use Rattle.crack_bulk.specs.Sifts.{turned, one_if_some, below_bound, queued, made_way, sifted, all_made_way, count_below, OfMet}
+use Rattle.crack_bulk.specs.Sifts.{turned, one_if_some, below_bound, queued, made_way, sifted, all_made_way, count_below, OfMet, risen}
 
 -- one more behind them
 All-take_push : {X : Type 0} (P : X → Type 0) (n : ℕ) (xs : List X) (x : X) → All P (take n xs) → P x → All P (take n (xs ++ x ∷ []))
@@ -129,3 +130,96 @@ module _ {X : Type 0} (key : X → ℕ) (stops : X → Bool) where
         next_are = rw goes (is, rest.next_are);
       }
   through low own lower (x ∷ xs) (stopped moved y ∷ es) rows are coming met = absurd are.0
+
+  of_next : (bound : InnerBound) (xs : List X) (es : List (Event X)) → AreNext (is_below key stops bound) xs es → AreOf bound.0 xs es
+  of_next bound [] [] are = tt
+  of_next bound [] (e ∷ es) are = absurd are
+  of_next bound (x ∷ xs) [] are = absurd are
+  of_next bound (x ∷ xs) (comes y ∷ es) are = ((are.0.0, ltb-false (key x) bound.0 are.0.1), of_next bound xs es are.1)
+  of_next bound (x ∷ xs) (turns moved ∷ es) are = (ltb-true (key x) bound.0 are.0, of_next bound xs es are.1)
+  of_next bound (x ∷ xs) (stopped moved y ∷ es) are = absurd are.0
+
+  all_turn : (xs : List X) (es : List (Event X)) → AreNext (any_row key stops) xs es → All IsTurn es
+  all_turn [] [] are = All-nil IsTurn
+  all_turn [] (e ∷ es) are = absurd are
+  all_turn (x ∷ xs) [] are = absurd are
+  all_turn (x ∷ xs) (comes y ∷ es) are = absurd (true≢false are.0.1)
+  all_turn (x ∷ xs) (turns moved ∷ es) are = All-cons IsTurn (turns moved) es tt (all_turn xs es are.1)
+  all_turn (x ∷ xs) (stopped moved y ∷ es) are = absurd are.0
+
+  any_kept : (xs : List X) → filter (any_row key stops) xs ≡ xs
+  any_kept [] = refl
+  any_kept (x ∷ xs) = ap (λ ys. x ∷ ys) (any_kept xs)
+
+  -- what the events of rows that come in leave of all pieces, how many rows make way, and how they end
+  pub record AreSifted (low : ℕ) (xs : List X) (es : List (Event X)) (pieces : Pieces X) : Type 0 where
+    pub pieces_are : in_bulk key stops es pieces ≡ sifted key low xs pieces
+    pub total_is : sum_by moved_of (bulk_outcomes key stops es pieces) ≡ sum_by moved_of es + all_made_way key low xs pieces
+    pub turn : All IsTurn (bulk_outcomes key stops es pieces)
+
+  pub AreSifted-of : (low : ℕ) (xs : List X) (es : List (Event X)) (pieces : Pieces X) → AreDivided key low pieces → AreOf low xs es → All Goes xs → OfMet key Goes low xs pieces → AreSifted low xs es pieces
+  AreSifted-of low xs es (last rows) divided are coming met =
+      let one = through low (any_row key stops) (λ x under. refl) xs es rows are coming met in
+      let all = any_kept xs in
+      record {
+        pieces_are = ap last (one.left_is ∙ ap (λ ys. queued key low ys rows) all);
+        total_is = one.total_is ∙ ap (λ ys. sum_by moved_of es + made_way key low ys rows) all;
+        turn = all_turn xs (passed key stops (any_row key stops) es rows) one.next_are;
+      }
+  AreSifted-of low xs es (below rows bound pieces) divided are coming met =
+      let own = is_below key stops bound in
+      let one = through low own (λ x under. lt-ltb (key x) bound.0 (omega (arith, under, divided.1))) xs es rows are coming met.0 in
+      let rest = AreSifted-of bound.0 xs (passed key stops own es rows) pieces divided.2 (of_next bound xs (passed key stops own es rows) one.next_are) coming met.1 in
+      record {
+        pieces_are = rw (one.left_is, rest.pieces_are) refl;
+        total_is = omega (arith, rest.total_is, one.total_is);
+        turn = rest.turn;
+      }
+
+  pub AreOf-coming : (xs : List X) → AreOf 0 xs (map comes xs)
+  AreOf-coming [] = tt
+  AreOf-coming (x ∷ xs) = ((refl, omega arith), AreOf-coming xs)
+
+  pub none-moved : (xs : List X) → sum_by moved_of (map comes xs) ≡ 0
+  none-moved [] = refl
+  none-moved (x ∷ xs) = omega (arith, none-moved xs, sum_by-cons moved_of (comes x) (map comes xs))
+
+  -- each row of a piece makes place for one, and those of the piece itself come to it
+  length-turned : (rows : List X) → length (turned rows) ≡ length rows
+  length-turned [] = refl
+  length-turned (y ∷ ys) = omega (arith, length_push ys y)
+
+  length-queued : (low : ℕ) (xs rows : List X) → length (queued key low xs rows) + count_below key low xs ≡ length rows + length xs
+  length-queued low [] rows = omega arith
+  length-queued low (x ∷ xs) rows = elim (cases_lt (key x) low) [
+    | inl under ↦ omega (arith, ap length (queued-turn low x xs rows under), length-queued low xs (turned rows), length-turned rows, below_count low x xs under)
+    | inr over ↦ omega (arith, ap length (queued-own low x xs rows over), length-queued low xs (rows ++ x ∷ []), length_push rows x, above_count low x xs over)
+  ]
+
+  -- of the rows below a bound as many are below a lower one as of all
+  count-below_bound : (low bound : ℕ) (xs : List X) → low ≤ bound → (count_below key low (below_bound key bound xs) ≡ count_below key low xs) × (length (below_bound key bound xs) ≡ count_below key bound xs)
+  count-below_bound low bound [] order = (refl, refl)
+  count-below_bound low bound (x ∷ xs) order =
+      let rest = count-below_bound low bound xs order in
+      elim (cases_lt (key x) bound) [
+        | inl under ↦
+            let kept : below_bound key bound (x ∷ xs) ≡ x ∷ below_bound key bound xs = rw (lt-ltb (key x) bound under) refl in
+            (elim (cases_lt (key x) low) [
+              | inl lower ↦ omega (arith, ap (count_below key low) kept, below_count low x (below_bound key bound xs) lower, below_count low x xs lower, rest.0)
+              | inr higher ↦ omega (arith, ap (count_below key low) kept, above_count low x (below_bound key bound xs) higher, above_count low x xs higher, rest.0)
+            ], omega (arith, ap length kept, below_count bound x xs under, rest.1))
+        | inr over ↦
+            let left_out : below_bound key bound (x ∷ xs) ≡ below_bound key bound xs = rw (le-ltb (key x) bound over) refl in
+            (omega (arith, ap (count_below key low) left_out, above_count low x xs (omega (arith, over, order)), rest.0), omega (arith, ap length left_out, above_count bound x xs over, rest.1))
+      ]
+
+  pub marks_of-sifted : (low place : ℕ) (xs : List X) (pieces : Pieces X) → AreDivided key low pieces → marks_of (place + count_below key low xs) (sifted key low xs pieces) ≡ map (risen key xs) (marks_of place pieces)
+  marks_of-sifted low place xs (last rows) divided = refl
+  marks_of-sifted low place xs (below rows bound pieces) divided =
+      let counted = count-below_bound low bound.0 xs divided.1 in
+      let size : (place + count_below key low xs) + length (queued key low (below_bound key bound.0 xs) rows) ≡ (place + length rows) + count_below key bound.0 xs = omega (arith, length-queued low (below_bound key bound.0 xs) rows, counted.0, counted.1) in
+      rw (size, marks_of-sifted bound.0 (place + length rows) xs pieces divided.2) refl
+
+  pub none_below : (xs : List X) → count_below key 0 xs ≡ 0
+  none_below [] = refl
+  none_below (x ∷ xs) = omega (arith, above_count 0 x xs (omega arith), none_below xs)

@@ -10,6 +10,7 @@ use Rattle.crack_state.specs.State.{State, Carried, greatest}
 use Rattle.crack_state.specs.Steps.{hand_key, piece_end, IsDoomed, IsBelow, pushed_on, appended, buried, returned}
 use Rattle.crack_state.specs.Merge.{outside_of}
 use Rattle.crack_bulk.specs.Pieces.{Pieces, column_of, marks_of, cut}
+use Rattle.crack_bulk.specs.Sifts.{sifted, all_made_way, risen}
 use Rattle.crack_bulk.specs.Queues.{Event, comes, turns, stopped, in_bulk, bulk_outcomes}
 
 -- the pieces of a store's column
@@ -95,3 +96,16 @@ carried_in_bulk ceiling r s =
       pending_in = outside_of s.cells r s.pending_in;
       tally = put_in_by (length (arrivals r s)) s.tally;
     })
+
+-- what they leave where no carry ends with a row in hand, but where its own piece ends at the column's end: the rows are sifted through the pieces, and
+-- each bound moves up by as many as rows below it came in
+abbrev pub carried_by_sifting : Range → State → State
+carried_by_sifting r s =
+    let key = key_at s.cells in
+    let rows = inside_of s.cells r s.pending_in in
+    record s {
+      column = column_of (sifted key 0 rows (pieces_of s));
+      marks = map (risen key rows) s.marks;
+      pending_in = outside_of s.cells r s.pending_in;
+      tally = moved_by (all_made_way key 0 rows (pieces_of s)) (put_in_by (length rows) s.tally);
+    }

@@ -1,6 +1,7 @@
 -- Where no carry ends with a row in hand: rows that come in stand behind a piece, and are sifted through it.
-use Rattle.std.specs.Prelude.{ℕ, ◌+◌, Bool, cond, nat_lt, filter, count_by, List, [], ◌∷◌, ◌++◌, take}
+use Rattle.std.specs.Prelude.{ℕ, ◌+◌, Bool, cond,  nat_lt, filter, count_by, List, [], ◌∷◌, ◌++◌, take}
 use Rattle.std.specs.List.{All}
+use Rattle.crack_index.specs.declared.mark.Mark.{Mark}
 use Rattle.crack_bulk.specs.Pieces.{Pieces, last, below}
 
 -- the first row goes behind the last
@@ -47,3 +48,7 @@ module _ {X : Type 0} (key : X → ℕ) where
   abbrev pub OfMet : (X → Type 0) → ℕ → List X → Pieces X → Type 0
   OfMet P low xs (last rows) = All P (take (count_below low xs) rows)
   OfMet P low xs (below rows bound pieces) = All P (take (count_below low xs) rows) × OfMet P bound.0 xs pieces
+
+  -- each bound moves up by as many as rows below it come in
+  abbrev pub risen : List X → Mark → Mark
+  risen xs m = record m { position = m.position + count_below m.bound.0 xs }
