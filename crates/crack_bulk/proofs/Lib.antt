@@ -6,3 +6,4 @@ pub mod LeadLaws
 pub mod ManyLaws
 pub mod PieceLaws
 pub mod SiftLaws
+pub mod SiftedLaws
