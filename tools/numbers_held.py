@@ -39,7 +39,7 @@ NUMBERS = [
     ("docs/SPECIFICATION.md", "P is at most {} and S", "crack_commands", "GREATEST_PART"),
     ("docs/SPECIFICATION.md", "and S at most {}, else 1", "crack_commands", "GREATEST_SERIAL"),
     ("docs/SPECIFICATION.md", "before a worker starts: at most {}", "crack_server", "MOST_INPUT_BYTES"),
-    ("docs/SPECIFICATION.md", "a record behind the {}th that isn't a header", "crack_csv", "MOST_RECORDS"),
+    ("docs/SPECIFICATION.md", "a record after the {}th that isn't a header", "crack_csv", "MOST_RECORDS"),
     ("docs/PROOFS.md", "is answered until {} were accepted", "crack_plain", "MOST_ACCEPTED"),
     ("docs/PROOFS.md", "or after {} reads", "crack_session", "MOST_READS"),
     ("docs/PROOFS.md", "n is at most {}. On a fault", "crack_csv", "MOST_RECORDS"),
