@@ -1,4 +1,4 @@
-"""Measures what docs/BENCHMARKS.md tells."""
+"""Measures what docs/BENCHMARKS.md reports."""
 
 import random
 import statistics
@@ -23,12 +23,12 @@ def loading(runs):
     return {"script": by_script, "csv": by_csv, "one client over TCP": by_tcp}
 
 
-def counts_behind_a_load(runs):
-    """How long the load takes, the warm-up behind it, and each count at once and behind the warm-up, in seconds."""
+def counts_after_a_load(runs):
+    """How long the load takes, the warm-up after it, and each count at once and after the warm-up, in seconds."""
     lines, counts = random_insert_lines(sizes.PART_ROWS), random_counts(sizes.RANGES)
     warm_up = ["policy complete", f"count {sizes.EVERYTHING}", "policy ripple"]
     given = {"load": [], "cold": counts, "warmed": warm_up, "warm": [*warm_up, *counts], "again": [*warm_up, *counts, *(counts * sizes.REPEATS)]}
-    pairs = [([CRACKD, "script"], script(f"behind-a-load-{name}", [*lines, *more])) for name, more in given.items()]
+    pairs = [([CRACKD, "script"], script(f"after-a-load-{name}", [*lines, *more])) for name, more in given.items()]
     load, cold, warmed, warm, again = middles(pairs, runs)
     each = {"cold": cold - load, "warm": warm - warmed, "again": (again - warm) / sizes.REPEATS}
     return {"load": load, "warm-up": warmed - load, **{name: seconds / sizes.RANGES for name, seconds in each.items()}}
@@ -72,7 +72,7 @@ def rivalry(what, name, ours, fast, tree):
 
 
 def query_rivalries(runs):
-    """Loading, counts and sums with nothing pending, by the names of what is told of them."""
+    """Loading, counts and sums with nothing pending, by the names of what is reported of them."""
     told = {}
     for word in ("counts", "sums"):
         tree, fast, ours = of_bench.beside(word, ["tree", of_bench.FAST_KIND], [sizes.PART_ROWS, sizes.RANGES], runs)
@@ -122,7 +122,7 @@ def set_contests(runs):
         "load": (f"{sizes.PART_ROWS} inserts", 1),
         "cold": ("each count at once, all rows pending, under `ripple`", sizes.RANGES),
         "warm-up": ("`policy complete`, a count of everything, and `policy ripple`", 1),
-        "warm": ("each count behind that", sizes.RANGES),
+        "warm": ("each count after that", sizes.RANGES),
         "again": ("each of the same counts again", sizes.RANGES * sizes.SET_REPEATS),
         "turns": ("a round trip of one of them", sizes.TURNS),
         "updates": (f"{sorted_set.BATCH} inserts, {sorted_set.BATCH} deletes and a count", sizes.RANGES),
@@ -133,7 +133,7 @@ def set_contests(runs):
 
 
 def write_report(folder, runs):
-    """Measures what the page tells, and writes it with its plots into the folder."""
+    """Measures what the page reports, and writes it with its plots into the folder."""
     contests = [*count_contests(runs), *([lookup_contest(runs)] if report.sqlite3 else [])]
-    told = (bytes_a_row(CRACKD), loading(runs), counts_behind_a_load(runs), worker_rates(runs), contests, rivals(runs), set_contests(runs))
+    told = (bytes_a_row(CRACKD), loading(runs), counts_after_a_load(runs), worker_rates(runs), contests, rivals(runs), set_contests(runs))
     report.write(folder, BENCH, PEERS, report.Measured(sizes.PART_ROWS, sizes.RANGES, runs, *told))

@@ -1,6 +1,7 @@
 """Writes docs/BENCHMARKS.md with its plots: what queries, loading, merges, workers and memory cost, and where others are ahead."""
 
 import dataclasses
+import os
 import statistics
 import subprocess
 import time
@@ -156,7 +157,7 @@ def table_of(series):
     lines = ["| What | loading | first count of everything | first sum | median of the last hundred | all sums |", "|---|---|---|---|---|---|"]
     for name, it in series.items():
         times = (it.load, it.everything, it.sums[0], statistics.median(it.sums[-100:]), sum(it.sums))
-        lines.append(f"| {name} | " + " | ".join(f"{time / 1e6:.4g} ms" for time in times) + " |")
+        lines.append(f"| {name} | " + " | ".join(milliseconds(time / 1e6) for time in times) + " |")
     return "\n".join(lines)
 
 
@@ -186,7 +187,7 @@ def query_contests(series):
     marks = {
         "loading, with a first count of everything": lambda it: it.load + it.everything,
         "a first count of everything": lambda it: it.everything,
-        "the first sum of a range, behind that count": lambda it: it.sums[0],
+        "the first sum of a range, after that count": lambda it: it.sums[0],
         "a sum of a range, median of the last hundred": lambda it: statistics.median(it.sums[-100:]),
         "loading and all queries": lambda it: it.load + it.everything + sum(it.sums),
     }
@@ -194,10 +195,15 @@ def query_contests(series):
     return [Contest(what, mark(series[OURS]) / 1e9, name, mark(it) / 1e9) for what, mark in marks.items() for name, it in others.items()]
 
 
+def milliseconds(number):
+    """Milliseconds with four digits, or whole."""
+    return f"{number:,.0f} ms" if number >= 1000 else f"{number:.4g} ms"
+
+
 def shown(seconds):
     if seconds < 1e-6:
         return f"{seconds * 1e9:.3g} ns"
-    return f"{seconds * 1e3:.4g} ms" if seconds >= 1e-3 else f"{seconds * 1e6:.3g} µs"
+    return milliseconds(seconds * 1e3) if seconds >= 1e-3 else f"{seconds * 1e6:.3g} µs"
 
 
 def contest_table(contests, advantage):
@@ -231,14 +237,14 @@ def rival_text(measured):
     carry, pull = rivals.steps
     return f"""- **Inserts: {load.ratio():.1f} times as long.** `crackd` keeps each command with its reply in a history, a number for each row as long as it
   lives, and a map from these numbers to cells; the column has none of them. A pending row takes {measured.memory["pending"]:.0f} bytes of `crackd`'s memory, and
-  {FAST_BYTES} of the column's lists. What is written for the first time is got from the system, page by page.
+  {FAST_BYTES} of the column's lists. Memory that is written for the first time comes from the system page by page.
 - **A first count of everything: {everything.ratio():.1f} times as long.** Each row is read through its handle, whose generation says that the cell is still
   its own; then a step of its own writes what the column needs of it, and its generation. The other column reads each row by its slot alone.
 - **Counts and sums with nothing pending: {spread(queries)} times as long.** Both crack by the same loop, which moves 24 bytes a row in `crackd`, and 20 in the
   column. There a payload stands beside its key, and a sum reads 16 bytes a row; `crackd` has payloads side by side, and reads 8. Besides,
   each query is clipped to the partition's keys, and kept in the history with its reply.
 - **A crack in three.** Where both ends of a range are missing and fall into one piece, `crackd` and the column divide it by both in one pass. A step writes
-  three rows, and one of a crack by one bound two; that spares the second pass, mostly over a quarter of the piece. Beside an earlier `crackd` that cracked
+  three rows, and one of a crack by one bound two; that spares the second pass, mostly over a quarter of the piece. Compared with an earlier `crackd` that cracked
   by one end after the other, the first count over half a million rows took as long, over 10,000 rows 1.5 times, 1,000 counts 1.1 times as long.
 - **A step of a carry: {carry.ratio():.1f} times as long; of a pull: {pull.ratio():.1f} times.** Each step puts the row in hand at a place
   and moves a bound. In the other column bounds stand side by side, and one loop does all steps. In `crackd` a bound is a node of a tree, so that many of them
@@ -263,7 +269,7 @@ def count_table(counts):
         ("loading by `insert`", counts["load"]),
         ("each count at once, under `ripple`, the policy of the start", counts["cold"]),
         ("`policy complete`, a count of everything, and `policy ripple`", counts["warm-up"]),
-        ("each count behind that", counts["warm"]),
+        ("each count after that", counts["warm"]),
         ("the same counts again", counts["again"]),
     ]
     return "\n".join(["| What | time |", "|---|---|", *(f"| {what} | {shown(seconds)} |" for what, seconds in lines)])
@@ -279,8 +285,7 @@ def set_text(measured):
         lines.append(f"| {it.what} | {shown(it.ours)} | {theirs} |")
     return f"""One client in Python asks both for the same over one connection, and each answers a line for a line. It sends without waiting and
 reads meanwhile, but for the round trips. There a row's number is the member of a sorted set, and its key the score (`ZADD`, `ZCOUNT` and `ZREM`); it keeps no
-payloads, and nothing on disk. It puts each row in its place as it comes, and needs no warm-up: its counts are the same in the lines above and
-below that of the warm-up. The counts are of a hundredth of the keys, {measured.ranges} of them.
+payloads and writes nothing to disk. It puts each row in its place as it comes, and needs no warm-up: its counts are the same before and after. The counts are of a hundredth of the keys, {measured.ranges} of them.
 
 {chr(10).join(lines)}"""
 
@@ -317,21 +322,38 @@ def page(series, measured):
     contests = [*query_contests(series), *measured.contests, *over_tcp]
     return f"""# Benchmarks
 
-Written by `python3 bench/run.py --report`: {measured.rows} rows of random keys below 2^32, a count of everything, and then {measured.ranges} sums, each of
-a hundredth of these keys at a random place. Medians of {measured.runs} runs; all of them answer the same.
+Written by `python3 bench/run.py --report` on {time.strftime('%-d %B %Y')}, on {os.cpu_count()} processors: {measured.rows} rows of random keys below 2^32, a count of everything,
+and then {measured.ranges} sums, each of a hundredth of these keys at a random place. Medians of {measured.runs} runs; all of them answer the same.
 
-## Where crackd is behind
+## Time of each query
+
+![time of each query](queries.svg)
+
+{table_of(series)}
+
+## Loading, with the first count of everything
+
+![loading](loading.svg)
+
+## Memory a row
+
+A key and a payload are 16 bytes, and a sorted array of them needs no more. `crackd` also keeps the row's cell, its number, its place in the column
+or among the pending rows, and in the history the insert with its reply, in whose place a checkpoint keeps 24 bytes:
+
+![bytes a row](memory.svg)
+
+## Where crackd is slower
 
 Each line says how many times as fast the other is.
 
 {contest_table([it for it in contests if it.ours >= it.theirs], lambda it: it.ours / it.theirs)}
 
 A sorted array sorts, and SQLite makes its index, before the first count is answered; afterwards neither cracks anything. A scan looks at each row
-and puts nothing in order, as SQLite does without an index, of which one run was made. Of all these plain Rust of the same representation alone keeps a history,
-as `crackd` does. SQLite is asked through Python,
-which its times count; counts of one key are asked of `crackd script`, and count the reading of lines and the writing of replies.
+and puts nothing in order; so does SQLite without an index, of which one run was made. Of all these only plain Rust of the same representation keeps a
+history, as `crackd` does. SQLite is asked through Python, and its times
+include that; counts of one key are asked of `crackd script`, and include the reading of lines and the writing of replies.
 
-## Where it is ahead
+## Where it is faster
 
 Each line says how many times as fast `crackd` is.
 
@@ -350,16 +372,6 @@ What `crackd` does besides, and what that costs:
 
 {rival_text(measured)}
 
-## A query falls
-
-![time of each query](queries.svg)
-
-{table_of(series)}
-
-## Loading, with the first count of everything
-
-![loading](loading.svg)
-
 ## Loading by statements, by CSV and over TCP
 
 {measured.rows} rows, and all of them listed: by a `select`, and by `csv` as records. The client over TCP sends without waiting, and reads
@@ -369,11 +381,10 @@ meanwhile.
 
 {loading_table(measured)}
 
-## Counts behind a load
+## Counts after a load
 
-Where rows were only inserted all of them are pending, and the column is empty. Under `ripple` a count puts its rows into it and the next one, of another
-range, puts these back among the pending rows: so each looks through all pending rows, again and again. One count of everything under
-`complete` ends that. {measured.ranges} counts of a hundredth of the keys, each at a random place, by `crackd script`:
+After a load all rows are pending, and the column is empty. Under `ripple` a count puts its rows into it, and the next one, of another
+range, puts these back: so each looks through all pending rows. One count of everything under `complete` ends that, and `auto` begins with it. {measured.ranges} counts of a hundredth of the keys, each at a random place, by `crackd script`:
 
 {count_table(measured.counts)}
 
@@ -389,11 +400,4 @@ workers answer fewer statements in the same time: those who share a partition wa
 ![statements a second](workers.svg)
 
 {worker_table(measured.workers)}
-
-## Memory a row
-
-A key and a payload are 16 bytes, and a sorted array of them needs no more. `crackd` also keeps the row's cell, its number, its place in the column
-or among the pending rows, and in the history the insert with its reply, in whose place a checkpoint keeps 24 bytes:
-
-![bytes a row](memory.svg)
 """

@@ -114,7 +114,7 @@ def figure_mismatches(top=TOP):
     wrong = [] if list(ours) == list(FIGURES) else [f"README has rows {list(ours)}"]
     for row, columns in FIGURES.items():
         for name, cell in ours.get(row, {}).items():
-            value = sum(float(measured[SERIES[name]][it].removesuffix(" ms")) for it in columns)
+            value = sum(float(measured[SERIES[name]][it].removesuffix(" ms").replace(",", "")) for it in columns)
             digits = len(cell.partition(".")[2])
             if f"{value:,.{digits}f}" != cell:
                 wrong.append(f"README says {row}, {name}: {cell}, and docs/BENCHMARKS.md {value}")
