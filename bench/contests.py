@@ -2,6 +2,7 @@
 
 import random
 import statistics
+import subprocess
 import sys
 
 import of_bench
@@ -132,8 +133,24 @@ def set_contests(runs):
     return [report.Contest(what, ours, "a Redis sorted set", theirs) for what, (ours, theirs) in both]
 
 
+def steps(program, kind, words):
+    """How many rows a run of merges put in, took out, evicted, moved and pulled, in millions: the same in each run."""
+    ran = subprocess.run([program, words[0], kind, *map(str, words[1:])], capture_output=True, text=True, check=True)
+    counted = dict(line.split() for line in ran.stderr.splitlines())
+    return sum(int(counted[name]) for name in of_bench.WORK) / 1e6
+
+
+def moves(program, kind="{}"):
+    """The steps that rows take under each policy: while all rows are pending, and with deletes and inserts before each sum."""
+    words = {
+        f"{sizes.RANGES} sums, all rows pending": ["cold", sizes.PART_ROWS, sizes.RANGES],
+        f"{sizes.RANGES} sums, 10 deletes and inserts before each": ["updates", sizes.PART_ROWS, sizes.RANGES, 10],
+    }
+    return {f"{policy}: {what}": steps(program, kind.format(policy), it) for what, it in words.items() for policy in sizes.POLICIES}
+
+
 def write_report(folder, runs):
     """Measures what the page reports, and writes it with its plots into the folder."""
     contests = [*count_contests(runs), *([lookup_contest(runs)] if report.sqlite3 else [])]
-    told = (bytes_a_row(CRACKD), loading(runs), counts_after_a_load(runs), worker_rates(runs), contests, rivals(runs), set_contests(runs))
-    report.write(folder, BENCH, PEERS, report.Measured(sizes.PART_ROWS, sizes.RANGES, runs, *told))
+    measured = (bytes_a_row(CRACKD), moves(BENCH), loading(runs), counts_after_a_load(runs), worker_rates(runs), contests, rivals(runs), set_contests(runs))
+    report.write(folder, BENCH, PEERS, report.Measured(sizes.PART_ROWS, sizes.RANGES, runs, *measured))

@@ -79,13 +79,14 @@ class Rivals:
 
 @dataclasses.dataclass
 class Measured:
-    """What stands in the report besides the queries: bytes a row by name, seconds by the way of loading, those of counts behind a load,
-    statements a second by the sharing, contests, what is fast in its own way, and what a Redis sorted set takes, if there is one."""
+    """What stands in the report besides the queries: bytes a row by name, the steps of rows by policy in millions, seconds by the way of loading, those of
+    counts after a load, statements a second by the sharing, contests, what is fast in its own way, and what a Redis sorted set takes, if there is one."""
 
     rows: int
     ranges: int
     runs: int
     memory: dict
+    moves: dict
     loading: dict
     counts: dict
     workers: dict
@@ -310,6 +311,7 @@ def write(folder, bench, peers, measured):
         "ways": bars(ways, "rows a millisecond"),
         "workers": bars(workers, "statements a millisecond"),
         "memory": bars(measured.memory, "bytes"),
+        "moves": bars(measured.moves, "million steps"),
     }
     folder.mkdir(parents=True, exist_ok=True)
     for name, plot in plots.items():
@@ -341,6 +343,12 @@ A key and a payload are 16 bytes, and a sorted array of them needs no more. `cra
 or among the pending rows, and in the history the insert with its reply, in whose place a checkpoint keeps 24 bytes:
 
 ![bytes a row](memory.svg)
+
+## What each policy moves
+
+How often a row is put in, taken out, put back, or moved from one piece to the next, in millions of steps. The same in each run, and for the column in plain Rust:
+
+![steps of rows under each policy](moves.svg)
 
 ## Where crackd is slower
 
