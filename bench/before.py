@@ -34,7 +34,7 @@ UNITS = {"ms": 1e6, "M": 1e6, "": 1}
 class Thing:
     """What is measured in one go."""
 
-    # what is told, and the names of the figures that are added for it
+    # what is reported, and the names of the figures that are added for it
     lines: list
     # measures programs once: what they wrote, if that is to be the same, and figures by name
     measure: typing.Callable
@@ -160,7 +160,7 @@ def steps():
 
 
 def folds():
-    lines = [(f"a checkpoint of {sizes.PART_ROWS} inserts", ["fold"]), (f"the same behind {sizes.CHANGES} deletes and inserts", ["mixed_fold"])]
+    lines = [(f"a checkpoint of {sizes.PART_ROWS} inserts", ["fold"]), (f"the same after {sizes.CHANGES} deletes and inserts", ["mixed_fold"])]
     yield of_bench(lines, "fold", "gradual", sizes.PART_ROWS, sizes.CHANGES)
 
 

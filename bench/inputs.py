@@ -36,7 +36,7 @@ def random_counts(count):
 
 
 def deletes(count, behind):
-    """A file of inserts, of these lines behind them, and of as many deletes of the rows in random order, which end with these lines too."""
+    """A file of inserts, of these lines after them, and of as many deletes of the rows in random order, which end with these lines too."""
     order = list(range(sizes.PART_ROWS))
     random.Random(5).shuffle(order)
     rows = random_insert_lines(sizes.PART_ROWS)
@@ -44,13 +44,13 @@ def deletes(count, behind):
 
 
 def inserts_and_counts(lines):
-    """A file of as many lines: half of them random inserts, and behind them counts that crack the column, and counts between its bounds."""
+    """A file of as many lines: half of them random inserts, and after them counts that crack the column, and counts between its bounds."""
     cracks, counts = part_counts(lines // 2)
     return script(f"inserts-and-counts-{lines}", [*random_insert_lines(lines // 2), *cracks, *counts][:lines])
 
 
 def records(rows):
-    """A file of the records of as many random rows, and one of the same rows as inserts, with a select of everything behind them."""
+    """A file of the records of as many random rows, and one of the same rows as inserts, with a select of everything after them."""
     lines = random_insert_lines(rows)
     pairs = (line.split()[1:] for line in lines)
     return script(f"records-{rows}", (",".join(pair) for pair in pairs)), script(f"listed-{rows}", [*lines, f"select {sizes.EVERYTHING}"])

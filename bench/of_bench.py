@@ -30,7 +30,7 @@ def measure_column(table, runs):
 
 
 def beside(word, kinds, numbers, runs):
-    """Runs a word by `crack_bench` and by plain Rust's kinds of tables. What each reported, ours behind the others."""
+    """Runs a word by `crack_bench` and by plain Rust's kinds of tables. What each reported, ours after the others."""
     words = [str(number) for number in numbers]
     return compare([[PEERS, word, kind, *words] for kind in kinds] + [[BENCH, word, "gradual", *words]], runs)
 
@@ -153,14 +153,14 @@ def measure_folds(table, runs):
     ours, sorts = compare([[BENCH, "fold", "gradual", *words], [PEERS, "fold", *words]], runs)
     for what, name, bound in (
         (f"a checkpoint of {rows} inserts", "fold", 0.5),
-        (f"a checkpoint behind {changes} deletes and inserts that mixed these", "mixed_fold", 2.0),
+        (f"a checkpoint after {changes} deletes and inserts that mixed these", "mixed_fold", 2.0),
     ):
         fold, copy, sort = middle_of(ours, name), f"{name}_copy", f"{name}_sort"
         table.line(f"{what}, beside a sort", fold, middle_of(sorts, sort), bound)
         table.line("the same, beside a copy that is then sorted", fold, middle_of(sorts, copy, sort))
     for what in ("inserts", "counts"):
         after, before = (middle_of(ours, f"{what}_{when}") for when in ("after", "before"))
-        table.line(f"{sizes.NEXT} {what} behind a checkpoint, beside as many before it", after, before)
+        table.line(f"{sizes.NEXT} {what} after a checkpoint, beside as many before it", after, before)
 
 
 def measure_growth(table, runs):

@@ -104,7 +104,7 @@ def measure_batch(table, runs):
         table.gain(what, rate, rates[0], least if workers == sizes.WORKER_COUNTS[-1] else None)
 
 
-# the lines behind the inserts, by where the rows then are that are deleted
+# the lines after the inserts, by where the rows then are that are deleted
 DELETED = {"pending rows": [], "a column of one piece, and a count": [f"count {sizes.EVERYTHING}"]}
 
 
@@ -136,7 +136,7 @@ def read_instructions(crackd, word):
 
 
 def split_instructions(crackd, splits, whole, front):
-    """How many instructions a file's lines take behind those that come before."""
+    """How many instructions a file's lines take after those that come before."""
     words = [crackd, "script", *splits]
     return instructions(words, whole) - instructions(words, front)
 
@@ -149,7 +149,7 @@ def measure_splits(table, _runs):
         table.numbers(f"{what}, {len(sizes.SPLITS)} splits beside none, instructions", many, none, 1.1)
 
 
-# the lines behind the inserts, by where the rows then are, what of the memory is read, and how many bytes a row may take
+# the lines after the inserts, by where the rows then are, what of the memory is read, and how many bytes a row may take
 HELD = {
     "pending": ([], "VmHWM", 210),
     "in the column": ([f"count {sizes.EVERYTHING}"], "VmRSS", 200),

@@ -15,7 +15,7 @@ LIBRARY = TOP / "python" / "crackd" / "libcrackd.so"
 PAGE = TOP / "docs" / "PYTHON.md"
 BEGIN, END = "<!-- times: bench/run.py python -->\n", "<!-- end of times -->\n"
 SORTED, MASKS, SQLITE = "numpy, sorted", "numpy, masks", "SQLite, an index"
-# what is told of each step, by its name
+# what is reported of each step, by its name
 STEPS = {
     "load": "load, in order where there is one",
     "counts": "{ranges} counts of new ranges of 1 %",

@@ -37,7 +37,7 @@ def measure_gathering(table, runs):
     ours, folded, theirs = compare([[WORKERS, "gathered", *words], [WORKERS, "folded", *words], [PEERS, "copies", *words]], runs)
     what = f"gathering {workers} workers with {2 * workers * most} entries"
     table.line(f"{what}, beside copies of both lists", middle_of(ours, "gather"), middle_of(theirs, "copies"), 3.0)
-    table.line("the same behind a checkpoint of each partition, beside none", middle_of(folded, "gather"), middle_of(ours, "gather"), 1.1)
+    table.line("the same after a checkpoint of each partition, beside none", middle_of(folded, "gather"), middle_of(ours, "gather"), 1.1)
     if has_valgrind():
         both = [[str(workers), str(rows)] for rows in (most // 2, most)]
         half, whole = (instructions([WORKERS, "gathered", *size]) - instructions([WORKERS, "loaded", *size]) for size in both)

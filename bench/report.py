@@ -265,7 +265,7 @@ def loading_table(measured):
 
 
 def count_table(counts):
-    """What counts take behind a load, by what was said before them."""
+    """What counts take after a load, by what was said before them."""
     lines = [
         ("loading by `insert`", counts["load"]),
         ("each count at once, under `ripple`, the policy of the start", counts["cold"]),

@@ -65,7 +65,7 @@ def measure_before(folder, words, runs):
 
 
 def given(words):
-    """The options of a command line, the folder behind --before, if any, and what is to be measured."""
+    """The options of a command line, the folder after --before, if any, and what is to be measured."""
     words, folder = list(words), None
     if "--before" in words:
         at = words.index("--before")

@@ -10,7 +10,7 @@ REPEATS, SET_REPEATS = 100, 10
 POLICIES = ["complete", "gradual", "ripple"]
 # how many sums, and how many deletes and inserts before each
 BATCHES = [(1000, 10), (100, 1000)]
-# how many deletes and inserts there are between two checkpoints; and, as crack_bench counts them, commands of one kind before one and behind it
+# how many deletes and inserts there are between two checkpoints; and, as crack_bench counts them, commands of one kind before one and after it
 CHANGES, NEXT = 100_000, 1000
 PIECES, PENDING = 1000, 1000
 # over how many pieces rows go step by step, and how many rows

@@ -21,7 +21,7 @@ BATCH = 10
 
 
 class Crackd:
-    """Requests to a table of one partition, as bytes, and what a reply to a count tells."""
+    """Requests to a table of one partition, as bytes, and what a reply to a count says."""
 
     warm_up = [b"policy complete\n", b"count %b\n" % sizes.EVERYTHING.encode(), b"policy ripple\n"]
 
@@ -107,7 +107,7 @@ def redis():
     words = [REDIS, "--port", str(port), "--bind", "127.0.0.1", "--save", "", "--appendonly", "no", "--dir", OUT]
     started = subprocess.Popen(words, stdin=subprocess.DEVNULL, stdout=subprocess.PIPE)
     try:
-        # (it says much before it accepts connections, and nothing more behind its last line but at its end)
+        # (it says much before it accepts connections, and nothing more after its last line until its end)
         ready = any(b"Ready to accept connections" in line for line in started.stdout)
         yield port if ready else sys.exit(f"{REDIS} ended")
     finally:

@@ -1,7 +1,7 @@
 """The lines of the table, and whether a ratio was above its bound."""
 
 
-# how wide what is told of is
+# how wide the names of what is measured are
 WIDTH = 80
 
 

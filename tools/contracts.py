@@ -32,14 +32,14 @@ class Clause:
 
 @dataclasses.dataclass(frozen=True, eq=False)
 class Call(definitions.Item):
-    """A function with its clauses: its path behind its crate, without modules, and what its signature cites."""
+    """A function with its clauses: its path after its crate, without modules, and what its signature cites."""
 
     path_called: tuple = ()
     signature: frozenset = frozenset()
     clauses: tuple = ()
 
     def is_called(self, parts):
-        """Whether these are the parts of its path behind its crate, with its modules or without them."""
+        """Whether these are the parts of its path after its crate, with its modules or without them."""
         return tuple(parts) == self.path_called or "::".join([self.crate, *parts]) == self.name
 
 
@@ -103,7 +103,7 @@ def ghost_items(source, block, names):
 
 
 def clause_at(source, at, scope, bound):
-    """The clause that begins in a line, and the line behind it."""
+    """The clause that begins in a line, and the line after it."""
     found = CLAUSE.match(source.lines[at])
     span = source.whole(at, ("}", "};"))
     text = text_of(source.said(span))[found.end() :]

@@ -45,7 +45,7 @@ class Crate:
 
 
 def parsed(text):
-    """The lines of a crates.txt by the names of their crates, in their order: each line, and the words behind its colon."""
+    """The lines of a crates.txt by the names of their crates, in their order: each line, and the words after its colon."""
     lines = [it.partition("#")[0].strip() for it in text.splitlines()]
     parted = [(line, line.partition(":")) for line in lines if line]
     return {before.split()[0]: (line, after.split()) for line, (before, _, after) in parted}
@@ -53,7 +53,7 @@ def parsed(text):
 
 @functools.lru_cache(maxsize=None)
 def listed():
-    """All crates by name, each behind those that it uses."""
+    """All crates by name, each after those that it uses."""
     lines = parsed((TOP / "crates.txt").read_text())
     found = {name: Crate(name, line, tuple(it for it in words if it in lines)) for name, (line, words) in lines.items()}
     ordered = {}
@@ -72,7 +72,7 @@ def listed():
 
 @functools.lru_cache(maxsize=None)
 def below(name):
-    """The crates that a crate stands on, each behind those that it uses itself."""
+    """The crates that a crate stands on, each after those that it uses itself."""
     used = set()
     for it in listed()[name].uses:
         used |= {it, *(crate.name for crate in below(it))}
@@ -81,7 +81,7 @@ def below(name):
 
 @functools.lru_cache(maxsize=None)
 def toolchain():
-    """What tells one toolchain from another, found without starting it."""
+    """What distinguishes one toolchain from another, found without starting it."""
     rt = shutil.which("rt")
     if not rt:
         sys.exit("the command rt isn't installed: CONTRIBUTING.md says what has to be")

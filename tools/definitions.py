@@ -2,7 +2,7 @@
 
 What the crates say is read into items: definitions here, and types, ghost members and calls in contracts.py. Each has a name:
 `crack_part.Parts.IsSound` is a definition, `crack_part::partition::Partition` a type. Names are told apart by the file's own definitions and its `use`
-lines; what a text binds itself, and fields behind a full stop, are none. What is of no crate of the repository is no item.
+lines; what a text binds itself, and fields after a full stop, are none. What is of no crate of the repository is no item.
 """
 
 import dataclasses
@@ -53,7 +53,7 @@ def named_by(crate, module, name=""):
 
 
 def used(line):
-    """The names that a `use` line brings, each with the item that it is, or, with a full stop behind it, with the module."""
+    """The names that a `use` line brings, each with the item that it is, or, with a full stop after it, with the module."""
     found = USE.match(line)
     if not found:
         return {}

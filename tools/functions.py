@@ -19,7 +19,7 @@ class Function:
     name: str
 
     def is_named(self, parts):
-        """Whether a check's name for a function, in parts behind the crate's, means this one or a closure in it."""
+        """Whether a check's name for a function, in parts after the crate's, means this one or a closure in it."""
         if tuple(parts[: len(self.module)]) != self.module:
             return False
         rest = list(parts[len(self.module) :])

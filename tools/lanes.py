@@ -41,7 +41,7 @@ class Task:
 
 
 def ranks(tasks):
-    """The weight of the longest chain that begins with each task. A task comes behind those that it waits for."""
+    """The weight of the longest chain that begins with each task. A task comes after those that it waits for."""
     found = dict.fromkeys(tasks, 0)
     for key in reversed([*tasks]):
         found[key] += tasks[key].weight

@@ -2,7 +2,7 @@
 """Proves crates side by side, each as soon as those below it are, and builds programs: prove.py NAME.. [-- WORD..]
 
 Each is proved as the gate proves it, but that what didn't change isn't proved again: crates that are up to date are passed over, and start nothing of the
-toolchain. What is done is told on standard error. A crate that fails ends all; what was proved is kept. With words behind `--` the one program that is
+toolchain. What is done is reported on standard error. A crate that fails ends all; what was proved is kept. With words after `--` the one program that is
 named is then run with them, on standard input and output.
 """
 

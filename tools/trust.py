@@ -2,7 +2,7 @@
 """Prints and counts what a reader has to read to know what is promised: trust.py [--count] [--each] [--all] [PROMISE ..]
 
 For the promises of docs/PROOFS.md and the sentence above them (PROMISE: their names, or `headline`; else all) it prints the clauses of their calls
-and the definitions, types and ghost members that these cite, in turn, each behind what it cites, with its file and line. Counted are the lines of
+and the definitions, types and ghost members that these cite, in turn, each after what it cites, with its file and line. Counted are the lines of
 clauses, definitions and ghost members; those of types and constants, which are code, are counted apart, beside them. Comments and the first lines of
 functions are printed and not counted; the names that a file brings from others, and what stands in a library, are neither. --count leaves the text
 out, --each adds the numbers of each crate, and --all those of all that stands in specs/, comments and `use` lines too, and in public clauses, with the
