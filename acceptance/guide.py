@@ -226,6 +226,16 @@ def environment_for(program: pathlib.Path, folder: str) -> dict[str, str]:
     return {**os.environ, "PATH": path, "CRACKD": str(program), "PYTHONPATH": str(PACKAGE), "LC_ALL": "C.UTF-8"}
 
 
+def faults(program: pathlib.Path, page: str, heading: str) -> list[str]:
+    """What is wrong with the commands of a section."""
+    result = Result()
+    with tempfile.TemporaryDirectory(prefix="crackd-guide-") as folder:
+        environment = environment_for(program, folder)
+        for section in (it for path in PAGES for it in sections(path) if (it.page, it.heading) == (page, heading)):
+            run_section(section, environment, result)
+    return result.faults
+
+
 def run(program: str | pathlib.Path, word: str = "", pages: list[pathlib.Path] | None = None) -> tuple[int, int]:
     """Runs all commands, or those of the sections whose heading has the word. How many passed, and how many failed."""
     result = Result()

@@ -21,14 +21,12 @@ TOP = pathlib.Path(__file__).resolve().parent.parent
 sys.path.insert(0, str(TOP / "tools"))
 
 import check_clients
-import check_guide
 import check_histories
 import check_hostile
 import check_tools
 import clients
 import crates
 import examples
-import guide
 import histories
 import hostile
 import package
@@ -40,6 +38,7 @@ import run
 import server
 import server_ends
 import server_limits
+import test_guide
 
 PROGRAM = TOP / "crates" / "crackd" / "out" / "crackd"
 HISTORIES = TOP / "crates" / "crack_histories" / "out" / "crack_histories"
@@ -137,7 +136,7 @@ def test_all():
     if PROGRAM.exists():
         more = [check_tools.run_all(), check_hostile.run_all(), check_clients.run_all(), run.run_all(PROGRAM), random_script.run(PROGRAM)]
         more += [server.run(PROGRAM), server_ends.run(PROGRAM), server_limits.run(PROGRAM), clients.run(PROGRAM), hostile.run(PROGRAM), examples.run(PROGRAM)]
-        more += [package.run(PROGRAM), check_guide.run_all(), guide.run(PROGRAM)]
+        more += [package.run(PROGRAM), test_guide.run_all()]
         more_passed, more_failed = (sum(it) for it in zip(*more))
     else:
         print("acceptance: the gate left no program, so no case was run")

@@ -1,9 +1,11 @@
 #!/usr/bin/env python3
-"""Cases of guide.py: what it takes for commands, what it takes for the same text, and that it finds a command that writes something else."""
+"""The commands of docs/GUIDE.md and README.md, a check a section; and what guide.py takes for commands, and that it finds one that writes something else."""
 
 import contextlib
 import io
+import os
 import pathlib
+import re
 import sys
 import tempfile
 import unittest
@@ -60,7 +62,7 @@ def told(text: str) -> tuple[int, int, str]:
     return passed, failed, printed.getvalue()
 
 
-class Guide(unittest.TestCase):
+class Checker(unittest.TestCase):
     def test_each_command_is_run_once_and_what_lacks_something_is_skipped(self):
         passed, failed, printed = told(PAGE)
         self.assertEqual((passed, failed), (5, 0))
@@ -77,6 +79,28 @@ class Guide(unittest.TestCase):
     def test_dots_stand_for_any_text(self):
         self.assertTrue(guide.fits("took ... ms\n", "took 1.5\n2 ms\n"))
         self.assertFalse(guide.fits("took ... ms\n", "took 1.5 s\n"))
+
+
+class Commands(unittest.TestCase):
+    """The commands of each section, on the program that CRACKD names, or that of this checkout."""
+
+    def setUp(self):
+        self.program = pathlib.Path(os.environ.get("CRACKD", guide.TOP / "crates" / "crackd" / "out" / "crackd")).resolve()
+        if not self.program.exists():
+            self.skipTest("crackd isn't built")
+
+    def assert_right(self, page, heading):
+        self.assertEqual(guide.faults(self.program, page, heading), [])
+
+
+def add_sections():
+    """Adds a check for each section that has commands."""
+    for section in (it for page in guide.PAGES for it in guide.sections(page)):
+        name = re.sub(r"\W+", "_", f"{section.page.removesuffix('.md')} {section.heading}".lower())
+        setattr(Commands, f"test_{name}", lambda self, page=section.page, heading=section.heading: self.assert_right(page, heading))
+
+
+add_sections()
 
 
 def run_all():
