@@ -2,7 +2,7 @@
 python3 -m crackd shell --port N
 
 Without a port it starts a server of its own, which ends with it. On a terminal it prompts, says what a refusal means, and how long each statement
-took, keeps what was typed in a file, and completes words by Tab; `help` tells what can be said. Where its input or output is no terminal it answers line by
+took, keeps what was typed in a file, and completes words by Tab; `help` lists the statements. Where its input or output is no terminal it answers line by
 line and says nothing else. The status is 0; 1 where no server can be had, or it left, or of a filter a statement was refused or a command wasn't done; 2
 where the command line was refused.
 """
@@ -21,10 +21,11 @@ from ..server import NoServer, find_program
 from . import modes, typing
 from .child import Interrupts, Server, channel_to
 from .session import POLICY, Records, Session
-from .texts import HELP, Ended, Fault, Interrupted, Left, complain, fault_text, in_words, time_text
+from .texts import GREATEST_KEY, HELP, Ended, Fault, Interrupted, Left, complain, fault_text, in_words, time_text
 
 PROMPT = "crackd> "
 MOST_LINE_BYTES = 200
+RANGED = (b"count", b"sum", b"select")
 GREATEST_PORT = 65535
 SECONDS_OF_A_PROGRESS = 0.1
 
@@ -138,7 +139,7 @@ class Shell:
         complain(text)
 
     def statement(self, statement):
-        reply = self.session.ask(statement)
+        reply = self.session.ask(with_ends(statement))
         self.answered += 1
         self.refused += reply.is_refusal
         self.faults += reply.is_refusal
@@ -274,6 +275,14 @@ def ended(text):
     return text.strip(b" ").removesuffix(b";").rstrip(b" ")
 
 
+def with_ends(statement):
+    """A statement in which the word `end` of a range stands as the number past the greatest key."""
+    words = statement.split(b" ")
+    if ended(statement).split(b" ")[0] not in RANGED:
+        return statement
+    return b" ".join(b"%d" % (GREATEST_KEY + 1) if it == b"end" else it for it in words)
+
+
 def typed_lines(interrupts):
     """The lines that a person types, until control-D. A control-C leaves out the one that was begun."""
     sys.stdin.reconfigure(errors="surrogateescape")
@@ -314,7 +323,7 @@ def talk(port, policy, is_known, interrupts):
     if policy and not is_known:
         session.demand(f"policy {policy}")
     if is_terminal:
-        print(f"crackd on port {port}; help tells what can be said, control-D ends")
+        print(f"crackd on port {port}; help lists the statements, control-D ends")
     shell = Shell(session, interrupts, is_terminal)
     shell.run(typed_lines(interrupts) if is_terminal else given_lines(interrupts))
     channel.close()

@@ -10,7 +10,7 @@ LEAST_PAYLOAD, GREATEST_PAYLOAD = -9223372036854775808, 9223372036854775807
 REFUSED = re.compile("refused ([0-9]+)")
 
 MEANINGS = {
-    "1": "this is no statement; help tells which there are",
+    "1": "this is no statement; help lists them",
     "2": "the low end of the range is above its high end, or that is above 18446744073709551616",
     "4": "the key is of another partition, and a row never leaves its own",
     "5": "there is no such partition",
@@ -34,7 +34,7 @@ HELP = """\
 insert K V        a row of key K and payload V; the reply is its row number P.S
 delete P.S        that row goes
 update P.S K V    that row gets another key and payload
-count LO HI       how many rows have keys from LO up to and without HI; 0 18446744073709551616 is everything
+count LO HI       how many rows have keys from LO up to and without HI; the word end is past all keys: count 0 end
 sum LO HI         the sum of their payloads
 select LO HI      these rows, a line P.S K V for each
 layout P          what stands where in partition P, as numbers
