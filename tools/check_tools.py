@@ -1,6 +1,7 @@
 """Cases of the tools: which function a place lies in, which edits are tried together, what a change touches, and what is read for a promise."""
 
 import pathlib
+import re
 import sys
 import tempfile
 import unittest
@@ -321,6 +322,13 @@ class Documents(unittest.TestCase):
     def test_a_test_that_is_not_there_is_found(self):
         page = f"{tested.HEADING}\nseen by `no_such_test` and `check_tools`\n\n## Next\n"
         self.assertEqual(tested.linked(page), (page, ["no_such_test", "check_tools"]))
+
+    def test_the_guide_has_each_refusal_and_each_statement(self):
+        guide, rules = ((crates.TOP / "docs" / it).read_text(encoding="utf-8") for it in ("GUIDE.md", "SPECIFICATION.md"))
+        asked = [re.findall(r"\d+", row) for row in numbers_held.table(guide, ["No.", "Cause"])]
+        self.assertEqual(sum(asked, []), list(numbers_held.table(rules, ["No.", "Comes where"])))
+        named = [{row.strip("`").split(" ")[0] for row in numbers_held.table(text, ["Statement"])} for text in (guide, rules)]
+        self.assertEqual(*named)
 
     def test_links_lead_somewhere(self):
         self.assertEqual(links.broken(), [])

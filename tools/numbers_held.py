@@ -4,6 +4,7 @@ A line of NUMBERS is a document, a text of it in which {} stands for the number,
 one line or over several, with the number in digits, in threes by commas or in one row. `mismatches` says which lines don't hold.
 """
 
+import itertools
 import pathlib
 import re
 
@@ -97,14 +98,10 @@ def mismatches(numbers=None, top=TOP):
 
 def table(text, first):
     """The table of a text whose first row begins with these cells: its cells by the first of a row and the first of a column."""
-    rows = [[it.strip() for it in line.strip("|").split("|")] for line in text.splitlines() if line.startswith("|")]
+    rows = [[it.strip() for it in line.strip("|").split("|")] if line.startswith("|") else [] for line in text.splitlines()]
     start = next(at for at, row in enumerate(rows) if row[: len(first)] == first)
-    columns, found = rows[start], {}
-    for row in rows[start + 2 :]:
-        if len(row) != len(columns):
-            break
-        found[row[0]] = dict(zip(columns[1:], row[1:]))
-    return found
+    body = itertools.takewhile(bool, rows[start + 2 :])
+    return {row[0]: dict(zip(rows[start][1:], row[1:])) for row in body}
 
 
 def figure_mismatches(top=TOP):
