@@ -15,13 +15,15 @@ import crates
 import definitions
 import sources
 
-# the crates of tests and of measurements, which promise nothing
-LEFT_OUT = {
-    *("crack_tests", "crack_session_tests", "crack_table_tests", "crack_server_tests", "crack_failing"),
-    *("crack_bench", "crack_bench_workers", "crack_histories"),
-}
+# the crates that tests stand on, and those of measurements: like the tests themselves they promise nothing
+LEFT_OUT = {"crack_failing", "crack_gates", "crack_bench", "crack_bench_workers", "crack_histories"}
 HEADLINE = "headline"
 CALLS = re.compile(r"`([\w:]+)::(\w+|\{[\w, ]+\})`(?: \(((?:`\w+`(?:, )?)+)\))?")
+
+
+def is_left_out(crate):
+    """Whether a crate promises nothing."""
+    return crate in LEFT_OUT or crate.endswith("_tests")
 
 
 class Reading:
@@ -33,7 +35,7 @@ class Reading:
         self.had = collections.defaultdict(set)
         traits = {it.name for it in items if it.kind == "trait"}
         for it in items:
-            if it.kind == "ghost" and it.crate not in LEFT_OUT:
+            if it.kind == "ghost" and not is_left_out(it.crate):
                 for trait in it.cites & traits:
                     self.had[trait].add(it.name)
 

@@ -66,7 +66,7 @@ def table(whole, promises, chosen, with_crates):
 
 def is_public(item):
     """Whether an item is what a crate promises to others."""
-    return item.is_public and item.crate not in reading.LEFT_OUT
+    return item.is_public and not reading.is_left_out(item.crate)
 
 
 def all_lines(whole):

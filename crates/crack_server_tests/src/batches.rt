@@ -1,5 +1,5 @@
 //! Batches over memory.
-use crack_failing::Meeting;
+use crack_gates::Meeting;
 use crack_row::{Bound, Limits, Policy, Refusal};
 use crack_server::run_batch;
 use crack_table::{Gate, OpenGate};

@@ -1,32 +1,16 @@
-//! Tests that run through the public calls of the plain table, a partition and a session: what no clause says.
+//! Tests that run through the public calls of a session: what no clause says.
 #![tactic(auto)]
 
 #[cfg(test)]
-mod book;
-#[cfg(test)]
-mod changes;
-#[cfg(test)]
-mod commands;
+mod desks;
 #[cfg(test)]
 mod faults;
-#[cfg(test)]
-mod jobs;
 #[cfg(test)]
 mod lines;
 #[cfg(test)]
 mod log;
 #[cfg(test)]
 mod memory;
-#[cfg(test)]
-mod one_core;
-#[cfg(test)]
-mod part;
-#[cfg(test)]
-mod partitions;
-#[cfg(test)]
-mod plain;
-#[cfg(test)]
-mod records;
 #[cfg(test)]
 mod session;
 #[cfg(test)]

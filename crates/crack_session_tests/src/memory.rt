@@ -1,10 +1,11 @@
 //! Sessions that find no memory for a statement: what was refused changed nothing.
 //!
 //! The tests `sweep_..` hold whichever one of their allocations is refused, so they may be run with each of them refused in turn.
+use crate::desks::{Refusing, Starved};
 use crate::faults::joined;
 use crate::session::{assert_run, session};
 use crack_core::Core;
-use crack_failing::{Refusing, Sink, Starved};
+use crack_failing::Sink;
 use crack_plain::PlainTable;
 use crack_row::{GREATEST_LIMIT, Layout, Policy, Refusal, Watched};
 use crack_session::{Desk, End, How, serve};

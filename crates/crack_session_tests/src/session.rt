@@ -1,6 +1,7 @@
 //! Sessions over memory, however their bytes are cut.
+use crate::desks::Refusing;
 use crack_core::Core;
-use crack_failing::{ONE_BYTE, Refusing, Source};
+use crack_failing::{ONE_BYTE, Source};
 use crack_plain::PlainTable;
 use crack_row::{
     Command, GREATEST_BOUND, GREATEST_KEY, GREATEST_LIMIT, Key, KeyRange, Payload, Policy, Refusal,

@@ -2,7 +2,7 @@
 use crate::values::totals;
 use crack_commands::write_refusal;
 use crack_core::Core;
-use crack_failing::Shut;
+use crack_gates::Shut;
 use crack_row::{Bound, GREATEST_LIMIT, Policy, Refusal, Watched};
 use crack_session::{Desk, End, How, serve};
 use crack_table::{OpenGate, Table};
