@@ -11,8 +11,8 @@ import threading
 import time
 
 from client_rows import part_of, parts_asked
+from fixtures import SECONDS, Client, Wrong, expect
 from random_script import LEAST_PAYLOAD
-from server import SECONDS, Client, Wrong, expect
 
 # how long a client waits for a worker and its reply
 PATIENT_SECONDS = 2 * SECONDS

@@ -12,8 +12,8 @@ import collections
 import re
 
 import random_script
-from random_script import MOST_CELLS, MOST_ENTRIES, MOST_LIFE, Limits
-from server import MOST, Wrong, expect
+from fixtures import Wrong, expect
+from random_script import MOST, MOST_CELLS, MOST_ENTRIES, MOST_LIFE, Limits
 
 BYTES_OF_A_COMMAND, BYTES_OF_A_LISTED_ROW, BYTES_OF_A_SESSION = 330, 60, 100_000
 INSERT = re.compile(r" *insert +(\d{1,20}) +(-?\d{1,20}) *")

@@ -1,27 +1,22 @@
-#!/usr/bin/env python3
-"""Runs a server among clients of all kinds, most of them bad ones: clients.py PROGRAM [--seed N] [--sessions N] [--workers N] [--seconds N]
+"""A server among clients of all kinds, most of them bad ones.
 
 Some connect and close, reset the connection, send half a line, one byte a second, random bytes, 64 MB without a line feed or 200,000 statements at once, say
 nothing, or have large lists written to them and read none. In between are honest ones. Each has keys of its own: every reply that is read is held against a
 list of the client's own rows, and when all have gone the rows that stand, the totals and the memory that the server took are held against what all of them
 were answered (client_rows.py). Honest ones ask for checkpoints amid their work, but in one case, and where a history is full; of three seeds two have small
 limits. The server has to end by itself once its sessions are served. A seed gives the same clients again; in which order a server comes to them it doesn't say.
-Without options it runs the cases of `make test`, and prints 'clients: N passed, M failed' at its end.
 """
 
-import argparse
 import concurrent.futures
 import pathlib
 import random
-import subprocess
-import sys
 import threading
 import time
 
 from client_kinds import ABRUPT, KINDS, TAKE_LONG, Connection, Guest, honest, silent
 from client_rows import Account, Own, check_folded, check_totals, come_to, most_bytes
-from random_script import MOST_LIFE, Limits
-from server import MOST, MOST_WORKERS, SECONDS, Wrong, expect, started
+from fixtures import FAULTS, MOST_WORKERS, SECONDS, Server, Wrong, expect
+from random_script import MOST, MOST_LIFE, Limits
 
 SEED, SESSIONS, SLOW_SECONDS = 1, 400, 8
 MOST_SESSIONS, MOST_SECONDS = 3000, 40
@@ -33,8 +28,6 @@ LIMITS = [Limits(500, life=4000), Limits(), Limits(500, 1500)]
 # from this size on a block of memory is mapped by itself; else the C library raises that size to that of the greatest block that was given back, as the one of
 # a folded history is, and what grows in smaller blocks leaves holes, which aren't what the server asks for. Without checkpoints nothing is given back.
 MAPPED_FROM = {"MALLOC_MMAP_THRESHOLD_": "131072"}
-# what a wrong reply or a lost connection comes to
-FAULTS = (Wrong, OSError, ValueError, IndexError, subprocess.TimeoutExpired)
 
 
 class Peak(threading.Thread):
@@ -186,20 +179,14 @@ class Storm:
     def run(self):
         """Runs it. What it came to, as numbers by their names."""
         before = time.monotonic()
-        words = ["--policy", self.policy, *self.limits.words(), *map(str, self.splits)]
-        server, port = started(self.program, self.workers, self.sessions, *words, environment=MAPPED_FROM if self.folds else {})
-        try:
-            peak = Peak(server.pid)
+        words = ["--sessions", str(self.sessions), "--quiet", "--policy", self.policy, *self.limits.words(), *map(str, self.splits)]
+        with Server(self.program, self.workers, *words, environment=MAPPED_FROM if self.folds else {}) as server:
+            peak = Peak(server.process.pid)
             peak.start()
-            self.visit_all(port)
-            account = self.look(port, peak)
-            wrote, complained = server.communicate(timeout=SECONDS)
-            expect("status and standard error", (0, ""), (server.returncode, complained))
-        except subprocess.TimeoutExpired as error:
-            raise Wrong("the server didn't end") from error
-        finally:
-            server.kill()
-            server.communicate()
+            self.visit_all(server.port)
+            account = self.look(server.port, peak)
+            status, wrote, complained = server.ended()
+            expect("status and standard error", (0, ""), (status, complained))
         peak.join()
         return self.hold(account, wrote, peak) | {"seconds": round(time.monotonic() - before, 1)}
 
@@ -258,110 +245,12 @@ def storm(program, seed=SEED, sessions=SESSIONS, workers=MOST_WORKERS, seconds=S
 
 
 def fault(program, seed):
-    """What is wrong with a run of a size that the seed draws, or None."""
+    """A run of a size that the seed draws."""
     numbers = random.Random(seed)
     workers = numbers.choice([4, 8, 32, MOST_WORKERS])
-    return fault_of(program, seed, workers + numbers.randrange(250, 500), workers, numbers.randrange(1, 20))
+    storm(program, seed, workers + numbers.randrange(250, 500), workers, numbers.randrange(1, 20))
 
 
 def whole_fault(program, seed):
-    """What is wrong with a run of many sessions, or None."""
-    return fault_of(program, seed, MOST_SESSIONS, MOST_WORKERS, MOST_SECONDS)
-
-
-def fault_of(program, *given):
-    """What is wrong with a run, or None."""
-    try:
-        storm(program, *given)
-    except FAULTS as error:
-        return f"seed, sessions, workers and seconds {given}: {error}"
-    return None
-
-
-def among_all_kinds(program):
-    """A server among clients of all kinds, none of which asks for a checkpoint."""
-    print(told(storm(program, folds=False)), flush=True)
-
-
-def among_checkpoints(program):
-    """The same, with checkpoints amid the honest ones' work."""
-    print(told(storm(program)), flush=True)
-
-
-def under_small_limits(program):
-    """The same, where histories get full and cells may run out."""
-    print(told(storm(program, SEED + 1)), flush=True)
-
-
-def under_short_lives(program):
-    """The same, where histories get full and lives may end."""
-    print(told(storm(program, SEED + 2)), flush=True)
-
-
-def all_but_one_are_silent(program):
-    """Silent clients hold their own workers alone: with one worker left, a hundred clients are served one behind the other."""
-    splits, served, others_gone = [], 100, threading.Event()
-    width = MOST // (served + MOST_WORKERS - 1)
-    guests = [Own(splits, number * width, (number + 1) * width) for number in range(served + MOST_WORKERS - 1)]
-    server, port = started(program, MOST_WORKERS, len(guests))
-    quiet = [Connection(port) for _ in guests[served:]]
-    try:
-        for number, own in enumerate(guests[:served]):
-            honest(Guest(port, own, number, 1, 0, others_gone))
-        for it in quiet:
-            it.send(f"count 0 {MOST}\nquit\n")
-        held = sum(len(it.rows) for it in guests)
-        for it in quiet:
-            expect("a silent client", [f"count {held}"], it.reply())
-            expect("a silent client", ["bye"], it.reply())
-        wrote, complained = server.communicate(timeout=SECONDS)
-    finally:
-        server.kill()
-        server.communicate()
-    accepted = sum(it.accepted for it in guests) + len(quiet)
-    inserted, deleted = sum(it.inserted for it in guests), sum(it.deleted for it in guests)
-    totals = f"accepted {accepted} inserted {inserted} deleted {deleted} held {held}\n"
-    expect("status, output and standard error", (0, totals, ""), (server.returncode, wrote, complained))
-
-
-def told(figures):
-    return "clients: " + ", ".join(f"{name} {it}" for name, it in figures.items())
-
-
-CASES = [all_but_one_are_silent, among_all_kinds, among_checkpoints, under_small_limits, under_short_lives]
-
-
-def run(program):
-    """Runs all cases. How many passed, and how many failed."""
-    program = str(pathlib.Path(program).resolve())
-    failed = 0
-    for case in CASES:
-        try:
-            case(program)
-        except FAULTS as error:
-            failed += 1
-            print(f"clients: {case.__name__} FAILED\n    {error}")
-    print(f"clients: {len(CASES) - failed} passed, {failed} failed", flush=True)
-    return len(CASES) - failed, failed
-
-
-def main(words):
-    parser = argparse.ArgumentParser(description="Runs a server among clients of all kinds.")
-    parser.add_argument("program")
-    parser.add_argument("--seed", type=int)
-    parser.add_argument("--sessions", type=int, default=SESSIONS)
-    parser.add_argument("--workers", type=int, default=MOST_WORKERS)
-    parser.add_argument("--seconds", type=int, default=SLOW_SECONDS)
-    it = parser.parse_args(words)
-    if it.seed is None:
-        return 1 if run(it.program)[1] else 0
-    try:
-        print(told(storm(str(pathlib.Path(it.program).resolve()), it.seed, it.sessions, it.workers, it.seconds)))
-    except FAULTS as error:
-        print(f"clients: FAILED\n    {error}")
-        return 1
-    return 0
-
-
-if __name__ == "__main__":
-    sys.exit(main(sys.argv[1:]))
+    """A run of many sessions."""
+    storm(program, seed, MOST_SESSIONS, MOST_WORKERS, MOST_SECONDS)

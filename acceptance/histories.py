@@ -1,12 +1,10 @@
-#!/usr/bin/env python3
-"""Replays what workers on threads were answered: histories.py PROGRAM [STATEMENTS [SEED ..]]
+"""Replays what workers on threads were answered by `crack_histories`.
 
-PROGRAM is `crack_histories`, whose workers ask a table of three partitions, each on a thread of its own, and which prints what each was answered,
-its receipts, and the histories. What must come is written here from docs/SPECIFICATION.md: there is one order of all entries that each history
-and each worker keeps; in that order a list of rows gives each reply; each worker's receipts are of the replies that it was given; refusals come
-for their causes; and the totals are those of the histories. So whatever the schedule was, one thread could have answered the same. Each seed is
-tried under each policy, with checkpoints amid the work; by the seed histories get full, cells run out, or lives end. A run's line tells how often an
-entry follows one of another worker: that is up to the schedule, and nothing is claimed of it.
+Its workers ask a table of three partitions, each on a thread of its own, and it prints what each was answered, its receipts, and the histories. What must come
+is written here from docs/SPECIFICATION.md: there is one order of all entries that each history and each worker keeps; in that order a list of rows gives each
+reply; each worker's receipts are of the replies that it was given; refusals come for their causes; and the totals are those of the histories. So whatever the
+schedule was, one thread could have answered the same. Each seed is tried under each policy, with checkpoints amid the work; by the seed histories get full,
+cells run out, or lives end. A run's line tells how often an entry follows one of another worker: that is up to the schedule, and nothing is claimed of it.
 
 A partition that was folded is printed with its base, `partition P folded N inserted I deleted D rows R` and R lines `P.S K V`, and then with what it kept
 since. The entries that went are those of the receipts at the places before: each has exactly one, they are answered and ordered as all others, they come to
@@ -17,28 +15,21 @@ import bisect
 import collections
 import pathlib
 import subprocess
-import sys
 import typing
 
-MOST = 2**64
+from fixtures import Wrong
+from random_script import MOST, MOST_ENTRIES, POLICIES, Limits
+
 SPLITS = [2**63, 2**64 - 1000]
 ENDS = [0, *SPLITS, MOST]
 PARTS = range(len(ENDS) - 1)
-POLICIES = ["complete", "gradual", "ripple", "auto"]
 WORKERS = 4
 STATEMENTS, STATEMENTS_OF_A_SOAK = 1000, 10000
 SEEDS = range(1, 11)
 SECONDS = 60
-MOST_ENTRIES, MOST_CELLS, MOST_LIFE = 1000000, 1048576, 1099511627776
 # the program's gate refuses one of so many commands of a partition
 REFUSED_BY_THE_GATE = 50
 
-
-class Wrong(Exception):
-    """What is wrong with what a run printed."""
-
-
-Limits = collections.namedtuple("Limits", "history cells life", defaults=[MOST_CELLS, MOST_LIFE])
 Receipt = collections.namedtuple("Receipt", "part position worker asked")
 # what a checkpoint left: how many entries went, how many of them inserted and deleted a row, and the lines of the rows
 Base = collections.namedtuple("Base", "folded inserted deleted rows", defaults=[0, 0, 0, []])
@@ -339,40 +330,17 @@ def tried(program, words):
     return check(Printed(ran.stdout), int(words[1]), int(words[2]), Limits(*map(int, words[4:])))
 
 
-def fault(program, seed, statements=STATEMENTS, counted=None):
-    """What is wrong with the runs of a seed, one under each policy; None where they are right. `counted` gets the counts of `tried` added."""
+def check_seed(program, seed, statements=STATEMENTS):
+    """Tries the runs of a seed, one under each policy."""
     for policy in POLICIES:
         words = words_of(seed, statements, policy)
         try:
             entries, follows = tried(program, words)
         except (Wrong, subprocess.TimeoutExpired) as error:
-            return f"crack_histories {' '.join(words)}: {error}"
-        if counted is not None:
-            counted.update(entries=entries, follows=follows)
-    return None
+            raise Wrong(f"crack_histories {' '.join(words)}: {error}") from error
+        print(f"histories: seed {seed}, {policy}: {entries} entries, of which {follows} follow one of another worker")
 
 
 def soak_fault(crackd, seed):
     """The same of the program that was built beside `crackd`, of ten times as many statements."""
-    return fault(pathlib.Path(crackd).resolve().parents[2] / "crack_histories" / "out" / "crack_histories", seed, STATEMENTS_OF_A_SOAK)
-
-
-def run(program, seeds=SEEDS, statements=STATEMENTS):
-    """Tries each seed. How many passed, and how many failed."""
-    program, counted = pathlib.Path(program).resolve(), collections.Counter()
-    found = [it for it in (fault(program, seed, statements, counted) for seed in seeds) if it]
-    for it in found:
-        print(f"histories: {it}")
-    print(f"histories: {counted['entries']} entries, of which {counted['follows']} follow one of another worker")
-    print(f"histories: {len(seeds) - len(found)} passed, {len(found)} failed", flush=True)
-    return len(seeds) - len(found), len(found)
-
-
-if __name__ == "__main__":
-    if "--help" in sys.argv:
-        print(__doc__.strip())
-        sys.exit(0)
-    if len(sys.argv) < 2:
-        sys.exit(__doc__)
-    given = [int(it) for it in sys.argv[2:]]
-    sys.exit(1 if run(sys.argv[1], given[1:] or SEEDS, given[0] if given else STATEMENTS)[1] else 0)
+    check_seed(pathlib.Path(crackd).resolve().parents[2] / "crack_histories" / "out" / "crack_histories", seed, STATEMENTS_OF_A_SOAK)

@@ -4,25 +4,17 @@ Each call for memory of a run is refused in turn, from the first on until a run 
 behind it; and each by chance, one in fifty. What is answered must be what the lists of plain_session.py answer that never saw the statements which were
 refused with 8, and no more statements may be refused than calls were. A run may also end with 8 where the program opens; one of CSV wherever it is, behind a
 front of its text.
-A small library, refusing.c, refuses the calls. It is compiled here; where there is no C compiler nothing is refused, and hostile.py says so.
+A small library, refusing.c, refuses the calls; where there is no C compiler to compile it nothing is refused, and these checks are skipped.
 """
 
-import atexit
-import functools
-import os
-import pathlib
 import random
-import shutil
-import struct
 import subprocess
-import tempfile
 
 import compare
+import fixtures
 import plain_session
 import random_script
 
-SOURCE = pathlib.Path(__file__).resolve().parent / "refusing.c"
-COMPILERS = ["cc", "gcc", "clang", "tcc"]
 SECONDS = 20
 FOR_EVER = 2**63
 STATEMENTS = 200
@@ -76,44 +68,6 @@ TEXTS = {
 }
 
 
-@functools.cache
-def library():
-    """The library that refuses, compiled; None where that can't be done."""
-    room = tempfile.mkdtemp(prefix="crackd-refusing-")
-    atexit.register(shutil.rmtree, room, ignore_errors=True)
-    made = pathlib.Path(room) / "refusing.so"
-    for compiler in COMPILERS:
-        command = [compiler, "-O2", "-shared", "-fPIC", "-o", str(made), str(SOURCE), "-ldl"]
-        if shutil.which(compiler) and subprocess.run(command, capture_output=True, check=False).returncode == 0:
-            return str(made)
-    return None
-
-
-class Refusing:
-    """Which calls for memory are refused to a program, and what came of it."""
-
-    def __init__(self, **which):
-        self.which = {f"REFUSE_{name.upper()}": str(it) for name, it in which.items()}
-        self.file = None
-
-    def __enter__(self):
-        self.file = tempfile.NamedTemporaryFile(prefix="crackd-refused-")
-        self.file.truncate(16)
-        return self
-
-    def __exit__(self, *_):
-        self.file.close()
-
-    def environment(self):
-        """The environment of a program whose calls are to be refused so."""
-        return {**os.environ, **self.which, "REFUSE_TELLS": self.file.name, "LD_PRELOAD": library()}
-
-    def told(self):
-        """How many calls there were, and how many were refused."""
-        self.file.seek(0)
-        return struct.unpack("QQ", self.file.read(16))
-
-
 # which calls are refused in the run of a number
 WAYS = {
     "alone": lambda number: {"from": number, "to": number},
@@ -135,18 +89,16 @@ def is_front(left, text):
 
 def fault_of_run(program, words, given, check, which, text=b""):
     """Runs the program once. Where it ends with 8 a front of the text may have been written. What is wrong, or None; and how many calls were refused."""
-    with Refusing(**which) as refusing:
-        ran = subprocess.run(
-            [program, *words], input=given, capture_output=True, env=refusing.environment(), timeout=SECONDS, check=False, close_fds=False
-        )
+    with fixtures.Refusing(**which) as refusing:
+        status, wrote, complained = fixtures.ran([program, *words], given, SECONDS, env=refusing.environment(), close_fds=False)
         calls, refused = refusing.told()
     if not calls:
         return "no call for memory was seen", 0
-    if ran.returncode == 1 and refused and ran.stderr == REFUSED:
-        return (None if is_front(ran.stdout, text) else f"it ended with 8, and wrote {ran.stdout[-80:]!r}"), refused
-    if ran.returncode or ran.stderr:
-        return f"status {ran.returncode}, standard error {ran.stderr!r}", refused
-    return check(ran.stdout, refused), refused
+    if (status, complained) == (1, REFUSED) and refused:
+        return (None if is_front(wrote, text) else f"it ended with 8, and wrote {wrote[-80:]!r}"), refused
+    if status or complained:
+        return f"status {status}, standard error {complained!r}", refused
+    return check(wrote, refused), refused
 
 
 def fault_of_sweep(program, words, given, check, way, text=b""):
@@ -189,10 +141,10 @@ def sweep_folds(program, words, given, way, limits):
     """Sweeps one way over a session over one partition. Layouts must be those of a run without a refusal, as far as all but checkpoints is answered alike.
     Where calls are refused one by one, each checkpoint that folds something must have been refused in some run."""
     said, refused_once = plain_session.statements(given), set()
-    ran = subprocess.run([program, *words], input=given, capture_output=True, timeout=SECONDS, check=False)
-    whole = compare.compare(said, ran.stdout, plain_session.Session((), limits))
-    if whole.wrong or ran.returncode:
-        return f"where no memory is refused: status {ran.returncode}, {whole.wrong}", 1
+    status, wrote, _ = fixtures.ran([program, *words], given, SECONDS)
+    whole = compare.compare(said, wrote, plain_session.Session((), limits))
+    if whole.wrong or status:
+        return f"where no memory is refused: status {status}, {whole.wrong}", 1
 
     def check(wrote, refused):
         seen = compare.compare(said, wrote, plain_session.Session((), limits), refused)
@@ -234,7 +186,7 @@ def fault_of_folds(program, name, policy, way):
 
 def fault_of_text(program, words, given, way):
     """Sweeps one way over a run that writes one text, or a front of it where it ends with 8. What is wrong, or None, and how many runs there were."""
-    text = subprocess.run([program, *words], input=given, capture_output=True, timeout=SECONDS, check=True).stdout
+    text = fixtures.ran([program, *words], given, SECONDS)[1]
 
     def check(wrote, _):
         return None if wrote == text else f"wanted {text[:200]!r}, got {wrote[:200]!r}"
@@ -264,11 +216,6 @@ def fault_of_random(program, seed, way):
     """Sweeps one way over the random script of a seed. What is wrong, or None, and how many runs there were."""
     words, given, splits, limits = random_session(seed)
     return sweep_script(program, words, given, way, splits, limits)
-
-
-def is_there():
-    """Whether memory can be refused here."""
-    return library() is not None
 
 
 def fault(program, seed):

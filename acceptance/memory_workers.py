@@ -1,4 +1,4 @@
-"""Refuses memory to batches, servers and the sweeps of test programs; memory.py says how, and hostile.py runs it.
+"""Refuses memory to batches, servers and the sweeps of test programs; memory.py says how.
 
 Each worker of a batch has partitions of its own, so its replies are those of a list whatever the other threads do; the clients of a server come one after
 another. The totals line must be right against the replies, wherever one is printed.
@@ -6,25 +6,23 @@ another. The totals line must be right against the replies, wherever one is prin
 
 import contextlib
 import itertools
-import pathlib
 import random
 import re
 import socket
 import subprocess
-import threading
 
 import compare
+import fixtures
 import memory
 import plain_session
 import random_script
-import server
 
 WORKERS, OWN_PARTS = 3, 2
 SPLITS = [100, 200, 300, 400, 500]
 LINES = 40
 SESSIONS, SESSION_STATEMENTS = 3, 25
 # a test that holds whichever one of its calls for memory is refused
-SWEEP = re.compile(r"(?:\w+::)*sweep_\w+")
+SWEEP = re.compile(r"^fn (sweep_\w+)", re.MULTILINE)
 TOTALS = re.compile(r"accepted (\d+) inserted (\d+) deleted (\d+) held (\d+)")
 
 
@@ -130,19 +128,14 @@ class Served:
     """What came of a server: what its clients were answered, what it wrote behind its first line, and how it ended."""
 
     def __init__(self, program, words, texts, environment):
-        self.got, self.wrote, self.port = [], b"", server.free_port()
+        self.got, self.wrote, self.port = [], b"", fixtures.free_port()
         command = [program, "serve", "--port", str(self.port), "--quiet", *words]
         how = {"stdin": subprocess.DEVNULL, "stdout": subprocess.PIPE, "stderr": subprocess.PIPE, "env": environment}
-        with subprocess.Popen(command, **how) as it:
-            watch = threading.Timer(memory.SECONDS, it.kill)
-            watch.start()
-            try:
-                self.first = it.stdout.readline()
-                if self.first:
-                    self.got = [exchanged(self.port, text) for text in texts]
-                self.wrote, self.complained = it.communicate()
-            finally:
-                watch.cancel()
+        with fixtures.watched(subprocess.Popen(command, **how), memory.SECONDS) as it:
+            self.first = it.stdout.readline()
+            if self.first:
+                self.got = [exchanged(self.port, text) for text in texts]
+            self.wrote, self.complained = it.communicate()
         self.status = it.returncode
 
 
@@ -178,8 +171,8 @@ def fault_of_served(texts, served, refused):
 
 def served_once(program, words, texts, which):
     """What came of a server, and how many calls were refused. Where another program took the port in the meantime, it is tried again."""
-    for _ in range(server.TRIES):
-        with memory.Refusing(**which) as refusing:
+    for _ in range(fixtures.TRIES):
+        with fixtures.Refusing(**which) as refusing:
             served = Served(program, words, texts, refusing.environment())
             refused = refusing.told()[1]
         if served.complained != b"crackd: refused 17\n":
@@ -201,23 +194,21 @@ def fault_of_server(program, seed, way):
     return None, runs
 
 
-def sweeps_of(folder):
-    """The test programs that are built of this checkout's crates, each with the names of its sweeps."""
-    for built in sorted(pathlib.Path(folder).glob("*/out/*_tests")):
-        if built.is_file():
-            listed = subprocess.run([built, "--list"], capture_output=True, text=True, timeout=memory.SECONDS, check=False).stdout
-            for name in SWEEP.findall(listed):
-                yield str(built), name
+def sweeps_of(crates):
+    """The crates whose tests have sweeps, each with the names of these."""
+    for path in sorted(crates.glob("*_tests/src/*.rt")):
+        for name in SWEEP.findall(path.read_text(encoding="utf-8")):
+            yield path.parts[-3], f"{path.stem}::{name}"
 
 
 def fault_of_test(built, name):
     """Refuses each call of a test alone. What is wrong first, or None, and how many runs there were."""
     for number in itertools.count(1):
-        with memory.Refusing(**memory.WAYS["alone"](number)) as refusing:
-            ran = subprocess.run([built, name], capture_output=True, env=refusing.environment(), timeout=memory.SECONDS, check=False)
+        with fixtures.Refusing(**memory.WAYS["alone"](number)) as refusing:
+            status, wrote, complained = fixtures.ran([built, name], b"", memory.SECONDS, env=refusing.environment())
             _, refused = refusing.told()
-        if ran.returncode:
-            return f"alone {number}: status {ran.returncode}, {(ran.stdout + ran.stderr)[-300:]!r}", number
+        if status:
+            return f"alone {number}: status {status}, {(wrote + complained)[-300:]!r}", number
         if not refused:
             return None, number
 

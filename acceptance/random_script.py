@@ -1,5 +1,4 @@
-#!/usr/bin/env python3
-"""Answers seeded scripts of a thousand random statements of all kinds by lists in Python, and compares: random_script.py PROGRAM [SEED ..]
+"""Answers seeded scripts of a thousand random statements of all kinds by lists in Python, and compares.
 
 What a statement is answered is written here from docs/SPECIFICATION.md alone: a list of rows for each partition, changed and filtered, and no
 more; all four policies answer alike. A seed says how many splits there are, how far keys go, whether histories get full, and whether limits are
@@ -14,11 +13,9 @@ burial are fewer; behind a layout of its partition it is so exactly where that t
 where an insert is, if its row stands in the column, and isn't if that waits beside it. A layout tells as many of each as are known, at least.
 """
 
-import pathlib
 import random
 import re
 import subprocess
-import sys
 import typing
 
 # the end of all keys, and the ends of payloads
@@ -400,18 +397,3 @@ def fault(program, seed):
     ran = subprocess.run([program, *words], input=given, stdout=subprocess.PIPE, text=True, timeout=SECONDS, check=False)
     wrong = misfit_of_all(table, pairs, ran.stdout.splitlines()) or (f"status {ran.returncode}" if ran.returncode else None)
     return wrong and f"seed {seed}: {wrong}"
-
-
-def run(program, seeds=SEEDS):
-    """Runs the script of each seed. How many passed, and how many failed."""
-    found = [it for it in (fault(str(pathlib.Path(program).resolve()), seed) for seed in seeds) if it]
-    for it in found:
-        print(f"random script: {it}")
-    print(f"random script: {len(seeds) - len(found)} passed, {len(found)} failed", flush=True)
-    return len(seeds) - len(found), len(found)
-
-
-if __name__ == "__main__":
-    if len(sys.argv) < 2:
-        sys.exit(__doc__)
-    sys.exit(1 if run(sys.argv[1], [int(it) for it in sys.argv[2:]] or SEEDS)[1] else 0)

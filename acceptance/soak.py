@@ -16,16 +16,18 @@ import pathlib
 import random
 import sys
 import time
+import unittest
 
 import clients
-import csv_input
-import devices
+import fixtures
 import histories
-import lines
 import memory
 import memory_workers
 import random_script
-import server_limits
+import test_csv
+import test_devices
+import test_lines
+import test_server_limits
 
 TOP = pathlib.Path(__file__).resolve().parent.parent
 FAILURES = TOP / "soak-failures"
@@ -56,26 +58,29 @@ class Kind:
         return f"soak: {self.name} {self.passed} passed, {self.failed} failed, {self.seconds:.0f} seconds"
 
 
+def limits_fault(program, seed):
+    """The check of small limits that a seed names. Which client comes first is another matter in each run."""
+    names = unittest.defaultTestLoader.getTestCaseNames(test_server_limits.SmallLimits)
+    case = test_server_limits.SmallLimits(names[seed % len(names)])
+    case.program = program
+    getattr(case, names[seed % len(names)])()
+
+
 def kinds():
     """All kinds by their names. Of those that take several processors only one case runs at a time."""
     all_kinds = [
         Kind("clients-whole", clients.whole_fault, alone=True),
         Kind("clients", clients.fault, alone=True),
-        Kind("limits", server_limits.fault, alone=True),
+        Kind("limits", limits_fault, alone=True),
         Kind("threads", histories.soak_fault, "crack_histories", shares=4),
-        Kind("lines", lines.fault),
-        Kind("csv", csv_input.fault),
-        Kind("devices", devices.fault),
+        Kind("lines", test_lines.fault),
+        Kind("csv", test_csv.fault),
+        Kind("devices", test_devices.fault),
         Kind("memory", memory.fault),
         Kind("memory-workers", memory_workers.fault),
         Kind("scripts", random_script.fault),
     ]
     return {it.name: it for it in all_kinds}
-
-
-def built(top, name):
-    """The path of a program that is built."""
-    return str((top / "crates" / name / "out" / name).resolve())
 
 
 def chosen(top, only):
@@ -84,9 +89,9 @@ def chosen(top, only):
     for kind in kinds().values():
         if only and kind.name not in only:
             continue
-        if not pathlib.Path(built(top, kind.needs)).exists():
+        if not pathlib.Path(fixtures.built(kind.needs, top)).exists():
             print(f"soak: {kind.name} skipped, since {kind.needs} isn't built", flush=True)
-        elif kind.name.startswith("memory") and not memory.is_there():
+        elif kind.name.startswith("memory") and fixtures.refusing_library() is None:
             print(f"soak: {kind.name} skipped, since no C compiler works here", flush=True)
         else:
             can.append(kind)
@@ -97,7 +102,7 @@ def run_case(name, top, seed):
     """Runs one case. What is wrong, or None, and how many seconds it took."""
     began = time.monotonic()
     try:
-        wrong = kinds()[name].fault(built(top, "crackd"), seed)
+        wrong = kinds()[name].fault(fixtures.built("crackd", top), seed)
     # (whatever ends a case is told, so that the others go on)
     except Exception as error:  # noqa: BLE001
         wrong = f"{type(error).__name__}: {error}"

@@ -1,14 +1,14 @@
 #!/usr/bin/env python3
-"""A program in the program's place, right or with a fault, for the cases of check_hostile.py: stand_in.py FAULT SUBCOMMAND ..
+"""A program in the program's place, right or with a fault, for the cases of test_hostile_checks.py: stand_in.py FAULT SUBCOMMAND ..
 
-It answers `script`, `batch` and `csv` by plain_session.py and csv_input.py, and has one fault: none; drop, double, change (of the last line but one);
+It answers `script`, `batch` and `csv` by plain_session.py and plain_csv.py, and has one fault: none; drop, double, change (of the last line but one);
 short (the last statement is refused with 8, though memory is there); ahead (where writing fails it has written other bytes than it should have).
 """
 
 import os
 import sys
 
-import csv_input
+import plain_csv
 import plain_session
 import random_script
 
@@ -91,7 +91,7 @@ def main(fault, subcommand, *words):
         case "batch":
             text = batch_text(given, splits, int(options["--workers"]))
         case _:
-            status, text, complained = csv_input.exported(given, splits, limits)
+            status, text, complained = plain_csv.exported(given, splits, limits)
     text = doctored(text, fault)
     try:
         done = 0

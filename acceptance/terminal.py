@@ -9,7 +9,7 @@ import subprocess
 import termios
 import time
 
-import server
+from fixtures import SECONDS, Wrong, expect
 
 CONTROL_C, CONTROL_D = "\x03", "\x04"
 # (a terminal that can do nothing is sent no marks for the editing of a line)
@@ -56,17 +56,17 @@ class Terminal:
 
     def wait_for(self, pattern):
         """Waits until a pattern is shown, and forgets what was shown up to its end. The match."""
-        until = time.monotonic() + server.SECONDS
+        until = time.monotonic() + SECONDS
         while True:
             found = re.search(pattern, self.shown)
             if found:
                 self.shown = self.shown[found.end() :]
                 return found
             if not self.read(max(0, until - time.monotonic())):
-                raise server.Wrong(f"wanted {pattern!r}, was shown {self.shown!r}")
+                raise Wrong(f"wanted {pattern!r}, was shown {self.shown!r}")
 
     def expect_end(self, status):
         """The program must end with this status, and show nothing more."""
-        while self.read(server.SECONDS):
+        while self.read(SECONDS):
             pass
-        server.expect("status, and what else was shown", (status, ""), (self.process.wait(server.SECONDS), self.shown))
+        expect("status, and what else was shown", (status, ""), (self.process.wait(SECONDS), self.shown))

@@ -1,6 +1,6 @@
 #!/usr/bin/env python3
-"""Runs the gate without the must-fail edits, and then the acceptance cases, the random scripts, the cases of many clients, of bad ones and of hostile
-input on the program that it built, the examples, the tests of the Python package, the cases of the tools, and the histories of threads.
+"""Runs the gate without the must-fail edits, and then, on the program that it built, the acceptance cases, all checks of acceptance/ and tools/, and the tests
+of the Python package.
 
 The gate, `rt ci`, proves every crate from nothing, runs the tests, and runs each program as both compilers build it. It has no switch for the edits, so
 it runs on a copy of this checkout that has none, and what it built is brought back: `make run` and `make edits` prove nothing again that it has proved.
@@ -20,25 +20,13 @@ import tempfile
 TOP = pathlib.Path(__file__).resolve().parent.parent
 sys.path.insert(0, str(TOP / "tools"))
 
-import check_clients
-import check_histories
-import check_hostile
-import check_tools
-import clients
+import checks
 import crates
-import examples
-import histories
-import hostile
 import package
 import processor
 import prove
-import random_script
 import rooms
 import run
-import server
-import server_ends
-import server_limits
-import test_guide
 
 PROGRAM = TOP / "crates" / "crackd" / "out" / "crackd"
 HISTORIES = TOP / "crates" / "crack_histories" / "out" / "crack_histories"
@@ -133,18 +121,15 @@ def gate():
 def test_all():
     """Runs everything. How many passed, and how many failed."""
     passed, failed, times = gate()
+    os.environ["CRACKD"] = str(PROGRAM)
     if PROGRAM.exists():
-        more = [check_tools.run_all(), check_hostile.run_all(), check_clients.run_all(), run.run_all(PROGRAM), random_script.run(PROGRAM)]
-        more += [server.run(PROGRAM), server_ends.run(PROGRAM), server_limits.run(PROGRAM), clients.run(PROGRAM), hostile.run(PROGRAM), examples.run(PROGRAM)]
-        more += [package.run(PROGRAM), test_guide.run_all()]
-        more_passed, more_failed = (sum(it) for it in zip(*more))
+        sums_of_all = [(passed, failed), run.run_all(PROGRAM), checks.run_all(), package.run(PROGRAM)]
+        passed, failed = (sum(it) for it in zip(*sums_of_all))
     else:
         print("acceptance: the gate left no program, so no case was run")
-        more_passed, more_failed = 0, 1
-    of_threads = [check_histories.run_all(), histories.run(HISTORIES) if HISTORIES.exists() else (0, 1)]
-    passed, failed = (sum(it) for it in zip((passed, failed), *of_threads))
+    failed += sum(not it.exists() for it in (PROGRAM, HISTORIES))
     print("\n".join(times), flush=True)
-    return passed + more_passed, failed + more_failed
+    return passed, failed
 
 
 def main():

@@ -1,3 +1,4 @@
+#!/usr/bin/env python3
 """Cases of the tools: which function a place lies in, which edits are tried together, what a change touches, and what is read for a promise."""
 
 import pathlib
@@ -320,8 +321,8 @@ class Documents(unittest.TestCase):
         self.assertEqual(tested.main(["--check"]), 0, "python3 tools/tested.py has them lead there")
 
     def test_a_test_that_is_not_there_is_found(self):
-        page = f"{tested.HEADING}\nseen by `no_such_test` and `check_tools`\n\n## Next\n"
-        self.assertEqual(tested.linked(page), (page, ["no_such_test", "check_tools"]))
+        page = f"{tested.HEADING}\nseen by `no_such_test` and `no_file.py`\n\n## Next\n"
+        self.assertEqual(tested.linked(page), (page, ["no_such_test", "no_file.py"]))
 
     def test_the_guide_has_each_refusal_and_each_statement(self):
         guide, rules = ((crates.TOP / "docs" / it).read_text(encoding="utf-8") for it in ("GUIDE.md", "SPECIFICATION.md"))
@@ -341,12 +342,5 @@ class Documents(unittest.TestCase):
             self.assertEqual(links.broken(top), ["other.md leads to page.md#begin", "other.md leads to none.md"])
 
 
-def run_all():
-    """Runs the cases. How many passed, and how many failed."""
-    ran = unittest.TextTestRunner(stream=sys.stdout, verbosity=0).run(unittest.defaultTestLoader.loadTestsFromModule(sys.modules[__name__]))
-    failed = len(ran.failures) + len(ran.errors)
-    return ran.testsRun - failed, failed
-
-
 if __name__ == "__main__":
-    sys.exit(1 if run_all()[1] else 0)
+    unittest.main()

@@ -10,14 +10,16 @@ import unittest
 import unittest.mock
 
 import compare
-import csv_input
-import devices
-import lines
+import fixtures
 import memory
 import memory_workers
+import plain_csv
 import plain_session
 import random_script
 import stand_in
+import test_csv
+import test_devices
+import test_lines
 
 STAND_IN = pathlib.Path(stand_in.__file__).resolve()
 FAULTS = ["drop", "double", "change", "short"]
@@ -49,13 +51,13 @@ class Grammar(unittest.TestCase):
         for word, value in right.items():
             self.assertEqual(plain_session.read_line(b"insert 7 " + word), ("insert", [7, value]), word)
             self.assertEqual(plain_session.read_line(b"update 0.0 7 " + word), ("update", [0, 0, 7, value]), word)
-            self.assertEqual(csv_input.exported(b"7," + word), (0, b"key,payload\n7,%d\n" % value, b""))
+            self.assertEqual(plain_csv.exported(b"7," + word), (0, b"key,payload\n7,%d\n" % value, b""))
         wrong = [b"%d" % (least - 1), b"%d" % (most + 1), b"-" + b"0" * 21, b"-99999999999999999999", b"-", b"--2", b"+2", b"+0", b"-+2", b"2-", b"-2-"]
         wrong += [b"-2.0", b"-1_0", b"-0x1", b"-\t2", b"-\xb2", b"-\xd9\xa2", b"\xe2\x88\x922", b"- 2", b"-2 3"]
         for word in wrong:
             self.assertEqual(plain_session.read_line(b"insert 7 " + word), "refused 1", word)
             self.assertEqual(plain_session.read_line(b"update 0.0 7 " + word), "refused 1", word)
-            self.assertEqual(csv_input.exported(b"7," + word), (1, b"", b"crackd: refused 19 1\n"), word)
+            self.assertEqual(plain_csv.exported(b"7," + word), (1, b"", b"crackd: refused 19 1\n"), word)
 
     def test_keys_and_ranges_reach_as_far_as_the_rules_say(self):
         self.assertEqual(plain_session.read_line(b"insert 18446744073709551615 1"), ("insert", [2**64 - 1, 1]))
@@ -289,13 +291,13 @@ class Batches(unittest.TestCase):
 
 class Records(unittest.TestCase):
     def test_records_are_read_as_the_rules_say(self):
-        self.assertEqual(csv_input.records(b'1,"2""3"4\r\n\r\n"a\nb",\r5'), [[b"1", b'2"34'], [b"a\nb", b""], [b"5"]])
-        self.assertEqual(csv_input.records(csv_input.MARK + b"1,2"), [[b"1", b"2"]])
-        self.assertEqual(csv_input.exported(csv_input.SMALL, [100]), (0, b"key,payload\n50,5\n150,6\n", b""))
-        self.assertEqual(csv_input.exported(b"1,2\n3,4\n", [], random_script.Limits(2)), (1, b"key,payload\n", b"crackd: refused 6 2\n"))
-        self.assertEqual(csv_input.exported(b"1,2\n3,4\n", [], random_script.Limits(1)), (1, b"", b"crackd: refused 6 1\n"))
-        self.assertEqual(csv_input.exported(b"1,2\n3,4\n", [], random_script.Limits(cells=1)), (1, b"", b"crackd: refused 9\n"))
-        self.assertEqual(csv_input.exported(b"1,2\n3,4\n", [], random_script.Limits(life=2)), (1, b"key,payload\n", b"crackd: refused 10\n"))
+        self.assertEqual(plain_csv.records(b'1,"2""3"4\r\n\r\n"a\nb",\r5'), [[b"1", b'2"34'], [b"a\nb", b""], [b"5"]])
+        self.assertEqual(plain_csv.records(plain_csv.MARK + b"1,2"), [[b"1", b"2"]])
+        self.assertEqual(plain_csv.exported(test_csv.SMALL, [100]), (0, b"key,payload\n50,5\n150,6\n", b""))
+        self.assertEqual(plain_csv.exported(b"1,2\n3,4\n", [], random_script.Limits(2)), (1, b"key,payload\n", b"crackd: refused 6 2\n"))
+        self.assertEqual(plain_csv.exported(b"1,2\n3,4\n", [], random_script.Limits(1)), (1, b"", b"crackd: refused 6 1\n"))
+        self.assertEqual(plain_csv.exported(b"1,2\n3,4\n", [], random_script.Limits(cells=1)), (1, b"", b"crackd: refused 9\n"))
+        self.assertEqual(plain_csv.exported(b"1,2\n3,4\n", [], random_script.Limits(life=2)), (1, b"key,payload\n", b"crackd: refused 10\n"))
 
 
 class StandIns(unittest.TestCase):
@@ -317,20 +319,20 @@ class StandIns(unittest.TestCase):
             self.assertIsNotNone(case(self.program(fault), *given), fault)
 
     def test_lines(self):
-        given = lines.random_input(random.Random(1), 200)
-        self.assert_finds(lambda program: lines.fault_of_session(program, given, [100], piece=7))
+        given = test_lines.random_input(random.Random(1), 200)
+        self.assert_finds(lambda program: test_lines.fault_of_session(program, given, [100], piece=7))
 
     def test_csv(self):
-        self.assert_finds(csv_input.fault_of_input, csv_input.SMALL, [100])
+        self.assert_finds(test_csv.fault_of_input, test_csv.SMALL, [100])
 
     def test_devices(self):
-        words, given, wanted = devices.SUBCOMMANDS[0]
-        self.assert_finds(devices.fault_of_file, words, given, wanted, len(wanted))
+        words, given, wanted = test_devices.SUBCOMMANDS[0]
+        self.assert_finds(test_devices.fault_of_file, words, given, wanted, len(wanted))
         for size in [0, 5, len(wanted) - 1]:
-            self.assertIsNone(devices.fault_of_file(self.program("none"), words, given, wanted, size))
-            self.assertEqual(devices.fault_of_file(self.program("ahead"), words, given, wanted, size) is None, size == 0)
+            self.assertIsNone(test_devices.fault_of_file(self.program("none"), words, given, wanted, size))
+            self.assertEqual(test_devices.fault_of_file(self.program("ahead"), words, given, wanted, size) is None, size == 0)
 
-    @unittest.skipUnless(memory.library(), "no C compiler works here")
+    @unittest.skipUnless(fixtures.refusing_library(), "no C compiler works here")
     def test_memory(self):
         given = memory.text_of(memory.SCRIPTS["rows are updated"], True)
         check = lambda wrote, refused: compare.compare(plain_session.statements(given), wrote, short=refused).wrong
@@ -338,7 +340,7 @@ class StandIns(unittest.TestCase):
         which = {"from": memory.FOR_EVER, "to": memory.FOR_EVER}
         self.assert_finds(lambda program: memory.fault_of_run(program, ["script"], given, check, which)[0])
 
-    @unittest.skipUnless(memory.library(), "no C compiler works here")
+    @unittest.skipUnless(fixtures.refusing_library(), "no C compiler works here")
     def test_a_sweep_that_refuses_no_checkpoint_is_found(self):
         limits, statements = memory.FOLDS["checkpoints of a full history"]
         given = memory.text_of(statements, True)
@@ -348,12 +350,5 @@ class StandIns(unittest.TestCase):
         self.assertEqual(found[0], "statement 9: this checkpoint was never refused")
 
 
-def run_all():
-    """Runs the cases. How many passed, and how many failed."""
-    ran = unittest.TextTestRunner(stream=sys.stdout, verbosity=0).run(unittest.defaultTestLoader.loadTestsFromModule(sys.modules[__name__]))
-    failed = len(ran.failures) + len(ran.errors)
-    return ran.testsRun - failed, failed
-
-
 if __name__ == "__main__":
-    sys.exit(1 if run_all()[1] else 0)
+    fixtures.main()

@@ -1,6 +1,10 @@
 #!/usr/bin/env python3
-"""Tries that histories.py finds what is wrong with what was printed: a right text, written here by hand, passes, and each wrong one doesn't."""
+"""Histories of workers on threads, and that histories.py finds what is wrong with what was printed: a right text, written here by hand, passes, and each
+wrong one doesn't."""
 
+import unittest
+
+import fixtures
 import histories
 
 WORKERS, STATEMENTS, LIMIT = 2, 5, 5
@@ -233,20 +237,39 @@ def altered(pairs, text=RIGHT):
     return text
 
 
-def run_all():
-    """Tries all texts. How many passed, and how many failed."""
-    failed = [] if is_right(RIGHT) else ["the right text"]
-    failed += [what for what, pairs in WRONG.items() if is_right(altered(pairs))]
-    failed += ["no order of all"] if is_right(NO_ORDER, 2) else []
-    failed += [] if is_right(FOLDED, FOLDED_STATEMENTS, FOLDED_LIMITS) else ["the right text with checkpoints"]
-    failed += [what for what, pairs in WRONG_FOLDS.items() if is_right(altered(pairs, FOLDED), FOLDED_STATEMENTS, FOLDED_LIMITS)]
-    failed += [what for what, limits in WRONG_LIMITS.items() if is_right(FOLDED, FOLDED_STATEMENTS, limits)]
-    for it in failed:
-        print(f"check histories: {it} FAILED")
-    tried = len(WRONG) + len(WRONG_FOLDS) + len(WRONG_LIMITS) + 3
-    print(f"check histories: {tried - len(failed)} passed, {len(failed)} failed", flush=True)
-    return tried - len(failed), len(failed)
+class Texts(unittest.TestCase):
+    """What histories.py finds wrong."""
+
+    def test_the_right_texts_pass(self):
+        self.assertTrue(is_right(RIGHT))
+        self.assertTrue(is_right(FOLDED, FOLDED_STATEMENTS, FOLDED_LIMITS))
+
+    def test_no_order_of_all(self):
+        self.assertFalse(is_right(NO_ORDER, 2))
+
+
+def add_wrong(what, is_found):
+    """Adds a check that a wrong text is found."""
+    setattr(Texts, f"test_{what.replace(' ', '_')}", lambda self: self.assertTrue(is_found()))
+
+
+for what, pairs in WRONG.items():
+    add_wrong(what, lambda pairs=pairs: not is_right(altered(pairs)))
+for what, pairs in WRONG_FOLDS.items():
+    add_wrong(f"{what}, with checkpoints", lambda pairs=pairs: not is_right(altered(pairs, FOLDED), FOLDED_STATEMENTS, FOLDED_LIMITS))
+for what, limits in WRONG_LIMITS.items():
+    add_wrong(f"{what}, as a limit", lambda limits=limits: not is_right(FOLDED, FOLDED_STATEMENTS, limits))
+
+
+class Histories(fixtures.Case):
+    """What the workers of each seed were answered, under each policy."""
+
+    needs = "crack_histories"
+
+
+for seed in histories.SEEDS:
+    setattr(Histories, f"test_seed_{seed}", lambda self, seed=seed: histories.check_seed(self.program, seed))
 
 
 if __name__ == "__main__":
-    raise SystemExit(1 if run_all()[1] else 0)
+    fixtures.main()

@@ -4,15 +4,15 @@
 import contextlib
 import io
 import pathlib
-import sys
 import tempfile
 import unittest
 
-import server_limits
+import fixtures
 import soak
+import test_server_limits
 from client_rows import Account, Own, check_folded, check_totals, come_to, most_bytes
+from fixtures import Wrong
 from random_script import Limits
-from server import Wrong
 
 SPLITS = [150]
 TOTALS = "accepted 9 inserted 4 deleted 1 held 3\n"
@@ -292,26 +292,26 @@ class Folds(unittest.TestCase):
         """The right lines, where so many entries of each other partition go at once at the first checkpoints."""
         folds = iter([*of_others, *[0] * 1000])
         found = []
-        for number in range(server_limits.OWN_LINES):
+        for number in range(test_server_limits.OWN_LINES):
             found.append(f"row 0.{number}")
             if number % 50 == 49:
-                found += ["folded 50", *(f"folded {next(folds)}" for _ in range(server_limits.WORKERS - 1))]
+                found += ["folded 50", *(f"folded {next(folds)}" for _ in range(test_server_limits.WORKERS - 1))]
         return [*found, "count 2500"]
 
     def test_the_right_lines_pass(self):
-        server_limits.check_folds(self.lines())
-        server_limits.check_folds(self.lines(1001, 1, 1001))
+        test_server_limits.check_folds(self.lines())
+        test_server_limits.check_folds(self.lines(1001, 1, 1001))
 
     def test_each_that_is_dropped_doubled_or_changed_is_found(self):
         right = self.lines(7, 8, 9)
         for at in [0, 49, 50, 54, 55, 103, len(right) - 1]:
             for put in [[], [right[at]] * 2, ["row 0.7"], ["folded 49"], ["refused 8"], ["count 99"], ["count 4001"]]:
                 with self.assertRaises((Wrong, ValueError)):
-                    server_limits.check_folds([*right[:at], *put, *right[at + 1 :]])
+                    test_server_limits.check_folds([*right[:at], *put, *right[at + 1 :]])
 
     def test_entries_that_went_twice(self):
         with self.assertRaises(Wrong):
-            server_limits.check_folds(self.lines(1000, 0, 0, 2))
+            test_server_limits.check_folds(self.lines(1000, 0, 0, 2))
 
 
 class Totals(unittest.TestCase):
@@ -368,18 +368,5 @@ class Soak(unittest.TestCase):
         self.assertIsNone(soak.next_kind([first, second, other]))
 
 
-def run_all():
-    """Runs the cases. How many passed, and how many failed."""
-    suite = unittest.defaultTestLoader.loadTestsFromModule(sys.modules[__name__])
-    result = unittest.TestResult()
-    suite.run(result)
-    for case, trace in [*result.failures, *result.errors]:
-        print(f"clients: {case.id()} FAILED\n{trace}")
-    failed = len(result.failures) + len(result.errors)
-    return result.testsRun - failed, failed
-
-
 if __name__ == "__main__":
-    ended = run_all()
-    print(f"check of clients: {ended[0]} passed, {ended[1]} failed")
-    sys.exit(1 if ended[1] else 0)
+    fixtures.main()

@@ -1,21 +1,18 @@
-"""Gives the program lines of all kinds, cut into pieces anywhere, and compares what it answers.
+#!/usr/bin/env python3
+"""Lines of all kinds, cut into pieces anywhere: what is answered is what plain_session.py answers.
 
 A line is made of the grammar's words, numbers at their limits, spaces, carriage returns and bytes 0 to 255, or is a statement in which a byte or a word
 was changed, put in, or taken out. Its answer is that of plain_session.py, which reads it by the rules alone. A session is written in pieces, whose size is the
 seed's, so that the program's reads end anywhere. Besides, statements are cut after each byte, and a line has 64 MB.
 """
 
-import contextlib
-import os
 import random
-import subprocess
-import threading
 
 import compare
+import fixtures
 import plain_session
 import random_script
 
-SECONDS = 60
 SESSION_LINES = 5000
 LONG_LINE = 64 * 2**20
 NUMBERS = [0, 1, 2, 9, 10, 99, 100, 101, *random_script.EDGES, 2**64 + 1, 10**19, 10**20 - 1, 10**20]
@@ -127,30 +124,9 @@ def random_input(numbers, many):
     return b"".join(given) + last
 
 
-def answered(program, words, given, piece):
-    """Runs the program, which is given these bytes in pieces of so many. Its status, what it wrote, and what it complained."""
-    with subprocess.Popen([program, *words], stdin=subprocess.PIPE, stdout=subprocess.PIPE, stderr=subprocess.PIPE) as it:
-
-        def write():
-            # (a session that has ended reads no more)
-            with contextlib.suppress(BrokenPipeError), it.stdin:
-                for at in range(0, len(given), piece):
-                    os.write(it.stdin.fileno(), given[at : at + piece])
-
-        writer, watch = threading.Thread(target=write), threading.Timer(SECONDS, it.kill)
-        writer.start()
-        watch.start()
-        try:
-            wrote, complained = it.stdout.read(), it.stderr.read()
-            writer.join()
-        finally:
-            watch.cancel()
-    return it.returncode, wrote, complained
-
-
 def fault_of_session(program, given, splits=(), limits=random_script.Limits(), piece=65536):
     """What is wrong with what a session is answered, given in pieces of so many bytes; or None."""
-    status, wrote, complained = answered(program, ["script", *limits.words(), *map(str, splits)], given, piece)
+    status, wrote, complained = fixtures.fed([program, "script", *limits.words(), *map(str, splits)], given, piece)
     if status or complained:
         return f"status {status}, standard error {complained!r}"
     return compare.compare(plain_session.statements(given), wrote, plain_session.Session(splits, limits)).wrong
@@ -166,56 +142,53 @@ def fault(program, seed):
     return wrong and f"lines, seed {seed}, in pieces of {piece}: {wrong}"
 
 
-def each_line_on_a_fresh_table(program):
-    """Each of these lines, which are at the limits of the rules, is the whole input, some with a question behind it."""
-    given = [
-        b"insert 1\n", b"insert 1 2 3\n", b"INSERT 1 2\n", b"insert 1 - 2\n", b"insert 1\t2\n", b"quit now\n", b"delete 0 .1\n", b"delete 4294967296.0\n",
-        b"delete 0.18446744073709551616\n", b"count 000000000000000000000 5\n", b"insert 1 1\r\r\n", b" " * 201 + b"\n", b"count 18446744073709551616 0\n",
-        b"count 0 99999999999999999999\n", b"delete 1.0\n", b"layout 4294967295\n", b"delete 0.18446744073709551615\n", b"  insert   007   08  \n",
-        b"insert 1 1".ljust(200) + b"\n", b"insert 1 1".ljust(200) + b"\r\n", b"\r\n", b"\r", b"checkpoint\n", b"checkpoint x\n", b"checkpoint 0 0\n",
-        b"checkpoint 0.0\n", b"checkpoint -0\n", b"checkpoint\t0\n", b"checkpoint 0\r\r\n", b"Checkpoint 0\n", b"checkpoint0\n", b"check point 0\n",
-        b"checkpoint 4294967296\n", b"checkpoint 000000000000000000000\n", b"checkpoint 0".ljust(201) + b"\n", b"checkpoint 1\n", b"checkpoint 4294967295\n",
-        b"checkpoint 00000000000000000000\n", b"  checkpoint   0  \r\n", b"checkpoint 0".ljust(200) + b"\n", b"checkpoint 0",
-        b"insert 18446744073709551616 1\n", b"insert 1 9223372036854775808\n", b"insert 1 -9223372036854775809\n", b"insert 1 -18446744073709551616\n",
-        b"insert 1 -2\n", b"insert 1 -9223372036854775808\n", b"insert 1 -0\nselect 0 2\n", b"insert 1 -00000000000000000002\nselect 0 2\n",
-        b"insert 1 -000000000000000000002\n", b"insert 1 -\n", b"insert 1 --2\n", b"insert 1 +2\n", b"insert 1 2-\n", b"insert -1 1\n", b"insert -0 1\n",
-        b"insert 1 \xe2\x88\x922\n", b"insert 1 -\xb2\n", b"insert 1 -1_0\n", b"insert 1 -\t2\n", b"insert 1 -2\r\n", b"count -1 5\n", b"count 0 -5\n",
-        b"count -0 5\n", b"delete -0.0\n", b"delete 0.-0\n", b"layout -0\n", b"count 0 18446744073709551617\n", b"insert 1 -1".ljust(200) + b"\n",
-        b"count 18446744073709551616 18446744073709551616\n", b"insert 18446744073709551615 -1\nsum 18446744073709551615 18446744073709551616\n",
-    ]  # fmt: skip
-    found = ((it, fault_of_session(program, it)) for it in given)
-    return next((f"{it!r}: {wrong}" for it, wrong in found if wrong), None)
+class Lines(fixtures.Case):
+    """Lines of all kinds."""
 
+    def test_each_line_on_a_fresh_table(self):
+        """Each of these lines, which are at the limits of the rules, is the whole input, some with a question behind it."""
+        given = [
+            b"insert 1\n", b"insert 1 2 3\n", b"INSERT 1 2\n", b"insert 1 - 2\n", b"insert 1\t2\n", b"quit now\n", b"delete 0 .1\n", b"delete 4294967296.0\n",
+            b"delete 0.18446744073709551616\n", b"count 000000000000000000000 5\n", b"insert 1 1\r\r\n", b" " * 201 + b"\n", b"count 18446744073709551616 0\n",
+            b"count 0 99999999999999999999\n", b"delete 1.0\n", b"layout 4294967295\n", b"delete 0.18446744073709551615\n", b"  insert   007   08  \n",
+            b"insert 1 1".ljust(200) + b"\n", b"insert 1 1".ljust(200) + b"\r\n", b"\r\n", b"\r", b"checkpoint\n", b"checkpoint x\n", b"checkpoint 0 0\n",
+            b"checkpoint 0.0\n", b"checkpoint -0\n", b"checkpoint\t0\n", b"checkpoint 0\r\r\n", b"Checkpoint 0\n", b"checkpoint0\n", b"check point 0\n",
+            b"checkpoint 4294967296\n", b"checkpoint 000000000000000000000\n", b"checkpoint 0".ljust(201) + b"\n", b"checkpoint 1\n", b"checkpoint 4294967295\n",
+            b"checkpoint 00000000000000000000\n", b"  checkpoint   0  \r\n", b"checkpoint 0".ljust(200) + b"\n", b"checkpoint 0",
+            b"insert 18446744073709551616 1\n", b"insert 1 9223372036854775808\n", b"insert 1 -9223372036854775809\n", b"insert 1 -18446744073709551616\n",
+            b"insert 1 -2\n", b"insert 1 -9223372036854775808\n", b"insert 1 -0\nselect 0 2\n", b"insert 1 -00000000000000000002\nselect 0 2\n",
+            b"insert 1 -000000000000000000002\n", b"insert 1 -\n", b"insert 1 --2\n", b"insert 1 +2\n", b"insert 1 2-\n", b"insert -1 1\n", b"insert -0 1\n",
+            b"insert 1 \xe2\x88\x922\n", b"insert 1 -\xb2\n", b"insert 1 -1_0\n", b"insert 1 -\t2\n", b"insert 1 -2\r\n", b"count -1 5\n", b"count 0 -5\n",
+            b"count -0 5\n", b"delete -0.0\n", b"delete 0.-0\n", b"layout -0\n", b"count 0 18446744073709551617\n", b"insert 1 -1".ljust(200) + b"\n",
+            b"count 18446744073709551616 18446744073709551616\n", b"insert 18446744073709551615 -1\nsum 18446744073709551615 18446744073709551616\n",
+        ]  # fmt: skip
+        for it in given:
+            self.assertIsNone(fault_of_session(self.program, it), it)
 
-def cut_anywhere(program):
-    """Statements are cut after each byte, each cut a session of its own that breaks off there, or that ends by a carriage return; and all a line each."""
-    cuts = [it[:size] for it in STATEMENTS for size in range(len(it) + 1)]
-    for cut in cuts:
-        for end in [b"", b"\r"]:
-            wrong = fault_of_session(program, b"insert 7 70\n" + cut + end)
-            if wrong:
-                return f"{cut + end!r}: {wrong}"
-    rest = [it[size:] for it in STATEMENTS for size in range(len(it) + 1)]
-    kept = [it for it in [*cuts, *rest] if plain_session.read_line(it) != ("quit", [])]
-    return fault_of_session(program, b"".join(it + end for it in kept for end in [b"\n", b"\r\n"]), piece=1)
+    def test_cut_anywhere(self):
+        """Statements are cut after each byte, each cut a session of its own that breaks off there, or that ends by a carriage return; and all a line each."""
+        cuts = [it[:size] for it in STATEMENTS for size in range(len(it) + 1)]
+        for cut in cuts:
+            for end in [b"", b"\r"]:
+                self.assertIsNone(fault_of_session(self.program, b"insert 7 70\n" + cut + end), cut + end)
+        rest = [it[size:] for it in STATEMENTS for size in range(len(it) + 1)]
+        kept = [it for it in [*cuts, *rest] if plain_session.read_line(it) != ("quit", [])]
+        self.assert_right(fault_of_session(self.program, b"".join(it + end for it in kept for end in [b"\n", b"\r\n"]), piece=1))
 
+    def test_each_byte_anywhere(self):
+        """Each of the 256 bytes is put before, in and behind a statement, and around a sign."""
+        places = [(b"", b"sum 0 5"), (b"sum 0", b"5"), (b"sum 0 ", b"5"), (b"sum 0 5", b""), (b"insert 1 ", b"5"), (b"insert 1 ", b"-5"), (b"insert 1 -", b"5")]
+        given = [part + bytes([byte]) + rest for byte in range(256) for part, rest in places]
+        self.assert_right(fault_of_session(self.program, b"".join(it + b"\n" for it in given), piece=7))
 
-def each_byte_anywhere(program):
-    """Each of the 256 bytes is put before, in and behind a statement, and around a sign."""
-    places = [(b"", b"sum 0 5"), (b"sum 0", b"5"), (b"sum 0 ", b"5"), (b"sum 0 5", b""), (b"insert 1 ", b"5"), (b"insert 1 ", b"-5"), (b"insert 1 -", b"5")]
-    given = [part + bytes([byte]) + rest for byte in range(256) for part, rest in places]
-    return fault_of_session(program, b"".join(it + b"\n" for it in given), piece=7)
+    def test_a_line_of_64_megabytes(self):
+        """A line of 64 MB is refused once, whatever stands in it and wherever it ends, and the statements before and behind it are answered."""
+        for front, filling in [(b"", b"x"), (b"count 0 5", b" "), (b"insert 1 ", b"0"), (b"", b"\r"), (b"", b"\0")]:
+            line = front + filling * (LONG_LINE - len(front))
+            for end in [b"", b"\n", b"\ncount 0 5"]:
+                self.assertIsNone(fault_of_session(self.program, b"count 0 5\n" + line + end), (front + filling, end))
 
+fixtures.add_seeds(Lines, range(1, 21), fault)
 
-def a_line_of_64_megabytes(program):
-    """A line of 64 MB is refused once, whatever stands in it and wherever it ends, and the statements before and behind it are answered."""
-    for front, filling in [(b"", b"x"), (b"count 0 5", b" "), (b"insert 1 ", b"0"), (b"", b"\r"), (b"", b"\0")]:
-        line = front + filling * (LONG_LINE - len(front))
-        for end in [b"", b"\n", b"\ncount 0 5"]:
-            wrong = fault_of_session(program, b"count 0 5\n" + line + end)
-            if wrong:
-                return f"{front + filling!r} and so on, then {end!r}: {wrong}"
-    return None
-
-
-CASES = [each_line_on_a_fresh_table, cut_anywhere, each_byte_anywhere, a_line_of_64_megabytes]
+if __name__ == "__main__":
+    fixtures.main()

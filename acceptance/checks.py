@@ -1,0 +1,75 @@
+"""Runs the checks that unittest finds, side by side, and those that want the machine to themselves one behind the other."""
+
+from __future__ import annotations
+
+import collections
+import concurrent.futures
+import os
+import pathlib
+import typing
+import unittest
+
+HERE = pathlib.Path(__file__).resolve().parent
+FOLDERS = [HERE, HERE.parent / "tools"]
+# a module whose checks take longest, so that they begin first
+LONGEST = "test_memory"
+
+
+class Outcome(typing.NamedTuple):
+    """What came of a check: its name, what is wrong, if that is anything, and why it was skipped, if it was."""
+
+    name: str
+    wrong: str = ""
+    skipped: str = ""
+
+    @property
+    def module(self) -> str:
+        return self.name.split(".")[0].removeprefix("test_")
+
+
+def flat(suite: unittest.TestSuite) -> typing.Iterator[unittest.TestCase]:
+    """The checks of a suite."""
+    for it in suite:
+        if isinstance(it, unittest.TestSuite):
+            yield from flat(it)
+        else:
+            yield it
+
+
+def outcome(name: str) -> Outcome:
+    """Runs a check by its name."""
+    result = unittest.TestResult()
+    unittest.TestLoader().loadTestsFromName(name).run(result)
+    wrong = [trace for _, trace in [*result.failures, *result.errors]]
+    return Outcome(name, "\n".join(wrong), "".join(why for _, why in result.skipped[:1]))
+
+
+def outcomes(checks: list[unittest.TestCase]) -> typing.Iterator[Outcome]:
+    """What comes of these checks."""
+    alone = [it.id() for it in checks if getattr(it, "alone", False)]
+    others = sorted({it.id() for it in checks} - set(alone), key=lambda it: not it.startswith(LONGEST))
+    with concurrent.futures.ProcessPoolExecutor(os.cpu_count()) as pool:
+        yield from pool.map(outcome, others)
+    yield from map(outcome, alone)
+
+
+def run_all() -> tuple[int, int]:
+    """Runs all checks. How many passed, and how many failed."""
+    checks = [it for folder in FOLDERS for it in flat(unittest.TestLoader().discover(str(folder), top_level_dir=str(folder)))]
+    passed, failed = collections.Counter(), collections.Counter()
+    for it in outcomes(checks):
+        if it.wrong:
+            print(f"{it.name} FAILED\n{it.wrong}", flush=True)
+        elif it.skipped:
+            print(f"{it.name} skipped, since {it.skipped}", flush=True)
+        passed[it.module] += not it.wrong and not it.skipped
+        failed[it.module] += bool(it.wrong)
+    for module in sorted(passed):
+        print(f"{module}: {passed[module]} passed, {failed[module]} failed", flush=True)
+    return sum(passed.values()), sum(failed.values())
+
+
+if __name__ == "__main__":
+    ended = run_all()
+    print(f"{ended[0]} passed, {ended[1]} failed")
+    raise SystemExit(1 if ended[1] else 0)

@@ -1,0 +1,68 @@
+#!/usr/bin/env python3
+"""Memory that is refused to the program and to test programs, call by call: memory.py and memory_workers.py say how."""
+
+import fixtures
+import memory
+import memory_workers
+import random_script
+from fixtures import CRATES
+
+# how many seeds there are of each kind
+RANDOM_SWEEPS, WORKER_SWEEPS = 4, 2
+WORKER_WAYS = ["alone", "all", "chance"]
+
+
+class Sweeps(fixtures.Case):
+    """Sweeps, where memory can be refused."""
+
+    def setUp(self):
+        super().setUp()
+        if fixtures.refusing_library() is None:
+            self.skipTest(f"no C compiler works here: {', '.join(fixtures.COMPILERS)}")
+
+    def swept(self, fault, *given):
+        """Runs a sweep, which tells what is wrong, or None, and how many runs there were."""
+        self.assert_right(fault(*given)[0])
+
+
+class Refused(Sweeps):
+    """Sweeps over runs of the program. What a check is given is told by its name."""
+
+
+class Tests(Sweeps):
+    """Sweeps over the tests named sweep_.. of the test programs that the gate has built."""
+
+    def test_there_are_sweeps(self):
+        self.assertTrue(list(memory_workers.sweeps_of(CRATES)))
+
+    def sweep(self, crate, name):
+        built = CRATES / crate / "out" / crate.replace("_tests", "_tests_tests")
+        if not built.exists():
+            self.skipTest(f"the tests of {crate} aren't built")
+        self.swept(memory_workers.fault_of_test, str(built), name)
+
+
+def add(name, fault, *given):
+    """Adds a sweep of this name over the program."""
+    setattr(Refused, f"test_{name.replace(' ', '_')}", lambda self: self.swept(fault, self.program, *given))
+
+
+for crate, name in memory_workers.sweeps_of(CRATES):
+    setattr(Tests, f"test_{crate}_{name.replace('::', '_')}", lambda self, crate=crate, name=name: self.sweep(crate, name))
+for way in memory.WAYS:
+    for policy in random_script.POLICIES:
+        for name in memory.SCRIPTS:
+            add(f"{way} {policy} {name}", memory.fault_of_named, name, policy, way)
+        for name in memory.FOLDS:
+            add(f"{way} {policy} {name}", memory.fault_of_folds, name, policy, way)
+    for name, (words, text) in memory.TEXTS.items():
+        add(f"{way} {name}", memory.fault_of_text, words, text, way)
+    for seed in range(1, RANDOM_SWEEPS + 1):
+        add(f"{way} script of seed {seed}", memory.fault_of_random, seed, way)
+for way in WORKER_WAYS:
+    for seed in range(1, WORKER_SWEEPS + 1):
+        add(f"{way} batch of seed {seed}", memory_workers.fault_of_batch, seed, way)
+        add(f"{way} server of seed {seed}", memory_workers.fault_of_server, seed, way)
+
+if __name__ == "__main__":
+    fixtures.main()

@@ -1,0 +1,228 @@
+#!/usr/bin/env python3
+"""Checkpoints and small limits, where many ask one partition of a server or a batch. What is sent and what must come is written here from
+docs/SPECIFICATION.md.
+
+A checkpoint of one client empties a partition's history for all; what all checkpoints tell comes to what was accepted, since each entry is folded once;
+limits hold for all clients together; and the totals are as without.
+"""
+
+import re
+import threading
+
+import fixtures
+from fixtures import FAULTS, MOST, SECONDS, Client, Wrong, expect, serving
+from test_server import batch
+
+CLIENTS, LIMIT, LIFE, CELLS = 8, 50, 1000, 100
+ROWS, EACH = 300, 5
+LINES_OF_A_WORKER, OWN_LINES, WORKERS = 40, 1000, 4
+FOLDED = re.compile("folded ([0-9]+)")
+
+
+class Counting(Client):
+    """A client that counts what it was answered: commands that were accepted, and entries that its checkpoints folded."""
+
+    def __init__(self, port):
+        super().__init__(port)
+        self.accepted = self.folded = 0
+
+    def reply(self, statement):
+        """The one line of the reply to a statement."""
+        self.send(statement + "\n")
+        return self.lines.readline().removesuffix("\n")
+
+    def fold(self, part):
+        """Asks for a checkpoint. It tells at most as many entries as a history may have."""
+        line = self.reply(f"checkpoint {part}")
+        told = FOLDED.fullmatch(line)
+        if not told or int(told[1]) > LIMIT:
+            raise Wrong(f"checkpoint {part}: {line!r}")
+        self.folded += int(told[1])
+
+    def insist(self, statement, part):
+        """The reply to a statement, which is asked again behind a checkpoint for as long as the history is full."""
+        while (line := self.reply(statement)) == f"refused 6 {LIMIT}":
+            self.fold(part)
+        self.accepted += not line.startswith("refused")
+        return line
+
+
+def at_once(port, count, work):
+    """Runs so many clients at once, each on a thread with a connection of its own and its number. They are given back once all have ended."""
+    clients, faults = [Counting(port) for _ in range(count)], []
+
+    def run(number):
+        try:
+            work(clients[number], number)
+            clients[number].end()
+        except (*FAULTS, threading.BrokenBarrierError) as error:
+            faults.append(f"client {number}: {error or type(error).__name__}")
+
+    threads = [threading.Thread(target=run, args=[number]) for number in range(count)]
+    for it in threads:
+        it.start()
+    for it in threads:
+        it.join()
+    for it in clients:
+        it.__exit__()
+    if faults:
+        raise Wrong("; ".join(faults[:3]))
+    return clients
+
+
+def check_folded(port, clients, parts, accepted):
+    """Folds what is left. Each entry was folded once, and each client was answered what was accepted."""
+    with Counting(port) as last:
+        for part in range(parts):
+            last.fold(part)
+        last.end()
+    expect("commands that were answered", accepted, sum(it.accepted for it in clients))
+    expect("entries that checkpoints folded", accepted, sum(it.folded for it in [*clients, last]))
+
+
+def check_folds(lines):
+    """Holds what the worker was answered that folds all. Of its own partition it knows each number; of another no more goes than was asked of it."""
+    folds = [int(line.removeprefix("folded ")) for line in lines if line.startswith("folded ")]
+    others = [line for line in lines if not line.startswith("folded ")]
+    expect("rows of worker 0", [f"row 0.{number}" for number in range(OWN_LINES)], others[:-1])
+    expect("a count of all", True, OWN_LINES <= int(others[-1].removeprefix("count ")) <= WORKERS * OWN_LINES)
+    expect("checkpoints of worker 0", OWN_LINES // 50 * WORKERS, len(folds))
+    expect("entries of partition 0", [50] * (OWN_LINES // 50), folds[::WORKERS])
+    for part in range(1, WORKERS):
+        if sum(folds[part::WORKERS]) > OWN_LINES + 1:
+            raise Wrong(f"partition {part}: {sum(folds[part::WORKERS])} entries were folded of {OWN_LINES + 1} at most")
+
+
+class SmallLimits(fixtures.Case):
+    """Checkpoints and small limits where many ask one partition."""
+
+    def test_a_checkpoint_of_one_is_for_all(self):
+        """Behind a checkpoint of one client the other is answered again, over the same rows; each partition is folded for itself."""
+        with serving(self.program, (8, 3, 1, 2), 2, 2, "--limit", "4", "100") as port, Client(port) as one, Client(port) as two:
+            one.ask("insert 50 5", "row 0.0")
+            two.ask("insert 60 -6", "row 0.1")
+            one.ask("count 0 100", "count 2")
+            two.ask("sum 0 100", "sum -1")
+            one.ask("count 0 100", "refused 6 4")
+            two.ask("delete 0.0", "refused 6 4")
+            one.ask("checkpoint 1", "folded 0")
+            two.ask("delete 0.0", "refused 6 4")
+            two.ask("checkpoint 0", "folded 4")
+            one.ask("count 0 100", "count 2")
+            one.ask("delete 0.0", "gone 50 5")
+            two.ask("checkpoint 0", "folded 2")
+            one.ask("checkpoint 0", "folded 0")
+            one.ask("checkpoint 2", "refused 5")
+            one.ask("checkpoint", "refused 1")
+            two.ask("select 0 100", "rows 1", "0.1 60 -6")
+            one.ask("insert 70 7", "row 0.2")
+            one.end()
+            two.end()
+
+    def test_many_at_a_small_limit(self):
+        """Clients that share partitions whose histories are full again and again are answered all that they ask, and keep their rows."""
+        parts, each = 2, 2 * ROWS + ROWS // 10 + 1
+
+        def work(client, number):
+            part, low = number % parts, number % parts * 10_000 + number * 1000
+            rows = []
+            for key in range(low, low + ROWS):
+                line = client.insist(f"insert {key} {number}", part)
+                rows.append(line.removeprefix("row "))
+                expect("a count of own rows", f"count {len(rows) - (len(rows) - 1) // 10}", client.insist(f"count {low} {low + ROWS}", part))
+                if len(rows) % 10 == 0:
+                    expect("an own row", f"gone {key} {number}", client.insist(f"delete {rows[-1]}", part))
+            expect("a sum of own rows", f"sum {number * (ROWS - ROWS // 10)}", client.insist(f"sum {low} {low + ROWS}", part))
+
+        accepted, inserted = CLIENTS * each, CLIENTS * ROWS
+        totals = accepted, inserted, inserted // 10, inserted - inserted // 10
+        with serving(self.program, totals, CLIENTS, CLIENTS + 1, "--limit", str(LIMIT), "10000") as port:
+            check_folded(port, at_once(port, CLIENTS, work), parts, accepted)
+
+    def test_a_life_ends_for_all(self):
+        """A partition answers as many commands as its life is long, to all clients together, however often it is folded; layouts and checkpoints go on."""
+
+        def work(client, number):
+            while (line := client.insist(f"count {number} {number + 1}", 0)) == "count 0":
+                if client.accepted % 7 == 0:
+                    client.fold(0)
+            expect("a life that is over", "refused 10", line)
+            for _ in range(3):
+                client.fold(0)
+                expect("a life that is over", "refused 10", client.reply(f"insert {number} 1"))
+            client.ask("layout 1", "layout 1 rows 0 column 0 out 0 in 0 cells 0 free 0 pieces 1", f"piece 10000 {MOST} 0")
+
+        with serving(self.program, (LIFE, 0, 0, 0), CLIENTS, CLIENTS + 1, "--limit", str(LIMIT), "--life", str(LIFE), "10000") as port:
+            check_folded(port, at_once(port, CLIENTS, work), 2, LIFE)
+
+    def test_cells_run_out_for_all(self):
+        """A partition has rows in as many cells as there may be, of all clients together; a row that goes before a query needs it leaves its cell at once."""
+        meeting = threading.Barrier(CLIENTS, timeout=SECONDS)
+
+        def work(client, number):
+            rows = []
+            while (line := client.insist(f"insert {number} 1", 0)).startswith("row "):
+                rows.append(line.removeprefix("row "))
+            expect("cells that ran out", "refused 9", line)
+            meeting.wait()
+            gone = rows[:EACH]
+            for row in gone:
+                expect("an own row", f"gone {number} 1", client.insist(f"delete {row}", 0))
+            meeting.wait()
+            for _ in gone:
+                expect("a cell that is free", "row ", client.insist(f"insert {number} 1", 0)[:4])
+            meeting.wait()
+            expect("cells that ran out again", "refused 9", client.insist(f"insert {number} 1", 0))
+            client.fold(0)
+            expect("cells behind a checkpoint", "refused 9", client.insist(f"insert {number} 1", 0))
+            freed.append(len(gone))
+
+        freed, words = [], ["--limit", str(LIMIT), "--cells", str(CELLS)]
+        with fixtures.serving_any(self.program, CLIENTS, CLIENTS + 1, *words) as (port, totals):
+            clients = at_once(port, CLIENTS, work)
+            check_folded(port, clients, 1, CELLS + 2 * sum(freed))
+            totals += [CELLS + 2 * sum(freed), CELLS + sum(freed), sum(freed), CELLS]
+
+    def test_a_batch_that_folds(self):
+        """Each worker folds its own partition before its history is full, so all is answered, and the totals are as without."""
+        text, wanted, each = "", "", OWN_LINES // LINES_OF_A_WORKER
+        for worker in range(WORKERS):
+            wanted += f"worker {worker}\n"
+            for number in range(OWN_LINES):
+                key = worker * 1000 + number
+                text += f"{worker} insert {key} 1\n{worker} delete {worker}.{number}\n" if number % 4 == 0 else f"{worker} insert {key} 1\n"
+                wanted += f"row {worker}.{number}\n" + (f"gone {key} 1\n" if number % 4 == 0 else "")
+                if number % LINES_OF_A_WORKER == LINES_OF_A_WORKER - 1:
+                    text += f"{worker} checkpoint {worker}\n"
+                    wanted += f"folded {LINES_OF_A_WORKER * 5 // 4}\n"
+        inserted = WORKERS * OWN_LINES
+        wanted += f"accepted {inserted * 5 // 4} inserted {inserted} deleted {inserted // 4} held {inserted * 3 // 4}\n"
+        expect("checkpoints of each worker", each * WORKERS, text.count("checkpoint"))
+        words = ["--limit", str(LINES_OF_A_WORKER * 5 // 4), "1000", "2000", "3000"]
+        expect("batch", (0, wanted, ""), batch(self.program, WORKERS, text, *words))
+
+    def test_a_batch_that_one_worker_folds(self):
+        """One worker folds the partitions of all amid its work and theirs: what they are answered and the totals are as without, and no entry is folded twice."""
+        text, wanted = "", ""
+        for number in range(OWN_LINES):
+            for worker in range(WORKERS):
+                text += f"{worker} insert {worker * 1000 + number} 1\n"
+            if number % 50 == 49:
+                text += "".join(f"0 checkpoint {part}\n" for part in range(WORKERS))
+        for worker in range(WORKERS):
+            text += f"{worker} count 0 {MOST}\n" if worker == 0 else f"{worker} sum {worker * 1000} {worker * 1000 + 1000}\n"
+        for worker in range(1, WORKERS):
+            rows = "".join(f"row {worker}.{number}\n" for number in range(OWN_LINES))
+            wanted += f"worker {worker}\n{rows}sum {OWN_LINES}\n"
+        inserted = WORKERS * OWN_LINES
+        # (the count asks each partition)
+        totals = f"accepted {inserted + 2 * WORKERS - 1} inserted {inserted} deleted 0 held {inserted}\n"
+        status, wrote, complained = batch(self.program, WORKERS, text, "1000", "2000", "3000")
+        expect("status and standard error", (0, ""), (status, complained))
+        at = wrote.index("worker 1\n")
+        expect("what the others were answered, and the totals", wanted + totals, wrote[at:])
+        check_folds(wrote[:at].splitlines()[1:])
+
+
+if __name__ == "__main__":
+    fixtures.main()
