@@ -16,7 +16,7 @@ use Rattle.crack_session.specs.Answers.{AsksInTurn, replies, refuses, AsksParts}
 use Rattle.crack_session.specs.Telling.{AsksSeveral}
 
 -- one more replies
-pub AsksInTurn-more : {bounds : Bounds} {splits : List Bound} (query : Query) (tables : List PlainView) (parts : List (ℕ × Range)) (i : ℕ) (part : ℕ × Range) (command : Command) (said said' : List PartReply) (reply : Reply) (between : List PlainView) → i < length parts → part ≡ get_or parts i part → command ≡ asking query part.1 → said' ≡ said ++ record { part = part.0; reply = reply } ∷ [] → AsksInTurn bounds splits query tables (take i parts) (Ok said) between → IsOutcomeAt bounds splits between part.0 command (Ok reply) → AsksInTurn bounds splits query tables (take (i + 1) parts) (Ok said') (tables_after between part.0 command (Ok reply))
+pub AsksInTurn-more : {bounds : Bounds} {splits : List Bound} (query : Query) (tables : List PlainView) (parts : List (ℕ × Range)) (i : ℕ) (part : ℕ × Range) (command : Command) (said said' : List PartReply) (reply : Reply) (between : List PlainView) → i < length parts → part ≡ get_or parts i part → command ≡ asking query part.1 → said' ≡ said ++ record { part = part.0; reply = reply } ∷ [] → AsksInTurn bounds splits query tables (take i parts) (Ok said) between → IsOutcomeAt bounds splits between part.0 command (Ok reply) → AsksInTurn bounds splits query tables (take (i + 1) parts) (Ok said') (tables_after bounds between part.0 command (Ok reply))
 AsksInTurn-more query tables parts i part command said said' reply between below at asked grown so_far comes_out =
     let more : take (i + 1) parts ≡ take i parts ++ part ∷ [] = take_more parts i part below ∙ ap (λ p. take i parts ++ p ∷ []) (sym at) in
     rw (more, grown, asked) (replies (take i parts) part said reply between so_far (rw asked at comes_out))

@@ -33,7 +33,7 @@ pub record IsAsked (bounds : Bounds) (splits : List Bound) (tables : List PlainV
   pub outcome : Result Reply Refusal
   pub comes_out : IsOutcomeAt bounds splits tables part command outcome
   pub answer_is : answer ≡ told (Replied part) outcome
-  pub new_is : new ≡ tables_after tables part command outcome
+  pub new_is : new ≡ tables_after bounds tables part command outcome
 
 -- Several partitions are asked in turn, each for its part of a range: their replies, or the first refusal, and the partitions afterwards.
 pub data AsksInTurn (bounds : Bounds) (splits : List Bound) (query : Query) (tables : List PlainView) : List (ℕ × Range) → Result (List PartReply) Refusal → List PlainView → Type 0 where
@@ -43,7 +43,7 @@ pub data AsksInTurn (bounds : Bounds) (splits : List Bound) (query : Query) (tab
   replies : (parts : List (ℕ × Range)) (part : ℕ × Range) (said : List PartReply) (reply : Reply) (between : List PlainView)
       → AsksInTurn bounds splits query tables parts (Ok said) between
       → IsOutcomeAt bounds splits between part.0 (asking query part.1) (Ok reply)
-      → AsksInTurn bounds splits query tables (parts ++ part ∷ []) (Ok (said ++ record { part = part.0; reply = reply } ∷ [])) (tables_after between part.0 (asking query part.1) (Ok reply))
+      → AsksInTurn bounds splits query tables (parts ++ part ∷ []) (Ok (said ++ record { part = part.0; reply = reply } ∷ [])) (tables_after bounds between part.0 (asking query part.1) (Ok reply))
   -- behind those that replied, the next one refuses, and those behind it aren't asked
   refuses : (parts : List (ℕ × Range)) (part : ℕ × Range) (behind : List (ℕ × Range)) (said : List PartReply) (e : Refusal) (between : List PlainView)
       → AsksInTurn bounds splits query tables parts (Ok said) between

@@ -24,9 +24,9 @@ impl Desk for Core {
     #[inline(always)]
     fn ask(&mut self, part: u32, command: Command, policy: Policy) -> Result<Reply, Refusal>
         // It is one step of worker 0, whose entry the partition keeps.
-        ensures kept { KeepsJobs (pasts_of self.old.parts) (Perform (record { worker = 0; part = part; command = command; policy = policy }) ∷ []) (performed result ∷ []) (pasts_of self.new.parts) }
+        ensures kept { KeepsJobs self.old.limits (pasts_of self.old.parts) (Perform (record { worker = 0; part = part; command = command; policy = policy }) ∷ []) (performed result ∷ []) (pasts_of self.new.parts) }
         ensures outcome { IsOutcomeAt (bounds_of self.old.limits) self.old.splits (tables_of self.old.parts) part command result }
-        ensures after { tables_of self.new.parts ≡ tables_after (tables_of self.old.parts) part command result }
+        ensures after { tables_of self.new.parts ≡ tables_after (bounds_of self.old.limits) (tables_of self.old.parts) part command result }
         ensures small { IfOk result IsSmall }
         ensures opened { (self.new.splits ≡ self.old.splits) × (self.new.limits ≡ self.old.limits) }
         ensures accepted { accepted_by self.new.parts ≡ (if is_ok result then accepted_by self.old.parts + 1 else accepted_by self.old.parts) }

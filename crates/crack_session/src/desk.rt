@@ -34,7 +34,7 @@ pub trait Desk {
             IsOutcomeAt (bounds self.old) (splits self.old) known part command result }
         // The plain rows change as the reply says, and a refusal leaves them.
         ensures after { (known : List PlainView) → tables self.old ≡ Some known →
-            tables self.new ≡ Some (tables_after known part command result) }
+            tables self.new ≡ Some (tables_after (bounds self.old) known part command result) }
 
         ensures small { IfOk result IsSmall }
         ensures splits { splits self.new ≡ splits self.old }

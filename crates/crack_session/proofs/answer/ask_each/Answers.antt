@@ -36,7 +36,7 @@ parts-preserved g c = record {
         _,
         AsksInTurn-more c.args.query tables c.args.parts.now c.parts.part-index c.part-item.result c.over.result c.parts.replies.items _ c.in-Ok.reply was.0
             c.parts-test.true c.part-item.is c.over.ensures c.push_reserved.ensures.items was.1 (rw (c.parts.invariant.bounds, c.parts.invariant.splits) at c.in-Ok.ensures.outcome was.0 was.2),
-        c.in-Ok.ensures.after was.0 was.2,
+        rw c.parts.invariant.bounds at c.in-Ok.ensures.after was.0 was.2,
       );
   small = rw c.push_reserved.ensures.items (All-push (λ (r : PartReply). IsSmall r.reply) c.parts.replies.items _ c.parts.invariant.small c.in-Ok.ensures.small);
   count = let len = c.push_reserved.ensures.len in omega (arith, len, c.parts.invariant.count);

@@ -5,7 +5,7 @@ use Rattle.crack_session.proofs.answer.ask_part.Goals as goal
 pub returns-in-Ok : goal.returns-in-Ok
 returns-in-Ok g c = record {
   is = λ tables e. (
-    tables_after tables c.args.part c.args.command (Ok c.in-Ok.reply),
+    tables_after (g.D.Desk.bounds c.args.desk.now) tables c.args.part c.args.command (Ok c.in-Ok.reply),
     record { outcome = Ok c.in-Ok.reply; comes_out = c.in-Ok.ensures.outcome tables e; answer_is = refl; new_is = refl },
     c.in-Ok.ensures.after tables e,
   );

@@ -9,7 +9,7 @@ returns-in-Ok g c = record {
   answer = Replied c.part_of-part.result c.in-Ok.reply;
   asks = record {
     is = λ tables e. (
-      tables_after tables c.part_of-part.result (Insert c.args.key c.args.payload) (Ok c.in-Ok.reply),
+      tables_after (g.D.Desk.bounds c.args.desk.now) tables c.part_of-part.result (Insert c.args.key c.args.payload) (Ok c.in-Ok.reply),
       rw (← c.part_of-part.ensures) record { outcome = Ok c.in-Ok.reply; comes_out = c.in-Ok.ensures.outcome tables e; answer_is = refl; new_is = refl },
       c.in-Ok.ensures.after tables e,
     );
@@ -24,7 +24,7 @@ returns-in-Err g c = record {
   answer = Refused c.in-Err.refusal;
   asks = record {
     is = λ tables e. (
-      tables_after tables c.part_of-part.result (Insert c.args.key c.args.payload) (Err c.in-Err.refusal),
+      tables_after (g.D.Desk.bounds c.args.desk.now) tables c.part_of-part.result (Insert c.args.key c.args.payload) (Err c.in-Err.refusal),
       rw (← c.part_of-part.ensures) record { outcome = Err c.in-Err.refusal; comes_out = c.in-Err.ensures.outcome tables e; answer_is = refl; new_is = refl },
       c.in-Err.ensures.after tables e,
     );
