@@ -1,6 +1,6 @@
 //! Records of CSV: what they say, and how they are read.
-ghost use Rattle.std.specs.Prelude.{◌≡◌, ◌≢◌, ◌⊎◌, ◌++◌, ◌∷◌, ◌==◌, ◌&&◌, [], ℕ, List, true, false, length, IfOk, IfErr, IfSome, IfNone};
-ghost use Rattle.csv.specs.Reading.{AreRecords, default_config};
+ghost use Rattle.std.specs.Prelude.{◌≡◌, ◌≢◌, ◌⊎◌, ◌++◌, ◌∷◌, ◌==◌, ◌&&◌, [], ℕ, List, true, false, length, Ok, Err, IfOk, IfErr, IfSome, IfNone};
+ghost use Rattle.csv.specs.Reading.{AreRecords, default_config, error_kind};
 ghost use Rattle.csv.specs.Records.{fields_of};
 ghost use Rattle.csv.specs.declared.parser.State.TheVariants as st;
 ghost use Rattle.crack_csv.specs.Inside.{Fields, unread_by, IsReady, IsBehind};
@@ -8,7 +8,7 @@ ghost use Rattle.crack_csv.specs.Records.{is_header, new_row_of};
 
 use crack_commands::{read_key, read_payload};
 use crack_row::{Key, Payload, Refusal};
-use csv::{ByteRecord, ErrorKind, Reader};
+use csv::{ByteRecord, Error, ErrorKind, Reader};
 use std::io::Read;
 
 /// What is inserted for a record.
@@ -73,7 +73,15 @@ pub fn read_next<R: Read>(reader: &mut Reader<R>, fields: &mut ByteRecord) -> Re
         IsBehind R.remaining reader.old text records → AreRecords default_config st.StartRecord text records) }
     ensures err { IfErr result (λ e. (e ≡ Refusal.ReadFault) ⊎ (e ≡ Refusal.OutOfMemory)) }
 {
-    match reader.read_byte_record(fields) {
+    found_or_refused(reader.read_byte_record(fields))
+}
+
+/// What came of reading a record, with the refusal that says why it isn't read: 8 where no memory was found, else 17.
+fn found_or_refused(read: Result<bool, Error>) -> Result<bool, Refusal>
+    ensures ok { IfOk read (λ found. result ≡ Ok found) }
+    ensures err { IfErr read (λ error. result ≡ Err (unread_by (error_kind error))) }
+{
+    match read {
         Ok(found) => Ok(found),
         Err(error) => Err(unread_by(error.kind())),
     }

@@ -1,27 +1,20 @@
-use Rattle.std.proofs.Common.{◌≡◌, ◌⊎◌, inl, inr, refl}
+use Rattle.std.proofs.Common.{◌≡◌, Result, Ok, Err, IfOk, IfErr, Bool}
 use Rattle.csv.specs.Reading.{default_config, error_kind}
 use Rattle.csv.specs.Records.{fields_of}
 use Rattle.csv.specs.declared.parser.State.TheVariants as st
-use Rattle.csv.specs.declared.error.ErrorKind.{ErrorKind}
-use Rattle.csv.specs.declared.error.ErrorKind.TheVariants as kind
+use Rattle.csv.specs.declared.error.Error.{Error}
 use Rattle.csv.proofs.ReadFacts.{rows-more}
-use Rattle.crack_row.specs.declared.refusal.Refusal.TheVariants.{ReadFault, OutOfMemory}
+use Rattle.crack_row.specs.declared.refusal.Refusal.{Refusal}
 use Rattle.crack_csv.specs.Inside.{unread_by}
 use Rattle.crack_csv.proofs.record.read_next.Goals as goal
 
-unread_by-either : (k : ErrorKind) → (unread_by k ≡ ReadFault) ⊎ (unread_by k ≡ OutOfMemory)
-unread_by-either (kind.Io e) = inl refl
-unread_by-either (kind.Utf8 pos err) = inl refl
-unread_by-either (kind.UnequalLengths pos expected len) = inl refl
-unread_by-either (kind.Serialize text) = inl refl
-unread_by-either (kind.Deserialize pos err) = inl refl
-unread_by-either kind.OutOfMemory = inr refl
+-- what follows from a record that was read holds of what is answered
+found-from : {P Q : Bool → Type 0} (read : Result Bool Error) (result : Result Bool Refusal) → IfOk read (λ found. result ≡ Ok found) → IfErr read (λ error. result ≡ Err (unread_by (error_kind error))) → IfOk read P → ((found : Bool) → P found → Q found) → IfOk result Q
+found-from (Ok found) result ok err read follows = rw ok (follows found read)
+found-from (Err error) result ok err read follows = rw err tt
 
-pub returns-in-Err-clause-err : goal.returns-in-Err-clause-err
-returns-in-Err-clause-err g c = rw (c.unread_by.ensures, c.kind.ensures) (unread_by-either (error_kind c.in-Err.error))
-
-pub returns-in-Ok-clause-more : goal.returns-in-Ok-clause-more
-returns-in-Ok-clause-more g c = λ found text records behind.
-    let reads = rw found at c.in-Ok.ensures.reads c.requires.trim c.requires.ready in
-    let more = rows-more g.R.Read.remaining c.args.reader.now c.read_byte_record.new.self (fields_of c.read_byte_record.new.row) default_config st.StartRecord text behind.rest records c.requires.config behind.left behind.reached reads in
-    record { rest = more.0; left = more.1; reached = more.2 }
+pub returns-clause-more : goal.returns-clause-more
+returns-clause-more g c = found-from c.read_byte_record.result c.found_or_refused.result c.found_or_refused.ensures.ok c.found_or_refused.ensures.err c.read_byte_record.ensures.reads (λ answer reads found text records behind.
+    let read = rw found at reads c.requires.trim c.requires.ready in
+    let more = rows-more g.R.Read.remaining c.args.reader.now c.read_byte_record.new.self (fields_of c.read_byte_record.new.row) default_config st.StartRecord text behind.rest records c.requires.config behind.left behind.reached read in
+    record { rest = more.0; left = more.1; reached = more.2 })
