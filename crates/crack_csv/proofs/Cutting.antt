@@ -15,13 +15,13 @@ use Rattle.crack_row.specs.declared.refusal.Refusal.{Refusal}
 use Rattle.crack_row.specs.declared.refusal.Refusal.TheVariants.{WriteFault}
 use Rattle.crack_plain.specs.Plain.{PlainView, rows_in}
 use Rattle.crack_core.specs.Routes.{keys_of_part}
-use Rattle.crack_core.specs.Steps.{Bounds, IsOutcome, IsOutcomeAt, tables_after, table_after, fresh_table}
+use Rattle.crack_core.specs.Steps.{Bounds, IsOutcome, IsOutcomeAt, tables_after, table_after, upkept_by, fresh_table}
 use Rattle.crack_session.specs.Queries.{listed}
 use Rattle.crack_commands.specs.Texts.{AppendsFront}
 use Rattle.crack_commands.proofs.Sending.{Appends-then, front_first, front_then}
 use Rattle.crack_csv.specs.Exports.{header_text, record_text, rows_from, asked, lines_of, AreUnsent, IsExportCut}
 use Rattle.crack_csv.specs.Inside.{rows_at, IsUnsent, IsUnlisted, IsUnwritten, IsPartCut}
-use Rattle.crack_csv.proofs.Exporting.{Exporting, batch_more, keeps_appends, kept_written, replied_rows, index_there, next_is, next_is_there, next_asked, next_rows}
+use Rattle.crack_csv.proofs.Exporting.{Exporting, batch_more, keeps_appends, kept_written, replied_rows, index_there, asked-after, next_is, next_is_there, next_asked, next_rows}
 
 concat_map : {X : Type 0} (f : X → List ℕ) (xs : List X) → concat (map f xs) ≡ flat_map f xs
 concat_map f [] = refl
@@ -80,7 +80,7 @@ part_unlisted bounds splits tables part keys e receipts receipts' failed left ou
 
 -- a partition lists the rows of all its keys, and their records aren't all written
 pub part_unwritten : (bounds : Bounds) (splits : List Bound) (tables : List PlainView) (part : ℕ) (keys : Range) (reply : Reply) (e : Refusal) (receipts receipts' : ℕ) (failed failed' : Bool) (left : Option (List PlainView)) (out out' : Option (List ℕ)) → keys ≡ keys_of_part splits part
-    → IsOutcomeAt bounds splits tables part (Select keys) (Ok reply) → left ≡ Some (tables_after tables part (Select keys) (Ok reply)) → receipts' ≡ receipts + 1
+    → IsOutcomeAt bounds splits tables part (Select keys) (Ok reply) → left ≡ Some (tables_after bounds tables part (Select keys) (Ok reply)) → receipts' ≡ receipts + 1
     → AreUnsent (map record_text (listed reply)) e failed failed' out out' → IsPartCut bounds splits tables part e receipts receipts' failed failed' left out out'
 part_unwritten bounds splits tables part keys reply e receipts receipts' failed failed' left out out' all outcome after one unsent =
     let replied = replied_rows bounds (keys_of_part splits part) (slice_get tables part) keys reply outcome in
@@ -90,7 +90,7 @@ part_unwritten bounds splits tables part keys reply e receipts receipts' failed 
       there = replied.1;
       how = inr (record {
         cause = subst (λ rows. AreUnsent (map record_text rows) e failed failed' out out') rows unsent;
-        left_is = after ∙ ap (λ (t : PlainView). Some (slice_set tables part (table_after t (Select keys)))) (index_there tables part replied.0 fresh_table replied.1);
+        left_is = after ∙ ap (λ (t : PlainView). Some (slice_set tables part t)) (ap (λ (t : PlainView). table_after (upkept_by bounds t) (Select keys)) (index_there tables part replied.0 fresh_table replied.1) ∙ asked-after bounds replied.0 keys);
         receipts_are = one;
       });
     }
@@ -112,11 +112,11 @@ lines_text splits done out out' written = subst (Appends out out') (ap (λ z. he
 
 -- the next partition refuses the list of its rows
 unlisted_next : (bounds : Bounds) (splits : List Bound) (tables : List PlainView) (part : ℕ) (table : PlainView) (e : Refusal) (receipts now receipts' : ℕ) (failed failed' : Bool) (left : Option (List PlainView)) (out out' out'' : Option (List ℕ)) (done rest : List PlainView)
-    → tables ≡ done ++ rest → length done ≡ part → now ≡ receipts + part → Appends out out' (header_text ++ flat_map record_text (rows_from splits 0 done)) → slice_get (map asked done ++ rest) part ≡ Some table
-    → IsUnlisted bounds splits (map asked done ++ rest) part table e now receipts' failed failed' left out' out'' → IsExportCut bounds splits tables e receipts receipts' failed failed' left out out''
-unlisted_next bounds splits tables part table e receipts now receipts' failed failed' left out out' out'' done [] split reached so_far written there next = absurd (next_is_there done part table reached there)
+    → tables ≡ done ++ rest → length done ≡ part → now ≡ receipts + part → Appends out out' (header_text ++ flat_map record_text (rows_from splits 0 done)) → slice_get (map (asked bounds) done ++ rest) part ≡ Some table
+    → IsUnlisted bounds splits (map (asked bounds) done ++ rest) part table e now receipts' failed failed' left out' out'' → IsExportCut bounds splits tables e receipts receipts' failed failed' left out out''
+unlisted_next bounds splits tables part table e receipts now receipts' failed failed' left out out' out'' done [] split reached so_far written there next = absurd (next_is_there bounds done part table reached there)
 unlisted_next bounds splits tables part table e receipts now receipts' failed failed' left out out' out'' done (t ∷ rest) split reached so_far written there next =
-    let same : table ≡ t = next_is done t rest part table reached there in
+    let same : table ≡ t = next_is bounds done t rest part table reached there in
     let here : IsOutcome bounds (keys_of_part splits part) (Some t) (Select (keys_of_part splits part)) (Err e) = subst (λ (x : PlainView). IsOutcome bounds (keys_of_part splits part) (Some x) (Select (keys_of_part splits part)) (Err e)) same next.cause in
     record {
       done = done;
@@ -135,11 +135,11 @@ unlisted_next bounds splits tables part table e receipts now receipts' failed fa
 
 -- the records of the next partition aren't all written
 unwritten_next : (bounds : Bounds) (splits : List Bound) (tables : List PlainView) (part : ℕ) (table : PlainView) (e : Refusal) (receipts now receipts' : ℕ) (failed failed' : Bool) (left : Option (List PlainView)) (out out' out'' : Option (List ℕ)) (done rest : List PlainView)
-    → tables ≡ done ++ rest → length done ≡ part → now ≡ receipts + part → Appends out out' (header_text ++ flat_map record_text (rows_from splits 0 done)) → slice_get (map asked done ++ rest) part ≡ Some table
-    → IsUnwritten splits (map asked done ++ rest) part table e now receipts' failed failed' left out' out'' → IsExportCut bounds splits tables e receipts receipts' failed failed' left out out''
-unwritten_next bounds splits tables part table e receipts now receipts' failed failed' left out out' out'' done [] split reached so_far written there next = absurd (next_is_there done part table reached there)
+    → tables ≡ done ++ rest → length done ≡ part → now ≡ receipts + part → Appends out out' (header_text ++ flat_map record_text (rows_from splits 0 done)) → slice_get (map (asked bounds) done ++ rest) part ≡ Some table
+    → IsUnwritten bounds splits (map (asked bounds) done ++ rest) part table e now receipts' failed failed' left out' out'' → IsExportCut bounds splits tables e receipts receipts' failed failed' left out out''
+unwritten_next bounds splits tables part table e receipts now receipts' failed failed' left out out' out'' done [] split reached so_far written there next = absurd (next_is_there bounds done part table reached there)
 unwritten_next bounds splits tables part table e receipts now receipts' failed failed' left out out' out'' done (t ∷ rest) split reached so_far written there next =
-    let same : table ≡ t = next_is done t rest part table reached there in
+    let same : table ≡ t = next_is bounds done t rest part table reached there in
     let rows = next_rows splits done t part table reached same in
     let lines : lines_of splits (done ++ t ∷ []) ≡ lines_of splits done ++ map record_text (rows_at splits part table) =
     ap (λ z. header_text ∷ map record_text z) rows ∙ ap (λ z. header_text ∷ z) (map-append record_text (rows_from splits 0 done) (rows_at splits part table)) in
@@ -147,14 +147,14 @@ unwritten_next bounds splits tables part table e receipts now receipts' failed f
       done = done ++ t ∷ [];
       rest = rest;
       split = split ∙ sym (append_assoc done (t ∷ []) rest);
-      left_is = next.left_is ∙ ap Some (next_asked done t rest part table reached same);
+      left_is = next.left_is ∙ ap Some (next_asked bounds done t rest part table reached same);
       receipts_are = let one = next.receipts_are in let l = length-append done (t ∷ []) in omega (arith, one, so_far, reached, l);
       cause = inl (subst (λ z. AreUnsent z e failed failed' out out'') (sym lines) (unsent_behind (lines_of splits done) (map record_text (rows_at splits part table)) e failed failed' out out' out'' (lines_text splits done out out' written) next.cause));
     }
 
 how_next : (bounds : Bounds) (splits : List Bound) (tables : List PlainView) (part : ℕ) (table : PlainView) (e : Refusal) (receipts now receipts' : ℕ) (failed failed' : Bool) (left : Option (List PlainView)) (out out' out'' : Option (List ℕ)) (done rest : List PlainView)
-    → tables ≡ done ++ rest → length done ≡ part → now ≡ receipts + part → Appends out out' (header_text ++ flat_map record_text (rows_from splits 0 done)) → slice_get (map asked done ++ rest) part ≡ Some table
-    → IsUnlisted bounds splits (map asked done ++ rest) part table e now receipts' failed failed' left out' out'' ⊎ IsUnwritten splits (map asked done ++ rest) part table e now receipts' failed failed' left out' out''
+    → tables ≡ done ++ rest → length done ≡ part → now ≡ receipts + part → Appends out out' (header_text ++ flat_map record_text (rows_from splits 0 done)) → slice_get (map (asked bounds) done ++ rest) part ≡ Some table
+    → IsUnlisted bounds splits (map (asked bounds) done ++ rest) part table e now receipts' failed failed' left out' out'' ⊎ IsUnwritten bounds splits (map (asked bounds) done ++ rest) part table e now receipts' failed failed' left out' out''
     → IsExportCut bounds splits tables e receipts receipts' failed failed' left out out''
 how_next bounds splits tables part table e receipts now receipts' failed failed' left out out' out'' done rest split reached so_far written there (inl next) =
     unlisted_next bounds splits tables part table e receipts now receipts' failed failed' left out out' out'' done rest split reached so_far written there next
@@ -162,9 +162,9 @@ how_next bounds splits tables part table e receipts now receipts' failed failed'
     unwritten_next bounds splits tables part table e receipts now receipts' failed failed' left out out' out'' done rest split reached so_far written there next
 
 -- the export of the next partition is refused
-pub Exporting-cut : {splits : List Bound} {tables : List PlainView} {part count : ℕ} {left : Option (List PlainView)} {out out' : Option (List ℕ)} (bounds : Bounds) (e : Refusal) (receipts now receipts' : ℕ) (failed failed' : Bool) (left' : Option (List PlainView)) (out'' : Option (List ℕ)) → Exporting splits tables part count left out out' → now ≡ receipts + part
+pub Exporting-cut : {bounds : Bounds} {splits : List Bound} {tables : List PlainView} {part count : ℕ} {left : Option (List PlainView)} {out out' : Option (List ℕ)} (e : Refusal) (receipts now receipts' : ℕ) (failed failed' : Bool) (left' : Option (List PlainView)) (out'' : Option (List ℕ)) → Exporting bounds splits tables part count left out out' → now ≡ receipts + part
     → ((known : List PlainView) → left ≡ Some known → IsPartCut bounds splits known part e now receipts' failed failed' left' out' out'') → IsExportCut bounds splits tables e receipts receipts' failed failed' left' out out''
-Exporting-cut {splits} {tables} {part} {out = out} {out' = out'} bounds e receipts now receipts' failed failed' left' out'' was so_far cut =
+Exporting-cut {bounds} {splits} {tables} {part} {out = out} {out' = out'} e receipts now receipts' failed failed' left' out'' was so_far cut =
     let next = cut _ was.left_is in
     how_next bounds splits tables part next.table e receipts now receipts' failed failed' left' out out' out'' was.done was.rest was.split was.reached so_far was.written next.there next.how
 
@@ -173,9 +173,9 @@ no_rest xs done [] split all = refl
 no_rest xs done (x ∷ rest) split all = absurd (let l = length-append done (x ∷ rest) in let n = ap length split in omega (arith, l, n, all))
 
 -- what is written can't be handed on
-pub Exporting-kept : {splits : List Bound} {tables : List PlainView} {part count : ℕ} {left : Option (List PlainView)} {out out' : Option (List ℕ)} (bounds : Bounds) (receipts receipts' : ℕ) (failed failed' : Bool) (out'' : Option (List ℕ)) → Exporting splits tables part count left out out' → receipts' ≡ receipts + part → part ≡ length tables → failed' ≡ true
+pub Exporting-kept : {bounds : Bounds} {splits : List Bound} {tables : List PlainView} {part count : ℕ} {left : Option (List PlainView)} {out out' : Option (List ℕ)} (receipts receipts' : ℕ) (failed failed' : Bool) (out'' : Option (List ℕ)) → Exporting bounds splits tables part count left out out' → receipts' ≡ receipts + part → part ≡ length tables → failed' ≡ true
     → Keeps out' out'' → IsExportCut bounds splits tables WriteFault receipts receipts' failed failed' left out out''
-Exporting-kept {splits} {tables} {out = out} {out' = out'} bounds receipts receipts' failed failed' out'' was so_far all is kept = record {
+Exporting-kept {bounds} {splits} {tables} {out = out} {out' = out'} receipts receipts' failed failed' out'' was so_far all is kept = record {
   done = was.done;
   rest = was.rest;
   split = was.split;

@@ -1,6 +1,6 @@
 -- How an export goes on, one partition after another.
 use Rattle.std.proofs.Common.{◌≡◌, ℕ, zero, suc, ◌+◌, ◌-◌, ◌≤◌, Option, Some, None, Result, Ok, Err, ◌⊎◌, inl, inr, List, [], ◌∷◌, ◌++◌, length, map, take, drop, refl, sym, ap, ◌∙◌, arith, append_assoc, append-nil, length-append}
-use Rattle.std.specs.Prelude.{IsOk, slice_get, slice_set, slice_index_or}
+use Rattle.std.specs.Prelude.{IsOk, Bool, true, false, cond, slice_get, slice_set, slice_index_or}
 use Rattle.std.proofs.lemmas.List.{map-append, drop-take, take-take, take-append-drop}
 use Rattle.std.proofs.lemmas.Grind.{flat_map-append}
 use Rattle.std.specs.List.{flat_map}
@@ -12,10 +12,10 @@ use Rattle.crack_row.specs.declared.command.Reply.{Reply}
 use Rattle.crack_row.specs.declared.command.Reply.TheVariants.{Rows}
 use Rattle.crack_row.specs.declared.refusal.Refusal.{Refusal}
 use Rattle.crack_row.specs.declared.refusal.Refusal.TheVariants.{OutOfMemory, NoCell}
-use Rattle.crack_plain.specs.Plain.{PlainView, rows_in}
+use Rattle.crack_plain.specs.Plain.{PlainView, checkpointed, rows_in}
 use Rattle.crack_core.specs.Routes.{keys_of_part}
 use Rattle.crack_part.specs.Refusals.{first_cause}
-use Rattle.crack_core.specs.Steps.{Bounds, reply_unless, MayLackCell, IsOutcome, IsOutcomeAt, tables_after, table_after, fresh_table}
+use Rattle.crack_core.specs.Steps.{Bounds, reply_unless, MayLackCell, IsOutcome, IsOutcomeAt, tables_after, table_after, upkept_by, fresh_table}
 use Rattle.crack_session.specs.Queries.{listed}
 use Rattle.crack_commands.proofs.Sending.{Appends-then}
 use Rattle.crack_csv.specs.Exports.{header_text, record_text, rows_from, asked, IsExported}
@@ -30,9 +30,9 @@ set_behind : {X : Type 0} (xs : List X) (y : X) (ys : List X) (z : X) → slice_
 set_behind [] y ys z = refl
 set_behind (x ∷ xs) y ys z = ap (λ t. x ∷ t) (set_behind xs y ys z)
 
-length-map : (tables : List PlainView) → length (map asked tables) ≡ length tables
-length-map [] = refl
-length-map (t ∷ tables) = let l = length-map tables in omega (arith, l)
+length-map : (bounds : Bounds) (tables : List PlainView) → length (map (asked bounds) tables) ≡ length tables
+length-map bounds [] = refl
+length-map bounds (t ∷ tables) = let l = length-map bounds tables in omega (arith, l)
 
 rows_from-push : (splits : List Bound) (part : ℕ) (tables : List PlainView) (table : PlainView) (next : ℕ) → part + length tables ≡ next → rows_from splits part (tables ++ table ∷ []) ≡ rows_from splits part tables ++ rows_at splits next table
 rows_from-push splits part [] table next e = append-nil (rows_at splits part table) ∙ ap (λ n. rows_at splits n table) (let same : part ≡ next = omega (arith, e) in same)
@@ -41,17 +41,17 @@ rows_from-push splits part (t ∷ tables) table next e =
     ∙ sym (append_assoc (rows_at splits part t) (rows_from splits (part + 1) tables) (rows_at splits next table))
 
 -- The partitions up to this one are asked, and their rows are written.
-pub record Exporting (splits : List Bound) (tables : List PlainView) (part count : ℕ) (left : Option (List PlainView)) (out out' : Option (List ℕ)) : Type 0 where
+pub record Exporting (bounds : Bounds) (splits : List Bound) (tables : List PlainView) (part count : ℕ) (left : Option (List PlainView)) (out out' : Option (List ℕ)) : Type 0 where
   pub done : List PlainView
   pub rest : List PlainView
   pub split : tables ≡ done ++ rest
   pub reached : length done ≡ part
   pub count_is : count ≡ length (rows_from splits 0 done)
-  pub left_is : left ≡ Some (map asked done ++ rest)
+  pub left_is : left ≡ Some (map (asked bounds) done ++ rest)
   pub written : Appends out out' (header_text ++ flat_map record_text (rows_from splits 0 done))
 
-pub Exporting-start : (splits : List Bound) (tables : List PlainView) (left : Option (List PlainView)) (out out' : Option (List ℕ)) → left ≡ Some tables → Appends out out' header_text → Exporting splits tables 0 0 left out out'
-Exporting-start splits tables left out out' known written = record {
+pub Exporting-start : (bounds : Bounds) (splits : List Bound) (tables : List PlainView) (left : Option (List PlainView)) (out out' : Option (List ℕ)) → left ≡ Some tables → Appends out out' header_text → Exporting bounds splits tables 0 0 left out out'
+Exporting-start bounds splits tables left out out' known written = record {
   done = [];
   rest = tables;
   split = refl;
@@ -62,40 +62,40 @@ Exporting-start splits tables left out out' known written = record {
 }
 
 -- the partition that is asked next is the first of the rest
-pub next_is : (done : List PlainView) (t : PlainView) (rest : List PlainView) (part : ℕ) (table : PlainView) → length done ≡ part → slice_get (map asked done ++ t ∷ rest) part ≡ Some table → table ≡ t
-next_is done t rest part table reached there =
-    let n : length (map asked done) ≡ part = length-map done ∙ reached in
-    let first : slice_get (map asked done ++ t ∷ rest) part ≡ Some t = ap (slice_get (map asked done ++ t ∷ rest)) (sym n) ∙ get_behind (map asked done) (t ∷ rest) in
+pub next_is : (bounds : Bounds) (done : List PlainView) (t : PlainView) (rest : List PlainView) (part : ℕ) (table : PlainView) → length done ≡ part → slice_get (map (asked bounds) done ++ t ∷ rest) part ≡ Some table → table ≡ t
+next_is bounds done t rest part table reached there =
+    let n : length (map (asked bounds) done) ≡ part = length-map bounds done ∙ reached in
+    let first : slice_get (map (asked bounds) done ++ t ∷ rest) part ≡ Some t = ap (slice_get (map (asked bounds) done ++ t ∷ rest)) (sym n) ∙ get_behind (map (asked bounds) done) (t ∷ rest) in
     cc (first, there)
 
 -- so there is one
-pub next_is_there : (done : List PlainView) (part : ℕ) (table : PlainView) → length done ≡ part → slice_get (map asked done ++ []) part ≡ Some table → ⊥
-next_is_there done part table reached there =
-    let n : length (map asked done) ≡ part = length-map done ∙ reached in
-    let none : slice_get (map asked done ++ []) part ≡ None = ap (slice_get (map asked done ++ [])) (sym n) ∙ get_behind (map asked done) [] in
+pub next_is_there : (bounds : Bounds) (done : List PlainView) (part : ℕ) (table : PlainView) → length done ≡ part → slice_get (map (asked bounds) done ++ []) part ≡ Some table → ⊥
+next_is_there bounds done part table reached there =
+    let n : length (map (asked bounds) done) ≡ part = length-map bounds done ∙ reached in
+    let none : slice_get (map (asked bounds) done ++ []) part ≡ None = ap (slice_get (map (asked bounds) done ++ [])) (sym n) ∙ get_behind (map (asked bounds) done) [] in
     cc (none, there)
 
 -- and then it is one of those that are asked
-pub next_asked : (done : List PlainView) (t : PlainView) (rest : List PlainView) (part : ℕ) (table : PlainView) → length done ≡ part → table ≡ t → slice_set (map asked done ++ t ∷ rest) part (asked table) ≡ map asked (done ++ t ∷ []) ++ rest
-next_asked done t rest part table reached same =
-    let n : length (map asked done) ≡ part = length-map done ∙ reached in
-    ap (λ x. slice_set (map asked done ++ t ∷ rest) part (asked x)) same
-    ∙ ap (λ i. slice_set (map asked done ++ t ∷ rest) i (asked t)) (sym n)
-    ∙ set_behind (map asked done) t rest (asked t)
-    ∙ sym (append_assoc (map asked done) (asked t ∷ []) rest)
-    ∙ ap (λ z. z ++ rest) (sym (map-append asked done (t ∷ [])))
+pub next_asked : (bounds : Bounds) (done : List PlainView) (t : PlainView) (rest : List PlainView) (part : ℕ) (table : PlainView) → length done ≡ part → table ≡ t → slice_set (map (asked bounds) done ++ t ∷ rest) part (asked bounds table) ≡ map (asked bounds) (done ++ t ∷ []) ++ rest
+next_asked bounds done t rest part table reached same =
+    let n : length (map (asked bounds) done) ≡ part = length-map bounds done ∙ reached in
+    ap (λ x. slice_set (map (asked bounds) done ++ t ∷ rest) part (asked bounds x)) same
+    ∙ ap (λ i. slice_set (map (asked bounds) done ++ t ∷ rest) i (asked bounds t)) (sym n)
+    ∙ set_behind (map (asked bounds) done) t rest (asked bounds t)
+    ∙ sym (append_assoc (map (asked bounds) done) (asked bounds t ∷ []) rest)
+    ∙ ap (λ z. z ++ rest) (sym (map-append (asked bounds) done (t ∷ [])))
 
 -- the rows of one more partition
 pub next_rows : (splits : List Bound) (done : List PlainView) (t : PlainView) (part : ℕ) (table : PlainView) → length done ≡ part → table ≡ t → rows_from splits 0 (done ++ t ∷ []) ≡ rows_from splits 0 done ++ rows_at splits part table
 next_rows splits done t part table reached same = rows_from-push splits 0 done t part (omega (arith, reached)) ∙ ap (λ x. rows_from splits 0 done ++ rows_at splits part x) (sym same)
 
 -- the rest begins with the partition that is asked next
-Exporting-next : {splits : List Bound} {tables : List PlainView} {part count : ℕ} {out out' : Option (List ℕ)} (more : ℕ) (left' : Option (List PlainView)) (out'' : Option (List ℕ)) (done rest : List PlainView)
+Exporting-next : {bounds : Bounds} {splits : List Bound} {tables : List PlainView} {part count : ℕ} {out out' : Option (List ℕ)} (more : ℕ) (left' : Option (List PlainView)) (out'' : Option (List ℕ)) (done rest : List PlainView)
     → tables ≡ done ++ rest → length done ≡ part → count ≡ length (rows_from splits 0 done) → Appends out out' (header_text ++ flat_map record_text (rows_from splits 0 done))
-    → IsPartExported splits (map asked done ++ rest) part more left' out' out'' → Exporting splits tables (part + 1) (count + more) left' out out''
-Exporting-next {splits} {tables} {part} {count} {out} {out'} more left' out'' done [] split reached counted written next = absurd (next_is_there done part next.table reached next.there)
-Exporting-next {splits} {tables} {part} {count} {out} {out'} more left' out'' done (t ∷ rest) split reached counted written next =
-    let same : next.table ≡ t = next_is done t rest part next.table reached next.there in
+    → IsPartExported bounds splits (map (asked bounds) done ++ rest) part more left' out' out'' → Exporting bounds splits tables (part + 1) (count + more) left' out out''
+Exporting-next {bounds} {splits} {tables} {part} {count} {out} {out'} more left' out'' done [] split reached counted written next = absurd (next_is_there bounds done part next.table reached next.there)
+Exporting-next {bounds} {splits} {tables} {part} {count} {out} {out'} more left' out'' done (t ∷ rest) split reached counted written next =
+    let same : next.table ≡ t = next_is bounds done t rest part next.table reached next.there in
     let rows = next_rows splits done t part next.table reached same in
     record {
       done = done ++ t ∷ [];
@@ -103,7 +103,7 @@ Exporting-next {splits} {tables} {part} {count} {out} {out'} more left' out'' do
       split = split ∙ sym (append_assoc done (t ∷ []) rest);
       reached = let l = length-append done (t ∷ []) in omega (arith, l, reached);
       count_is = let l = length-append (rows_from splits 0 done) (rows_at splits part next.table) in let r = ap length rows in let m = next.count_is in omega (arith, l, r, m, counted);
-      left_is = next.left_is ∙ ap Some (next_asked done t rest part next.table reached same);
+      left_is = next.left_is ∙ ap Some (next_asked bounds done t rest part next.table reached same);
       written = Appends-then _ _ _ _ _ _ written next.written (
           ap (λ z. header_text ++ flat_map record_text z) rows
           ∙ ap (λ z. header_text ++ z) (flat_map-append record_text (rows_from splits 0 done) (rows_at splits part next.table))
@@ -112,20 +112,20 @@ Exporting-next {splits} {tables} {part} {count} {out} {out'} more left' out'' do
     }
 
 -- one more partition
-pub Exporting-more : {splits : List Bound} {tables : List PlainView} {part count : ℕ} {left : Option (List PlainView)} {out out' : Option (List ℕ)} (more : ℕ) (left' : Option (List PlainView)) (out'' : Option (List ℕ)) → Exporting splits tables part count left out out' → ((known : List PlainView) → left ≡ Some known → IsPartExported splits known part more left' out' out'') → Exporting splits tables (part + 1) (count + more) left' out out''
+pub Exporting-more : {bounds : Bounds} {splits : List Bound} {tables : List PlainView} {part count : ℕ} {left : Option (List PlainView)} {out out' : Option (List ℕ)} (more : ℕ) (left' : Option (List PlainView)) (out'' : Option (List ℕ)) → Exporting bounds splits tables part count left out out' → ((known : List PlainView) → left ≡ Some known → IsPartExported bounds splits known part more left' out' out'') → Exporting bounds splits tables (part + 1) (count + more) left' out out''
 Exporting-more more left' out'' was next = Exporting-next more left' out'' was.done was.rest was.split was.reached was.count_is was.written (next _ was.left_is)
 
 pub kept_written : (out a b : Option (List ℕ)) (text : List ℕ) → Appends out a text → Appends a b [] → Appends out b text
 kept_written out a b text h k = Appends-then out a b text [] text h k (sym (append-nil text))
 
-Exporting-whole : {splits : List Bound} {tables : List PlainView} {count : ℕ} {left : Option (List PlainView)} {out out' : Option (List ℕ)} (done rest : List PlainView) → tables ≡ done ++ rest → length done ≡ length tables → count ≡ length (rows_from splits 0 done) → left ≡ Some (map asked done ++ rest) → Appends out out' (header_text ++ flat_map record_text (rows_from splits 0 done)) → IsExported splits tables count left out out'
-Exporting-whole {splits} {tables} done [] split all counted known written =
+Exporting-whole : {bounds : Bounds} {splits : List Bound} {tables : List PlainView} {count : ℕ} {left : Option (List PlainView)} {out out' : Option (List ℕ)} (done rest : List PlainView) → tables ≡ done ++ rest → length done ≡ length tables → count ≡ length (rows_from splits 0 done) → left ≡ Some (map (asked bounds) done ++ rest) → Appends out out' (header_text ++ flat_map record_text (rows_from splits 0 done)) → IsExported bounds splits tables count left out out'
+Exporting-whole {bounds} {splits} {tables} done [] split all counted known written =
     let same : tables ≡ done = split ∙ append-nil done in
-    record { count_is = rw same counted; left_is = known ∙ ap Some (append-nil (map asked done) ∙ ap (map asked) (sym same)); written = rw same written }
-Exporting-whole {splits} {tables} done (t ∷ rest) split all counted known written = absurd (let l = length-append done (t ∷ rest) in let n = ap length split in omega (arith, l, n, all))
+    record { count_is = rw same counted; left_is = known ∙ ap Some (append-nil (map (asked bounds) done) ∙ ap (map (asked bounds)) (sym same)); written = rw same written }
+Exporting-whole {bounds} {splits} {tables} done (t ∷ rest) split all counted known written = absurd (let l = length-append done (t ∷ rest) in let n = ap length split in omega (arith, l, n, all))
 
 -- all partitions
-pub Exporting-end : {splits : List Bound} {tables : List PlainView} {part count : ℕ} {left : Option (List PlainView)} {out out' : Option (List ℕ)} (out'' : Option (List ℕ)) → Exporting splits tables part count left out out' → part ≡ length tables → Appends out' out'' [] → IsExported splits tables count left out out''
+pub Exporting-end : {bounds : Bounds} {splits : List Bound} {tables : List PlainView} {part count : ℕ} {left : Option (List PlainView)} {out out' : Option (List ℕ)} (out'' : Option (List ℕ)) → Exporting bounds splits tables part count left out out' → part ≡ length tables → Appends out' out'' [] → IsExported bounds splits tables count left out out''
 Exporting-end out'' was all kept = Exporting-whole was.done was.rest was.split (was.reached ∙ all) was.count_is was.left_is (kept_written _ _ _ _ was.written kept)
 
 -- what is handed on by a flush is nothing more
@@ -153,10 +153,18 @@ index_there [] i table other e = cc e
 index_there (t ∷ tables) zero table other e = cc e
 index_there (t ∷ tables) (suc i) table other e = index_there tables i table other e
 
+-- a list of rows changes none, and neither does a checkpoint
+pub asked-after : (bounds : Bounds) (table : PlainView) (keys : Range) → table_after (upkept_by bounds table) (Select keys) ≡ asked bounds table
+asked-after bounds table keys = by_test (bounds.due table)
+  where
+    by_test : (b : Bool) → table_after (cond b (checkpointed table) table) (Select keys) ≡ record { state = table.state; folded = (cond b (checkpointed table) table).folded; since = (cond b (checkpointed table) table).since + 1 }
+    by_test true = refl
+    by_test false = refl
+
 -- a partition that lists the rows of all its keys is asked, and their records are written
 pub part_exported : (bounds : Bounds) (splits : List Bound) (tables : List PlainView) (part : ℕ) (keys : Range) (reply : Reply) (left : Option (List PlainView)) (out out' : Option (List ℕ)) → keys ≡ keys_of_part splits part
-    → IsOutcomeAt bounds splits tables part (Select keys) (Ok reply) → left ≡ Some (tables_after tables part (Select keys) (Ok reply)) → Appends out out' (flat_map record_text (listed reply))
-    → IsPartExported splits tables part (length (listed reply)) left out out'
+    → IsOutcomeAt bounds splits tables part (Select keys) (Ok reply) → left ≡ Some (tables_after bounds tables part (Select keys) (Ok reply)) → Appends out out' (flat_map record_text (listed reply))
+    → IsPartExported bounds splits tables part (length (listed reply)) left out out'
 part_exported bounds splits tables part keys reply left out out' all outcome after written =
     let replied = replied_rows bounds (keys_of_part splits part) (slice_get tables part) keys reply outcome in
     let rows : listed reply ≡ rows_at splits part replied.0 = ap listed replied.2 ∙ ap (λ (k : Range). rows_in k replied.0.state.rows) all in
@@ -164,7 +172,7 @@ part_exported bounds splits tables part keys reply left out out' all outcome aft
       table = replied.0;
       there = replied.1;
       count_is = ap length rows;
-      left_is = after ∙ ap (λ (t : PlainView). Some (slice_set tables part (table_after t (Select keys)))) (index_there tables part replied.0 fresh_table replied.1);
+      left_is = after ∙ ap (λ (t : PlainView). Some (slice_set tables part t)) (ap (λ (t : PlainView). table_after (upkept_by bounds t) (Select keys)) (index_there tables part replied.0 fresh_table replied.1) ∙ asked-after bounds replied.0 keys);
       written = rw (← rows) written;
     }
 

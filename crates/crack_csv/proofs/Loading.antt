@@ -22,8 +22,8 @@ is_header_behind [] fields = is_header fields
 is_header_behind (first ∷ records) fields = false
 
 -- the partitions after these rows are inserted, in order
-abbrev with_rows : List Bound → List PlainView → List NewRow → List PlainView
-with_rows splits tables rows = fold (with_row splits) tables rows
+abbrev with_rows : Bounds → List Bound → List PlainView → List NewRow → List PlainView
+with_rows bounds splits tables rows = fold (with_row bounds splits) tables rows
 
 without_header-more : (header : Bool) (first : Fields) (records : List Fields) (fields : Fields) → cond header (records ++ fields ∷ []) (first ∷ (records ++ fields ∷ [])) ≡ cond header records (first ∷ records) ++ fields ∷ []
 without_header-more true first records fields = refl
@@ -34,23 +34,23 @@ without_header-push : (records : List Fields) (fields : Fields) → is_header_be
 without_header-push [] fields e = rw e refl
 without_header-push (first ∷ records) fields e = without_header-more (is_header first) first records fields
 
-with_rows-push : (splits : List Bound) (tables : List PlainView) (rows : List NewRow) (row : NewRow) → with_rows splits tables (rows ++ row ∷ []) ≡ with_row splits (with_rows splits tables rows) row
-with_rows-push splits tables [] row = refl
-with_rows-push splits tables (first ∷ rows) row = with_rows-push splits (with_row splits tables first) rows row
+with_rows-push : (bounds : Bounds) (splits : List Bound) (tables : List PlainView) (rows : List NewRow) (row : NewRow) → with_rows bounds splits tables (rows ++ row ∷ []) ≡ with_row bounds splits (with_rows bounds splits tables rows) row
+with_rows-push bounds splits tables [] row = refl
+with_rows-push bounds splits tables (first ∷ rows) row = with_rows-push bounds splits (with_row bounds splits tables first) rows row
 
 -- one more row is inserted
-AreInserted-push : {splits : List Bound} {tables : List PlainView} {count : ℕ} {left : Option (List PlainView)} (records : List Fields) (fields : Fields) (left' : Option (List PlainView)) (was : AreInserted splits tables records count left) → is_header_behind records fields ≡ false → BringsRow splits (with_rows splits tables was.rows) fields left' → AreInserted splits tables (records ++ fields ∷ []) (count + 1) left'
-AreInserted-push {splits} {tables} records fields left' was plain brings = record {
+AreInserted-push : {bounds : Bounds} {splits : List Bound} {tables : List PlainView} {count : ℕ} {left : Option (List PlainView)} (records : List Fields) (fields : Fields) (left' : Option (List PlainView)) (was : AreInserted bounds splits tables records count left) → is_header_behind records fields ≡ false → BringsRow bounds splits (with_rows bounds splits tables was.rows) fields left' → AreInserted bounds splits tables (records ++ fields ∷ []) (count + 1) left'
+AreInserted-push {bounds} {splits} {tables} records fields left' was plain brings = record {
   rows = was.rows ++ brings.0 ∷ [];
   are = ap (map new_row_of) (without_header-push records fields plain) ∙ map-append new_row_of (without_header records) (fields ∷ [])
       ∙ ap (λ (z : List (Option NewRow)). z ++ new_row_of fields ∷ []) was.are ∙ ap (λ (o : Option NewRow). map Some was.rows ++ o ∷ []) brings.1
       ∙ sym (map-append Some was.rows (brings.0 ∷ []));
   count_is = let l = length-append was.rows (brings.0 ∷ []) in let c = was.count_is in omega (arith, l, c);
-  left_is = brings.2 ∙ ap Some (sym (with_rows-push splits tables was.rows brings.0));
+  left_is = brings.2 ∙ ap Some (sym (with_rows-push bounds splits tables was.rows brings.0));
 }
 
 -- a header is skipped
-AreInserted-header : {splits : List Bound} {tables : List PlainView} {count : ℕ} {left : Option (List PlainView)} (records : List Fields) (fields : Fields) (number : ℕ) → length records + 1 ≡ number → (number == 1 && is_header fields) ≡ true → AreInserted splits tables records count left → AreInserted splits tables (records ++ fields ∷ []) count left
+AreInserted-header : {bounds : Bounds} {splits : List Bound} {tables : List PlainView} {count : ℕ} {left : Option (List PlainView)} (records : List Fields) (fields : Fields) (number : ℕ) → length records + 1 ≡ number → (number == 1 && is_header fields) ≡ true → AreInserted bounds splits tables records count left → AreInserted bounds splits tables (records ++ fields ∷ []) count left
 AreInserted-header [] fields number n header was = record { rows = was.rows; are = (let is : is_header fields ≡ true = rw (← n) at header in rw is was.are); count_is = was.count_is; left_is = was.left_is }
 AreInserted-header (first ∷ records) fields number n header was = absurd (let other : (number == 1) ≡ false = ne_eqb number 1 (λ one. omega (arith, n, one)) in cc (rw other at header))
 
@@ -60,26 +60,26 @@ no_header [] fields number n e = rw (← n) at e
 no_header (first ∷ records) fields number n e = refl
 
 -- A reader stands before the record of this number, and the rows of the records before it are inserted.
-pub record Going {R : Type 0} (remaining : R → Option (List ℕ)) (reader : Reader R) (splits : List Bound) (tables : List PlainView) (bytes : List ℕ) (number loaded : ℕ) (left : Option (List PlainView)) : Type 0 where
+pub record Going {R : Type 0} (remaining : R → Option (List ℕ)) (reader : Reader R) (bounds : Bounds) (splits : List Bound) (tables : List PlainView) (bytes : List ℕ) (number loaded : ℕ) (left : Option (List PlainView)) : Type 0 where
   pub records : List Fields
   pub behind : IsBehind remaining reader (strip_bom bytes) records
-  pub inserted : AreInserted splits tables records loaded left
+  pub inserted : AreInserted bounds splits tables records loaded left
   pub count : length records + 1 ≡ number
 
 -- what reading one more record does
 abbrev pub ReadsOne : {R : Type 0} → (R → Option (List ℕ)) → Reader R → Reader R → Fields → Type 0
 ReadsOne remaining old new fields = (text : List ℕ) (records : List Fields) → IsBehind remaining old text records → IsBehind remaining new text (records ++ fields ∷ [])
 
-pub Going-start : {R : Type 0} (remaining : R → Option (List ℕ)) (reader : Reader R) (splits : List Bound) (tables : List PlainView) (bytes : List ℕ) (left : Option (List PlainView)) → source_of remaining reader ≡ Some (strip_bom bytes) → reader_state reader ≡ st.StartRecord → left ≡ Some tables → Going remaining reader splits tables bytes 1 0 left
+pub Going-start : {R : Type 0} (remaining : R → Option (List ℕ)) (reader : Reader R) (bounds : Bounds) (splits : List Bound) (tables : List PlainView) (bytes : List ℕ) (left : Option (List PlainView)) → source_of remaining reader ≡ Some (strip_bom bytes) → reader_state reader ≡ st.StartRecord → left ≡ Some tables → Going remaining reader bounds splits tables bytes 1 0 left
 unfolding Reached
-Going-start remaining reader splits tables bytes left source state known = record {
+Going-start remaining reader bounds splits tables bytes left source state known = record {
   records = [];
   behind = record { rest = strip_bom bytes; left = source; reached = (sym state, refl) };
   inserted = record { rows = []; are = refl; count_is = refl; left_is = known };
   count = refl;
 }
 
-pub Going-header : {R : Type 0} {remaining : R → Option (List ℕ)} {old : Reader R} {splits : List Bound} {tables : List PlainView} {bytes : List ℕ} {number loaded : ℕ} {left : Option (List PlainView)} (new : Reader R) (fields : Fields) → Going remaining old splits tables bytes number loaded left → ReadsOne remaining old new fields → (number == 1 && is_header fields) ≡ true → Going remaining new splits tables bytes (number + 1) loaded left
+pub Going-header : {R : Type 0} {remaining : R → Option (List ℕ)} {old : Reader R} {bounds : Bounds} {splits : List Bound} {tables : List PlainView} {bytes : List ℕ} {number loaded : ℕ} {left : Option (List PlainView)} (new : Reader R) (fields : Fields) → Going remaining old bounds splits tables bytes number loaded left → ReadsOne remaining old new fields → (number == 1 && is_header fields) ≡ true → Going remaining new bounds splits tables bytes (number + 1) loaded left
 Going-header new fields g reads header = record {
   records = g.records ++ fields ∷ [];
   behind = reads _ g.records g.behind;
@@ -87,7 +87,7 @@ Going-header new fields g reads header = record {
   count = let l = length-append g.records (fields ∷ []) in let c = g.count in omega (arith, l, c);
 }
 
-pub Going-row : {R : Type 0} {remaining : R → Option (List ℕ)} {old : Reader R} {splits : List Bound} {tables : List PlainView} {bytes : List ℕ} {number loaded : ℕ} {left : Option (List PlainView)} (new : Reader R) (fields : Fields) (left' : Option (List PlainView)) → Going remaining old splits tables bytes number loaded left → ReadsOne remaining old new fields → (number == 1 && is_header fields) ≡ false → ((known : List PlainView) → left ≡ Some known → BringsRow splits known fields left') → Going remaining new splits tables bytes (number + 1) (loaded + 1) left'
+pub Going-row : {R : Type 0} {remaining : R → Option (List ℕ)} {old : Reader R} {bounds : Bounds} {splits : List Bound} {tables : List PlainView} {bytes : List ℕ} {number loaded : ℕ} {left : Option (List PlainView)} (new : Reader R) (fields : Fields) (left' : Option (List PlainView)) → Going remaining old bounds splits tables bytes number loaded left → ReadsOne remaining old new fields → (number == 1 && is_header fields) ≡ false → ((known : List PlainView) → left ≡ Some known → BringsRow bounds splits known fields left') → Going remaining new bounds splits tables bytes (number + 1) (loaded + 1) left'
 Going-row new fields left' g reads plain brings = record {
   records = g.records ++ fields ∷ [];
   behind = reads _ g.records g.behind;
@@ -95,7 +95,7 @@ Going-row new fields left' g reads plain brings = record {
   count = let l = length-append g.records (fields ∷ []) in let c = g.count in omega (arith, l, c);
 }
 
-pub Going-end : {R : Type 0} {remaining : R → Option (List ℕ)} {old : Reader R} {splits : List Bound} {tables : List PlainView} {bytes : List ℕ} {number loaded : ℕ} {left : Option (List PlainView)} → Going remaining old splits tables bytes number loaded left → ((text : List ℕ) (records : List Fields) → IsBehind remaining old text records → AreRecords default_config st.StartRecord text records) → IsLoaded splits tables bytes loaded left
+pub Going-end : {R : Type 0} {remaining : R → Option (List ℕ)} {old : Reader R} {bounds : Bounds} {splits : List Bound} {tables : List PlainView} {bytes : List ℕ} {number loaded : ℕ} {left : Option (List PlainView)} → Going remaining old bounds splits tables bytes number loaded left → ((text : List ℕ) (records : List Fields) → IsBehind remaining old text records → AreRecords default_config st.StartRecord text records) → IsLoaded bounds splits tables bytes loaded left
 Going-end g ends = record { records = g.records; all = ends _ g.records g.behind; inserted = g.inserted }
 
 -- why a record isn't inserted behind so many others: they are as many as may be, or it is refused
@@ -106,16 +106,16 @@ one_of : {A B C : Type 0} → A ⊎ B → A ⊎ B ⊎ C
 one_of (inl a) = inl a
 one_of (inr b) = inr (inl b)
 
-pub Going-unread : {R : Type 0} {remaining : R → Option (List ℕ)} {old : Reader R} {splits : List Bound} {tables : List PlainView} {bytes : List ℕ} {number loaded : ℕ} {left : Option (List PlainView)} (bounds : Bounds) (e : Refusal) → Going remaining old splits tables bytes number loaded left → (e ≡ ReadFault) ⊎ (e ≡ OutOfMemory) → IsCutShort bounds splits tables bytes (record { refusal = e; loaded = loaded }) left
-Going-unread bounds e g cause = record {
+pub Going-unread : {R : Type 0} {remaining : R → Option (List ℕ)} {old : Reader R} {bounds : Bounds} {splits : List Bound} {tables : List PlainView} {bytes : List ℕ} {number loaded : ℕ} {left : Option (List PlainView)} (e : Refusal) → Going remaining old bounds splits tables bytes number loaded left → (e ≡ ReadFault) ⊎ (e ≡ OutOfMemory) → IsCutShort bounds splits tables bytes (record { refusal = e; loaded = loaded }) left
+Going-unread e g cause = record {
   records = g.records;
   first = (_, g.behind.rest, g.behind.reached);
   inserted = g.inserted;
   cause = one_of cause;
 }
 
-pub Going-refused : {R : Type 0} {remaining : R → Option (List ℕ)} {old : Reader R} {splits : List Bound} {tables : List PlainView} {bytes : List ℕ} {number loaded : ℕ} {left : Option (List PlainView)} (bounds : Bounds) (e : Refusal) (new : Reader R) (fields : Fields) (left' : Option (List PlainView)) → Going remaining old splits tables bytes number loaded left → ReadsOne remaining old new fields → (number == 1 && is_header fields) ≡ false → ((known : List PlainView) → left ≡ Some known → left' ≡ Some known) → ((known : List PlainView) → left ≡ Some known → IsCause bounds splits known loaded number fields e) → IsCutShort bounds splits tables bytes (record { refusal = e; loaded = loaded }) left'
-Going-refused {loaded = loaded} bounds e new fields left' g reads plain kept cause =
+pub Going-refused : {R : Type 0} {remaining : R → Option (List ℕ)} {old : Reader R} {bounds : Bounds} {splits : List Bound} {tables : List PlainView} {bytes : List ℕ} {number loaded : ℕ} {left : Option (List PlainView)} (e : Refusal) (new : Reader R) (fields : Fields) (left' : Option (List PlainView)) → Going remaining old bounds splits tables bytes number loaded left → ReadsOne remaining old new fields → (number == 1 && is_header fields) ≡ false → ((known : List PlainView) → left ≡ Some known → left' ≡ Some known) → ((known : List PlainView) → left ≡ Some known → IsCause bounds splits known loaded number fields e) → IsCutShort bounds splits tables bytes (record { refusal = e; loaded = loaded }) left'
+Going-refused {loaded = loaded} e new fields left' g reads plain kept cause =
     let behind = reads _ g.records g.behind in
     record {
       records = g.records;

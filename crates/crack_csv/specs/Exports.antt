@@ -10,7 +10,7 @@ use Rattle.crack_row.specs.declared.refusal.Refusal.{Refusal}
 use Rattle.crack_row.specs.declared.refusal.Refusal.TheVariants.{OutOfMemory, WriteFault}
 use Rattle.crack_plain.specs.Plain.{PlainView, rows_in}
 use Rattle.crack_core.specs.Routes.{keys_of_part}
-use Rattle.crack_core.specs.Steps.{Bounds, IsOutcome}
+use Rattle.crack_core.specs.Steps.{Bounds, IsOutcome, upkept_by}
 use Rattle.crack_commands.specs.Texts.{AppendsFront, key_text, payload_text}
 
 -- the text of the header
@@ -26,14 +26,14 @@ abbrev pub rows_from : List Bound → ℕ → List PlainView → List Row
 rows_from splits part [] = []
 rows_from splits part (table ∷ tables) = rows_in (keys_of_part splits part) table.state.rows ++ rows_from splits (part + 1) tables
 
--- a partition that was asked for its rows: these are as they were, and its history has one entry more
-abbrev pub asked : PlainView → PlainView
-asked table = record { state = table.state; folded = table.folded; since = table.since + 1 }
+-- a partition that was asked for its rows: these are as they were, and its history has one entry more, after the checkpoint that is due
+abbrev pub asked : Bounds → PlainView → PlainView
+asked bounds table = record { state = table.state; folded = (upkept_by bounds table).folded; since = (upkept_by bounds table).since + 1 }
 
 -- The header and a record for each row are written, partitions rising, and within each its rows in rising serial.
-pub record IsExported (splits : List Bound) (tables : List PlainView) (count : ℕ) (left : Option (List PlainView)) (out out' : Option (List ℕ)) : Type 0 where
+pub record IsExported (bounds : Bounds) (splits : List Bound) (tables : List PlainView) (count : ℕ) (left : Option (List PlainView)) (out out' : Option (List ℕ)) : Type 0 where
   pub count_is : count ≡ length (rows_from splits 0 tables)
-  pub left_is : left ≡ Some (map asked tables)
+  pub left_is : left ≡ Some (map (asked bounds) tables)
   pub written : Appends out out' (header_text ++ flat_map record_text (rows_from splits 0 tables))
 
 -- the header, and a record for each row of these partitions
@@ -57,6 +57,6 @@ pub record IsExportCut (bounds : Bounds) (splits : List Bound) (tables : List Pl
   pub done : List PlainView
   pub rest : List PlainView
   pub split : tables ≡ done ++ rest
-  pub left_is : left ≡ Some (map asked done ++ rest)
+  pub left_is : left ≡ Some (map (asked bounds) done ++ rest)
   pub receipts_are : receipts' ≡ receipts + length done
   pub cause : IsStopped bounds splits done rest e failed failed' out out'

@@ -39,11 +39,11 @@ abbrev pub rows_at : List Bound → ℕ → PlainView → List Row
 rows_at splits part table = rows_in (keys_of_part splits part) table.state.rows
 
 -- A partition is asked for its rows, and a record for each is written.
-pub record IsPartExported (splits : List Bound) (tables : List PlainView) (part count : ℕ) (left : Option (List PlainView)) (out out' : Option (List ℕ)) : Type 0 where
+pub record IsPartExported (bounds : Bounds) (splits : List Bound) (tables : List PlainView) (part count : ℕ) (left : Option (List PlainView)) (out out' : Option (List ℕ)) : Type 0 where
   pub table : PlainView
   pub there : slice_get tables part ≡ Some table
   pub count_is : count ≡ length (rows_at splits part table)
-  pub left_is : left ≡ Some (slice_set tables part (asked table))
+  pub left_is : left ≡ Some (slice_set tables part (asked bounds table))
   pub written : Appends out out' (flat_map record_text (rows_at splits part table))
 
 -- why a text isn't written: for want of memory, and nothing of it is; or the writer failed, and a front of it is
@@ -60,9 +60,9 @@ pub record IsUnlisted (bounds : Bounds) (splits : List Bound) (tables : List Pla
   pub unwritten : Keeps out out'
 
 -- A partition lists its rows, and their records aren't all written.
-pub record IsUnwritten (splits : List Bound) (tables : List PlainView) (part : ℕ) (table : PlainView) (e : Refusal) (receipts receipts' : ℕ) (failed failed' : Bool) (left : Option (List PlainView)) (out out' : Option (List ℕ)) : Type 0 where
+pub record IsUnwritten (bounds : Bounds) (splits : List Bound) (tables : List PlainView) (part : ℕ) (table : PlainView) (e : Refusal) (receipts receipts' : ℕ) (failed failed' : Bool) (left : Option (List PlainView)) (out out' : Option (List ℕ)) : Type 0 where
   pub cause : AreUnsent (map record_text (rows_at splits part table)) e failed failed' out out'
-  pub left_is : left ≡ Some (slice_set tables part (asked table))
+  pub left_is : left ≡ Some (slice_set tables part (asked bounds table))
   pub receipts_are : receipts' ≡ receipts + 1
 
 -- The export of a partition is refused.
@@ -70,11 +70,11 @@ pub record IsPartCut (bounds : Bounds) (splits : List Bound) (tables : List Plai
   pub table : PlainView
   pub there : slice_get tables part ≡ Some table
   pub how : IsUnlisted bounds splits tables part table e receipts receipts' failed failed' left out out'
-      ⊎ IsUnwritten splits tables part table e receipts receipts' failed failed' left out out'
+      ⊎ IsUnwritten bounds splits tables part table e receipts receipts' failed failed' left out out'
 
 -- a record brings a row, which is inserted
-abbrev pub BringsRow : List Bound → List PlainView → Fields → Option (List PlainView) → Type 0
-BringsRow splits tables fields left = (row : NewRow) × (new_row_of fields ≡ Some row) × (left ≡ Some (with_row splits tables row))
+abbrev pub BringsRow : Bounds → List Bound → List PlainView → Fields → Option (List PlainView) → Type 0
+BringsRow bounds splits tables fields left = (row : NewRow) × (new_row_of fields ≡ Some row) × (left ≡ Some (with_row bounds splits tables row))
 
 -- the refusal that tells why a record isn't read: no memory was found, or else the reader failed
 abbrev pub unread_by : ErrorKind → Refusal

@@ -8,15 +8,15 @@ use Rattle.crack_row.specs.declared.refusal.Refusal.{Refusal}
 use Rattle.crack_row.specs.declared.refusal.Refusal.TheVariants.{OutOfMemory, ReadFault, BadRecord}
 use Rattle.crack_plain.specs.Plain.{PlainView}
 use Rattle.crack_core.specs.Routes.{route}
-use Rattle.crack_core.specs.Steps.{Bounds, IsOutcomeAt, fresh_table, table_after}
+use Rattle.crack_core.specs.Steps.{Bounds, IsOutcomeAt, fresh_table, table_after, upkept_by}
 use Rattle.crack_csv.specs.declared.TheConstants.{MOST_RECORDS}
 use Rattle.crack_csv.specs.declared.load.LoadFault.{LoadFault}
 use Rattle.crack_csv.specs.declared.record.NewRow.{NewRow}
 use Rattle.crack_csv.specs.Records.{without_header, new_row_of, AreFirstOf}
 
 -- the partitions after a row is inserted into that of its key
-abbrev pub with_row : List Bound → List PlainView → NewRow → List PlainView
-with_row splits tables row = slice_set tables (route splits row.key.0) (table_after (slice_index_or tables (route splits row.key.0) fresh_table) (Insert row.key row.payload))
+abbrev pub with_row : Bounds → List Bound → List PlainView → NewRow → List PlainView
+with_row bounds splits tables row = slice_set tables (route splits row.key.0) (table_after (upkept_by bounds (slice_index_or tables (route splits row.key.0) fresh_table)) (Insert row.key row.payload))
 
 -- why the record of this number isn't inserted: it brings no row, or else as the partition of its key answers
 abbrev pub Refuses : Bounds → List Bound → List PlainView → ℕ → Option NewRow → Refusal → Type 0
@@ -24,17 +24,17 @@ Refuses bounds splits tables number None e = e ≡ BadRecord number
 Refuses bounds splits tables number (Some row) e = IsOutcomeAt bounds splits tables (route splits row.key.0) (Insert row.key row.payload) (Err e)
 
 -- Of these records each but a header brings a row, and these rows are inserted, in order.
-pub record AreInserted (splits : List Bound) (tables : List PlainView) (records : List (List (List ℕ))) (count : ℕ) (left : Option (List PlainView)) : Type 0 where
+pub record AreInserted (bounds : Bounds) (splits : List Bound) (tables : List PlainView) (records : List (List (List ℕ))) (count : ℕ) (left : Option (List PlainView)) : Type 0 where
   pub rows : List NewRow
   pub are : map new_row_of (without_header records) ≡ map Some rows
   pub count_is : length rows ≡ count
-  pub left_is : left ≡ Some (fold (with_row splits) tables rows)
+  pub left_is : left ≡ Some (fold (with_row bounds splits) tables rows)
 
 -- on Ok all records of the bytes are inserted, without a byte order mark
-pub record IsLoaded (splits : List Bound) (tables : List PlainView) (bytes : List ℕ) (count : ℕ) (left : Option (List PlainView)) : Type 0 where
+pub record IsLoaded (bounds : Bounds) (splits : List Bound) (tables : List PlainView) (bytes : List ℕ) (count : ℕ) (left : Option (List PlainView)) : Type 0 where
   pub records : List (List (List ℕ))
   pub all : AreRecords default_config st.StartRecord (strip_bom bytes) records
-  pub inserted : AreInserted splits tables records count left
+  pub inserted : AreInserted bounds splits tables records count left
 
 -- A record of the bytes is refused behind so many others, whose rows are inserted: it is no header, and these are as many as may be, or it is refused.
 pub record IsRefused (bounds : Bounds) (splits : List Bound) (tables : List PlainView) (bytes : List ℕ) (records : List (List (List ℕ))) (fault : LoadFault) : Type 0 where
@@ -47,5 +47,5 @@ pub record IsRefused (bounds : Bounds) (splits : List Bound) (tables : List Plai
 pub record IsCutShort (bounds : Bounds) (splits : List Bound) (tables : List PlainView) (bytes : List ℕ) (fault : LoadFault) (left : Option (List PlainView)) : Type 0 where
   pub records : List (List (List ℕ))
   pub first : AreFirstOf (strip_bom bytes) records
-  pub inserted : AreInserted splits tables records fault.loaded left
-  pub cause : (fault.refusal ≡ ReadFault) ⊎ (fault.refusal ≡ OutOfMemory) ⊎ IsRefused bounds splits (fold (with_row splits) tables inserted.rows) bytes records fault
+  pub inserted : AreInserted bounds splits tables records fault.loaded left
+  pub cause : (fault.refusal ≡ ReadFault) ⊎ (fault.refusal ≡ OutOfMemory) ⊎ IsRefused bounds splits (fold (with_row bounds splits) tables inserted.rows) bytes records fault

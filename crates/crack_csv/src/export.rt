@@ -31,7 +31,7 @@ pub fn export_csv<D: Desk, W: Write>(
     writer: &mut Watched<W>,
 ) -> Result<u64, Refusal>
     ensures exported { IfOk result (λ count. (tables : List PlainView) → D.tables desk.old ≡ Some tables →
-        IsExported (D.splits desk.old) tables count (D.tables desk.new) (W.contents (device writer.old)) (W.contents (device writer.new))) }
+        IsExported (D.bounds desk.old) (D.splits desk.old) tables count (D.tables desk.new) (W.contents (device writer.old)) (W.contents (device writer.new))) }
     // On a refusal the first partitions are asked, and no row is changed. Their records are written up to what the cause says.
     ensures cut { IfErr result (λ e. (tables : List PlainView) → D.tables desk.old ≡ Some tables →
         IsExportCut (D.bounds desk.old) (D.splits desk.old) tables e (D.receipts desk.old) (D.receipts desk.new)
@@ -75,7 +75,7 @@ fn export_part<D: Desk, W: Write>(
 ) -> Result<u64, Refusal>
     requires { part ≤ length (D.splits desk.old) }
     ensures exported { IfOk result (λ count. (tables : List PlainView) → D.tables desk.old ≡ Some tables →
-        IsPartExported (D.splits desk.old) tables part count (D.tables desk.new) (W.contents (device writer.old)) (W.contents (device writer.new))) }
+        IsPartExported (D.bounds desk.old) (D.splits desk.old) tables part count (D.tables desk.new) (W.contents (device writer.old)) (W.contents (device writer.new))) }
     ensures cut { IfErr result (λ e. (tables : List PlainView) → D.tables desk.old ≡ Some tables →
         IsPartCut (D.bounds desk.old) (D.splits desk.old) tables part e (D.receipts desk.old) (D.receipts desk.new)
         (has_failed writer.old) (has_failed writer.new) (D.tables desk.new) (W.contents (device writer.old)) (W.contents (device writer.new))) }

@@ -23,7 +23,7 @@ pub fn insert_record<D: Desk>(
     fields: &ByteRecord,
 ) -> Result<(), Refusal>
     ensures inserted { OnOk result ((tables : List PlainView) → D.tables desk.old ≡ Some tables →
-        BringsRow (D.splits desk.old) tables (fields_of fields.now) (D.tables desk.new)) }
+        BringsRow (D.bounds desk.old) (D.splits desk.old) tables (fields_of fields.now) (D.tables desk.new)) }
     ensures kept { IfErr result (λ _. (tables : List PlainView) → D.tables desk.old ≡ Some tables → D.tables desk.new ≡ Some tables) }
     ensures refused { IfErr result (λ e. (tables : List PlainView) → D.tables desk.old ≡ Some tables →
         Refuses (D.bounds desk.old) (D.splits desk.old) tables number (new_row_of (fields_of fields.now)) e) }
@@ -40,7 +40,7 @@ pub fn insert_record<D: Desk>(
 /// Inserts a row into the partition of its key.
 fn insert_row<D: Desk>(desk: &mut D, policy: Policy, row: NewRow) -> Result<(), Refusal>
     ensures inserted { OnOk result ((tables : List PlainView) → D.tables desk.old ≡ Some tables →
-        D.tables desk.new ≡ Some (with_row (D.splits desk.old) tables row)) }
+        D.tables desk.new ≡ Some (with_row (D.bounds desk.old) (D.splits desk.old) tables row)) }
     ensures kept { IfErr result (λ _. (tables : List PlainView) → D.tables desk.old ≡ Some tables → D.tables desk.new ≡ Some tables) }
     ensures refused { IfErr result (λ e. (tables : List PlainView) → D.tables desk.old ≡ Some tables →
         IsOutcomeAt (D.bounds desk.old) (D.splits desk.old) tables (route (D.splits desk.old) row.key.0) (Insert row.key row.payload) (Err e)) }

@@ -35,7 +35,7 @@ pub fn load_csv<D: Desk, R: Read + Drop>(
     // All records that the bytes have are inserted.
     ensures loaded { IfOk result (λ count. (bytes : List ℕ) (tables : List PlainView) →
         R.remaining reader ≡ Some bytes → D.tables desk.old ≡ Some tables →
-        IsLoaded (D.splits desk.old) tables bytes count (D.tables desk.new)) }
+        IsLoaded (D.bounds desk.old) (D.splits desk.old) tables bytes count (D.tables desk.new)) }
     // The first of them are, up to where the reader failed, or up to one that is refused.
     ensures cut_short { IfErr result (λ fault. (bytes : List ℕ) (tables : List PlainView) →
         R.remaining reader ≡ Some bytes → D.tables desk.old ≡ Some tables →

@@ -5,7 +5,7 @@ use Rattle.crack_csv.proofs.export.export_csv.Goals as goal
 
 pub parts-preserved : goal.parts-preserved
 parts-preserved g c = record {
-  exporting = λ tables e. Exporting-more c.in-Ok.rows _ _ (c.parts.invariant.exporting tables e) (rw (c.parts.invariant.splits) at c.in-Ok.ensures.exported);
+  exporting = λ tables e. Exporting-more c.in-Ok.rows _ _ (c.parts.invariant.exporting tables e) (rw (c.parts.invariant.bounds, c.parts.invariant.splits) at c.in-Ok.ensures.exported);
   few = let small = c.in-Ok.ensures.small in let few = c.parts.invariant.few in omega (arith, small, few);
   unfailed = c.in-Ok.ensures.unfailed ∙ c.parts.invariant.unfailed;
   receipts = let more = c.in-Ok.ensures.receipts in let was = c.parts.invariant.receipts in omega (arith, more, was);
@@ -25,7 +25,7 @@ returns-in-Err-clause-cut g c = λ tables e. header_unsent _ _ tables _ _ _ _ _ 
 
 pub returns-in-Err-export_part-clause-cut : goal.returns-in-Err-export_part-clause-cut
 returns-in-Err-export_part-clause-cut g c = λ tables e.
-    Exporting-cut _ _ _ _ _ _ _ _ _ (c.parts.invariant.exporting tables e) c.parts.invariant.receipts
+    Exporting-cut _ _ _ _ _ _ _ _ (c.parts.invariant.exporting tables e) c.parts.invariant.receipts
     (rw (c.parts.invariant.bounds, c.parts.invariant.splits, c.parts.invariant.unfailed) at c.in-Err-export_part.ensures.cut)
 
 pub returns-in-Err-flush-clause-cut : goal.returns-in-Err-flush-clause-cut
@@ -33,4 +33,4 @@ returns-in-Err-flush-clause-cut g c = λ tables e.
     let all : c.parts.part ≡ length tables =
     let cuts = ap length c.splits.ensures.value in let few = c.splits.ensures.partitions tables e in let ends = c.parts-test.false in let within = c.parts.auto.part-end in
     omega (arith, cuts, few, ends, within) in
-    Exporting-kept _ _ _ _ _ _ (c.parts.invariant.exporting tables e) c.parts.invariant.receipts all c.in-Err-flush.ensures.err c.flush.ensures.bytes
+    Exporting-kept _ _ _ _ _ (c.parts.invariant.exporting tables e) c.parts.invariant.receipts all c.in-Err-flush.ensures.err c.flush.ensures.bytes

@@ -6,7 +6,7 @@ use Rattle.crack_csv.proofs.export.export_csv.Given as goal
 
 abbrev pub invariant-parts : goal.invariant-parts
 invariant-parts g l = record {
-  exporting : (tables : List PlainView) → g.D.Desk.tables l.fn.desk ≡ Some tables → Exporting (g.D.Desk.splits l.fn.desk) tables l.part l.count (g.D.Desk.tables l.desk) (g.W.Write.contents (device l.fn.writer)) (g.W.Write.contents (device l.writer));
+  exporting : (tables : List PlainView) → g.D.Desk.tables l.fn.desk ≡ Some tables → Exporting (g.D.Desk.bounds l.fn.desk) (g.D.Desk.splits l.fn.desk) tables l.part l.count (g.D.Desk.tables l.desk) (g.W.Write.contents (device l.fn.writer)) (g.W.Write.contents (device l.writer));
   few : l.count ≤ 4294967296 * l.part;
   unfailed : has_failed l.writer ≡ has_failed l.fn.writer;
   receipts : g.D.Desk.receipts l.desk ≡ g.D.Desk.receipts l.fn.desk + l.part;

@@ -11,7 +11,7 @@ records-init g c =
     let flexible = c.flexible.ensures in
     let none = c.has_headers.ensures in
     record {
-      going = λ bytes tables e f. Going-start _ _ _ tables bytes _ (rw e at from.source) from.state f;
+      going = λ bytes tables e f. Going-start _ _ _ _ tables bytes _ (rw e at from.source) from.state f;
       ready = record {
         config = from.config ∙ ap builder_config flexible ∙ ap builder_config none ∙ c.new.ensures.config;
         trim = from.trim ∙ ap builder_trim flexible ∙ ap builder_trim none ∙ c.new.ensures.trim;
@@ -30,7 +30,7 @@ returns-in-Ok-false-clause-loaded g c = λ bytes tables e f.
 
 pub returns-in-Err-clause-cut_short : goal.returns-in-Err-clause-cut_short
 returns-in-Err-clause-cut_short g c = λ bytes tables e f.
-    Going-unread _ c.in-Err.refusal (c.records.invariant.going bytes tables e f) c.in-Err.ensures.err
+    Going-unread c.in-Err.refusal (c.records.invariant.going bytes tables e f) c.in-Err.ensures.err
 
 pub records-preserved-then-is_header_at : goal.records-preserved-then-is_header_at
 records-preserved-then-is_header_at g c = record {
@@ -45,13 +45,13 @@ records-preserved-then-is_header_at g c = record {
 
 pub returns-then-loaded-eq-MOST_RECORDS-clause-cut_short : goal.returns-then-loaded-eq-MOST_RECORDS-clause-cut_short
 returns-then-loaded-eq-MOST_RECORDS-clause-cut_short g c = λ bytes tables e f.
-    Going-refused _ ReadFault c.read_next.new.reader (fields_of c.read_next.new.fields) _ (c.records.invariant.going bytes tables e f)
+    Going-refused ReadFault c.read_next.new.reader (fields_of c.read_next.new.fields) _ (c.records.invariant.going bytes tables e f)
     (c.in-Ok-true.ensures.more c.in-Ok-true.field-0-test) (sym c.is_header_at.ensures ∙ c.if-is_header_at.false)
     (λ known h. h) (λ known h. inl (let all = c.if-loaded-eq-MOST_RECORDS.true in omega (arith, all), refl))
 
 pub returns-in-Err-insert_record-clause-cut_short : goal.returns-in-Err-insert_record-clause-cut_short
 returns-in-Err-insert_record-clause-cut_short g c = λ bytes tables e f.
-    Going-refused _ c.in-Err-insert_record.refusal c.read_next.new.reader (fields_of c.read_next.new.fields) _ (c.records.invariant.going bytes tables e f)
+    Going-refused c.in-Err-insert_record.refusal c.read_next.new.reader (fields_of c.read_next.new.fields) _ (c.records.invariant.going bytes tables e f)
     (c.in-Ok-true.ensures.more c.in-Ok-true.field-0-test) (sym c.is_header_at.ensures ∙ c.if-is_header_at.false)
     c.in-Err-insert_record.ensures.kept
     (λ known h. inr (
@@ -60,14 +60,14 @@ returns-in-Err-insert_record-clause-cut_short g c = λ bytes tables e f.
     ))
 
 pub returns-clause-cut_short : goal.returns-clause-cut_short
-returns-clause-cut_short g c = λ bytes tables e f. Going-unread _ ReadFault (c.records.invariant.going bytes tables e f) (inl refl)
+returns-clause-cut_short g c = λ bytes tables e f. Going-unread ReadFault (c.records.invariant.going bytes tables e f) (inl refl)
 
 pub records-preserved : goal.records-preserved
 records-preserved g c = record {
   going = λ bytes tables e f.
       Going-row c.read_next.new.reader (fields_of c.read_next.new.fields) _ (c.records.invariant.going bytes tables e f)
       (c.in-Ok-true.ensures.more c.in-Ok-true.field-0-test) (sym c.is_header_at.ensures ∙ c.if-is_header_at.false)
-      (rw (c.records.invariant.splits) at c.in-Ok.ensures.inserted);
+      (rw (c.records.invariant.bounds, c.records.invariant.splits) at c.in-Ok.ensures.inserted);
   ready = c.in-Ok-true.ensures.ready c.in-Ok-true.field-0-test;
   few = let few = c.records.invariant.few in let more = c.if-loaded-eq-MOST_RECORDS.false in omega (arith, few, more);
   receipts = let more = c.in-Ok.ensures.receipts in let was = c.records.invariant.receipts in omega (arith, more, was);

@@ -7,7 +7,7 @@ use Rattle.crack_csv.proofs.load.load_csv.Given as goal
 
 abbrev pub invariant-records : goal.invariant-records
 invariant-records g l = record {
-  going : (bytes : List ℕ) (tables : List PlainView) → g.R.Read.remaining l.fn.reader ≡ Some bytes → g.D.Desk.tables l.fn.desk ≡ Some tables → Going g.R.Read.remaining l.source (g.D.Desk.splits l.fn.desk) tables bytes l.number l.loaded (g.D.Desk.tables l.desk);
+  going : (bytes : List ℕ) (tables : List PlainView) → g.R.Read.remaining l.fn.reader ≡ Some bytes → g.D.Desk.tables l.fn.desk ≡ Some tables → Going g.R.Read.remaining l.source (g.D.Desk.bounds l.fn.desk) (g.D.Desk.splits l.fn.desk) tables bytes l.number l.loaded (g.D.Desk.tables l.desk);
   ready : IsReady l.source;
   few : l.loaded ≤ MOST_RECORDS;
   receipts : g.D.Desk.receipts l.desk ≡ g.D.Desk.receipts l.fn.desk + l.loaded;
