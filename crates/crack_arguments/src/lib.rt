@@ -5,7 +5,7 @@ mod help;
 
 use clap::error::ErrorKind;
 use clap::{Arg, ArgAction, ArgMatches, Command, value_parser};
-use crack_row::{Bound, BoundNumber, GREATEST_LIMIT, Limits, Policy, Refusal};
+use crack_row::{Bound, BoundNumber, GREATEST_LIMIT, Limits, Policy, Refusal, Upkeep};
 use std::alloc::{AllocError, Global};
 use thiserror::Error;
 
@@ -35,7 +35,7 @@ pub enum Request {
 pub struct Opening {
     /// Where the keys are parted: any numbers of 64 bits, in the order of the command line.
     pub splits: Vec<Bound>,
-    /// What bounds a partition: the greatest of each kind where the command line doesn't say.
+    /// What bounds a partition: the greatest of each kind where the command line doesn't say, with upkeep on request.
     pub limits: Limits,
     /// How pending rows are merged: `Policy::Ripple` where the command line doesn't say.
     pub policy: Policy,
@@ -91,7 +91,7 @@ fn limit_option<'a>(alloc: Global) -> Arg<'a> {
         .long("limit")
         .value_name("N")
         .value_parser(value_parser!(u64))
-        .help("The length of a history, 1 to 1000000 [default: 1000000]")
+        .help("Length of a history, 1 to 1000000 [default: 1000000]")
 }
 
 fn cells_option<'a>(alloc: Global) -> Arg<'a> {
@@ -99,7 +99,7 @@ fn cells_option<'a>(alloc: Global) -> Arg<'a> {
         .long("cells")
         .value_name("N")
         .value_parser(value_parser!(u64))
-        .help("The cells of a partition, 1 to 1048576 [default: 1048576]")
+        .help("Cells of a partition, 1 to 1048576 [default: 1048576]")
 }
 
 fn life_option<'a>(alloc: Global) -> Arg<'a> {
@@ -107,7 +107,14 @@ fn life_option<'a>(alloc: Global) -> Arg<'a> {
         .long("life")
         .value_name("N")
         .value_parser(value_parser!(u64))
-        .help("The commands of a partition, 1 to 2^40 [default: 2^40]")
+        .help("Commands of a partition, 1 to 2^40 [default: 2^40]")
+}
+
+fn upkeep_option<'a>(alloc: Global) -> Arg<'a> {
+    Arg::new(alloc, "auto-checkpoint")
+        .long("auto-checkpoint")
+        .action(ArgAction::SetTrue)
+        .help("Makes a checkpoint where a history is full")
 }
 
 fn policy_option<'a>(alloc: Global) -> Arg<'a> {
@@ -158,7 +165,7 @@ fn until_eof_option<'a>(alloc: Global) -> Arg<'a> {
     Arg::new(alloc, "until-eof")
         .long("until-eof")
         .action(ArgAction::SetTrue)
-        .help("Serves until standard input ends, in place of --sessions")
+        .help("Serves until its input ends, in place of --sessions")
 }
 
 fn idle_option<'a>(alloc: Global) -> Arg<'a> {
@@ -197,6 +204,7 @@ fn opening_command<'a>(
         .arg(limit_option(alloc))?
         .arg(cells_option(alloc))?
         .arg(life_option(alloc))?
+        .arg(upkeep_option(alloc))?
         .arg(policy_option(alloc))?
         .arg(split_values(alloc))
 }
@@ -290,7 +298,16 @@ fn limits_of(matches: &ArgMatches<'_>) -> Limits {
         history: matches.get_one::<u64>("limit").unwrap_or(greatest.history),
         cells: matches.get_one::<u64>("cells").unwrap_or(greatest.cells),
         life: matches.get_one::<u64>("life").unwrap_or(greatest.life),
-        upkeep: greatest.upkeep,
+        upkeep: upkeep_of(matches),
+    }
+}
+
+/// What a partition does at its limits.
+fn upkeep_of(matches: &ArgMatches<'_>) -> Upkeep {
+    if matches.get_flag("auto-checkpoint") {
+        Upkeep::Automatic
+    } else {
+        Upkeep::OnRequest
     }
 }
 
