@@ -1,5 +1,5 @@
 -- When a table opens.
-use Rattle.std.specs.Prelude.{ℕ, List, ◌≡◌, ◌⊎◌, ◌&&◌, nat_le, Option, Some, None, Result, vec_len, IfOk, IfErr, OnOk, if◌then◌else◌}
+use Rattle.std.specs.Prelude.{ℕ, List, length, ◌≡◌, ◌+◌, ◌⊎◌, ◌&&◌, nat_le, Option, Some, None, Result, vec_len, IfOk, IfErr, OnOk, if◌then◌else◌}
 use Rattle.std.specs.Global.{Vec}
 use Rattle.std.specs.Option.{option_or}
 use Rattle.crack_row.specs.declared.Bound.{Bound}
@@ -20,9 +20,10 @@ abbrev pub MayNotOpen : List Bound → Limits → ℕ → Refusal → Type 0
 MayNotOpen splits limits workers e =
     (table_fault splits limits workers ≡ Some e) ⊎ ((table_fault splits limits workers ≡ None) × (e ≡ OutOfMemory))
 
--- A table opens exactly where there is no fault, but for want of memory: with what is asked for, and with so many new workers.
+-- A table opens exactly where there is no fault, but for want of memory: with what is asked for, a lock for each partition, and so many new
+-- workers.
 pub record Opens (splits : List Bound) (limits : Limits) (workers : ℕ) (result : Result (TableState × Vec BookState) Refusal) : Type 0 where
-  pub table : IfOk result (λ opened. opened.0 ≡ record { splits = splits; limits = limits; workers = workers })
+  pub table : IfOk result (λ opened. opened.0 ≡ record { splits = splits; limits = limits; workers = workers; locks = length splits + 1 })
   pub count : IfOk result (λ opened. vec_len opened.1 ≡ workers)
   pub new : IfOk result (λ opened. AreNew opened.1.items)
   pub none : OnOk result (table_fault splits limits workers ≡ None)

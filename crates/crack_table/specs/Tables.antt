@@ -15,11 +15,12 @@ use Rattle.crack_part.specs.Refusals.{refusal_of}
 use Rattle.crack_core.specs.Receipts.{BookState}
 use Rattle.crack_table.specs.declared.TheConstants.{GATE_TURNS}
 
--- where one partition ends and the next begins, the limits of each partition, and how many workers there are
+-- where one partition ends and the next begins, the limits of each partition, how many workers there are, and how many locks
 pub record TableState : Type 0 where
   pub splits : List Bound
   pub limits : Limits
   pub workers : ℕ
+  pub locks : ℕ
 
 -- the workers are numbered from 0 on, and have no receipts
 abbrev pub AreNew : List BookState → Type 0
@@ -40,6 +41,7 @@ MayRefuse table may_refuse part command e =
     ⊎ ((p : Part) × (cause : Refusal) × (refusal_of p command ≡ Some cause) × (e ≡ with_limit table.limits.history cause))
 
 -- A worker asks one partition: it is answered, and its book has a receipt of that, or refused for a cause, and its book has those that it had.
+-- A gate is asked only where there is room for the receipt.
 pub record AsksTable (table : TableState) (may_refuse : ℕ → Type 0) (part : ℕ) (command : Command) (result : Result Reply Refusal) (old new : BookState) : Type 0 where
   pub receipt : IfOk result (λ reply. (position : ℕ) × (new.receipts ≡ old.receipts ++ record { part = part; position = position; worker = old.worker; command = command; reply = reply } ∷ []))
   pub worker : new.worker ≡ old.worker
@@ -47,6 +49,7 @@ pub record AsksTable (table : TableState) (may_refuse : ℕ → Type 0) (part : 
   pub there : OnOk result (part ≤ length table.splits)
   pub err : OnErr result (new.receipts ≡ old.receipts)
   pub causes : IfErr result (MayRefuse table may_refuse part command)
+  pub room : result ≡ Err GateGaveUp → 0 < new.room
   pub nowhere : length table.splits < part → (result ≡ Err NoSuchPartition) × (new ≡ old)
 
 -- A worker looks at one partition: it is told a layout of ends of its own, or refused where there is no such partition, and for want of memory.

@@ -2,6 +2,7 @@
 #![tactic(auto)]
 
 mod account;
+mod asking;
 pub mod covering;
 mod gaps;
 pub mod gate;

@@ -32,7 +32,7 @@ impl Model for Table {
 
     ghost Value = { TableState };
 
-    ghost view = { λ t. record { splits = t.splits.items; limits = t.limits; workers = t.workers } };
+    ghost view = { λ t. record { splits = t.splits.items; limits = t.limits; workers = t.workers; locks = vec_len t.locks } };
 
     ghost invariant = { λ t. IsTable t.splits.items t.limits t.workers (vec_len t.locks) };
 }
@@ -76,6 +76,16 @@ impl Table {
             workers,
         };
         Ok((table, hands))
+    }
+
+    /// States what is true of every table, and does nothing: it has a lock for each partition of its splits.
+    pub fn facts(&self)
+        ensures locks { self.now.locks ≡ length self.now.splits + 1 }
+        ensures rising { AreSplits self.now.splits }
+        ensures limited { AreLimits self.now.limits }
+        ensures few { self.now.workers ≤ 64 }
+    {
+        let _ = &self.locks;
     }
 
     /// Where one partition ends and the next begins. Takes no lock and no memory.

@@ -2,7 +2,8 @@
 ghost use Rattle.std.specs.Prelude.{◌≡◌, [], Ok, Err, MatchResult};
 ghost use Rattle.crack_table.specs.Tables.{AsksTable, FoldsAt, LooksAt, with_limit};
 
-use crate::gate::{Gate, pass};
+use crate::asking::ask_behind;
+use crate::gate::Gate;
 use crate::table::Table;
 use crack_core::Book;
 use crack_row::{Command, Layout, Policy, Refusal, Reply};
@@ -62,8 +63,7 @@ impl Worker {
         };
         self.book.reserve()?;
         let mut partition = lock.lock(rt);
-        pass(gate, part)?;
-        let answered = self.book.ask(part, &mut partition, command, policy);
+        let answered = ask_behind(gate, &mut self.book, part, &mut partition, command, policy)?;
         with_table_limit(answered, table.limits.history)
     }
 

@@ -1,6 +1,6 @@
-use Rattle.std.proofs.Common.{rules}
+use Rattle.std.proofs.Common.{rules, vec_len}
 use Rattle.crack_table.specs.Tables.{TableState, MayRefuse}
-use Rattle.crack_table.proofs.Causes.{causes-given, causes-told}
+use Rattle.crack_table.proofs.Causes.{causes-given, causes-told, told-no-gate}
 use Rattle.crack_table.proofs.worker.Worker.ask.Goals as goal
 
 pub returns : goal.returns
@@ -11,9 +11,12 @@ returns g c = record {
   there = search rules;
   err = search rules;
   causes =
-      let e = c.ask-answered.ensures in
-      let table : TableState = record { splits = c.table.inside.splits.items; limits = c.table.inside.limits; workers = c.table.inside.workers } in
-      rw (← c.table.view_is) (causes-told c.table.inside.limits.history (MayRefuse table (g.G.Gate.may_refuse c.args.gate.now c.args.part) c.args.part c.args.command) c.ask-answered.result c.with_table_limit.result c.with_table_limit.ensures
-      (causes-given table (g.G.Gate.may_refuse c.args.gate.now c.args.part) c.args.part c.deref_mut.result.now c.ask-answered.new.partition c.args.command c.ask-answered.result e.refused e.memory));
+      let e = c.in_ok-answered.ensures in
+      let table : TableState = record { splits = c.table.inside.splits.items; limits = c.table.inside.limits; workers = c.table.inside.workers; locks = vec_len c.table.inside.locks } in
+      rw (← c.table.view_is) (causes-told c.table.inside.limits.history (MayRefuse table (g.G.Gate.may_refuse c.args.gate.now c.args.part) c.args.part c.args.command) c.in_ok-answered.answered c.with_table_limit.result c.with_table_limit.ensures
+      (causes-given table (g.G.Gate.may_refuse c.args.gate.now c.args.part) c.args.part c.deref_mut.result.now c.ask_behind.new.partition c.args.command c.in_ok-answered.answered e.refused e.memory));
+  room = λ gate.
+      let e = c.in_ok-answered.ensures in
+      absurd (told-no-gate c.table.inside.limits.history c.deref_mut.result.now c.ask_behind.new.partition c.args.command c.in_ok-answered.answered c.with_table_limit.result e.refused e.memory c.with_table_limit.ensures gate);
   nowhere = search rules;
 }
