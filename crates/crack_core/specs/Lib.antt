@@ -1,6 +1,8 @@
 pub mod Asking
+pub mod Bulk
 pub mod Cores
 pub mod Jobs
+pub mod Listing
 pub mod Opening
 pub mod Receipts
 pub mod Routes

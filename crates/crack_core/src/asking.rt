@@ -162,7 +162,7 @@ impl Core {
     }
 
     /// Asks partitions in turn, each for its part of a range, once there is room for their replies.
-    fn read_parts(
+    pub(crate) fn read_parts(
         &mut self,
         query: Query,
         parts: &[(u32, KeyRange)],
@@ -173,6 +173,7 @@ impl Core {
         ensures ok { IfOk result (λ replies. AsksInTurn self.old.limits self.old.splits query (lasting (tables_of self.old.parts)) parts.now (Ok replies.items) (lasting (tables_of self.new.parts))) }
         ensures err { IfErr result (λ e. AsksInTurn self.old.limits self.old.splits query (lasting (tables_of self.old.parts)) parts.now (Err e) (lasting (tables_of self.new.parts)) ⊎ ((e ≡ Refusal.OutOfMemory) × (self.new ≡ self.old))) }
         ensures small { IfOk result (λ replies. All IsSmall replies.items × (length replies.items ≤ 64)) }
+        ensures few { IfOk result (λ replies. length replies.items ≤ length parts.now) }
         ensures opened { (self.new.splits ≡ self.old.splits) × (self.new.limits ≡ self.old.limits) }
     {
         match Vec::with_capacity(alloc, parts.len()) {

@@ -3,7 +3,9 @@
 
 pub mod asking;
 pub mod book;
+pub mod bulk;
 pub mod cores;
+pub mod listing;
 pub mod opening;
 pub mod receipt;
 pub mod routes;
@@ -12,6 +14,7 @@ pub mod upkeep;
 
 pub use asking::Query;
 pub use book::Book;
+pub use bulk::{Progress, halves};
 pub use cores::Core;
 pub use opening::{limits_fault, open_partitions, splits_fault};
 pub use receipt::Receipt;

@@ -1,0 +1,108 @@
+-- What follows of rows that are written into lists.
+use Rattle.std.specs.Prelude.{◌≡◌, ◌≢◌, ℕ, ◌+◌, ◌<◌, ◌≤◌, ℤ, pos, List, [], ◌∷◌, ◌++◌, length, take, drop, ◌^◌, slice_index_or}
+use Rattle.std.proofs.Common.{zero, suc, get_or, set, arith, ap, refl, sym, subst, ◌∙◌, ⊎_elim, append_assoc, add-one}
+use Rattle.std.proofs.lemmas.List.{get_or-set_same, get_or-set_other, get_or_append_left, get_or_push, length-append, length-map, length-take-le, take_more, take-append-drop, map-append, append-nil}
+use Rattle.std.proofs.lemmas.Bool.{cases_eq}
+use Rattle.crack_row.specs.Ranges.{Range}
+use Rattle.crack_row.specs.declared.Row.{Row}
+use Rattle.crack_row.specs.declared.command.Reply.{Reply}
+use Rattle.crack_row.specs.declared.command.Reply.TheVariants.{Placed, Gone, Changed, NoRow, Counted, Summed, Rows}
+use Rattle.crack_plain.specs.Plain.{IsSmall}
+use Rattle.crack_core.specs.Listing.{rows_in, of_part, listed, listed_at, no_row, StandIn}
+
+-- the same row as its numbers
+abbrev row_of : ℕ → ℕ → ℕ → ℤ → ℕ × Row
+row_of part serial key payload = (part, record { serial = record { 0 = serial }; key = record { 0 = key }; payload = record { 0 = payload } })
+
+-- rows behind those that there is room for stand nowhere
+pub stand-longer : (rows more : List (ℕ × Row)) (parts serials keys : List ℕ) (payloads : List ℤ) → length parts ≤ length rows → StandIn rows parts serials keys payloads → StandIn (rows ++ more) parts serials keys payloads
+stand-longer rows more parts serials keys payloads full stand k within there =
+    let below : k < length rows = omega arith in
+    stand k below there ∙ sym (get_or_append_left rows more no_row k below)
+
+-- a row more is written behind them
+pub stand-more : (rows : List (ℕ × Row)) (row : ℕ × Row) (parts serials keys : List ℕ) (payloads : List ℤ) (at : ℕ)
+    → length rows ≡ at → at < length parts → length serials ≡ length parts → length keys ≡ length parts → length payloads ≡ length parts
+    → StandIn rows parts serials keys payloads
+    → StandIn (rows ++ row ∷ []) (set parts at row.0) (set serials at row.1.serial.0) (set keys at row.1.key.0) (set payloads at row.1.payload.0)
+stand-more rows row parts serials keys payloads at is below s k' p stand k within there = ⊎_elim
+    (λ (same : k ≡ at). subst (λ (n : ℕ). listed_at (set parts at row.0) (set serials at row.1.serial.0) (set keys at row.1.key.0) (set payloads at row.1.payload.0) n ≡ slice_index_or (rows ++ row ∷ []) n no_row) (sym same) last)
+    (λ (other : k ≢ at). before other)
+    (cases_eq k at)
+  where
+    last : listed_at (set parts at row.0) (set serials at row.1.serial.0) (set keys at row.1.key.0) (set payloads at row.1.payload.0) at ≡ slice_index_or (rows ++ row ∷ []) at no_row
+    last =
+        let of_part' : get_or (set parts at row.0) at 0 ≡ row.0 = get_or-set_same parts at row.0 0 below in
+        let of_serial : get_or (set serials at row.1.serial.0) at 0 ≡ row.1.serial.0 = get_or-set_same serials at row.1.serial.0 0 (omega arith) in
+        let of_key : get_or (set keys at row.1.key.0) at 0 ≡ row.1.key.0 = get_or-set_same keys at row.1.key.0 0 (omega arith) in
+        let of_payload : get_or (set payloads at row.1.payload.0) at (pos 0) ≡ row.1.payload.0 = get_or-set_same payloads at row.1.payload.0 (pos 0) (omega arith) in
+        rw (of_part', of_serial, of_key, of_payload) (sym (get_or_push rows row no_row at is))
+
+    before : k ≢ at → listed_at (set parts at row.0) (set serials at row.1.serial.0) (set keys at row.1.key.0) (set payloads at row.1.payload.0) k ≡ slice_index_or (rows ++ row ∷ []) k no_row
+    before other =
+        let long : length (rows ++ row ∷ []) ≡ length rows + 1 = length-append rows (row ∷ []) in
+        let front : k < length rows = omega (arith, within, long, is, other) in
+        let in_parts : k < length parts = omega arith in
+        let of_part' : get_or (set parts at row.0) k 0 ≡ get_or parts k 0 = get_or-set_other parts at k row.0 0 other in
+        let of_serial : get_or (set serials at row.1.serial.0) k 0 ≡ get_or serials k 0 = get_or-set_other serials at k row.1.serial.0 0 other in
+        let of_key : get_or (set keys at row.1.key.0) k 0 ≡ get_or keys k 0 = get_or-set_other keys at k row.1.key.0 0 other in
+        let of_payload : get_or (set payloads at row.1.payload.0) k (pos 0) ≡ get_or payloads k (pos 0) = get_or-set_other payloads at k row.1.payload.0 (pos 0) other in
+        rw (of_part', of_serial, of_key, of_payload) (stand k front in_parts ∙ sym (get_or_append_left rows (row ∷ []) no_row k front))
+
+-- a row more of a partition
+pub of_part-more : (part : ℕ) (rows : List Row) (i : ℕ) (d : Row) → i < length rows → of_part part (take (i + 1) rows) ≡ of_part part (take i rows) ++ (part, get_or rows i d) ∷ []
+of_part-more part rows i d below = ap (of_part part) (take_more rows i d below) ∙ map-append (λ (row : Row). (part, row)) (take i rows) (get_or rows i d ∷ [])
+
+-- a partition's reply more
+listed-suc : (met : List (ℕ × Range)) (replies : List Reply) (i : ℕ) (d : ℕ × Range) (d' : Reply) → i < length met → i < length replies → listed (take (suc i) met) (take (suc i) replies) ≡ listed (take i met) (take i replies) ++ of_part (get_or met i d).0 (rows_in (get_or replies i d'))
+listed-suc [] replies i d d' in_met in_replies = absurd (omega arith)
+listed-suc (m ∷ met) [] i d d' in_met in_replies = absurd (omega arith)
+listed-suc (m ∷ met) (r ∷ replies) zero d d' in_met in_replies = append-nil (of_part m.0 (rows_in r))
+listed-suc (m ∷ met) (r ∷ replies) (suc i) d d' in_met in_replies =
+    ap (λ (rows : List (ℕ × Row)). of_part m.0 (rows_in r) ++ rows) (listed-suc met replies i d d' (omega arith) (omega arith)) ∙ sym (append_assoc (of_part m.0 (rows_in r)) (listed (take i met) (take i replies)) (of_part (get_or met i d).0 (rows_in (get_or replies i d'))))
+
+pub listed-more : (met : List (ℕ × Range)) (replies : List Reply) (i : ℕ) (m : ℕ × Range) (r : Reply) (rows : List Row) → i < length met → i < length replies → m ≡ get_or met i m → r ≡ get_or replies i r → rows ≡ rows_in r → listed (take (i + 1) met) (take (i + 1) replies) ≡ listed (take i met) (take i replies) ++ of_part m.0 rows
+listed-more met replies i m r rows in_met in_replies m_is r_is rows_is =
+    let so_far = listed (take i met) (take i replies) in
+    ap (λ (n : ℕ). listed (take n met) (take n replies)) (add-one i)
+    ∙ listed-suc met replies i m r in_met in_replies
+    ∙ ap (λ (x : ℕ × Range). so_far ++ of_part x.0 (rows_in (get_or replies i r))) (sym m_is)
+    ∙ ap (λ (x : Reply). so_far ++ of_part m.0 (rows_in x)) (sym r_is)
+    ∙ ap (λ (xs : List Row). so_far ++ of_part m.0 xs) (sym rows_is)
+
+-- as many partitions are read as replied
+pub listed-all : (met : List (ℕ × Range)) (replies : List Reply) → length replies ≤ length met → listed (take (length replies) met) (take (length replies) replies) ≡ listed met replies
+listed-all [] [] few = refl
+listed-all (m ∷ met) [] few = refl
+listed-all [] (r ∷ replies) few = absurd (omega arith)
+listed-all (m ∷ met) (r ∷ replies) few = ap (λ (rows : List (ℕ × Row)). of_part m.0 (rows_in r) ++ rows) (listed-all met replies (omega arith))
+
+-- how many rows are written once so many of a partition are
+pub long-so-far : (before : List (ℕ × Row)) (part : ℕ) (rows : List Row) (i from : ℕ) → length before ≡ from → i ≤ length rows → length (before ++ of_part part (take i rows)) ≡ from + i
+long-so-far before part rows i from is within =
+    let with_part : Row → ℕ × Row = λ r. (part, r) in
+    length-append before (of_part part (take i rows)) ∙ ap (λ (n : ℕ). length before + n) (length-map (take i rows) with_part ∙ length-take-le i rows within) ∙ ap (λ (n : ℕ). n + i) is
+
+-- where the lists are full, all rows of the partition stand in them as far as there is room
+pub rest-behind : (before : List (ℕ × Row)) (part : ℕ) (rows : List Row) (i : ℕ) (parts serials keys : List ℕ) (payloads : List ℤ) → length parts ≤ length (before ++ of_part part (take i rows)) → StandIn (before ++ of_part part (take i rows)) parts serials keys payloads → StandIn (before ++ of_part part rows) parts serials keys payloads
+rest-behind before part rows i parts serials keys payloads full stand =
+    let row : Row → ℕ × Row = λ r. (part, r) in
+    let cut : (before ++ of_part part (take i rows)) ++ of_part part (drop i rows) ≡ before ++ of_part part rows =
+    append_assoc before (of_part part (take i rows)) (of_part part (drop i rows)) ∙ ap (λ (more : List (ℕ × Row)). before ++ more) (sym (map-append row (take i rows) (drop i rows)) ∙ ap (of_part part) (take-append-drop i rows)) in
+    subst (λ (all : List (ℕ × Row)). StandIn all parts serials keys payloads) cut (stand-longer (before ++ of_part part (take i rows)) (of_part part (drop i rows)) parts serials keys payloads full stand)
+
+-- how many rows are listed with a partition's more
+pub listed-long : (part : ℕ) (so_far : List (ℕ × Row)) (rows : List Row) → length (so_far ++ of_part part rows) ≡ length so_far + length rows
+listed-long part so_far rows =
+    let with_part : Row → ℕ × Row = λ r. (part, r) in
+    length-append so_far (of_part part rows) ∙ ap (λ (n : ℕ). length so_far + n) (length-map rows with_part)
+
+-- a small reply lists few rows
+pub rows-small : (reply : Reply) → IsSmall reply → length (rows_in reply) < 2 ^ 32
+rows-small (Rows rows) small = small
+rows-small (Placed serial) small = omega arith
+rows-small (Gone row) small = omega arith
+rows-small Changed small = omega arith
+rows-small NoRow small = omega arith
+rows-small (Counted count) small = omega arith
+rows-small (Summed sum) small = omega arith

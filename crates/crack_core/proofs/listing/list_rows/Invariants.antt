@@ -1,0 +1,9 @@
+use Rattle.std.specs.Prelude.{◌≡◌, ℕ, List, ◌++◌, length, take}
+use Rattle.crack_row.specs.declared.Row.{Row}
+use Rattle.crack_core.specs.Listing.{of_part, StandIn}
+use Rattle.crack_core.proofs.listing.list_rows.Given as goal
+
+abbrev pub invariant-rows : goal.invariant-rows
+invariant-rows l =
+    (before : List (ℕ × Row)) → length before ≡ l.from → StandIn before l.initial.parts l.initial.serials l.initial.keys l.initial.payloads
+    → StandIn (before ++ of_part l.part (take l.i l.rows)) l.parts l.serials l.keys l.payloads

@@ -1,0 +1,243 @@
+//! Many calls in one, over lists that the caller gives.
+ghost use Rattle.std.specs.Prelude.{◌≡◌, ◌<◌, ◌≤◌, ◌≤ℤ◌, ◌^◌, neg_ℤ, pos, length, IfOk};
+ghost use Rattle.crack_core.specs.Steps.{tables_of};
+ghost use Rattle.crack_core.specs.Asking.{lasting};
+ghost use Rattle.crack_core.specs.Bulk.{Went, InsertsAt, DeletesAt, UpdatesAt, CountsAt, SumsAt, CountsKeys, SumsKeys, joined, flag};
+
+use crate::Core;
+use crack_row::{
+    BoundNumber, Key, KeyNumber, KeyRange, Payload, PayloadNumber, Policy, Refusal, RowNo, Serial,
+};
+
+/// How a list of calls went.
+#[derive(Clone, Copy, Debug)]
+pub struct Progress {
+    /// How many were answered, from the first on.
+    pub done: u64,
+    /// Why the next one was refused, if there is one.
+    pub refusal: Option<Refusal>,
+}
+
+impl Progress {
+    /// All of so many calls were answered.
+    fn whole(count: usize) -> Progress
+        ensures { result ≡ record { done = count; refusal = None } }
+    {
+        Progress {
+            done: count as u64,
+            refusal: None,
+        }
+    }
+
+    /// So many were answered, and the next one was refused.
+    fn stopped(done: usize, refusal: Refusal) -> Progress
+        ensures { result ≡ record { done = done; refusal = Some refusal } }
+    {
+        Progress {
+            done: done as u64,
+            refusal: Some(refusal),
+        }
+    }
+}
+
+/// 2^64.
+const HIGH_UNIT: u128 = 18446744073709551616;
+
+/// A multiple of 2^64 that is as great as any sum: 2^102, and how many times 2^64 that is.
+const FARTHEST: i128 = 5070602400912917605986812821504;
+
+const FARTHEST_HIGH: i64 = 274877906944;
+
+impl Core {
+    /// Counts the rows whose keys are `first` to `last`, both included, as `count` does. Refused as `count` is, and with 2 where `first` is above
+    /// `last` by more than 1.
+    pub fn count_keys(
+        &mut self,
+        first: KeyNumber,
+        last: KeyNumber,
+        policy: Policy,
+    ) -> Result<u64, Refusal>
+        ensures counts { CountsKeys self.old.limits self.old.splits first last result (lasting (tables_of self.old.parts)) (lasting (tables_of self.new.parts)) }
+        ensures opened { (self.new.splits ≡ self.old.splits) × (self.new.limits ≡ self.old.limits) }
+    {
+        match KeyRange::new(first as BoundNumber, last as BoundNumber + 1) {
+            Ok(range) => self.count(range, policy),
+            Err(refusal) => Err(refusal),
+        }
+    }
+
+    /// Adds up the payloads of the rows whose keys are `first` to `last`, both included, as `sum` does. Refused as `count_keys` is.
+    pub fn sum_keys(
+        &mut self,
+        first: KeyNumber,
+        last: KeyNumber,
+        policy: Policy,
+    ) -> Result<i128, Refusal>
+        ensures sums { SumsKeys self.old.limits self.old.splits first last result (lasting (tables_of self.old.parts)) (lasting (tables_of self.new.parts)) }
+        ensures small { IfOk result (λ sum. (neg_ℤ (pos (2 ^ 102)) ≤ℤ sum) × (sum ≤ℤ pos (2 ^ 102))) }
+        ensures opened { (self.new.splits ≡ self.old.splits) × (self.new.limits ≡ self.old.limits) }
+    {
+        match KeyRange::new(first as BoundNumber, last as BoundNumber + 1) {
+            Ok(range) => self.sum(range, policy),
+            Err(refusal) => Err(refusal),
+        }
+    }
+
+    /// Places a row for each key and payload, in order, as `insert` does, and writes its number: partition and serial. Goes on up to the first that
+    /// is refused. Takes what `insert` takes.
+    pub fn insert_many(
+        &mut self,
+        keys: &[KeyNumber],
+        payloads: &[PayloadNumber],
+        parts: &mut [u32],
+        serials: &mut [u64],
+    ) -> Progress
+        requires payloads { length payloads.now ≡ length keys.now }
+        requires parts { length parts.old ≡ length keys.now }
+        requires serials { length serials.old ≡ length keys.now }
+        ensures inserts { Went (InsertsAt self.old.limits self.old.splits keys.now payloads.now parts.new serials.new) (length keys.now) (lasting (tables_of self.old.parts)) result (lasting (tables_of self.new.parts)) }
+        ensures opened { (self.new.splits ≡ self.old.splits) × (self.new.limits ≡ self.old.limits) }
+    {
+        'rows: for i in 0..keys.len() {
+            let key = Key::from_number(keys[i]);
+            let payload = payloads[i];
+            match self.insert(key, Payload::from_number(payload)) {
+                Ok(row) => {
+                    parts[i] = row.part;
+                    serials[i] = row.serial.0;
+                }
+                Err(refusal) => return Progress::stopped(i, refusal),
+            }
+        }
+        Progress::whole(keys.len())
+    }
+
+    /// Takes rows out, in order, as `delete` does, and writes 1 for each that was there and 0 for each that wasn't. Goes on up to the first that is
+    /// refused. Takes what `delete` takes.
+    pub fn delete_many(&mut self, parts: &[u32], serials: &[u64], gone: &mut [u8]) -> Progress
+        requires serials { length serials.now ≡ length parts.now }
+        requires gone { length gone.old ≡ length parts.now }
+        ensures deletes { Went (DeletesAt self.old.limits self.old.splits parts.now serials.now gone.new) (length parts.now) (lasting (tables_of self.old.parts)) result (lasting (tables_of self.new.parts)) }
+        ensures opened { (self.new.splits ≡ self.old.splits) × (self.new.limits ≡ self.old.limits) }
+    {
+        'rows: for i in 0..parts.len() {
+            let row = row_of(parts[i], serials[i]);
+            match self.delete(row) {
+                Ok(went) => gone[i] = flag(went.is_some()),
+                Err(refusal) => return Progress::stopped(i, refusal),
+            }
+        }
+        Progress::whole(parts.len())
+    }
+
+    /// Replaces keys and payloads of rows, in order, as `update` does, and writes 1 for each row that is there and 0 for each that isn't. Goes on up
+    /// to the first that is refused. Takes what `update` takes.
+    pub fn update_many(
+        &mut self,
+        parts: &[u32],
+        serials: &[u64],
+        keys: &[KeyNumber],
+        payloads: &[PayloadNumber],
+        found: &mut [u8],
+    ) -> Progress
+        requires serials { length serials.now ≡ length parts.now }
+        requires keys { length keys.now ≡ length parts.now }
+        requires payloads { length payloads.now ≡ length parts.now }
+        requires found { length found.old ≡ length parts.now }
+        ensures updates { Went (UpdatesAt self.old.limits self.old.splits parts.now serials.now keys.now payloads.now found.new) (length parts.now) (lasting (tables_of self.old.parts)) result (lasting (tables_of self.new.parts)) }
+        ensures opened { (self.new.splits ≡ self.old.splits) × (self.new.limits ≡ self.old.limits) }
+    {
+        'rows: for i in 0..parts.len() {
+            let row = row_of(parts[i], serials[i]);
+            let key = Key::from_number(keys[i]);
+            let payload = payloads[i];
+            match self.update(row, key, Payload::from_number(payload)) {
+                Ok(is_there) => found[i] = flag(is_there),
+                Err(refusal) => return Progress::stopped(i, refusal),
+            }
+        }
+        Progress::whole(parts.len())
+    }
+
+    /// Counts the rows of each range, from its first key to its last, in order, as `count_keys` does. Goes on up to the first that is refused. Takes
+    /// what `count` takes.
+    pub fn count_many(
+        &mut self,
+        firsts: &[KeyNumber],
+        lasts: &[KeyNumber],
+        policy: Policy,
+        counts: &mut [u64],
+    ) -> Progress
+        requires lasts { length lasts.now ≡ length firsts.now }
+        requires counts { length counts.old ≡ length firsts.now }
+        ensures counts { Went (CountsAt self.old.limits self.old.splits firsts.now lasts.now counts.new) (length firsts.now) (lasting (tables_of self.old.parts)) result (lasting (tables_of self.new.parts)) }
+        ensures opened { (self.new.splits ≡ self.old.splits) × (self.new.limits ≡ self.old.limits) }
+    {
+        'each: for i in 0..firsts.len() {
+            match self.count_keys(firsts[i], lasts[i], policy) {
+                Ok(count) => counts[i] = count,
+                Err(refusal) => return Progress::stopped(i, refusal),
+            }
+        }
+        Progress::whole(firsts.len())
+    }
+
+    /// Adds up the payloads of each range, from its first key to its last, in order, as `sum_keys` does, and writes the low 64 bits of each sum and
+    /// those above them. Goes on up to the first that is refused. Takes what `sum` takes.
+    pub fn sum_many(
+        &mut self,
+        firsts: &[KeyNumber],
+        lasts: &[KeyNumber],
+        policy: Policy,
+        lows: &mut [u64],
+        highs: &mut [i64],
+    ) -> Progress
+        requires lasts { length lasts.now ≡ length firsts.now }
+        requires lows { length lows.old ≡ length firsts.now }
+        requires highs { length highs.old ≡ length firsts.now }
+        ensures sums { Went (SumsAt self.old.limits self.old.splits firsts.now lasts.now lows.new highs.new) (length firsts.now) (lasting (tables_of self.old.parts)) result (lasting (tables_of self.new.parts)) }
+        ensures opened { (self.new.splits ≡ self.old.splits) × (self.new.limits ≡ self.old.limits) }
+    {
+        'each: for i in 0..firsts.len() {
+            match self.sum_keys(firsts[i], lasts[i], policy) {
+                Ok(sum) => {
+                    let halves = halves(sum);
+                    lows[i] = halves.0;
+                    highs[i] = halves.1;
+                }
+                Err(refusal) => return Progress::stopped(i, refusal),
+            }
+        }
+        Progress::whole(firsts.len())
+    }
+}
+
+/// The low 64 bits of a sum, and those above them.
+pub fn halves(sum: i128) -> (u64, i64)
+    requires low { neg_ℤ (pos (2 ^ 102)) ≤ℤ sum }
+    requires high { sum ≤ℤ pos (2 ^ 102) }
+    ensures value { sum ≡ joined result.0 result.1 }
+    ensures small { (neg_ℤ (pos (2 ^ 38)) ≤ℤ result.1) × (result.1 ≤ℤ pos (2 ^ 38)) }
+{
+    let lifted = (sum + FARTHEST) as u128;
+    let low = (lifted % HIGH_UNIT) as u64;
+    let high = (lifted / HIGH_UNIT) as i64;
+    (low, high - FARTHEST_HIGH)
+}
+
+/// The number of a row.
+fn row_of(part: u32, serial: u64) -> RowNo
+    ensures { result ≡ record { part = part; serial = record { 0 = serial } } }
+{
+    RowNo {
+        part,
+        serial: Serial(serial),
+    }
+}
+
+/// A flag as a number.
+fn flag(is: bool) -> u8
+    ensures { result ≡ flag is }
+{
+    is as u8
+}

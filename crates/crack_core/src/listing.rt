@@ -1,0 +1,143 @@
+//! The rows of a range, written into lists that the caller gives.
+ghost use Rattle.std.specs.Prelude.{◌≡◌, ◌+◌, ◌<◌, ◌≤◌, ◌^◌, ℕ, List, ◌++◌, All, length, OnErr};
+ghost use Rattle.crack_row.specs.declared.Row.{Row};
+ghost use Rattle.crack_plain.specs.Plain.{IsSmall};
+ghost use Rattle.crack_core.specs.Steps.{tables_of};
+ghost use Rattle.crack_core.specs.Asking.{lasting};
+ghost use Rattle.crack_core.specs.Listing.{SelectsKeys, Selects, StandIn, listed, of_part, rows_in};
+
+use crate::{Core, Query};
+use crack_row::{BoundNumber, KeyNumber, KeyRange, PayloadNumber, Policy, Refusal, Reply, Row};
+
+impl Core {
+    /// Lists the rows whose keys are `first` to `last`, both included, by partition and then in rising serial, as far as the lists have room: of
+    /// each its partition, serial, key and payload. Returns how many there are. Refused as `count_keys` is; the lists are then as they were. Takes
+    /// memory for the replies of the partitions that it meets.
+    pub fn select_keys(
+        &mut self,
+        first: KeyNumber,
+        last: KeyNumber,
+        policy: Policy,
+        parts: &mut [u32],
+        serials: &mut [u64],
+        keys: &mut [KeyNumber],
+        payloads: &mut [PayloadNumber],
+    ) -> Result<u64, Refusal>
+        requires serials { length serials.old ≡ length parts.old }
+        requires keys { length keys.old ≡ length parts.old }
+        requires payloads { length payloads.old ≡ length parts.old }
+        ensures selects { SelectsKeys self.old.limits self.old.splits parts.new serials.new keys.new payloads.new first last result (lasting (tables_of self.old.parts)) (lasting (tables_of self.new.parts)) }
+        ensures unwritten { OnErr result ((parts.new ≡ parts.old) × (serials.new ≡ serials.old) × (keys.new ≡ keys.old) × (payloads.new ≡ payloads.old)) }
+        ensures opened { (self.new.splits ≡ self.old.splits) × (self.new.limits ≡ self.old.limits) }
+    {
+        match KeyRange::new(first as BoundNumber, last as BoundNumber + 1) {
+            Ok(range) => self.select_range(range, policy, parts, serials, keys, payloads),
+            Err(refusal) => Err(refusal),
+        }
+    }
+
+    /// Lists the rows of a range.
+    fn select_range(
+        &mut self,
+        range: KeyRange,
+        policy: Policy,
+        parts: &mut [u32],
+        serials: &mut [u64],
+        keys: &mut [KeyNumber],
+        payloads: &mut [PayloadNumber],
+    ) -> Result<u64, Refusal>
+        requires serials { length serials.old ≡ length parts.old }
+        requires keys { length keys.old ≡ length parts.old }
+        requires payloads { length payloads.old ≡ length parts.old }
+        ensures selects { Selects self.old.limits self.old.splits parts.new serials.new keys.new payloads.new range result (lasting (tables_of self.old.parts)) (lasting (tables_of self.new.parts)) }
+        ensures unwritten { OnErr result ((parts.new ≡ parts.old) × (serials.new ≡ serials.old) × (keys.new ≡ keys.old) × (payloads.new ≡ payloads.old)) }
+        ensures opened { (self.new.splits ≡ self.old.splits) × (self.new.limits ≡ self.old.limits) }
+    {
+        self.facts();
+        match self.parts_of(range) {
+            Ok(met) => match self.read_parts(
+                Query::SelectRows,
+                met.as_slice(),
+                policy,
+                *met.allocator(),
+            ) {
+                Ok(replies) => Ok(list_all(
+                    met.as_slice(),
+                    replies.as_slice(),
+                    parts,
+                    serials,
+                    keys,
+                    payloads,
+                )),
+                Err(refusal) => Err(refusal),
+            },
+            Err(refusal) => Err(refusal),
+        }
+    }
+}
+
+/// Writes the rows that partitions reply, one after the other. How many there are.
+fn list_all(
+    met: &[(u32, KeyRange)],
+    replies: &[Reply],
+    parts: &mut [u32],
+    serials: &mut [u64],
+    keys: &mut [KeyNumber],
+    payloads: &mut [PayloadNumber],
+) -> u64
+    requires met { length replies.now ≤ length met.now }
+    requires small { All IsSmall replies.now }
+    requires few { length replies.now ≤ 64 }
+    requires serials { length serials.old ≡ length parts.old }
+    requires keys { length keys.old ≡ length parts.old }
+    requires payloads { length payloads.old ≡ length parts.old }
+    ensures found { result ≡ length (listed met.now replies.now) }
+    ensures stand { StandIn (listed met.now replies.now) parts.new serials.new keys.new payloads.new }
+{
+    let mut found = 0;
+    'replies: for i in 0..replies.len() {
+        let rows = rows_in(&replies[i]);
+        list_rows(met[i].0, rows, found, parts, serials, keys, payloads);
+        found += rows.len();
+    }
+    found as u64
+}
+
+/// The rows that a reply lists.
+fn rows_in(reply: &Reply) -> &[Row]
+    ensures { result.now ≡ rows_in reply.now }
+{
+    match reply {
+        Reply::Rows(rows) => rows.as_slice(),
+        _ => &[],
+    }
+}
+
+/// Writes the rows of a partition from a place on, as far as there is room.
+fn list_rows(
+    part: u32,
+    rows: &[Row],
+    from: usize,
+    parts: &mut [u32],
+    serials: &mut [u64],
+    keys: &mut [KeyNumber],
+    payloads: &mut [PayloadNumber],
+)
+    requires few { from + length rows.now < 2 ^ 64 }
+    requires serials { length serials.old ≡ length parts.old }
+    requires keys { length keys.old ≡ length parts.old }
+    requires payloads { length payloads.old ≡ length parts.old }
+    ensures { (before : List (ℕ × Row)) → length before ≡ from → StandIn before parts.old serials.old keys.old payloads.old → StandIn (before ++ of_part part rows.now) parts.new serials.new keys.new payloads.new }
+{
+    'rows: for i in 0..rows.len() {
+        let at = from + i;
+        if at >= parts.len() {
+            return;
+        }
+        let row = rows[i];
+        parts[at] = part;
+        serials[at] = row.serial.0;
+        keys[at] = row.key.number();
+        payloads[at] = row.payload.number();
+    }
+}
