@@ -1,20 +1,20 @@
 -- What a carry leaves of a store whose column stands in pieces.
-use Rattle.std.proofs.Common.{◌≡◌, ℕ, ◌+◌, ◌-◌, ◌<◌, ◌≤◌, Bool, true, false, cond, ltb, leb, min, suc, List, [], ◌∷◌, ◌++◌, map, length, get_or, set, Option, Some, None, refl, sym, ap, ◌∙◌, inl, inr, arith}
+use Rattle.std.proofs.Common.{◌≡◌, ℕ, ◌+◌, ◌-◌, ◌<◌, ◌≤◌, Bool, true, false, cond, min, suc, List, [], ◌∷◌, ◌++◌, map, length, Option, Some, None, refl, sym, ap, ◌∙◌, inl, inr, arith}
 use Rattle.std.specs.List.{All}
 use Rattle.std.proofs.Math.Nat.{min-eq_left, min-eq_right}
-use Rattle.std.proofs.lemmas.Bool.{cases_lt, cases_Bool, lt-ltb, le-ltb, ltb-true, ltb-false, leb-true, leb-false, or_parts, false≢true}
+use Rattle.std.proofs.lemmas.Bool.{cases_lt, cases_Bool, lt-ltb, le-ltb, ltb-true, leb-true, leb-false, or_parts, false≢true}
 use Rattle.std.proofs.lemmas.List.{append-nil, append_assoc, length-append, length_push, map-append, get_or_at, set_at}
-use Rattle.std.proofs.lemmas.List.Elements.{All-nil, All-cons, All-head, All-tail, All-append, All-push, All-weaker, All-map}
+use Rattle.std.proofs.lemmas.List.Elements.{All-nil, All-head, All-push, All-weaker, All-map}
 use Rattle.crack_row.specs.declared.InnerBound.{InnerBound}
 use Rattle.crack_arena.specs.Arena.{Handle, times, slots}
 use Rattle.crack_arena.specs.Rows.{key_at}
 use Rattle.crack_index.specs.declared.mark.Mark.{Mark}
 use Rattle.crack_index.specs.Marks.{next_mark, raised, end_of}
 use Rattle.crack_state.specs.State.{State, Carried, greatest}
-use Rattle.crack_state.specs.Steps.{hand_key, piece_end, raise_next, more, IsDoomed, IsBelow, pushed_on, appended, buried, returned}
-use Rattle.crack_bulk.specs.Pieces.{Pieces, last, below, column_of, marks_of, AreDivided}
-use Rattle.crack_bulk.specs.Queues.{Event, comes, turns, stopped, reached, outcome}
-use Rattle.crack_bulk.specs.Carried.{Leads, buries, evicts, ends, goes_on, is_over, is_doomed, ends_with, moved_by, carried_with}
+use Rattle.crack_state.specs.Steps.{raise_next, more, IsBelow, pushed_on, appended, buried, returned}
+use Rattle.crack_bulk.proofs.Pieces.{Pieces, last, below, column_of, marks_of, AreDivided}
+use Rattle.crack_bulk.proofs.Queues.{Event, comes, turns, stopped, reached, outcome}
+use Rattle.crack_bulk.proofs.Carried.{Leads, buries, evicts, ends, goes_on, is_over, is_doomed, ends_with, moved_by, carried_with}
 use Rattle.crack_bulk.proofs.BulkLaws.{reached-stopped, outcome-stopped}
 use Rattle.crack_bulk.proofs.PieceLaws.{mark_at, next_mark-skips, raised-here, raised-lower, raised-behind_first}
 
@@ -119,7 +119,7 @@ module _ (s : State) (ceiling : Option ℕ) where
       let Q = reached key stops (turns n) pieces in
       let before : (ms ++ one) ++ marks_of place pieces ≡ ms ++ mark_at c place ∷ marks_of place pieces = append_assoc ms one (marks_of place pieces) in
       let after : map (raised b.0 place) (ms ++ one) ++ marks_of ((place + 1)) Q ≡ map (raised b.0 place) ms ++ mark_at c ((place + 1)) ∷ marks_of ((place + 1)) Q =
-          rw up (append_assoc (map (raised b.0 place) ms) (mark_at c (place + 1) ∷ []) (marks_of ((place + 1)) Q)) in
+      rw up (append_assoc (map (raised b.0 place) ms) (mark_at c (place + 1) ∷ []) (marks_of ((place + 1)) Q)) in
       rw (here, higher) (rw (before, after) at above)
   turns-leads (below (y ∷ ys) c pieces) prefix place ms b h n top at next low order divided goes =
       let on : List Mark = map (raised b.0 place) ms in
@@ -134,21 +134,21 @@ module _ (s : State) (ceiling : Option ℕ) where
         | inr lasts ↦
             let size : (place + 1) + length (ys ++ y ∷ []) ≡ (place + suc (length ys)) + 1 = omega (arith, length_push ys y) in
             let on_it : Leads ceiling (carried_with s (prefix ++ h ∷ zs) (on ++ rest) (suc n) y) (landed s (prefix ++ h ∷ ((ys ++ y ∷ []) ++ column_of (reached key stops (turns (suc n)) pieces))) (on ++ mark_at c ((place + suc (length ys)) + 1) ∷ marks_of ((place + suc (length ys)) + 1) (reached key stops (turns (suc n)) pieces)) (outcome key stops (turns (suc n)) pieces)) =
-                let prefix' : List Handle = prefix ++ h ∷ ys in
-                let place' : ℕ = place + suc (length ys) in
-                let one : List Mark = mark_at c place' ∷ [] in
-                let Q = reached key stops (turns (suc n)) pieces in
-                let low_on : All (λ m. m.bound.0 ≤ top) on = low_still b.0 place top ms low in
-                let next' : (r : List Mark) → next_mark (key y) ((on ++ one) ++ r) ≡ Some (mark_at c place') = λ r. rw (append_assoc on one r, next_mark-skips (key y) on (one ++ r) (All-weaker (λ m. m.bound.0 ≤ top) (λ m. m.bound.0 ≤ key y) (λ m l. omega (arith, l, between.0)) on low_on), lt-ltb (key y) c.0 between.1) refl in
-                let low' : All (λ m. m.bound.0 ≤ c.0) (on ++ one) = All-push (λ m. m.bound.0 ≤ c.0) on (mark_at c place') (All-weaker (λ m. m.bound.0 ≤ top) (λ m. m.bound.0 ≤ c.0) (λ m l. omega (arith, l, divided.1)) on low_on) (omega arith) in
-                let above = turns-leads pieces prefix' place' (on ++ one) c y (suc n) c.0 (omega (arith, at, length-append prefix (h ∷ ys))) next' low' (omega arith) divided.2 lasts in
-                let raised_on : map (raised c.0 place') on ≡ on = raised-lower c.0 place' on (All-weaker (λ m. m.bound.0 ≤ top) (λ m. m.bound.0 < c.0) (λ m l. omega (arith, l, between.0, between.1)) on low_on) in
-                let up : map (raised c.0 place') (on ++ one) ≡ on ++ mark_at c (place' + 1) ∷ [] = map-append (raised c.0 place') on one ∙ rw (raised_on, raised-here c.0 place' c (omega arith)) refl in
-                let column_before : prefix' ++ column_of pieces ≡ prefix ++ h ∷ zs = append_assoc prefix (h ∷ ys) (column_of pieces) in
-                let marks_before : (on ++ one) ++ marks_of place' pieces ≡ on ++ rest = append_assoc on one (marks_of place' pieces) in
-                let column_after : prefix' ++ y ∷ column_of Q ≡ prefix ++ h ∷ ((ys ++ y ∷ []) ++ column_of Q) = append_assoc prefix (h ∷ ys) (y ∷ column_of Q) ∙ ap (λ others. prefix ++ h ∷ others) (sym (append_assoc ys (y ∷ []) (column_of Q))) in
-                let marks_after : map (raised c.0 place') (on ++ one) ++ marks_of (place' + 1) Q ≡ on ++ mark_at c (place' + 1) ∷ marks_of (place' + 1) Q = rw up (append_assoc on (mark_at c (place' + 1) ∷ []) (marks_of (place' + 1) Q)) in
-                rw (column_before, marks_before, column_after, marks_after) at above in
+            let prefix' : List Handle = prefix ++ h ∷ ys in
+            let place' : ℕ = place + suc (length ys) in
+            let one : List Mark = mark_at c place' ∷ [] in
+            let Q = reached key stops (turns (suc n)) pieces in
+            let low_on : All (λ m. m.bound.0 ≤ top) on = low_still b.0 place top ms low in
+            let next' : (r : List Mark) → next_mark (key y) ((on ++ one) ++ r) ≡ Some (mark_at c place') = λ r. rw (append_assoc on one r, next_mark-skips (key y) on (one ++ r) (All-weaker (λ m. m.bound.0 ≤ top) (λ m. m.bound.0 ≤ key y) (λ m l. omega (arith, l, between.0)) on low_on), lt-ltb (key y) c.0 between.1) refl in
+            let low' : All (λ m. m.bound.0 ≤ c.0) (on ++ one) = All-push (λ m. m.bound.0 ≤ c.0) on (mark_at c place') (All-weaker (λ m. m.bound.0 ≤ top) (λ m. m.bound.0 ≤ c.0) (λ m l. omega (arith, l, divided.1)) on low_on) (omega arith) in
+            let above = turns-leads pieces prefix' place' (on ++ one) c y (suc n) c.0 (omega (arith, at, length-append prefix (h ∷ ys))) next' low' (omega arith) divided.2 lasts in
+            let raised_on : map (raised c.0 place') on ≡ on = raised-lower c.0 place' on (All-weaker (λ m. m.bound.0 ≤ top) (λ m. m.bound.0 < c.0) (λ m l. omega (arith, l, between.0, between.1)) on low_on) in
+            let up : map (raised c.0 place') (on ++ one) ≡ on ++ mark_at c (place' + 1) ∷ [] = map-append (raised c.0 place') on one ∙ rw (raised_on, raised-here c.0 place' c (omega arith)) refl in
+            let column_before : prefix' ++ column_of pieces ≡ prefix ++ h ∷ zs = append_assoc prefix (h ∷ ys) (column_of pieces) in
+            let marks_before : (on ++ one) ++ marks_of place' pieces ≡ on ++ rest = append_assoc on one (marks_of place' pieces) in
+            let column_after : prefix' ++ y ∷ column_of Q ≡ prefix ++ h ∷ ((ys ++ y ∷ []) ++ column_of Q) = append_assoc prefix (h ∷ ys) (y ∷ column_of Q) ∙ ap (λ others. prefix ++ h ∷ others) (sym (append_assoc ys (y ∷ []) (column_of Q))) in
+            let marks_after : map (raised c.0 place') (on ++ one) ++ marks_of (place' + 1) Q ≡ on ++ mark_at c (place' + 1) ∷ marks_of (place' + 1) Q = rw up (append_assoc on (mark_at c (place' + 1) ∷ []) (marks_of (place' + 1) Q)) in
+            rw (column_before, marks_before, column_after, marks_after) at above in
             rw (lasts, size) (pushes_here prefix place ms rest b h y zs n (landed s (prefix ++ h ∷ ((ys ++ y ∷ []) ++ column_of (reached key stops (turns (suc n)) pieces))) (on ++ mark_at c ((place + suc (length ys)) + 1) ∷ marks_of ((place + suc (length ys)) + 1) (reached key stops (turns (suc n)) pieces)) (outcome key stops (turns (suc n)) pieces)) at (next rest) goes stay on_it)
       ]
 

@@ -1,16 +1,16 @@
 -- The pieces into which the marks of a column cut it.
-use Rattle.std.proofs.Common.{◌≡◌, ℕ, ◌+◌, ◌-◌, ◌<◌, ◌≤◌, List, [], ◌∷◌, ◌++◌, map, length, take, drop, get_or, refl, sym, ap, ◌∙◌, arith}
+use Rattle.std.proofs.Common.{◌≡◌, ℕ, ◌+◌, ◌-◌, ◌<◌, ◌≤◌, List, [], ◌∷◌, map, length, take, drop, get_or, refl, sym, arith}
 use Rattle.std.specs.List.{All}
 use Rattle.std.proofs.lemmas.List.{length-take-le, length-drop, length-map, take-append-drop, take_at, drop_at, get_or-take, get_or-drop, get_or-map}
 use Rattle.std.proofs.lemmas.List.Elements.{All-head, All-tail}
 use Rattle.crack_arena.specs.Arena.{Handle}
 use Rattle.crack_arena.specs.Rows.{key_at}
 use Rattle.crack_index.specs.declared.mark.Mark.{Mark}
-use Rattle.crack_index.specs.Marks.{InOrder, Rising}
+use Rattle.crack_index.specs.Marks.{Rising}
 use Rattle.crack_index.proofs.MarkLaws.{Rising-head, Rising-tail}
 use Rattle.crack_state.specs.State.{State, IsIntact}
-use Rattle.crack_bulk.specs.Pieces.{Pieces, last, below, column_of, marks_of, cut, AreDivided}
-use Rattle.crack_bulk.specs.Carried.{pieces_of}
+use Rattle.crack_bulk.proofs.Pieces.{Pieces, last, below, column_of, marks_of, cut, AreDivided}
+use Rattle.crack_bulk.proofs.Carried.{pieces_of}
 
 module _ {X : Type 0} where
   pub column_of-cut : (place : ℕ) (marks : List Mark) (rows : List X) → column_of (cut place marks rows) ≡ rows
@@ -52,17 +52,17 @@ module _ {X : Type 0} where
       let after = Rising-head m ms rising in
       let rest = All-tail (DividesFrom key place rows) m ms divides in
       let here : All (λ x. (low ≤ key x) × (key x < m.bound.0)) (take n rows) = λ k d h.
-          rw (get_or-take n rows k d (omega (arith, h, short))) (above k d (omega (arith, h, short, first.to, size)), first.before k d (omega (arith, h, short, first.to, size)) (omega (arith, h, short, size))) in
+      rw (get_or-take n rows k d (omega (arith, h, short))) (above k d (omega (arith, h, short, first.to, size)), first.before k d (omega (arith, h, short, first.to, size)) (omega (arith, h, short, size))) in
       let above_it : All (λ x. m.bound.0 ≤ key x) (drop n rows) = λ k d h.
-          rw (get_or-drop n rows k d) (first.behind (n + k) d (omega (arith, h, length-drop n rows)) (omega (arith, size))) in
+      rw (get_or-drop n rows k d) (first.behind (n + k) d (omega (arith, h, length-drop n rows)) (omega (arith, size))) in
       let divides_rest : All (DividesFrom key m.position (drop n rows)) ms = λ k d h.
-          let one = rest k d h in
-          record {
-            from = (after k d h).positions;
-            to = omega (arith, one.to, length-drop n rows, size, first.to);
-            before = λ j e within less. rw (get_or-drop n rows j e) (one.before (n + j) e (omega (arith, within, length-drop n rows)) (omega (arith, less, size)));
-            behind = λ j e within more. rw (get_or-drop n rows j e) (one.behind (n + j) e (omega (arith, within, length-drop n rows)) (omega (arith, more, size)));
-          } in
+      let one = rest k d h in
+      record {
+        from = (after k d h).positions;
+        to = omega (arith, one.to, length-drop n rows, size, first.to);
+        before = λ j e within less. rw (get_or-drop n rows j e) (one.before (n + j) e (omega (arith, within, length-drop n rows)) (omega (arith, less, size)));
+        behind = λ j e within more. rw (get_or-drop n rows j e) (one.behind (n + j) e (omega (arith, within, length-drop n rows)) (omega (arith, more, size)));
+      } in
       (here, All-head (λ x. low ≤ x.bound.0) m ms bounds, AreDivided-cut key m.bound.0 m.position ms (drop n rows) (Rising-tail m ms rising) (λ k d h. omega (arith, (after k d h).bounds)) above_it divides_rest)
 
 -- what an intact store's pieces are
@@ -79,11 +79,11 @@ IsCut-intact s hand intact =
       column = sym (column_of-cut 0 s.marks s.column);
       marks = sym (marks_of-cut 0 s.marks s.column intact.rising (λ k d h. omega arith) (λ k d h. omega (arith, (intact.obeyed k d h).within, same)));
       divided = AreDivided-cut key 0 0 s.marks s.column intact.rising (λ k d h. omega arith) (λ k d h. omega arith) (λ k d h.
-        let one = intact.obeyed k d h in
-        record {
-          from = omega arith;
-          to = omega (arith, one.within, same);
-          before = λ j e within less. rw (← (get_or-map key s.column j e 0 within)) (one.below j (omega (arith, less)));
-          behind = λ j e within more. rw (← (get_or-map key s.column j e 0 within)) (one.above j (omega (arith, more)) (omega (arith, within, same)));
-        });
+          let one = intact.obeyed k d h in
+          record {
+            from = omega arith;
+            to = omega (arith, one.within, same);
+            before = λ j e within less. rw (← (get_or-map key s.column j e 0 within)) (one.below j (omega (arith, less)));
+            behind = λ j e within more. rw (← (get_or-map key s.column j e 0 within)) (one.above j (omega (arith, more)) (omega (arith, within, same)));
+          });
     }

@@ -1,6 +1,6 @@
 -- What a carry keeps: the store intact, and of each row that still stands its key and whether it ends a carry.
-use Rattle.std.proofs.Common.{◌≡◌, ℕ, ◌+◌, ◌-◌, ◌<◌, ◌≤◌, Bool, true, false, cond, ltb, min, List, [], ◌∷◌, ◌++◌, length, get_or, Option, Some, None, refl, sym, ap, ◌∙◌, inl, inr, arith}
-use Rattle.std.specs.List.{All, remove}
+use Rattle.std.proofs.Common.{◌≡◌, ℕ, ◌+◌, ◌-◌, ◌<◌, ◌≤◌, false, ltb, List, [], ◌∷◌, length, get_or, Option, None, refl, sym, ap, inl, inr, arith}
+use Rattle.std.specs.List.{All}
 use Rattle.std.proofs.lemmas.Bool.{cases_Bool, le-ltb}
 use Rattle.std.proofs.lemmas.List.{append-nil}
 use Rattle.crack_arena.specs.Arena.{Handle, no_handle, times, slots, place_in}
@@ -8,15 +8,15 @@ use Rattle.crack_arena.specs.Rows.{key_at}
 use Rattle.crack_arena.proofs.Times.{times_map_at, times_other}
 use Rattle.crack_index.specs.declared.mark.Mark.{Mark}
 use Rattle.crack_state.specs.State.{State, Carried, IsIntact}
-use Rattle.crack_state.specs.Steps.{hand_key, lifted, pushed_on, buried}
+use Rattle.crack_state.specs.Steps.{lifted, pushed_on, buried}
 use Rattle.crack_state.proofs.OwnedLaws.{times-places, times-taken, once-most, hand_apart, apart_from_times}
 use Rattle.crack_state.proofs.CellLaws.{AgreeOff-set, key_at-off}
 use Rattle.crack_state.proofs.BuryLaws.{IsIntact-buried, doomed_stands}
 use Rattle.crack_state.proofs.PullLaws.{IsIntact-returned}
 use Rattle.crack_state.proofs.StepLaws.{IsIntact-pushed_on, IsIntact-appended}
-use Rattle.crack_bulk.specs.Pieces.{column_of, marks_of}
-use Rattle.crack_bulk.specs.Queues.{Event, comes, turns, stopped, reached, outcome}
-use Rattle.crack_bulk.specs.Carried.{pieces_of, Leads, buries, evicts, ends, goes_on, is_over, is_doomed, ends_with, moved_by, carried_with, ended_so}
+use Rattle.crack_bulk.proofs.Pieces.{column_of, marks_of}
+use Rattle.crack_bulk.proofs.Queues.{Event, comes, turns, stopped, reached, outcome}
+use Rattle.crack_bulk.proofs.Carried.{pieces_of, Leads, buries, evicts, ends, goes_on, is_over, is_doomed, ends_with, ended_so}
 use Rattle.crack_bulk.proofs.CarryLaws.{landed, Leads-reached}
 use Rattle.crack_bulk.proofs.CutLaws.{IsCut-intact}
 

@@ -1,3 +1,7 @@
+pub mod Pieces
+pub mod Queues
+pub mod Sifts
+pub mod Carried
 pub mod AgreeLaws
 pub mod BulkLaws
 pub mod CarryLaws

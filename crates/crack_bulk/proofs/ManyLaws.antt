@@ -1,18 +1,18 @@
 -- One carry and then many in bulk leave what all of them in bulk do.
-use Rattle.std.proofs.Common.{◌≡◌, ℕ, ◌+◌, ◌-◌, ◌<◌, ◌≤◌, Bool, true, false, cond, ltb, min, suc, List, [], ◌∷◌, ◌++◌, length, get_or, Option, Some, None, refl, sym, ap, ◌∙◌, inl, inr, arith}
+use Rattle.std.proofs.Common.{◌≡◌, ℕ, ◌+◌, cond, min, suc, List, [], ◌∷◌, ◌++◌, length, Option, refl, sym, ap, ◌∙◌, inl, inr, arith}
 use Rattle.std.specs.List.{All}
 use Rattle.std.proofs.Math.Nat.{min-eq_left, min-eq_right}
 use Rattle.std.proofs.lemmas.Bool.{cases_lt, cases_Bool}
-use Rattle.std.proofs.lemmas.List.{append-nil, append_assoc}
-use Rattle.std.proofs.lemmas.List.Elements.{All-weaker, All-get_or}
+use Rattle.std.proofs.lemmas.List.{append-nil}
+use Rattle.std.proofs.lemmas.List.Elements.{All-weaker}
 use Rattle.crack_arena.specs.Arena.{Handle}
 use Rattle.crack_arena.specs.Rows.{key_at}
 use Rattle.crack_index.specs.declared.mark.Mark.{Mark}
-use Rattle.crack_state.specs.State.{State, Carried, IsIntact, greatest}
+use Rattle.crack_state.specs.State.{State, IsIntact, greatest}
 use Rattle.crack_state.specs.Steps.{more, lifted}
-use Rattle.crack_bulk.specs.Pieces.{Pieces, column_of, marks_of}
-use Rattle.crack_bulk.specs.Queues.{Event, comes, turns, stopped, reached, outcome, one_at_a_time, outcomes}
-use Rattle.crack_bulk.specs.Carried.{pieces_of, is_doomed, ends_with, moved_by, carried_with, ended_so, ended_by, put_in_by}
+use Rattle.crack_bulk.proofs.Pieces.{column_of, marks_of}
+use Rattle.crack_bulk.proofs.Queues.{Event, comes, turns, stopped, reached, outcome, one_at_a_time, outcomes}
+use Rattle.crack_bulk.proofs.Carried.{pieces_of, is_doomed, ends_with, ended_so, ended_by, put_in_by}
 use Rattle.crack_bulk.proofs.AgreeLaws.{Each, OfComing, Agrees, Each-cut, one_at_a_time-agree, outcomes-agree}
 use Rattle.crack_bulk.proofs.CutLaws.{cut-joined, IsCut-intact}
 use Rattle.crack_bulk.proofs.LeadLaws.{StaysAs, ends_with-same, carried_at}

@@ -1,12 +1,12 @@
 -- What the marks of pieces are to a key in hand, and how bounds at one place move up together.
-use Rattle.std.proofs.Common.{◌≡◌, ℕ, ◌+◌, ◌<◌, ◌≤◌, false, List, [], ◌∷◌, ◌++◌, map, length, ltb, leb, eqb, Option, Some, refl, ap, ◌∙◌, arith, suc}
+use Rattle.std.proofs.Common.{◌≡◌, ℕ, ◌+◌, ◌<◌, ◌≤◌, false, List, [], ◌∷◌, ◌++◌, map, length, leb, eqb, refl, arith, suc}
 use Rattle.std.specs.List.{All}
-use Rattle.std.proofs.lemmas.Bool.{le-ltb, le-leb, lt-leb, eq-eqb, ne_eqb, and_left, and_right}
+use Rattle.std.proofs.lemmas.Bool.{le-ltb, le-leb, lt-leb, eq-eqb, ne_eqb, and_right}
 use Rattle.std.proofs.lemmas.List.Elements.{All-head, All-tail, All-weaker}
 use Rattle.crack_row.specs.declared.InnerBound.{InnerBound}
 use Rattle.crack_index.specs.declared.mark.Mark.{Mark}
 use Rattle.crack_index.specs.Marks.{next_mark, raised}
-use Rattle.crack_bulk.specs.Pieces.{Pieces, last, below, marks_of, AreDivided}
+use Rattle.crack_bulk.proofs.Pieces.{Pieces, last, below, marks_of, AreDivided}
 
 -- the mark of a bound at a place
 abbrev pub mark_at : InnerBound → ℕ → Mark

@@ -1,14 +1,14 @@
 -- Where no carry ends with a row in hand, sifting leaves what the carries do.
-use Rattle.std.proofs.Common.{◌≡◌, ◌⊎◌, ℕ, ◌+◌, ◌<◌, ◌≤◌, Bool, true, false, cond, ltb, zero, suc, List, [], ◌∷◌, ◌++◌, take, map, length, refl, sym, ap, ◌∙◌, inl, inr, arith}
+use Rattle.std.proofs.Common.{◌≡◌, ℕ, ◌+◌, ◌<◌, ◌≤◌, Bool, true, false, cond, ltb, zero, suc, List, [], ◌∷◌, ◌++◌, take, map, length, refl, sym, ap, ◌∙◌, inl, inr, arith}
 use Rattle.std.specs.List.{All, filter, sum_by}
 use Rattle.std.proofs.lemmas.Bool.{cases_lt, cases_Bool, lt-ltb, le-ltb, ltb-true, ltb-false, true≢false}
 use Rattle.std.proofs.lemmas.List.{length_push}
-use Rattle.std.proofs.lemmas.List.Elements.{All-nil, All-cons, All-head, All-tail, All-take, All-push}
+use Rattle.std.proofs.lemmas.List.Elements.{All-nil, All-cons, All-head, All-tail, All-take}
 use Rattle.std.proofs.lemmas.List.Sums.{sum_by-cons}
 use Rattle.crack_row.specs.declared.InnerBound.{InnerBound}
-use Rattle.crack_bulk.specs.Pieces.{Pieces, last, below, marks_of, AreDivided}
-use Rattle.crack_bulk.specs.Queues.{Event, comes, turns, stopped, is_below, any_row, after_turn, onward, after, next, left, passed, in_bulk, bulk_outcomes}
-use Rattle.crack_bulk.specs.Sifts.{turned, one_if_some, below_bound, queued, made_way, sifted, all_made_way, count_below, OfMet, risen}
+use Rattle.crack_bulk.proofs.Pieces.{Pieces, last, below, marks_of, AreDivided}
+use Rattle.crack_bulk.proofs.Queues.{Event, comes, turns, stopped, is_below, any_row, left, passed, in_bulk, bulk_outcomes}
+use Rattle.crack_bulk.proofs.Sifts.{turned, one_if_some, below_bound, queued, made_way, sifted, all_made_way, count_below, OfMet, risen}
 
 -- one more behind them
 All-take_push : {X : Type 0} (P : X → Type 0) (n : ℕ) (xs : List X) (x : X) → All P (take n xs) → P x → All P (take n (xs ++ x ∷ []))
@@ -203,11 +203,13 @@ module _ {X : Type 0} (key : X → ℕ) (stops : X → Bool) where
       let rest = count-below_bound low bound xs order in
       elim (cases_lt (key x) bound) [
         | inl under ↦
-            let kept : below_bound key bound (x ∷ xs) ≡ x ∷ below_bound key bound xs = rw (lt-ltb (key x) bound under) refl in
-            (elim (cases_lt (key x) low) [
-              | inl lower ↦ omega (arith, ap (count_below key low) kept, below_count low x (below_bound key bound xs) lower, below_count low x xs lower, rest.0)
-              | inr higher ↦ omega (arith, ap (count_below key low) kept, above_count low x (below_bound key bound xs) higher, above_count low x xs higher, rest.0)
-            ], omega (arith, ap length kept, below_count bound x xs under, rest.1))
+            let kept : below_bound key bound (x ∷ xs) ≡ x ∷ below_bound key bound xs = rw (lt-ltb (key x) bound under) refl in (
+              elim (cases_lt (key x) low) [
+                | inl lower ↦ omega (arith, ap (count_below key low) kept, below_count low x (below_bound key bound xs) lower, below_count low x xs lower, rest.0)
+                | inr higher ↦ omega (arith, ap (count_below key low) kept, above_count low x (below_bound key bound xs) higher, above_count low x xs higher, rest.0)
+              ],
+              omega (arith, ap length kept, below_count bound x xs under, rest.1),
+            )
         | inr over ↦
             let left_out : below_bound key bound (x ∷ xs) ≡ below_bound key bound xs = rw (le-ltb (key x) bound over) refl in
             (omega (arith, ap (count_below key low) left_out, above_count low x xs (omega (arith, over, order)), rest.0), omega (arith, ap length left_out, above_count bound x xs over, rest.1))

@@ -1,5 +1,5 @@
 -- Where no carry ends with a row in hand, sifting leaves of a store what all carries of a range do.
-use Rattle.std.proofs.Common.{◌≡◌, ℕ, ◌+◌, ◌<◌, ◌≤◌, Bool, true, false, min, List, [], ◌∷◌, map, length, get_or, Option, refl, sym, ap, ◌∙◌, inl, inr, arith}
+use Rattle.std.proofs.Common.{◌≡◌, ℕ, ◌+◌, ◌≤◌, false, min, List, [], ◌∷◌, map, length, Option, refl, sym, ap, ◌∙◌, inl, inr, arith}
 use Rattle.std.specs.List.{All, sum_by}
 use Rattle.std.proofs.Math.Nat.{min-eq_left, min-eq_right}
 use Rattle.std.proofs.lemmas.Bool.{cases_lt}
@@ -9,13 +9,12 @@ use Rattle.std.proofs.lemmas.List.Sums.{sum_by-cons}
 use Rattle.crack_row.specs.Ranges.{Range, is_in}
 use Rattle.crack_arena.specs.Arena.{Handle, no_handle}
 use Rattle.crack_arena.specs.Rows.{key_at}
-use Rattle.crack_state.specs.declared.MergeReport.{MergeReport}
 use Rattle.crack_state.specs.State.{State, IsIntact, greatest}
 use Rattle.crack_state.specs.Merge.{outside_of}
-use Rattle.crack_bulk.specs.Pieces.{Pieces, column_of, marks_of}
-use Rattle.crack_bulk.specs.Queues.{Event, comes, turns, stopped, in_bulk, bulk_outcomes}
-use Rattle.crack_bulk.specs.Sifts.{sifted, all_made_way, count_below, OfMet, risen}
-use Rattle.crack_bulk.specs.Carried.{pieces_of, is_over, is_doomed, ends_with, moved_by, ended_so, ended_by, inside_of, put_in_by, arrivals, carried_in_bulk, carried_by_sifting}
+use Rattle.crack_bulk.proofs.Pieces.{column_of, marks_of}
+use Rattle.crack_bulk.proofs.Queues.{Event, comes, turns, stopped, in_bulk, bulk_outcomes}
+use Rattle.crack_bulk.proofs.Sifts.{sifted, all_made_way, count_below, OfMet, risen}
+use Rattle.crack_bulk.proofs.Carried.{pieces_of, is_over, is_doomed, ends_with, moved_by, ended_so, ended_by, inside_of, put_in_by, arrivals, carried_in_bulk, carried_by_sifting}
 use Rattle.crack_bulk.proofs.CutLaws.{IsCut-intact}
 use Rattle.crack_bulk.proofs.LeadLaws.{pending-lasts}
 use Rattle.crack_bulk.proofs.SiftLaws.{moved_of, IsTurn, AreSifted-of, AreOf-coming, none-moved, marks_of-sifted, none_below}
@@ -40,7 +39,7 @@ ended_by-turns (comes x ∷ es) s all counted = absurd (All-head IsTurn (comes x
 ended_by-turns (turns moved ∷ es) s all counted =
     let rest = ended_by-turns es (ended_so (turns moved) s) (All-tail IsTurn (turns moved) es all) (omega arith) in
     let both : min (min (s.tally.moved + moved) greatest + sum_by moved_of es) greatest ≡ min (s.tally.moved + sum_by moved_of (turns moved ∷ es)) greatest =
-        min_and s.tally.moved moved (sum_by moved_of es) ∙ ap (λ n. min (s.tally.moved + n) greatest) (sym (sum_by-cons moved_of (turns moved) es)) in
+    min_and s.tally.moved moved (sum_by moved_of es) ∙ ap (λ n. min (s.tally.moved + n) greatest) (sym (sum_by-cons moved_of (turns moved) es)) in
     rest ∙ rw both refl
 ended_by-turns (stopped moved y ∷ es) s all counted = absurd (All-head IsTurn (stopped moved y) es all)
 
@@ -62,8 +61,8 @@ carried-sifting ceiling r s intact go =
     let many : length (arrivals r s) ≡ length rows = length-map rows comes in
     let moved : sum_by moved_of (bulk_outcomes key stops (arrivals r s) (pieces_of s)) ≡ all_made_way key 0 rows (pieces_of s) = omega (arith, all.total_is, none-moved key stops rows) in
     let marks : marks_of 0 (sifted key 0 rows (pieces_of s)) ≡ map (risen key rows) s.marks =
-        let first : 0 + count_below key 0 rows ≡ 0 = omega (arith, none_below key stops rows) in
-        (rw first at (marks_of-sifted key stops 0 0 rows (pieces_of s) cut.divided)) ∙ ap (map (risen key rows)) (sym cut.marks) in
+    let first : 0 + count_below key 0 rows ≡ 0 = omega (arith, none_below key stops rows) in
+    (rw first at (marks_of-sifted key stops 0 0 rows (pieces_of s) cut.divided)) ∙ ap (map (risen key rows)) (sym cut.marks) in
     let pieces = in_bulk key stops (arrivals r s) (pieces_of s) in
     let before : State = record s {
       column = column_of pieces;

@@ -1,22 +1,22 @@
 -- All pending insertions of a range in bulk: what carry after carry leaves.
-use Rattle.std.proofs.Common.{◌≡◌, ◌⊎◌, ℕ, ◌+◌, ◌-◌, ◌<◌, ◌≤◌, Bool, true, false, not, List, [], ◌∷◌, ◌++◌, map, length, get_or, drop, Option, Some, None, refl, sym, ap, ◌∙◌, inl, inr, arith}
+use Rattle.std.proofs.Common.{◌≡◌, ◌⊎◌, ℕ, ◌+◌, ◌-◌, ◌<◌, ◌≤◌, Bool, true, false, not, List, [], ◌∷◌, ◌++◌, map, length, get_or, Option, Some, None, refl, sym, ap, ◌∙◌, inl, inr, arith}
 use Rattle.std.specs.List.{All, remove, filter}
 use Rattle.std.proofs.lemmas.Bool.{cases_lt, cases_Bool, leb-true, lt-leb, false≢true}
-use Rattle.std.proofs.lemmas.List.{append-nil, append_assoc, length-append, length-map, map-append, get_or-map, get_or_at, get_or_append_left, get_or-append-add, get_or-append_right, get_or_push, length_push}
+use Rattle.std.proofs.lemmas.List.{append-nil, append_assoc, length-append, length-map, get_or-map, get_or_at, get_or_append_left, get_or-append-add, get_or-append_right, get_or_push, length_push}
 use Rattle.std.proofs.lemmas.List.Edits.{remove-append_right}
 use Rattle.std.proofs.lemmas.List.Elements.{All-nil, All-head, All-tail, All-cons, All-append, All-map, All-filter}
 use Rattle.crack_row.specs.Ranges.{Range, IsIn, is_in}
 use Rattle.crack_row.specs.declared.Row.{Row}
 use Rattle.crack_arena.specs.Arena.{Cell, Handle, no_handle}
 use Rattle.crack_arena.specs.Rows.{key_at, keys_at}
-use Rattle.crack_pending.specs.Pending.{Finds, NoneIn}
+use Rattle.crack_pending.specs.Pending.{Finds}
 use Rattle.crack_pending.proofs.Searches.{is_in-true, is_in-false}
 use Rattle.crack_state.specs.State.{State, Carried, IsIntact}
-use Rattle.crack_state.specs.Steps.{lifted, pushed_on, hand_key, IsBelow, SameButRoom}
+use Rattle.crack_state.specs.Steps.{lifted, pushed_on, hand_key, SameButRoom}
 use Rattle.crack_state.specs.Merge.{outside_of}
 use Rattle.crack_state.proofs.StepLaws.{IsIntact-lifted, IsIntact-room}
-use Rattle.crack_bulk.specs.Queues.{Event, comes, turns, stopped, outcome}
-use Rattle.crack_bulk.specs.Carried.{Leads, is_over, is_doomed, ends_with, inside_of, arrivals, carried_in_bulk, pieces_of}
+use Rattle.crack_bulk.proofs.Queues.{Event, comes, turns, stopped, outcome}
+use Rattle.crack_bulk.proofs.Carried.{Leads, is_over, is_doomed, ends_with, inside_of, arrivals, carried_in_bulk, pieces_of}
 use Rattle.crack_bulk.proofs.AgreeLaws.{OfComing, OfEnd, outcome-ends}
 use Rattle.crack_bulk.proofs.BulkLaws.{one_at_a_time-in_bulk, outcomes-in_bulk}
 use Rattle.crack_bulk.proofs.LeadLaws.{StaysAs, IsIntact-Leads, StaysAs-Leads, carried_at, Leads-at}
@@ -147,7 +147,7 @@ module _ (ceiling : Option ℕ) (r : Range) (high : IsCeiling ceiling r) (s : St
       let stays = StaysAs-Leads ceiling (lifted place u) v lifted_intact led.2 in
       let removed : remove t.pending_in place ≡ passed ++ rest = rw pending (remove_at passed h rest) in
       let left : v.pending_in ≡ passed ++ (todo ++ (back ++ evicted)) =
-          pending-carried ceiling place t ∙ ap (λ hs. hs ++ evicted) removed ∙ append_assoc passed rest evicted ∙ ap (λ hs. passed ++ hs) (append_assoc todo back evicted) in
+      pending-carried ceiling place t ∙ ap (λ hs. hs ++ evicted) removed ∙ append_assoc passed rest evicted ∙ ap (λ hs. passed ++ hs) (append_assoc todo back evicted) in
       let stays_left : All (StaysAs t v) (passed ++ (todo ++ (back ++ evicted))) = rw left at stays.1 in
       let stays_back : All (StaysAs t v) (back ++ evicted) = All-right (StaysAs t v) todo (back ++ evicted) (All-right (StaysAs t v) passed (todo ++ (back ++ evicted)) stays_left) in
       let outside_back : All (IsOutside r (key_at t.cells)) (back ++ evicted) = All-append (IsOutside r (key_at t.cells)) back evicted outside (evicted_outside ceiling r t e high (outcome-ends (key_at t.cells) (ends_with ceiling t) (comes (lifted place t).hand) (pieces_of t) tt)) in
@@ -161,8 +161,8 @@ module _ (ceiling : Option ℕ) (r : Range) (high : IsCeiling ceiling r) (s : St
         stays = stays.1;
         outside = λ k d l. rw (stays_back k d l).0 (outside_back k d l);
         same = λ g es left_of is coming.
-          let one : (lifted place t).hand ≡ g = rw is (get_or_at passed g rest no_handle place refl) in
-          ap (with_room a b) (bulk_from-first ceiling place t a b es left_of stays.0 coming) ∙ ap (λ x. with_room a b (bulk_from ceiling (comes x ∷ es) left_of t)) one;
+            let one : (lifted place t).hand ≡ g = rw is (get_or_at passed g rest no_handle place refl) in
+            ap (with_room a b) (bulk_from-first ceiling place t a b es left_of stays.0 coming) ∙ ap (λ x. with_room a b (bulk_from ceiling (comes x ∷ es) left_of t)) one;
       }
 
   -- those still to be looked at stand behind those that were passed by and before those that were evicted

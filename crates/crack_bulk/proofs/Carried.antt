@@ -1,5 +1,5 @@
 -- What a carry leaves of a store whose column stands in pieces.
-use Rattle.std.specs.Prelude.{◌≡◌, ℕ, ◌+◌, ◌-◌, ◌<◌, Bool, true, false, cond, nat_lt, nat_le, ◌||◌, min, map, filter, List, [], ◌∷◌, ◌++◌, length, Option, Some, None}
+use Rattle.std.specs.Prelude.{◌≡◌, ℕ, ◌+◌, ◌<◌, Bool, false, cond, nat_lt, nat_le, ◌||◌, min, map, filter, List, [], ◌∷◌, length, Option, Some, None}
 use Rattle.crack_row.specs.Ranges.{Range, is_in}
 use Rattle.crack_row.specs.declared.Row.{Row}
 use Rattle.crack_arena.specs.Arena.{Cell, Handle, times, slots}
@@ -9,9 +9,9 @@ use Rattle.crack_state.specs.declared.MergeReport.{MergeReport}
 use Rattle.crack_state.specs.State.{State, Carried, greatest}
 use Rattle.crack_state.specs.Steps.{hand_key, piece_end, IsDoomed, IsBelow, pushed_on, appended, buried, returned}
 use Rattle.crack_state.specs.Merge.{outside_of}
-use Rattle.crack_bulk.specs.Pieces.{Pieces, column_of, marks_of, cut}
-use Rattle.crack_bulk.specs.Sifts.{sifted, all_made_way, risen}
-use Rattle.crack_bulk.specs.Queues.{Event, comes, turns, stopped, in_bulk, bulk_outcomes}
+use Rattle.crack_bulk.proofs.Pieces.{Pieces, column_of, marks_of, cut}
+use Rattle.crack_bulk.proofs.Sifts.{sifted, all_made_way, risen}
+use Rattle.crack_bulk.proofs.Queues.{Event, comes, turns, stopped, in_bulk, bulk_outcomes}
 
 -- the pieces of a store's column
 abbrev pub pieces_of : State → Pieces Handle

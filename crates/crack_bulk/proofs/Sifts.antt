@@ -1,8 +1,8 @@
 -- Where no carry ends with a row in hand: rows that come in stand behind a piece, and are sifted through it.
-use Rattle.std.specs.Prelude.{ℕ, ◌+◌, Bool, cond,  nat_lt, filter, count_by, List, [], ◌∷◌, ◌++◌, take}
+use Rattle.std.specs.Prelude.{ℕ, ◌+◌, cond, nat_lt, filter, count_by, List, [], ◌∷◌, ◌++◌, take}
 use Rattle.std.specs.List.{All}
 use Rattle.crack_index.specs.declared.mark.Mark.{Mark}
-use Rattle.crack_bulk.specs.Pieces.{Pieces, last, below}
+use Rattle.crack_bulk.proofs.Pieces.{Pieces, last, below}
 
 -- the first row goes behind the last
 abbrev pub turned : {X : Type 0} → List X → List X

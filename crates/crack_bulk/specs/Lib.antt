@@ -1,4 +1,0 @@
-pub mod Pieces
-pub mod Queues
-pub mod Carried
-pub mod Sifts

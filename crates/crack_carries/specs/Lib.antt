@@ -1,1 +1,0 @@
--- What private clauses alone cite.
