@@ -3,13 +3,12 @@
 
 import contextlib
 import io
-import os
 import pathlib
 import re
-import sys
 import tempfile
 import unittest
 
+import fixtures
 import guide
 
 PAGE = """# A page
@@ -81,34 +80,22 @@ class Checker(unittest.TestCase):
         self.assertFalse(guide.fits("took ... ms\n", "took 1.5 s\n"))
 
 
-class Commands(unittest.TestCase):
-    """The commands of each section, on the program that CRACKD names, or that of this checkout."""
+class Commands(fixtures.Case):
+    """The commands of each section."""
 
-    def setUp(self):
-        self.program = pathlib.Path(os.environ.get("CRACKD", guide.TOP / "crates" / "crackd" / "out" / "crackd")).resolve()
-        if not self.program.exists():
-            self.skipTest("crackd isn't built")
-
-    def assert_right(self, page, heading):
-        self.assertEqual(guide.faults(self.program, page, heading), [])
+    def assert_holds(self, page, heading):
+        self.assertEqual(guide.faults(pathlib.Path(self.program), page, heading), [])
 
 
 def add_sections():
     """Adds a check for each section that has commands."""
     for section in (it for page in guide.PAGES for it in guide.sections(page)):
         name = re.sub(r"\W+", "_", f"{section.page.removesuffix('.md')} {section.heading}".lower())
-        setattr(Commands, f"test_{name}", lambda self, page=section.page, heading=section.heading: self.assert_right(page, heading))
+        setattr(Commands, f"test_{name}", lambda self, page=section.page, heading=section.heading: self.assert_holds(page, heading))
 
 
 add_sections()
 
 
-def run_all():
-    """Runs the cases. How many passed, and how many failed."""
-    ran = unittest.TextTestRunner(stream=sys.stdout, verbosity=0).run(unittest.defaultTestLoader.loadTestsFromModule(sys.modules[__name__]))
-    failed = len(ran.failures) + len(ran.errors)
-    return ran.testsRun - failed, failed
-
-
 if __name__ == "__main__":
-    sys.exit(1 if run_all()[1] else 0)
+    fixtures.main()

@@ -41,7 +41,8 @@ def linked(text, top=crates.TOP):
         if name not in places:
             lost.append(name)
             return found[0]
-        return f"[`{name}`](../{places[name].relative_to(top).as_posix()})"
+        shown = places[name].name if "." in name else name
+        return f"[`{shown}`](../{places[name].relative_to(top).as_posix()})"
 
     return before + heading + NAMED.sub(link, section) + end + after, lost
 
