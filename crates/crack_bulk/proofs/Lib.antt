@@ -2,6 +2,7 @@ pub mod Pieces
 pub mod Queues
 pub mod Sifts
 pub mod Carried
+pub mod Placed
 pub mod AgreeLaws
 pub mod BulkLaws
 pub mod CarryLaws
@@ -9,5 +10,6 @@ pub mod CutLaws
 pub mod LeadLaws
 pub mod ManyLaws
 pub mod PieceLaws
+pub mod PlacedLaws
 pub mod SiftLaws
 pub mod SiftedLaws

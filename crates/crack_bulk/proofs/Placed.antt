@@ -1,0 +1,54 @@
+-- Where carries end with a row in hand: the row that came in takes the place of the one with which its carry ends, and then all are sifted.
+use Rattle.std.specs.Prelude.{ℕ, Bool, cond, nat_lt, filter, List, [], ◌∷◌, ◌++◌}
+use Rattle.crack_bulk.proofs.Pieces.{Pieces, last, below}
+use Rattle.crack_bulk.proofs.Queues.{Event, comes, turns, stopped, is_below, any_row, passed}
+use Rattle.crack_bulk.proofs.Sifts.{turned}
+
+module _ {X : Type 0} (key : X → ℕ) (stops : X → Bool) where
+  -- the rows that reach a piece, of all that come in: their carries haven't ended below, and they are of this piece or of one below
+  abbrev pub reaching : (X → Bool) → List X → List (Event X) → List X
+  reaching own [] es = []
+  reaching own (x ∷ xs) [] = []
+  reaching own (x ∷ xs) (comes y ∷ es) = cond (own x) (x ∷ reaching own xs es) (reaching own xs es)
+  reaching own (x ∷ xs) (turns moved ∷ es) = x ∷ reaching own xs es
+  reaching own (x ∷ xs) (stopped moved y ∷ es) = reaching own xs es
+
+  -- those of lower pieces among them
+  abbrev pub turners : ℕ → List X → List X
+  turners low xs = filter (λ x. nat_lt (key x) low) xs
+
+  -- what rows that reach a piece leave of it, one after the other
+  abbrev pub met_by : ℕ → List X → List X → List X
+  met_by low [] rows = rows
+  met_by low (x ∷ xs) [] = cond (nat_lt (key x) low) (met_by low xs []) (met_by low xs (x ∷ []))
+  met_by low (x ∷ xs) (y ∷ ys) =
+      cond (nat_lt (key x) low) (cond (stops y) (met_by low xs ys) (met_by low xs (ys ++ y ∷ []))) (met_by low xs ((y ∷ ys) ++ x ∷ []))
+
+  -- those of them that go on: all but those whose carry ends with a row of the piece in hand
+  abbrev pub survivors : ℕ → List X → List X → List X
+  survivors low [] rows = []
+  survivors low (x ∷ xs) [] = cond (nat_lt (key x) low) (x ∷ survivors low xs []) (x ∷ survivors low xs (x ∷ []))
+  survivors low (x ∷ xs) (y ∷ ys) =
+      cond (nat_lt (key x) low) (cond (stops y) (survivors low xs ys) (x ∷ survivors low xs (ys ++ y ∷ []))) (x ∷ survivors low xs ((y ∷ ys) ++ x ∷ []))
+
+  -- the rows of a piece, where the row that came in has taken the place of each with which a carry ends
+  abbrev pub placed : List X → List X → List X
+  placed [] rows = rows
+  placed (x ∷ xs) [] = []
+  placed (x ∷ xs) (y ∷ ys) = cond (stops y) x y ∷ placed xs ys
+
+  -- the rows of lower pieces at the front, and the others
+  abbrev pub front : ℕ → List X → List X
+  front low [] = []
+  front low (y ∷ ys) = cond (nat_lt (key y) low) (y ∷ front low ys) []
+
+  abbrev pub behind_front : ℕ → List X → List X
+  behind_front low [] = []
+  behind_front low (y ∷ ys) = cond (nat_lt (key y) low) (behind_front low ys) (y ∷ ys)
+
+  -- a pass over what stands behind a piece: each row of a lower piece changes places with the first of the piece, behind the rows of lower pieces at
+  -- the front; how these stand then, and the piece
+  abbrev pub pass_over : ℕ → List X → List X → List X → List X × List X
+  pass_over low [] lower rows = (lower ++ front low rows, behind_front low rows)
+  pass_over low (x ∷ xs) lower rows =
+      cond (nat_lt (key x) low) (pass_over low xs (lower ++ (front low rows ++ x ∷ [])) (turned (behind_front low rows))) (pass_over low xs lower (rows ++ x ∷ []))
