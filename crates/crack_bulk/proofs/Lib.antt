@@ -7,6 +7,7 @@ pub mod AgreeLaws
 pub mod BulkLaws
 pub mod CarryLaws
 pub mod CutLaws
+pub mod DownLaws
 pub mod LeadLaws
 pub mod ManyLaws
 pub mod PieceLaws

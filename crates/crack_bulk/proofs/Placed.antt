@@ -52,3 +52,28 @@ module _ {X : Type 0} (key : X → ℕ) (stops : X → Bool) where
   pass_over low [] lower rows = (lower ++ front low rows, behind_front low rows)
   pass_over low (x ∷ xs) lower rows =
       cond (nat_lt (key x) low) (pass_over low xs (lower ++ (front low rows ++ x ∷ [])) (turned (behind_front low rows))) (pass_over low xs lower (rows ++ x ∷ []))
+
+  -- the rows whose carries go on
+  abbrev pub going : List X → List (Event X) → List X
+  going [] es = []
+  going (x ∷ xs) [] = []
+  going (x ∷ xs) (comes y ∷ es) = going xs es
+  going (x ∷ xs) (turns moved ∷ es) = x ∷ going xs es
+  going (x ∷ xs) (stopped moved y ∷ es) = going xs es
+
+  -- the pieces, where each row with which a carry ends has given its place to the row that came in
+  abbrev pub placed_all : ℕ → List X → List (Event X) → Pieces X → Pieces X
+  placed_all low xs es (last rows) = last (placed (turners low (reaching (any_row key stops) xs es)) rows)
+  placed_all low xs es (below rows bound pieces) =
+      below (placed (turners low (reaching (is_below key stops bound) xs es)) rows) bound (placed_all bound.0 xs (passed key stops (is_below key stops bound) es rows) pieces)
+
+  -- the passes, from the highest piece down: first over what stands behind the last piece, and then over the rows of lower pieces that stand before
+  -- the one above
+  abbrev pub sifted_down : ℕ → Pieces X → List X → List X × Pieces X
+  sifted_down low (last rows) behind =
+      let here = pass_over low behind [] rows in
+      (here.0, last here.1)
+  sifted_down low (below rows bound pieces) behind =
+      let above = sifted_down bound.0 pieces behind in
+      let here = pass_over low above.0 [] rows in
+      (here.0, below here.1 bound above.1)

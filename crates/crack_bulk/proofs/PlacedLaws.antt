@@ -31,11 +31,11 @@ module _ {X : Type 0} (key : X → ℕ) (stops : X → Bool) where
   front-own : (low : ℕ) (y : X) (rows : List X) → low ≤ key y → (front key stops low (y ∷ rows) ≡ []) × (behind_front key stops low (y ∷ rows) ≡ y ∷ rows)
   front-own low y rows over = (rw (le-ltb (key y) low over) refl, rw (le-ltb (key y) low over) refl)
 
-  met-own : (low : ℕ) (x : X) (xs rows : List X) → low ≤ key x → met_by key stops low (x ∷ xs) rows ≡ met_by key stops low xs (rows ++ x ∷ [])
+  pub met-own : (low : ℕ) (x : X) (xs rows : List X) → low ≤ key x → met_by key stops low (x ∷ xs) rows ≡ met_by key stops low xs (rows ++ x ∷ [])
   met-own low x xs [] over = rw (le-ltb (key x) low over) refl
   met-own low x xs (y ∷ ys) over = rw (le-ltb (key x) low over) refl
 
-  survivors-own : (low : ℕ) (x : X) (xs rows : List X) → low ≤ key x → survivors key stops low (x ∷ xs) rows ≡ x ∷ survivors key stops low xs (rows ++ x ∷ [])
+  pub survivors-own : (low : ℕ) (x : X) (xs rows : List X) → low ≤ key x → survivors key stops low (x ∷ xs) rows ≡ x ∷ survivors key stops low xs (rows ++ x ∷ [])
   survivors-own low x xs [] over = rw (le-ltb (key x) low over) refl
   survivors-own low x xs (y ∷ ys) over = rw (le-ltb (key x) low over) refl
 
