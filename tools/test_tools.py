@@ -9,6 +9,7 @@ import unittest
 
 sys.path.insert(0, str(pathlib.Path(__file__).resolve().parent))
 
+import cited
 import crates
 import defined
 import definitions
@@ -319,6 +320,12 @@ class Documents(unittest.TestCase):
 
     def test_tests_that_proofs_name_are_where_their_links_lead(self):
         self.assertEqual(tested.main(["--check"]), 0, "python3 tools/tested.py has them lead there")
+
+    def test_names_that_proofs_cite_stand_in_their_crates(self):
+        page = (crates.TOP / "docs" / "PROOFS.md").read_text(encoding="utf-8")
+        self.assertEqual(cited.strangers(page), [])
+        section = "## crack_row\n\n- A range (`KeyRange::contains`: `no_such_clause`).\n\n"
+        self.assertEqual(cited.strangers(f"{section}{page}"), ["crack_row: no_such_clause"])
 
     def test_a_test_that_is_not_there_is_found(self):
         page = f"{tested.HEADING}\nseen by `no_such_test` and `no_file.py`\n\n## Next\n"
