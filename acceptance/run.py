@@ -3,14 +3,14 @@
 
 With words only the cases whose name, or whose file's name, has one of them. A file of cases/ has the cases of a topic, with a blank line before each:
 
-    == a-full-history-refuses §full-history
+    == a-full-history-refuses
     $ script --limit 2
     insert 1 1          | row 0.0
     select 0 5          | rows 1
                         | 0.0 1 1
     count 0 5           | refused 6 2
 
-    == NAME §RULE ..    a case begins; a RULE is a word that marks a rule of docs/SPECIFICATION.md, which the case shows
+    == NAME             a case begins; its name has the words that mark in docs/SPECIFICATION.md, behind a §, the rules that it shows
     $ WORD ..           the words of the command line
     STATEMENT | REPLY   a line of input and the first line of its reply; each further one stands behind a `|` of its own
     < LINE              a line of input that has no reply
@@ -71,7 +71,6 @@ class Case:
     path: pathlib.Path
     line: int
     name: str
-    rules: list[str]
     words: list[str] | None = None
     given: bytes = b""
     wanted: list[Wanted] = dataclasses.field(default_factory=list)
@@ -184,8 +183,7 @@ def cases_of(path: pathlib.Path) -> typing.Iterator[Case]:
             if text.startswith("== "):
                 if case:
                     yield held(case)
-                name, *rules = text[3:].split()
-                case = Case(path, number, name, [it.removeprefix("§") for it in rules])
+                case = Case(path, number, text[3:].strip())
             elif text.strip() and not (text.startswith("#") and case is None):
                 if case is None:
                     raise Misfit("no case has begun")

@@ -20,6 +20,7 @@ import lanes
 import links
 import numbers_held
 import reading
+import rules
 import tested
 import trust
 
@@ -337,6 +338,20 @@ class Documents(unittest.TestCase):
         self.assertEqual(sum(asked, []), list(numbers_held.table(rules, ["No.", "Comes where"])))
         named = [{row.strip("`").split(" ")[0] for row in numbers_held.table(text, ["Statement"])} for text in (guide, rules)]
         self.assertEqual(*named)
+
+    def test_each_rule_has_a_case(self):
+        self.assertEqual(rules.faults(), [])
+
+    def test_a_rule_without_a_case_is_found(self):
+        with tempfile.TemporaryDirectory() as room:
+            top = pathlib.Path(room)
+            (top / "docs").mkdir()
+            (top / "acceptance" / "cases").mkdir(parents=True)
+            (top / "acceptance" / "cases" / "rows.cases").write_text("== a-row-comes\n$ script\n", encoding="utf-8")
+            rows = "| No. | Where |\n|---|---|\n| 1 | gone §a-row-goes |\n| 2 | none |\n"
+            (top / rules.PAGE).write_text(f"Words.\n\n- It comes. §a-row\n- It goes,\n  and comes.\n\n{rows}", encoding="utf-8")
+            wanted = ["4: this rule has no mark: - It goes,\n  and comes.", "10: this rule has no mark: | 2 | none |", "9: no case's name has a-row-goes"]
+            self.assertEqual(rules.faults(top), [f"{rules.PAGE}:{it}" for it in wanted])
 
     def test_links_lead_somewhere(self):
         self.assertEqual(links.broken(), [])

@@ -1,0 +1,61 @@
+#!/usr/bin/env python3
+"""Lists the rules of docs/SPECIFICATION.md that no case shows: rules.py
+
+A word behind a § marks the rule that it follows, and stands in the name of a case of acceptance/cases, or of a test of acceptance/ or of the crates of
+tests, there with underscores. Each item of a list and each row of a table of rules has to have one. The status is 1 where a rule lacks its mark, or a mark its
+case.
+"""
+
+import pathlib
+import re
+import sys
+
+TOP = pathlib.Path(__file__).resolve().parent.parent
+PAGE = "docs/SPECIFICATION.md"
+MARK = re.compile(r"§([\w-]+)")
+CASE = re.compile(r"^== (\S+)", re.MULTILINE)
+TEST = re.compile(r"^\s*(?:#\[test\]\s*fn |def test_)(\w+)", re.MULTILINE)
+# the first cells of the tables whose rows are rules
+TABLES = ("No.", "Statement", "Exit", "Step")
+ITEM = re.compile(r"(?:- |\d+\. )")
+
+
+def names(top=TOP):
+    """The names of all cases and tests, in words between hyphens."""
+    found = set()
+    for path in [*top.glob("acceptance/cases/*.cases"), *top.glob("acceptance/test_*.py"), *top.glob("crates/*_tests/src/**/*.rt")]:
+        pattern = CASE if path.suffix == ".cases" else TEST
+        found |= {it.replace("_", "-") for it in pattern.findall(path.read_text(encoding="utf-8"))}
+    return found
+
+
+def rules(text):
+    """The items of lists and the rows of tables that are rules, each with the number of its first line."""
+    found, table, before = [], False, ""
+    for number, line in enumerate(text.splitlines(), 1):
+        cell = line.strip("|").split("|")[0].strip()
+        if line.startswith("|") and not before.startswith("|"):
+            table = cell in TABLES
+        elif ITEM.match(line) or (table and line.startswith("|") and cell.strip("-")):
+            found.append((number, line))
+        elif line.startswith("  ") and before:
+            found[-1] = (found[-1][0], f"{found[-1][1]}\n{line}")
+        before = line
+    return found
+
+
+def faults(top=TOP):
+    """The rules without a mark, and the marks that no case has."""
+    text = (top / PAGE).read_text(encoding="utf-8")
+    known = names(top)
+    lacking = [f"{PAGE}:{number}: this rule has no mark: {rule[:60]}" for number, rule in rules(text) if not MARK.search(rule)]
+    marks = [(number, it) for number, line in enumerate(text.splitlines(), 1) for it in MARK.findall(line)]
+    return lacking + [f"{PAGE}:{number}: no case's name has {it}" for number, it in marks if not any(it in name for name in known)]
+
+
+if __name__ == "__main__":
+    if len(sys.argv) > 1:
+        sys.exit(__doc__)
+    found = faults()
+    print("\n".join(found) or "each rule has a case")
+    sys.exit(1 if found else 0)
