@@ -14,3 +14,4 @@ pub mod PieceLaws
 pub mod PlacedLaws
 pub mod SiftLaws
 pub mod SiftedLaws
+pub mod TurnLaws
