@@ -1,4 +1,5 @@
-//! Two sessions over one core, and a session and an export: the second starts from what the first left, by what `serve` promises.
+//! Two sessions over one core, and a session and an export: the second starts from what the first left, by what `serve`
+//! promises.
 ghost use Rattle.std.specs.Prelude.{◌≡◌, ℕ, List, Some, IfOk};
 ghost use Rattle.crack_row.specs.Devices.{device};
 ghost use Rattle.crack_plain.specs.Plain.{PlainView};
@@ -16,8 +17,8 @@ use std::io::{Read, Write};
 use std::process::Abort;
 use std::test::Fail;
 
-/// Serves one session and then another. Both are of the limit and the splits that the core had before, and the second is of the rows and the
-/// bytes that the first left.
+/// Serves one session and then another. Both are of the limit and the splits that the core had before, and the second
+/// is of the rows and the bytes that the first left.
 fn serve_both<R: Read, W: Write>(
     alloc: Global,
     core: &mut Core,
@@ -40,7 +41,8 @@ fn serve_both<R: Read, W: Write>(
     }
 }
 
-/// Serves a session, and then exports the rows. The export is of the splits that the core had before, and of the rows that the session left.
+/// Serves a session, and then exports the rows. The export is of the splits that the core had before, and of the rows
+/// that the session left.
 fn serve_and_export<R: Read, W: Write>(
     alloc: Global,
     core: &mut Core,
@@ -62,7 +64,8 @@ fn serve_and_export<R: Read, W: Write>(
     }
 }
 
-/// What the three write, one behind the other. It promises nothing, so that the test carries nothing of what they promise.
+/// What the three write, one behind the other. It promises nothing, so that the test carries nothing of what they
+/// promise.
 fn tell_all(alloc: Global, core: &mut Core) -> Result<Vec<u8>, Refusal> {
     let mut first = Watched::new(b"insert 150 6\nquit\ninsert 1 1\n".as_slice());
     let mut second = Watched::new(b"insert 50 5\ncount 0 200\n".as_slice());

@@ -16,7 +16,8 @@ pub struct Sink {
 }
 
 impl Sink {
-    /// A writer that takes all that it is given, behind the bytes that are there, and never fails but where it finds no memory for them.
+    /// A writer that takes all that it is given, behind the bytes that are there, and never fails but where it finds no
+    /// memory for them.
     pub fn new(bytes: Vec<u8>) -> Sink
         ensures bytes { result.bytes ≡ bytes }
         ensures whole { result.most ≡ 2 ^ 64 - 1 }

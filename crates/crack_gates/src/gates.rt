@@ -37,8 +37,8 @@ impl Gate for ShutAt {
     }
 }
 
-/// A gate that says no until it was asked so often, and from then on yes. It counts how often it is asked, by whomever, and notes whether that is
-/// about one partition, with the turns of one call, in order.
+/// A gate that says no until it was asked so often, and from then on yes. It counts how often it is asked, by whomever,
+/// and notes whether that is about one partition, with the turns of one call, in order.
 #[derive(Drop)]
 pub struct Counting {
     part: u32,
@@ -120,7 +120,8 @@ impl Gate for Meeting {
     }
 }
 
-/// A gate that notes whether it is asked while someone else is inside. It says no twenty times, and gives way before each answer.
+/// A gate that notes whether it is asked while someone else is inside. It says no twenty times, and gives way before
+/// each answer.
 #[derive(Drop)]
 pub struct Alone {
     inside: AtomicBool,

@@ -158,7 +158,8 @@ fn four(rt: &impl Abort, alloc: Global) -> Store
     store
 }
 
-/// Asserts how many rows stand in the column and in the pending insertions, and the sizes of the pieces, in rising order.
+/// Asserts how many rows stand in the column and in the pending insertions, and the sizes of the pieces, in rising
+/// order.
 fn assert_layout(rt: &impl Abort, store: &Store, rows: [u64; 2], sizes: &[u64]) {
     let layout = store.layout().expect(rt, "a layout");
     assert_eq!(rt; [layout.column, layout.pending_in], rows);
@@ -169,7 +170,8 @@ fn assert_layout(rt: &impl Abort, store: &Store, rows: [u64; 2], sizes: &[u64]) 
     }
 }
 
-/// What a merge at keys from 15 up to 25 counts, of two more rows of these keys, and how many rows then stand between these ends.
+/// What a merge at keys from 15 up to 25 counts, of two more rows of these keys, and how many rows then stand between
+/// these ends.
 fn merge_two(
     rt: &impl Abort,
     store: Store,
@@ -188,8 +190,8 @@ fn merge_two(
     (store, report, count)
 }
 
-/// What a merge at keys from 0 up to 15 counts, once the one row of these keys is doomed: the pull goes through two bounds,
-/// and no row is left between these ends.
+/// What a merge at keys from 0 up to 15 counts, once the one row of these keys is doomed: the pull goes through two
+/// bounds, and no row is left between these ends.
 fn merge_doomed(rt: &impl Abort, store: Store, policy: Policy) -> (Store, MergeReport)
     requires low { store.keys.low ≡ 0 }
     requires high { store.keys.high ≡ GREATEST_BOUND }

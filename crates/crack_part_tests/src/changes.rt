@@ -66,8 +66,8 @@ fn layout_of(partition: &Partition) -> Result<Layout, Refusal> {
     partition.layout()
 }
 
-/// Asserts the numbers of rows, column places, pending deletions, pending insertions, cells and free cells, and of each piece
-/// where it begins and its size.
+/// Asserts the numbers of rows, column places, pending deletions, pending insertions, cells and free cells, and of each
+/// piece where it begins and its size.
 fn assert_layout(
     rt: &impl Abort,
     partition: &Partition,

@@ -1,4 +1,5 @@
-//! Tests that run through the public calls of the plain table, a partition, a core, and the texts of replies: what no clause says.
+//! Tests that run through the public calls of the plain table, a partition, a core, and the texts of replies: what no
+//! clause says.
 #![tactic(auto)]
 
 #[cfg(test)]

@@ -1,4 +1,5 @@
-//! Partitions by key range that one thread asks: which a key or a range meets, what steps are answered, and what isn't opened.
+//! Partitions by key range that one thread asks: which a key or a range meets, what steps are answered, and what isn't
+//! opened.
 use crack_core::{Core, Step};
 use crack_row::{
     Bound, BoundNumber, Command, GREATEST_BOUND, GREATEST_LIMIT, Key, KeyRange, Layout, Payload,
@@ -40,8 +41,8 @@ fn assert_parts(
     Ok(())
 }
 
-/// A range over three partitions is cut at their splits. An empty one goes to the partition of its low end, and from the
-/// greatest bound to the last one.
+/// A range over three partitions is cut at their splits. An empty one goes to the partition of its low end, and from
+/// the greatest bound to the last one.
 fn cut_at_splits(rt: &impl Abort, core: &Core) -> Result<(), Refusal> {
     let three = [[0, 50, 100], [1, 100, 200], [2, 200, 201]];
     assert_parts(rt, core, 50, 201, &three)?;

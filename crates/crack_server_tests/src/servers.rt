@@ -37,7 +37,8 @@ fn server<H: Threads + Wait + Sync>(
     }
 }
 
-/// A client that sent these bytes. A read of it fails where nothing comes for ten seconds, as from a server that accepts no connection.
+/// A client that sent these bytes. A read of it fails where nothing comes for ten seconds, as from a server that
+/// accepts no connection.
 fn sender<N: Net<Listener = TcpListener, Stream = TcpStream>>(
     rt: &N,
     port: u16,
@@ -109,7 +110,8 @@ fn ended<N: Net<Listener = TcpListener, Stream = TcpStream>>(
     Ok(stream)
 }
 
-/// What a client is answered that breaks off in a line, and one that ends without a line feed; between them one comes that says nothing, and goes.
+/// What a client is answered that breaks off in a line, and one that ends without a line feed; between them one comes
+/// that says nothing, and goes.
 fn clients_who_break_off<N: Net<Listener = TcpListener, Stream = TcpStream>>(
     rt: &N,
     alloc: Global,
@@ -145,8 +147,8 @@ fn clients_who_break_off_harm_nobody(rt: HostRuntime) -> Result<(), Fail> {
     Ok(())
 }
 
-/// What a client is answered behind one that reads a byte of its reply and goes: what is left of the reply resets the connection, which cuts that
-/// one's session off.
+/// What a client is answered behind one that reads a byte of its reply and goes: what is left of the reply resets the
+/// connection, which cuts that one's session off.
 fn behind_one_cut_off<N: Net<Listener = TcpListener, Stream = TcpStream>>(
     rt: &N,
     alloc: Global,

@@ -1,4 +1,5 @@
-//! The hash of serials chooses groups of a map's table: one group for neighbours, others for rows that are kept far apart.
+//! The hash of serials chooses groups of a map's table: one group for neighbours, others for rows that are kept far
+//! apart.
 ghost use Rattle.std.specs.Prelude.{◌<◌};
 
 use crate::store::admit;
@@ -54,7 +55,8 @@ fn neighbours_share_a_group(rt: HostRuntime) {
     }
 }
 
-/// Where serials follow one another from the first on, no group gets more rows than it has places, up to a full table of each size.
+/// Where serials follow one another from the first on, no group gets more rows than it has places, up to a full table
+/// of each size.
 #[test]
 fn rows_in_order_find_their_groups_free(rt: HostRuntime) {
     for groups in [512, 4096, 65536] {

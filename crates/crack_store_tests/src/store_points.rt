@@ -85,7 +85,8 @@ fn rewrite(rt: &impl Abort, store: &mut Store, new: Row)
     assert_eq!(rt; store.is_pending(new.serial), Some(true));
 }
 
-/// Asserts how many rows wait to be put in and to be taken out, how many cells there are, and how many of them are free.
+/// Asserts how many rows wait to be put in and to be taken out, how many cells there are, and how many of them are
+/// free.
 fn assert_numbers(rt: &impl Abort, store: &Store, numbers: [usize; 4]) {
     let pending_in = store.pending_in();
     let pending_out = store.pending_out();
@@ -158,7 +159,8 @@ fn a_replaced_row_comes_back(rt: HostRuntime) {
     drop(store);
 }
 
-/// A pending row frees its cell, a row of the column stays there as a pending deletion, and a row that is gone isn't found again.
+/// A pending row frees its cell, a row of the column stays there as a pending deletion, and a row that is gone isn't
+/// found again.
 #[test]
 fn a_row_is_removed_wherever_it_stands(rt: HostRuntime) {
     let mut store = append_two(&rt, rt.alloc(), [10, 16, 24]);
