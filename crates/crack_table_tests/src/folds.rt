@@ -1,6 +1,7 @@
 //! What one worker is told under small limits, with checkpoints amid its commands.
-use crate::values::{ask, insert, totals};
+use crate::values::{ask, insert};
 use crack_commands::{write_folded, write_refusal, write_reply};
+use crack_gates::totals;
 use crack_row::{
     Command, GREATEST_LIMIT, Key, KeyNumber, KeyRange, Limits, Payload, PayloadNumber, Refusal,
     Serial, Watched,

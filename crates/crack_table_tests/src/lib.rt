@@ -2,13 +2,7 @@
 #![tactic(auto)]
 
 #[cfg(test)]
-mod covers;
-#[cfg(test)]
-mod desks;
-#[cfg(test)]
 mod folds;
-#[cfg(test)]
-mod loads;
 #[cfg(test)]
 mod memory;
 #[cfg(test)]

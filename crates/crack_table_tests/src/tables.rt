@@ -1,6 +1,6 @@
 //! Tables and workers, on one thread.
-use crate::values::{ask, ask_by, count, insert, splits, totals};
-use crack_gates::{Counting, Shut, ShutAt};
+use crate::values::{ask, ask_by, count, insert, splits};
+use crack_gates::{Counting, Shut, ShutAt, totals};
 use crack_row::{Bound, Command, KeyRange, Layout, Refusal, Reply};
 use crack_table::{GatherRefused, Table, Worker, gather};
 use std::alloc::Global;

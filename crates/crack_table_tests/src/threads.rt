@@ -1,6 +1,6 @@
 //! Workers on threads of their own.
-use crate::values::{ask, ask_by, count, insert, splits, totals};
-use crack_gates::{Alone, Meeting};
+use crate::values::{ask, ask_by, count, insert, splits};
+use crack_gates::{Alone, Meeting, totals};
 use crack_row::{Command, KeyRange, Layout, Refusal, Reply};
 use crack_table::{Table, Worker};
 use std::alloc::Global;

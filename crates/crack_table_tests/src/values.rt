@@ -1,9 +1,8 @@
-//! What the tests ask, and how they end a table.
+//! What the tests ask.
 use crack_row::{
     Bound, BoundNumber, Command, Key, KeyNumber, KeyRange, Payload, Policy, Refusal, Reply,
 };
-use crack_table::{Gate, OpenGate, Table, Worker, gather};
-use std::alloc::Global;
+use crack_table::{Gate, OpenGate, Table, Worker};
 use std::sync::Wait;
 
 /// Two partitions, which meet at key 1000000.
@@ -47,29 +46,4 @@ pub(crate) fn ask<R: Wait>(
     command: Command,
 ) -> Result<Reply, Refusal> {
     ask_by(rt, worker, table, &OpenGate, part, command)
-}
-
-/// How many commands were accepted, rows inserted, deleted and held, once the workers are gathered.
-pub(crate) fn totals(
-    alloc: Global,
-    table: Table,
-    workers: Vec<Worker>,
-) -> Result<[u64; 4], Refusal> {
-    match gather(alloc, table, workers) {
-        Ok(closed) => {
-            let totals = [
-                closed.accepted,
-                closed.inserted,
-                closed.deleted,
-                closed.held,
-            ];
-            drop(closed);
-            Ok(totals)
-        }
-        Err(refused) => {
-            let refusal = refused.refusal;
-            drop(refused);
-            Err(refusal)
-        }
-    }
 }

@@ -3,7 +3,7 @@ use Rattle.std.proofs.Common.{set, replicate}
 use Rattle.std.proofs.lemmas.List.Elements.{All-map, All-set, All-replicate}
 use Rattle.crack_table.specs.Cover.{told, IsKept}
 use Rattle.crack_table.specs.declared.kept.Kept.{Kept}
-use Rattle.crack_table_tests.proofs.covers.cover_behind_others.Goals as goal
+use Rattle.crack_cover_tests.proofs.covers.cover_behind_others.Goals as goal
 
 pub cover-requires-clause-kept : goal.cover-requires-clause-kept
 cover-requires-clause-kept c =

@@ -1,7 +1,7 @@
 //! Loads of CSV at a worker's desk.
-use crate::values::totals;
 use crack_csv::{LoadFault, load_csv};
 use crack_failing::{ONE_BYTE, Source};
+use crack_gates::totals;
 use crack_row::{Policy, Refusal};
 use crack_table::{OpenGate, Table};
 use crack_worker_desk::WorkerDesk;

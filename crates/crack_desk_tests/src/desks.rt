@@ -1,8 +1,7 @@
 //! Sessions over a worker's desk, and over a core.
-use crate::values::totals;
 use crack_commands::write_refusal;
 use crack_core::Core;
-use crack_gates::Shut;
+use crack_gates::{Shut, totals};
 use crack_row::{Bound, GREATEST_LIMIT, Policy, Refusal, Watched};
 use crack_session::{Desk, End, How, serve};
 use crack_table::{OpenGate, Table};
