@@ -1,8 +1,10 @@
 -- The calls of one worker.
-use Rattle.std.proofs.Common.{◌≡◌, ◌≢◌, ℕ, zero, suc, ◌+◌, ◌<◌, ◌≤◌, ◌==◌, Bool, true, false, List, [], ◌∷◌, ◌++◌, refl, ap, sym, ◌∙◌, subst, arith, length, length-append, slice_index_or, slice_set, filter}
+use Rattle.std.proofs.Common.{◌≡◌, ◌≢◌, ℕ, zero, suc, ◌+◌, ◌^◌, ◌<◌, ◌≤◌, ◌==◌, Bool, true, false, List, [], ◌∷◌, ◌++◌, refl, ap, sym, ◌∙◌, subst, arith, length, length-append, slice_index_or, slice_set, filter}
 use Rattle.std.proofs.lemmas.Bool.Decides.{nat_tests}
 use Rattle.std.proofs.lemmas.List.{append-nil, length-set, get_or-set_same, get_or-set_other}
-use Rattle.std.proofs.lemmas.List.Elements.{filter-append}
+use Rattle.std.proofs.lemmas.List.Elements.{filter-append, All-set}
+use Rattle.std.proofs.lemmas.List.Sums.{sum_by-set, sum_by-le}
+use Rattle.std.specs.Prelude.{All, sum_by}
 use mathlib.Core.List.{IsPrefix}
 use Rattle.crack_row.specs.declared.command.Entry.{Entry}
 use Rattle.crack_witness.specs.declared.event.Event.{Event}
@@ -67,11 +69,13 @@ begins_at seen fronts part new k false is old grows less less' =
     subst (λ (l : List Event). IsPrefix l new) (sym (get_or-set_other fronts part k new [] away)) (prefix_trans (slice_index_or fronts k []) seen new (old k (omega (arith, less', length-set fronts part new))) grows)
 
 pub asker_after : (own : ℕ → ℕ) (n : ℕ) (seen : List Event) (fronts : List (List Event)) (counts : List ℕ) (part count : ℕ) (new : List Event)
-    → IsAsker own n seen fronts counts → part < length fronts → IsPrefix seen new → count ≡ length (calls_at own part n new) → IsAsker own n new (slice_set fronts part new) (slice_set counts part count)
-asker_after own n seen fronts counts part count new w less grows more = record {
+    → IsAsker own n seen fronts counts → part < length fronts → IsPrefix seen new → count ≡ length (calls_at own part n new) → count ≤ 2 ^ 41 → IsAsker own n new (slice_set fronts part new) (slice_set counts part count)
+asker_after own n seen fronts counts part count new w less grows more bound = record {
   all = length-set counts part count ∙ (w.all ∙ sym (length-set fronts part new));
   counted = λ k l. counted_at own n fronts counts part count new k (part == k) refl w.counted w.all less more l;
   begins = λ k l. begins_at seen fronts part new k (part == k) refl w.begins grows less l;
+  few = omega (arith, w.few, length-set counts part count);
+  small = All-set (λ (k : ℕ). k ≤ 2 ^ 41) counts part count bound w.small;
 }
 
 -- where a history has as many of a worker's calls as it counted, they are those that it made
@@ -94,3 +98,11 @@ given_exact own n part number f seen log new e count same begins before written 
     let here : history_of (own part) new ≡ history_of (own part) log ++ e ∷ [] = subst (λ (p : ℕ). history_of (own p) new ≡ history_of (own p) log ++ e ∷ []) same written in
     let many : length (calls_by n (history_of (own part) f)) ≡ length (calls_by n (history_of (own part) log)) = subst (λ (p : ℕ). length (calls_by n (history_of (own part) f)) ≡ length (calls_by n (history_of (own p) log))) same (omega (arith, mine, theirs)) in
     mine_exact n (history_of (own part) f) (history_of (own part) seen) (history_of (own part) log) (history_of (own part) new) e (history_grows (own part) f seen begins) old many here is
+
+-- one reply more
+pub sum_more : (counts : List ℕ) (part count : ℕ) → part < length counts → count ≡ slice_index_or counts part 0 + 1 → sum_by (λ (n : ℕ). n) (slice_set counts part count) ≡ sum_by (λ (n : ℕ). n) counts + 1
+sum_more counts part count less is = let set = sum_by-set (λ (n : ℕ). n) counts part count 0 less in omega (arith, set, is)
+
+-- the replies that a worker was given fit into a word
+pub sum_fits : (counts : List ℕ) → length counts ≤ 64 → All (λ (k : ℕ). k ≤ 2 ^ 41) counts → sum_by (λ (n : ℕ). n) counts < 2 ^ 64
+sum_fits counts few small = let most = sum_by-le (λ (n : ℕ). n) (2 ^ 41) counts small in omega (arith, most, few)

@@ -1,10 +1,12 @@
 -- What a partition keeps, beside its whole history.
-use Rattle.std.specs.Prelude.{if◌then◌else◌}
-use Rattle.std.proofs.Common.{◌≡◌, ℕ, Bool, true, false, ◌+◌, ◌≤◌, ◌<◌, ◌==◌, List, [], ◌∷◌, ◌++◌, refl, ap, sym, ◌∙◌, subst, arith, length, length-append, append_assoc, Result, Ok, Err, OnOk, OnErr}
+use Rattle.std.specs.Prelude.{if◌then◌else◌, IfSome}
+use Rattle.std.proofs.Common.{◌≡◌, ◌⊎◌, inl, inr, Option, None, Some, ℕ, Bool, true, false, ◌+◌, ◌≤◌, ◌<◌, ◌==◌, List, [], ◌∷◌, ◌++◌, refl, ap, sym, ◌∙◌, subst, arith, length, length-append, append_assoc, Result, Ok, Err, OnOk, OnErr}
 use Rattle.std.proofs.lemmas.List.{append-nil}
 use Rattle.std.proofs.lemmas.List.Sums.{length-filter, count_by-le-length}
 use Rattle.crack_row.specs.declared.command.Entry.{Entry}
 use Rattle.crack_row.specs.declared.refusal.Refusal.{Refusal}
+use Rattle.crack_row.specs.declared.refusal.Refusal.TheVariants.{OutOfMemory}
+use Rattle.crack_row.specs.declared.command.Reply.{Reply}
 use Rattle.crack_plain.specs.Plain.{PlainState, no_rows, replay_from}
 use Rattle.crack_plain.specs.Past.{Base, Past, no_base, no_past, with_entry, state_after, accepted_in, inserted_in, deleted_in, base_after, folded}
 use Rattle.crack_plain.specs.Totals.{accepted, inserted, deleted}
@@ -73,3 +75,8 @@ IsPastOf-either h old new (Err e) ok err k = subst (λ (p : Part). IsPastOf h p.
 -- no worker has more entries than there are
 pub calls-le-accepted : (worker : ℕ) (h : List Entry) (past : Past) → IsPastOf h past → length (calls_by worker h) ≤ accepted_in past
 calls-le-accepted worker h past k = omega (arith, accepted_in-whole h past k, length-filter (λ (e : Entry). e.worker == worker) h, count_by-le-length (λ (e : Entry). e.worker == worker) h)
+
+-- a partition that was asked refuses for want of memory, or as it refuses the command
+pub refused-for : (o : Option Refusal) (e : Refusal) (Same : Type 0) → IfSome o (λ x. (◌≡◌ {A = Result (Reply × Reply) Refusal} (Err e) (Err x)) × Same) → (o ≡ None → e ≡ OutOfMemory) → (e ≡ OutOfMemory) ⊎ (o ≡ Some e)
+refused-for None e Same refused memory = inl (memory refl)
+refused-for (Some x) e Same refused memory = inr (let is : x ≡ e = cc refused.0 in ap Some is)

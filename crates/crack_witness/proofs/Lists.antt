@@ -1,6 +1,6 @@
 -- Lists of events.
-use Rattle.std.proofs.Common.{◌≡◌, ◌⊎◌, ℕ, zero, suc, ◌+◌, ◌≤◌, ◌<◌, ◌==◌, Bool, true, false, List, [], ◌∷◌, ◌++◌, length, Option, Some, None, refl, ap, sym, subst, ◌∙◌, arith, inl, inr, append_assoc, length-append, get_or, All, ◌≢◌, if◌then◌else◌}
-use Rattle.std.proofs.lemmas.List.{append-nil, get_or_append_left, get_or_push}
+use Rattle.std.proofs.Common.{◌≡◌, ◌⊎◌, ℕ, zero, suc, ◌+◌, ◌≤◌, ◌<◌, ◌==◌, Bool, true, false, List, [], ◌∷◌, ◌++◌, length, Option, Some, None, refl, ap, sym, subst, ◌∙◌, arith, inl, inr, append_assoc, length-append, get_or, take, All, ◌≢◌, if◌then◌else◌}
+use Rattle.std.proofs.lemmas.List.{append-nil, get_or_append_left, get_or_push, take_all}
 use Rattle.std.proofs.lemmas.Bool.Decides.{nat_tests}
 use mathlib.Core.List.{IsPrefix}
 use Rattle.crack_row.specs.declared.command.Entry.{Entry}
@@ -96,3 +96,7 @@ all_front P xs ys all k d less = subst P (get_or_append_left xs ys d k less) (al
 
 pub all_last : {X : Type 0} (P : X → Type 0) (xs : List X) (x : X) → All P (xs ++ x ∷ []) → P x
 all_last P xs x all = subst P (get_or_push xs x x (length xs) refl) (all (length xs) x (omega (arith, length-append xs (x ∷ []))))
+
+-- what holds of the first so many, where these are all
+pub all_of : {X : Type 0} (P : X → Type 0) (xs : List X) (n : ℕ) → length xs ≤ n → All P (take n xs) → All P xs
+all_of P xs n long all = rw (take_all n xs long) at all

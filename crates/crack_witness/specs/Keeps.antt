@@ -1,6 +1,6 @@
 -- What private clauses alone cite.
 -- What scribes, owners and workers keep.
-use Rattle.std.specs.Prelude.{ℕ, slice_index_or, ◌≡◌, ◌⊎◌, ◌<◌, List, [], ◌∷◌, ◌++◌, length, true}
+use Rattle.std.specs.Prelude.{ℕ, slice_index_or, ◌≡◌, ◌⊎◌, ◌<◌, ◌≤◌, ◌^◌, All, List, [], ◌∷◌, ◌++◌, length, true}
 use mathlib.Core.List.{IsPrefix}
 use Rattle.logbook.specs.Pages.{Book, Named, Right, may_write}
 use Rattle.crack_row.specs.declared.command.Entry.{Entry}
@@ -57,8 +57,11 @@ AreOwners b owner os = (k : ℕ) (d : OwnerState) → k < length os → IsOwnerA
 abbrev pub AreCounts : List ℕ → List Entry → Type 0
 AreCounts counts es = (worker : ℕ) → worker < length counts → slice_index_or counts worker 0 ≡ length (calls_by worker es)
 
--- a worker counts its entries at each partition, in what it had seen after its last reply there
+-- a worker counts its entries at each partition, in what it had seen after its last reply there; no table has more than 64 partitions, and
+-- none accepts more than 2 ^ 40 commands
 pub record IsAsker (owner : ℕ → ℕ) (worker : ℕ) (seen : List Event) (fronts : List (List Event)) (counts : List ℕ) : Type 0 where
   pub all : length counts ≡ length fronts
+  pub few : length counts ≤ 64
+  pub small : All (λ (count : ℕ). count ≤ 2 ^ 41) counts
   pub counted : (part : ℕ) → part < length fronts → slice_index_or counts part 0 ≡ length (calls_at owner part worker (slice_index_or fronts part []))
   pub begins : (part : ℕ) → part < length fronts → IsPrefix (slice_index_or fronts part []) seen

@@ -1,9 +1,13 @@
 -- What contracts see of a book that was opened, and of partitions that are witnessed.
-use Rattle.std.specs.Prelude.{◌≡◌, ◌≢◌, ℕ, ◌+◌, ◌<◌, List, [], ◌∷◌, ◌++◌, length, AllPairs, slice_index_or}
+use Rattle.std.specs.Prelude.{◌≡◌, ◌≢◌, ℕ, ◌+◌, ◌<◌, ◌⊎◌, List, [], ◌∷◌, ◌++◌, length, sum_by, take, All, Any, AllPairs, Contains, Some, slice_index_or}
 use mathlib.Core.List.{IsPrefix}
 use Rattle.logbook.specs.Pages.{Book}
 use Rattle.crack_row.specs.declared.command.Entry.{Entry}
+use Rattle.crack_row.specs.declared.refusal.Refusal.{Refusal}
+use Rattle.crack_row.specs.declared.command.Command.{Command}
+use Rattle.crack_row.specs.declared.refusal.Refusal.TheVariants.{OutOfMemory, StrangeReceipt}
 use Rattle.crack_part.specs.Parts.{Part}
+use Rattle.crack_part.specs.Refusals.{refusal_of}
 use Rattle.crack_witness.specs.declared.event.Event.{Event}
 use Rattle.crack_witness.specs.Histories.{history_of, calls_by, calls_at}
 
@@ -51,11 +55,20 @@ pub record IsInStep (owner : ℕ → ℕ) (w : WitnessedState) (worker count : �
   pub one : worker < w.workers
   pub same : length (calls_by worker (history_of (owner w.part) w.log)) ≡ count
 
--- a worker: its number, the events that it has seen, and those that it had seen after the last reply that each partition gave it
+-- why a partition may refuse a worker who has been given so many replies there: 16, where its history hasn't just as many entries of the
+-- worker; else for want of memory, or as the partition refuses the command
+abbrev pub MayRefuseIt : (ℕ → ℕ) → WitnessedState → ℕ → ℕ → Command → Refusal → Type 0
+MayRefuseIt owner w worker count command e =
+    ((e ≡ StrangeReceipt w.part count) × (IsInStep owner w worker count → ⊥))
+    ⊎ ((e ≡ OutOfMemory) ⊎ (refusal_of w.held command ≡ Some e))
+
+-- a worker: its number, the events that it has seen, those that it had seen after the last reply that each partition gave it, and how many
+-- replies each partition gave it
 pub record AskerState : Type 0 where
   pub worker : ℕ
   pub seen : List Event
   pub fronts : List (List Event)
+  pub counts : List ℕ
 
 -- the partition's history, as far as it is now seen, ends with the entry, and all that was seen of it before comes ahead of that
 pub record IsGiven (owner : ℕ → ℕ) (part : ℕ) (entry : Entry) (old new : List Event) : Type 0 where
@@ -66,3 +79,33 @@ pub record IsGiven (owner : ℕ → ℕ) (part : ℕ) (entry : Entry) (old new :
 -- the history of a partition has just the entries of a worker that it was given replies for
 abbrev pub HasJustItsOwn : (ℕ → ℕ) → AskerState → WitnessedState → Type 0
 HasJustItsOwn owner a w = calls_at owner w.part a.worker w.log ≡ calls_at owner w.part a.worker (slice_index_or a.fronts w.part [])
+
+-- what a worker has seen of a partition's history is a beginning of it, and of its entries that history has just those that it was given
+-- replies for
+pub record IsSettledFor (owner : ℕ → ℕ) (a : AskerState) (w : WitnessedState) : Type 0 where
+  pub covered : IsPrefix (history_of (owner w.part) a.seen) (history_of (owner w.part) w.log)
+  pub mine : HasJustItsOwn owner a w
+
+-- a partition's history has other entries of a worker than it was given replies for, where each knows of the other
+abbrev pub Differs : (ℕ → ℕ) → AskerState → WitnessedState → Type 0
+Differs owner a w = w.part < length a.fronts → a.worker < w.workers → HasJustItsOwn owner a w → ⊥
+
+-- how many replies the partition of this number gave a worker
+abbrev pub replies_at : AskerState → ℕ → ℕ
+replies_at a part = slice_index_or a.counts part 0
+
+-- how many replies a worker was given
+abbrev pub replies_to : AskerState → ℕ
+replies_to a = sum_by (λ (n : ℕ). n) a.counts
+
+-- why workers and partitions may not come together: 16, with the number of the first partition that differs from a worker, and with how
+-- many replies it gave such a worker
+pub record MayDiffer (owner : ℕ → ℕ) (askers : List AskerState) (parts : List WitnessedState) (e : Refusal) : Type 0 where
+  pub place : ℕ
+  pub at : WitnessedState
+  pub there : place < length parts
+  pub is_at : slice_index_or parts place at ≡ at
+  pub earlier : All (λ (w : WitnessedState). All (λ (a : AskerState). IsSettledFor owner a w) askers) (take place parts)
+  pub position : ℕ
+  pub differs : Any (λ (a : AskerState). Differs owner a at × (position ≡ replies_at a at.part)) askers
+  pub cause : e ≡ StrangeReceipt at.part position

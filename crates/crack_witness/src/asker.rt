@@ -1,13 +1,14 @@
 //! Who asks witnessed partitions.
-ghost use Rattle.std.specs.Prelude.{◌≡◌, ◌+◌, ◌<◌, ◌≤◌, ◌++◌, ◌∷◌, [], length, IfOk, IfErr, OnErr, OnOk, Err, IsTrue, List, slice_index_or, slice_set};
+ghost use Rattle.std.specs.Prelude.{◌≡◌, ◌⊎◌, ◌+◌, ◌<◌, ◌≤◌, ◌++◌, ◌∷◌, [], length, sum_by, ℕ, ◌^◌, Some, IfOk, IfErr, OnErr, OnOk, Err, IsTrue, List, slice_index_or, slice_set};
 ghost use mathlib.Core.List.{IsPrefix};
 ghost use Rattle.crack_row.specs.declared.command.Entry.{Entry};
 ghost use Rattle.crack_plain.specs.Plain.{IsSmall, reply_to};
 ghost use Rattle.crack_plain.specs.Past.{with_entry};
 ghost use Rattle.crack_part.specs.Parts.{state_of};
 ghost use Rattle.crack_part.specs.Upkeep.{upkept};
+ghost use Rattle.crack_part.specs.Refusals.{refusal_of};
 ghost use Rattle.crack_witness.specs.Histories.{history_of, calls_at, AreHistories, AreEmpty};
-ghost use Rattle.crack_witness.specs.Witnesses.{IsInStep, IsGiven, HasJustItsOwn};
+ghost use Rattle.crack_witness.specs.Witnesses.{IsInStep, IsGiven, HasJustItsOwn, replies_at, replies_to};
 
 use crate::opening::Naming;
 use crate::scribe::Front;
@@ -17,7 +18,7 @@ use std::alloc::{AllocError, Global};
 use std::marker::Model;
 
 /// A worker's side of the witness: its number, what it has seen of the book, and how many replies each partition has given it, 8 bytes each.
-/// Contracts see the number, the events that it has seen, and those that it had seen after its last reply of each partition.
+/// Contracts see the number, the events that it has seen, those that it had seen after its last reply of each partition, and these numbers.
 #[derive(Drop)]
 pub struct Asker<J: Naming> {
     number: u32,
@@ -32,7 +33,7 @@ impl<J: Naming> Model for Asker<J> {
 
     ghost Value = { AskerState };
 
-    ghost view = { λ a. record { worker = a.number; seen = a.front; fronts = a.fronts.items } };
+    ghost view = { λ a. record { worker = a.number; seen = a.front; fronts = a.fronts.items; counts = a.counts.items } };
 
     ghost invariant = { λ a. IsAsker J.owner a.number a.front a.fronts.items a.counts.items };
 }
@@ -45,8 +46,10 @@ impl<J: Naming> Asker<J> {
         front: Front<J>,
         parts: usize,
     ) -> Result<Asker<J>, AllocError>
-        requires { AreEmpty front }
+        requires empty { AreEmpty front }
+        requires few { parts ≤ 64 }
         ensures ok { IfOk result (λ a. (a.worker ≡ number) × (a.seen ≡ front) × (length a.fronts ≡ parts)) }
+        ensures none { IfOk result (λ a. replies_to a ≡ 0) }
     {
         let counts = vec![in alloc; 0u64; parts]?;
         let mut fronts = Vec::with_capacity(alloc, parts)?;
@@ -64,6 +67,20 @@ impl<J: Naming> Asker<J> {
         })
     }
 
+    /// Its number.
+    pub fn number(&self) -> u32
+        ensures { result ≡ self.now.worker }
+    {
+        self.number
+    }
+
+    /// How many replies it was given, by all partitions: O(partitions).
+    pub fn replies(&self) -> u64
+        ensures { result ≡ replies_to self.now }
+    {
+        sum_of(self.counts.as_slice())
+    }
+
     /// What it has seen of the book.
     pub fn front(&self) -> &Front<J>
         ensures { result.now ≡ self.now.seen }
@@ -71,7 +88,7 @@ impl<J: Naming> Asker<J> {
         &self.front
     }
 
-    /// Asks a partition, whose number is to be `part`: O(1) besides `Partition::apply`, and no memory. The second reply is a copy.
+    /// Asks a partition, whose number is to be `part`: O(1) besides `Partition::apply`, and no memory.
     /// Refused with 5 where the worker knows of no such partition; with 16, with the number and the count of its replies there, where the
     /// partition has another number, or its history another number of the worker's entries; then as `Partition::apply` is. After each
     /// refusal nothing was seen or written.
@@ -81,19 +98,21 @@ impl<J: Naming> Asker<J> {
         part: u32,
         command: Command,
         policy: Policy,
-    ) -> Result<(Reply, Reply), Refusal>
-        ensures replies { IfOk result (λ replies. (replies.0 ≡ reply_to (state_of witnessed.old.held) command) × (replies.1 ≡ replies.0)) }
-        ensures small { IfOk result (λ replies. IsSmall replies.0) }
-        ensures given { IfOk result (λ replies. IsGiven J.owner part (record { worker = self.old.worker; command = command; reply = replies.0 }) self.old.seen self.new.seen) }
-        ensures mine { IfOk result (λ replies. calls_at J.owner part self.old.worker self.new.seen ≡ calls_at J.owner part self.old.worker (slice_index_or self.old.fronts part []) ++ record { worker = self.old.worker; command = command; reply = replies.0 } ∷ []) }
+    ) -> Result<Reply, Refusal>
+        ensures reply { IfOk result (λ reply. reply ≡ reply_to (state_of witnessed.old.held) command) }
+        ensures small { IfOk result IsSmall }
+        ensures given { IfOk result (λ reply. IsGiven J.owner part (record { worker = self.old.worker; command = command; reply = reply }) self.old.seen self.new.seen) }
+        ensures mine { IfOk result (λ reply. calls_at J.owner part self.old.worker self.new.seen ≡ calls_at J.owner part self.old.worker (slice_index_or self.old.fronts part []) ++ record { worker = self.old.worker; command = command; reply = reply } ∷ []) }
+        ensures replies { OnOk result (replies_to self.new ≡ replies_to self.old + 1) }
         ensures fronts { OnOk result (self.new.fronts ≡ slice_set self.old.fronts part self.new.seen) }
         ensures legal { OnOk result (AreHistories self.new.seen) }
         ensures whole { OnOk result ((witnessed.old.part ≡ part) × (self.new.seen ≡ witnessed.new.log)) }
-        ensures kept { IfOk result (λ replies. witnessed.new.held.past ≡ with_entry (upkept witnessed.old.held.limits witnessed.old.held.past) (record { worker = self.old.worker; command = command; reply = replies.0 })) }
+        ensures kept { IfOk result (λ reply. witnessed.new.held.past ≡ with_entry (upkept witnessed.old.held.limits witnessed.old.held.past) (record { worker = self.old.worker; command = command; reply = reply })) }
         ensures opened { (witnessed.new.held.keys ≡ witnessed.old.held.keys) × (witnessed.new.held.limits ≡ witnessed.old.held.limits) × (witnessed.new.part ≡ witnessed.old.part) }
         ensures seen { IsPrefix self.old.seen self.new.seen × IsPrefix witnessed.old.log witnessed.new.log }
         ensures worker { self.new.worker ≡ self.old.worker }
         ensures nowhere { length self.old.fronts ≤ part → result ≡ Err Refusal.NoSuchPartition }
+        ensures causes { IfErr result (λ e. ((e ≡ Refusal.NoSuchPartition) × (length self.old.fronts ≤ part)) ⊎ ((e ≡ Refusal.StrangeReceipt part (replies_at self.old part)) ⊎ ((e ≡ Refusal.OutOfMemory) ⊎ (refusal_of witnessed.old.held command ≡ Some e)))) }
         ensures err { OnErr result ((self.new ≡ self.old) × (witnessed.new.log ≡ witnessed.old.log) × (witnessed.new.held.past ≡ witnessed.old.held.past)) }
     {
         let Some(count) = count_at(self.counts.as_slice(), part) else {
@@ -105,10 +124,10 @@ impl<J: Naming> Asker<J> {
                 position: count,
             });
         }
-        let replies = witnessed.ask(&mut self.front, self.number, count, command, policy)?;
+        let reply = witnessed.ask(&mut self.front, self.number, count, command, policy)?;
         self.counts[part as usize] = count + 1;
         self.fronts[part as usize] = self.front.again();
-        Ok(replies)
+        Ok(reply)
     }
 
     /// Whether a partition's history has just the entries of this worker that it was given replies for. What the worker has seen of that
@@ -121,6 +140,13 @@ impl<J: Naming> Asker<J> {
     {
         witnessed.covers(&self.front);
         self.counts_agree(witnessed)
+    }
+
+    /// How many replies a partition has given it: O(1). 0 where it knows of no such partition.
+    pub(crate) fn replies_of(&self, part: u32) -> u64
+        ensures { result ≡ replies_at self.now part }
+    {
+        count_at(self.counts.as_slice(), part).unwrap_or(0)
     }
 
     /// The same of a partition that covers what the worker has seen.
@@ -138,4 +164,12 @@ impl<J: Naming> Asker<J> {
             _ => false,
         }
     }
+}
+
+/// The sum of counts: O(counts).
+fn sum_of(counts: &[u64]) -> u64
+    requires { sum_by (λ (n : ℕ). n) counts.now < 2 ^ 64 }
+    ensures { result ≡ sum_by (λ (n : ℕ). n) counts.now }
+{
+    counts.iter().map(|count| *count).sum()
 }

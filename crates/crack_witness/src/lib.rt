@@ -2,12 +2,14 @@
 #![tactic(auto)]
 
 pub mod asker;
+pub mod closing;
 pub mod event;
 pub mod opening;
 pub mod scribe;
 pub mod witnessed;
 
 pub use asker::Asker;
+pub use closing::settle;
 pub use opening::{Naming, Opened};
 pub use scribe::Front;
 pub use witnessed::Witnessed;

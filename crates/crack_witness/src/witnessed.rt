@@ -8,7 +8,7 @@ ghost use Rattle.crack_part.specs.Parts.{IsSound, state_of, folded_part, Serves,
 ghost use Rattle.crack_part.specs.Refusals.{refusal_of};
 ghost use Rattle.crack_part.specs.Upkeep.{upkept};
 ghost use Rattle.crack_witness.specs.Histories.{history_of, calls_by, AreHistories, IsPastOf};
-ghost use Rattle.crack_witness.specs.Witnesses.{IsNewAt, IsInStep};
+ghost use Rattle.crack_witness.specs.Witnesses.{IsNewAt, IsInStep, MayRefuseIt};
 ghost use Rattle.crack_witness.specs.Keeps.{IsOwnerAt};
 
 use crate::opening::{Naming, Owner};
@@ -94,7 +94,7 @@ impl<J: Naming> Witnessed<J> {
     }
 
     /// Answers a command of a worker, who has been given `count` replies by this partition before, and writes it into the history: O(1)
-    /// besides `Partition::apply`, and no memory. The second reply is a copy, for a receipt.
+    /// besides `Partition::apply`, and no memory.
     /// Refused with 16, with the partition's number and that count, where the history hasn't just as many entries of the worker, or the
     /// worker isn't one of the table's; nothing has changed then. Else refused as `Partition::apply` is, and nothing is written.
     pub fn ask(
@@ -104,11 +104,11 @@ impl<J: Naming> Witnessed<J> {
         count: u64,
         command: Command,
         policy: Policy,
-    ) -> Result<(Reply, Reply), Refusal>
-        ensures replies { IfOk result (λ replies. (replies.0 ≡ reply_to (state_of self.old.held) command) × (replies.1 ≡ replies.0)) }
-        ensures small { IfOk result (λ replies. IsSmall replies.0) }
-        ensures written { IfOk result (λ replies. history_of (J.owner self.old.part) self.new.log ≡ history_of (J.owner self.old.part) self.old.log ++ record { worker = worker; command = command; reply = replies.0 } ∷ []) }
-        ensures kept { IfOk result (λ replies. self.new.held.past ≡ with_entry (upkept self.old.held.limits self.old.held.past) (record { worker = worker; command = command; reply = replies.0 })) }
+    ) -> Result<Reply, Refusal>
+        ensures reply { IfOk result (λ reply. reply ≡ reply_to (state_of self.old.held) command) }
+        ensures small { IfOk result IsSmall }
+        ensures written { IfOk result (λ reply. history_of (J.owner self.old.part) self.new.log ≡ history_of (J.owner self.old.part) self.old.log ++ record { worker = worker; command = command; reply = reply } ∷ []) }
+        ensures kept { IfOk result (λ reply. self.new.held.past ≡ with_entry (upkept self.old.held.limits self.old.held.past) (record { worker = worker; command = command; reply = reply })) }
         ensures store { OnOk result (Serves policy self.old.held.keys self.old.held.next command self.old.held.store self.new.held.store) }
         ensures opened { (self.new.held.keys ≡ self.old.held.keys) × (self.new.held.limits ≡ self.old.held.limits) }
         ensures part { (self.new.part ≡ self.old.part) × (self.new.workers ≡ self.old.workers) }
@@ -116,12 +116,13 @@ impl<J: Naming> Witnessed<J> {
         ensures before { OnOk result (IsPrefix (history_of (J.owner self.old.part) me.old) (history_of (J.owner self.old.part) self.old.log)) }
         ensures begins { IsPrefix me.old me.new × IsPrefix self.old.log self.new.log }
         ensures in_step { OnOk result (IsInStep J.owner self.old worker count) }
-        ensures few { OnOk result (count + 1 < 2 ^ 64) }
+        ensures few { OnOk result (count < 2 ^ 41) }
 
         ensures strange { (IsInStep J.owner self.old worker count → ⊥) → (result ≡ Err (Refusal.StrangeReceipt self.old.part count)) × (self.new ≡ self.old) }
         ensures err { OnErr result ((self.new.log ≡ self.old.log) × (self.new.held.past ≡ self.old.held.past) × (me.new ≡ me.old)) }
         ensures spared { IsInStep J.owner self.old worker count → OnErr result (Spares policy self.old.held.keys (range_of command) self.old.held.store self.new.held.store) }
         ensures refused { IsInStep J.owner self.old worker count → IfSome (refusal_of self.old.held command) (λ e. (result ≡ Err e) × (self.new ≡ self.old)) }
+        ensures causes { IfErr result (MayRefuseIt J.owner self.old worker count command) }
         ensures memory { IsInStep J.owner self.old worker count → refusal_of self.old.held command ≡ None → IfErr result (λ e. e ≡ Refusal.OutOfMemory) }
     {
         let part = self.scribe.part();
@@ -133,10 +134,10 @@ impl<J: Naming> Witnessed<J> {
             });
         }
         let asked = command;
-        let (reply, copy) = self.partition.apply(worker, command, policy)?;
+        let (reply, _copy) = self.partition.apply(worker, command, policy)?;
         self.scribe.write(me, worker, &asked, &reply);
         self.answered[worker as usize] = count + 1;
-        Ok((reply, copy))
+        Ok(reply)
     }
 
     /// Folds what the partition keeps, as `Partition::checkpoint` does and with its refusal; the history stays whole.

@@ -1,11 +1,12 @@
 use Rattle.std.proofs.Common.{rules, sym, ◌∙◌, ap, subst, ◌≡◌, refl, ◌++◌, ◌∷◌, [], List, ℕ, arith, ◌<◌, slice_index_or, slice_set, length, length-append, ◌+◌}
+use Rattle.std.specs.Prelude.{sum_by}
 use mathlib.Core.List.{IsPrefix}
 use Rattle.crack_row.specs.declared.command.Entry.{Entry}
 use Rattle.crack_witness.specs.declared.event.Event.{Event}
 use Rattle.crack_witness.specs.Histories.{history_of, calls_by, calls_at}
 use Rattle.crack_witness.specs.Witnesses.{AskerState, IsGiven}
 use Rattle.crack_witness.specs.Keeps.{IsAsker}
-use Rattle.crack_witness.proofs.Counting.{given_exact, asker_after}
+use Rattle.crack_witness.proofs.Counting.{given_exact, asker_after, sum_more}
 use Rattle.crack_witness.proofs.asker.Asker.ask.Goals as goal
 
 pub returns-clause-given : goal.returns-clause-given
@@ -13,13 +14,13 @@ returns-clause-given g c =
     let own : ℕ → ℕ = g.J.Naming.owner in
     let log = c.args.witnessed.now.log in
     let same : c.args.witnessed.now.part ≡ c.args.part = sym c.part.ensures ∙ c.if-part.false in
-    let told = c.in_ok-replies.ensures in
-    let e : Entry = record { worker = c.self.inside.number; command = c.args.command; reply = c.in_ok-replies.replies.0 } in
+    let told = c.in_ok-reply.ensures in
+    let e : Entry = record { worker = c.self.inside.number; command = c.args.command; reply = c.in_ok-reply.reply } in
     let kept : history_of (own c.args.witnessed.now.part) c.ask.new.me ≡ history_of (own c.args.witnessed.now.part) log ++ e ∷ [] = ap (history_of (own c.args.witnessed.now.part)) told.seen.0 ∙ told.written in
     let here : history_of (own c.args.part) c.ask.new.me ≡ history_of (own c.args.part) log ++ e ∷ [] = subst (λ (p : ℕ). history_of (own p) c.ask.new.me ≡ history_of (own p) log ++ e ∷ []) same kept in
     let old : IsPrefix (history_of (own c.args.part) c.self.inside.front) (history_of (own c.args.part) log) = subst (λ (p : ℕ). IsPrefix (history_of (own p) c.self.inside.front) (history_of (own p) log)) same told.before in
     let given : IsGiven own c.args.part e c.self.inside.front c.ask.new.me = record { before = history_of (own c.args.part) log; ends = here; begins = old } in
-    subst (λ (a : AskerState). IsGiven own c.args.part (record { worker = a.worker; command = c.args.command; reply = c.in_ok-replies.replies.0 }) a.seen c.ask.new.me) c.self.view_is given
+    subst (λ (a : AskerState). IsGiven own c.args.part (record { worker = a.worker; command = c.args.command; reply = c.in_ok-reply.reply }) a.seen c.ask.new.me) c.self.view_is given
 
 pub returns-clause-mine : goal.returns-clause-mine
 returns-clause-mine g c =
@@ -27,14 +28,14 @@ returns-clause-mine g c =
     let n = c.self.inside.number in
     let log = c.args.witnessed.now.log in
     let f = slice_index_or c.self.inside.fronts.items c.args.part [] in
-    let e : Entry = record { worker = n; command = c.args.command; reply = c.in_ok-replies.replies.0 } in
+    let e : Entry = record { worker = n; command = c.args.command; reply = c.in_ok-reply.reply } in
     let same : c.args.witnessed.now.part ≡ c.args.part = sym c.part.ensures ∙ c.if-part.false in
-    let told = c.in_ok-replies.ensures in
+    let told = c.in_ok-reply.ensures in
     let less : c.args.part < length c.self.inside.fronts.items = search rules in
     let counted : c.in-Some.count ≡ length (calls_at own c.args.part n f) = search (rules, c.self.invariant.counted c.args.part less) in
     let kept : history_of (own c.args.witnessed.now.part) c.ask.new.me ≡ history_of (own c.args.witnessed.now.part) log ++ e ∷ [] = ap (history_of (own c.args.witnessed.now.part)) told.seen.0 ∙ told.written in
     let exact = given_exact own n c.args.part c.args.witnessed.now.part f c.self.inside.front log c.ask.new.me e c.in-Some.count same (c.self.invariant.begins c.args.part less) told.before kept refl counted told.in_step.same in
-    subst (λ (a : AskerState). calls_at own c.args.part a.worker c.ask.new.me ≡ calls_at own c.args.part a.worker (slice_index_or a.fronts c.args.part []) ++ record { worker = a.worker; command = c.args.command; reply = c.in_ok-replies.replies.0 } ∷ []) c.self.view_is exact
+    subst (λ (a : AskerState). calls_at own c.args.part a.worker c.ask.new.me ≡ calls_at own c.args.part a.worker (slice_index_or a.fronts c.args.part []) ++ record { worker = a.worker; command = c.args.command; reply = c.in_ok-reply.reply } ∷ []) c.self.view_is exact
 
 pub invariant_of-self-2 : goal.invariant_of-self-2
 invariant_of-self-2 g c =
@@ -42,16 +43,25 @@ invariant_of-self-2 g c =
     let n = c.self.inside.number in
     let log = c.args.witnessed.now.log in
     let f = slice_index_or c.self.inside.fronts.items c.args.part [] in
-    let e : Entry = record { worker = n; command = c.args.command; reply = c.in_ok-replies.replies.0 } in
+    let e : Entry = record { worker = n; command = c.args.command; reply = c.in_ok-reply.reply } in
     let same : c.args.witnessed.now.part ≡ c.args.part = sym c.part.ensures ∙ c.if-part.false in
-    let told = c.in_ok-replies.ensures in
+    let told = c.in_ok-reply.ensures in
     let less : c.args.part < length c.self.inside.fronts.items = search rules in
     let counted : c.in-Some.count ≡ length (calls_at own c.args.part n f) = search (rules, c.self.invariant.counted c.args.part less) in
     let kept : history_of (own c.args.witnessed.now.part) c.ask.new.me ≡ history_of (own c.args.witnessed.now.part) log ++ e ∷ [] = ap (history_of (own c.args.witnessed.now.part)) told.seen.0 ∙ told.written in
     let exact = given_exact own n c.args.part c.args.witnessed.now.part f c.self.inside.front log c.ask.new.me e c.in-Some.count same (c.self.invariant.begins c.args.part less) told.before kept refl counted told.in_step.same in
     let more : c.in-Some.count + 1 ≡ length (calls_at own c.args.part n c.ask.new.me) = omega (arith, counted, ap length exact, length-append (calls_at own c.args.part n f) (e ∷ [])) in
     subst (λ (l : List Event). IsAsker own n c.ask.new.me (slice_set c.self.inside.fronts.items c.args.part l) (slice_set c.self.inside.counts.items c.args.part (c.in-Some.count + 1))) (sym c.again.ensures)
-    (asker_after own n c.self.inside.front c.self.inside.fronts.items c.self.inside.counts.items c.args.part (c.in-Some.count + 1) c.ask.new.me c.self.invariant less c.ask.ensures.begins.0 more)
+    (asker_after own n c.self.inside.front c.self.inside.fronts.items c.self.inside.counts.items c.args.part (c.in-Some.count + 1) c.ask.new.me c.self.invariant less c.ask.ensures.begins.0 more (omega (arith, told.few)))
 
 pub overflow_add-count : goal.overflow_add-count
-overflow_add-count g c = omega (arith, c.in_ok-replies.ensures.few)
+overflow_add-count g c = omega (arith, c.in_ok-reply.ensures.few)
+
+pub returns-clause-replies : goal.returns-clause-replies
+returns-clause-replies g c =
+    let n = c.self.inside.number in
+    let counts = c.self.inside.counts.items in
+    let less : c.args.part < length counts = search rules in
+    let is : c.in-Some.count ≡ slice_index_or counts c.args.part 0 = search rules in
+    let more : sum_by (λ (n : ℕ). n) (slice_set counts c.args.part (c.in-Some.count + 1)) ≡ sum_by (λ (n : ℕ). n) counts + 1 = sum_more counts c.args.part (c.in-Some.count + 1) less (omega (arith, is)) in
+    subst (λ (a : AskerState). sum_by (λ (n : ℕ). n) (slice_set counts c.args.part (c.in-Some.count + 1)) ≡ sum_by (λ (n : ℕ). n) a.counts + 1) c.self.view_is more

@@ -1,4 +1,4 @@
-use Rattle.std.proofs.Common.{rules, Err, ◌≡◌, ◌<◌, ◌+◌, ◌∙◌, ap, sym, subst, ℕ, List, [], ◌∷◌, ◌++◌, length, arith, slice_set, slice_index_or}
+use Rattle.std.proofs.Common.{rules, Err, inr, ◌≡◌, ◌<◌, ◌+◌, ◌∙◌, ap, sym, subst, ℕ, List, [], ◌∷◌, ◌++◌, length, arith, slice_set, slice_index_or}
 use Rattle.crack_row.specs.declared.command.Entry.{Entry}
 use Rattle.crack_plain.specs.Plain.{PlainState, no_rows, replay_from, reply_to}
 use Rattle.crack_plain.proofs.Laws.{AreReplies-push}
@@ -6,6 +6,9 @@ use Rattle.crack_part.specs.Parts.{Part}
 use Rattle.crack_part.specs.Refusals.{refusal_of}
 use Rattle.crack_part.specs.Upkeep.{upkept}
 use Rattle.crack_part.proofs.RefusalLaws.{if_refused}
+use Rattle.crack_row.specs.declared.refusal.Refusal.{Refusal}
+use Rattle.crack_witness.specs.Witnesses.{MayRefuseIt}
+use Rattle.crack_witness.proofs.Keeping.{refused-for}
 use Rattle.crack_witness.specs.Histories.{history_of, calls_by, IsPastOf}
 use Rattle.crack_witness.specs.Witnesses.{WitnessedState}
 use Rattle.crack_witness.specs.Keeps.{AreCounts}
@@ -64,3 +67,11 @@ returns-in_err-reply-clause-refused g c = λ in_step.
     let with : Part → WitnessedState = λ held. record { part = c.self.inside.scribe.part; log = c.self.inside.scribe.log; held = held; workers = length c.self.inside.answered.items } in
     rw (← c.self.view_is) (if_refused (refusal_of p c.args.command) (λ e. (Err e0 ≡ Err e) × (c.apply.new.self ≡ p)) (λ e. (c.from_residual.result ≡ Err e) × (with c.apply.new.self ≡ with p))
     (λ e is. (given ∙ ap Err (cc is.0), ap with is.1)) c.in_err-reply.ensures.refused)
+
+pub returns-in_err-reply-clause-causes : goal.returns-in_err-reply-clause-causes
+returns-in_err-reply-clause-causes g c =
+    let e0 = c.in_err-reply.field-0.0 in
+    let given : c.from_residual.result ≡ Err e0 = search rules in
+    let p = c.self.inside.partition in
+    let cause = refused-for (refusal_of p c.args.command) e0 (c.apply.new.self ≡ p) c.in_err-reply.ensures.refused c.in_err-reply.ensures.memory in
+    rw (given, ← c.self.view_is) (inr cause)
