@@ -1,9 +1,11 @@
-.PHONY: help run try test edits trust
+.PHONY: help run try lib lib-unproved test edits trust
 
 # lists the targets
 help:
 	@echo 'make run     proves what changed, builds, and answers the statements of standard input: 18 minutes from nothing on 4 processors, 28 on 2'
 	@echo 'make try     the same without a proof, in a minute; it reads all of its input before it answers'
+	@echo 'make lib     proves the library for C and Python as make run does, and builds lib/libcrackd.so and lib/crackd.h; the package finds it'
+	@echo 'make lib-unproved  the same without a proof, in a minute: lib/libcrackd-unproved.so'
 	@echo 'make test    proves everything from nothing, runs the tests, the programs and the acceptance cases: 26 to 30 minutes on 4'
 	@echo 'make edits   tries that the prover refuses the wrong bodies; OF="NAME .." those of these crates alone: behind make test 35 minutes on 4'
 	@echo 'make trust   prints what a reader has to read to know what is promised, and counts it; OF=--count: the numbers alone'
@@ -13,6 +15,12 @@ run:
 
 try:
 	@cd crates/crackd && rt try -- script
+
+lib:
+	@python3 tools/library.py
+
+lib-unproved:
+	@python3 tools/library.py --unproved
 
 test:
 	@python3 acceptance/test.py

@@ -8,7 +8,7 @@ import sysconfig
 import zipfile
 
 HERE = pathlib.Path(__file__).resolve().parent
-LIBRARY = "libcrackd.so"
+LIBRARIES = ("libcrackd.so", "libcrackd-unproved.so")
 
 
 def field(name):
@@ -19,7 +19,7 @@ def field(name):
 def packed():
     """The files of the package, by their paths in the wheel."""
     suffixes = {".py", ".typed"}
-    found = sorted(it for it in (HERE / "crackd").rglob("*") if it.suffix in suffixes or it.name == LIBRARY)
+    found = sorted(it for it in (HERE / "crackd").rglob("*") if it.suffix in suffixes or it.name in LIBRARIES)
     return {it.relative_to(HERE).as_posix(): it.read_bytes() for it in found}
 
 
@@ -29,7 +29,7 @@ def digest(content):
 
 def build_wheel(wheel_directory, config_settings=None, metadata_directory=None):
     name, version, files = field("name"), field("version"), packed()
-    has_library = f"crackd/{LIBRARY}" in files
+    has_library = any(f"crackd/{it}" in files for it in LIBRARIES)
     platform = re.sub(r"[^A-Za-z0-9]", "_", sysconfig.get_platform()) if has_library else "any"
     tag, info = f"py3-none-{platform}", f"{name}-{version}.dist-info"
     metadata = f"Metadata-Version: 2.1\nName: {name}\nVersion: {version}\nSummary: {field('description')}\nRequires-Python: {field('requires-python')}\n"

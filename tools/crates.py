@@ -31,6 +31,11 @@ class Crate:
     def is_program(self):
         return (self.folder / "src" / "main.rt").exists()
 
+    @property
+    def is_static(self):
+        """Whether it is a static library, for programs in C."""
+        return "staticlib" in self.line.partition(":")[0].split()
+
     def sources(self):
         """The files that a check of the crate reads, in the order of their paths."""
         return sorted(it for part in PARTS for it in (self.folder / part).rglob("*") if it.is_file())

@@ -21,14 +21,23 @@ import rooms
 NOISE = ("checked ", "so far: ", "statements ", "by-macro: ", "logic ", "rt: chose ")
 
 
+def name_in_room(crate):
+    """What is made of a proved crate, in the out/ of the room where it is proved."""
+    if crate.is_program:
+        return crate.name
+    return f"lib{crate.name}.a" if crate.is_static else f"rlib/{crate.name}.rlib"
+
+
 def made_of(crate):
     """What is kept of a proved crate: its program, or its library."""
-    return crate.out / crate.name if crate.is_program else rooms.library_of(crate)
+    if crate.is_program:
+        return crate.out / crate.name
+    return crate.out / "proved" / name_in_room(crate) if crate.is_static else rooms.library_of(crate)
 
 
 def stamp_of(crate):
     """What stands beside what was made of a crate, if that is up to date."""
-    made = made_of(crate) if crate.is_program else made_of(crate) / "format"
+    made = made_of(crate) if crate.is_program or crate.is_static else made_of(crate) / "format"
     return f"{crates.sum_of(crate.name)} {hashlib.sha256(made.read_bytes()).hexdigest()}\n" if made.exists() else ""
 
 
@@ -67,7 +76,7 @@ class Prover:
                     self.fail(crate, said)
                     return False
             stamp_file(crate).unlink(missing_ok=True)
-            room.give(crate.name if crate.is_program else f"rlib/{crate.name}.rlib", made_of(crate))
+            room.give(name_in_room(crate), made_of(crate))
         stamp_file(crate).parent.mkdir(exist_ok=True)
         stamp_file(crate).write_text(stamp_of(crate))
         self.tell(crate, time.monotonic() - begun, jobs)

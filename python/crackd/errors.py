@@ -19,6 +19,8 @@ REASONS = {
     13: "the number of workers isn't 1 to 64",
     14: "a limit is out of its range",
     17: "the port can't be listened on",
+    102: "the handle holds a table already",
+    103: "lists that have to be equally long aren't",
     104: "the library has no such policy",
 }
 

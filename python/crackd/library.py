@@ -7,7 +7,8 @@ import os
 import pathlib
 from typing import Optional
 
-NAME = "libcrackd.so"
+# what `make lib` builds, and what `make lib-unproved` does
+NAMES = ("libcrackd.so", "libcrackd-unproved.so")
 HERE = pathlib.Path(__file__).resolve().parent
 
 
@@ -61,11 +62,9 @@ _loaded: Optional[Library] = None
 
 
 def find_library() -> Optional[str]:
-    """Where the library is: what the variable CRACKD_LIBRARY names, or that inside of the package, if there is one."""
+    """Where the library is: what the variable CRACKD_LIBRARY names, or that inside of the package, if there is one: the proved one, or else the other."""
     named = os.environ.get("CRACKD_LIBRARY")
-    if named:
-        return named
-    return str(HERE / NAME) if (HERE / NAME).exists() else None
+    return named or next((str(HERE / it) for it in NAMES if (HERE / it).exists()), None)
 
 
 def library() -> Library:
@@ -74,7 +73,7 @@ def library() -> Library:
     if _loaded is None:
         path = find_library()
         if path is None:
-            raise ImportError(f"{NAME} isn't built: `make lib` in the repository puts it into {HERE}, and CRACKD_LIBRARY can name another place")
+            raise ImportError(f"{NAMES[0]} isn't built: `make lib` in the repository puts it into {HERE}, and CRACKD_LIBRARY can name another place")
         try:
             _loaded = Library(path)
         except (OSError, AttributeError) as error:

@@ -1,0 +1,4 @@
+pub mod AsBox
+pub mod CallLaws
+pub mod Crosses
+pub mod PieceLaws

@@ -1,0 +1,103 @@
+-- What calls from C mean.
+use Rattle.std.specs.Prelude.{◌≡◌, ◌⊎◌, ◌≢◌, ◌<◌, ◌≤◌, ℕ, ◌==◌, Bool, true, All, List, [], ◌∷◌, map, length, Option, None, Some, MatchOption, Result, MatchResult, slice_get, slice_index_or, if◌then◌else◌}
+use Rattle.crack_row.specs.Refusals.{code_of}
+use Rattle.crack_row.specs.declared.TheConstants.{GREATEST_KEY}
+use Rattle.crack_row.specs.declared.Bound.{Bound}
+use Rattle.crack_row.specs.declared.Key.{Key}
+use Rattle.crack_row.specs.declared.Payload.{Payload}
+use Rattle.crack_row.specs.declared.Row.{Row}
+use Rattle.crack_row.specs.declared.RowNo.{RowNo}
+use Rattle.crack_row.specs.declared.command.Policy.{Policy}
+use Rattle.crack_row.specs.declared.command.Policy.TheVariants.{Complete, Gradual, Ripple, Auto}
+use Rattle.crack_row.specs.declared.layout.Layout.{Layout}
+use Rattle.crack_row.specs.declared.layout.PieceSize.{PieceSize}
+use Rattle.crack_row.specs.declared.limit.Limits.{Limits}
+use Rattle.crack_row.specs.declared.refusal.Refusal.{Refusal}
+use Rattle.crack_row.specs.declared.refusal.Refusal.TheVariants.{OutOfMemory}
+use Rattle.crack_plain.specs.Past.{no_past}
+use Rattle.crack_plain.specs.Plain.{PlainView}
+use Rattle.crack_part.specs.Parts.{Part}
+use Rattle.crack_core.specs.Asking.{lasting, Deletes, Updates}
+use Rattle.crack_core.specs.Bulk.{Call, Went, comes_to, flag}
+use Rattle.crack_core.specs.Opening.{opening_fault, MayFault}
+use Rattle.crack_core.specs.Routes.{keys_of_part}
+use Rattle.crack_core.specs.Steps.{tables_of, tables_folded, IsLayoutOutcome, IsFoldOutcome}
+use Rattle.crack_core.specs.declared.bulk.Progress.{Progress}
+use Rattle.crackd_c.specs.Handles.{CoreState}
+use Rattle.crackd_c.specs.declared.handle.Handle.{Handle}
+use Rattle.crackd_c.specs.declared.picture.Totals.{Totals}
+
+-- the policy of a number
+abbrev pub policy_at : ℕ → Option Policy
+policy_at n = if n == 0 then Some Complete else (if n == 1 then Some Gradual else (if n == 2 then Some Ripple else (if n == 3 then Some Auto else None)))
+
+-- the totals of a layout
+abbrev pub totals_in : Layout → Totals
+totals_in layout = record { rows = layout.rows; column = layout.column; pending_out = layout.pending_out; pending_in = layout.pending_in; cells = layout.cells; free = layout.free; pieces = length layout.pieces }
+
+-- what is read past the end of a list of pieces
+abbrev pub no_piece : PieceSize
+no_piece = record { low = record { 0 = 0 }; high = record { 0 = 0 }; size = 0 }
+
+-- a piece's least key and size
+abbrev pub StandsAt : PieceSize → ℕ → ℕ → Type 0
+StandsAt piece low size = (piece.low.0 ≤ GREATEST_KEY → low ≡ piece.low.0) × (size ≡ piece.size)
+
+-- pieces stand in two lists, as far as these have room: the least key of each, and how many rows it has
+abbrev pub PiecesIn : List PieceSize → List ℕ → List ℕ → Type 0
+PiecesIn pieces lows sizes = (k : ℕ) → k < length pieces → k < length lows → StandsAt (slice_index_or pieces k no_piece) (slice_index_or lows k 0) (slice_index_or sizes k 0)
+
+-- what a call returns: 0, or the number of the refusal
+abbrev pub status_of : Option Refusal → ℕ
+status_of None = 0
+status_of (Some e) = code_of e
+
+-- lists are as long as another
+abbrev pub AreEqual : ℕ → List ℕ → Type 0
+AreEqual count [] = Unit {0}
+AreEqual count (n ∷ others) = (n ≡ count) × AreEqual count others
+
+-- splits as bounds
+abbrev pub bounds_at : List ℕ → List Bound
+bounds_at splits = map (λ (split : ℕ). record { 0 = split }) splits
+
+-- the plain rows of a table, as folds leave them
+abbrev pub rows_of : CoreState → List PlainView
+rows_of core = lasting (tables_of core.parts)
+
+-- a call on a table comes out by what is asked of its rows: its status is 0, and this is the answer; or it is the number of a refusal, and nothing
+-- else is written
+abbrev pub ComesOut : {X : Type 0} → (Result X Refusal → List PlainView → List PlainView → Type 0) → CoreState → CoreState → ℕ → X → Type 0 → Type 0
+ComesOut asked old new status answer unwritten = (refusal : Option Refusal) × (status ≡ status_of refusal) × asked (comes_to answer refusal) (rows_of old) (rows_of new) × (refusal ≢ None → unwritten)
+
+-- a row is taken out: 1 is written, and what the row was; or 0, where it wasn't there
+abbrev pub TakesOut : CoreState → CoreState → RowNo → ℕ → (Option Row → Type 0) → Type 0 → Type 0
+TakesOut old new row status written unwritten = (refusal : Option Refusal) × (went : Option Row) × (status ≡ status_of refusal) × Deletes old.limits old.splits row (comes_to went refusal) (rows_of old) (rows_of new) × MatchOption refusal (written went) (λ e. unwritten)
+
+-- a row gets another key and payload: 1 is written, or 0, where it isn't there
+abbrev pub Rewrites : CoreState → CoreState → RowNo → Key → Payload → ℕ → ℕ → Type 0 → Type 0
+Rewrites old new row key payload status found unwritten = (refusal : Option Refusal) × (is : Bool) × (status ≡ status_of refusal) × Updates old.limits old.splits row key payload (comes_to is refusal) (rows_of old) (rows_of new) × MatchOption refusal (found ≡ flag is) (λ e. unwritten)
+
+-- a list of so many calls on a table went so: its status is 0, or the number of the refusal at which it stopped, and so many were done
+abbrev pub GoesOn : Call → ℕ → CoreState → CoreState → ℕ → ℕ → Type 0
+GoesOn call count old new status done = (progress : Progress) × (status ≡ status_of progress.refusal) × (done ≡ progress.done) × Went call count (rows_of old) progress (rows_of new)
+
+-- a partition's layout is written, or why there is none
+abbrev pub Shows : CoreState → ℕ → ℕ → Totals → List ℕ → List ℕ → Type 0 → Type 0
+Shows core part status totals lows sizes unwritten = (outcome : Result Layout Refusal) × IsLayoutOutcome (keys_of_part core.splits part) (slice_get (tables_of core.parts) part) outcome × MatchResult outcome (λ layout. (status ≡ 0) × (totals ≡ totals_in layout) × PiecesIn layout.pieces lows sizes) (λ e. (status ≡ code_of e) × unwritten)
+
+-- the history of a partition is folded, and how many entries went is written
+abbrev pub FoldsOne : CoreState → CoreState → ℕ → ℕ → ℕ → Type 0 → Type 0
+FoldsOne old new part status folded unwritten = (outcome : Result ℕ Refusal) × IsFoldOutcome (slice_get (tables_of old.parts) part) outcome × (tables_of new.parts ≡ tables_folded (tables_of old.parts) part outcome) × MatchResult outcome (λ count. (status ≡ 0) × (folded ≡ count)) (λ e. (status ≡ code_of e) × unwritten)
+
+-- a handle holds a table that was just opened
+abbrev pub IsFresh : Handle → List ℕ → Limits → Type 0
+IsFresh handle splits limits = (handle.is_open ≡ true) × (handle.core.splits ≡ bounds_at splits) × (handle.core.limits ≡ limits) × All (λ (part : Part). part.past ≡ no_past) handle.core.parts × (opening_fault (bounds_at splits) limits ≡ None)
+
+-- a table is opened with these splits and limits, without rows, or this is why not
+abbrev pub Opens : Handle → Handle → List ℕ → Limits → ℕ → Type 0
+Opens old new splits limits status = (refusal : Option Refusal) × (status ≡ status_of refusal) × MatchOption refusal (IsFresh new splits limits) (λ e. (MayFault (bounds_at splits) limits e ⊎ (e ≡ OutOfMemory)) × (new ≡ old))
+
+-- a handle still holds its table, which has the splits and the limits that it was opened with
+abbrev pub StaysOpen : Handle → Handle → Type 0
+StaysOpen old new = (new.is_open ≡ true) × (new.core.splits ≡ old.core.splits) × (new.core.limits ≡ old.core.limits)

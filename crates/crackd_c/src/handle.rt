@@ -1,0 +1,93 @@
+//! A core that C holds.
+ghost use Rattle.std.specs.Prelude.{◌≡◌, ℕ, true, false};
+ghost use Rattle.crackd_c.specs.Handles.{CoreState, core_coded, handle_owns};
+ghost use Rattle.std.specs.Borrow.{sem};
+
+use crate::parts::Parts;
+use crack_core::Core;
+use std::alloc::Global;
+use std::marker::{Model, Send};
+use std::{mem, ptr};
+
+/// A table that C holds, or none. One whose bytes are all zero holds none.
+#[repr(C)]
+#[derive(Drop)]
+pub struct Handle {
+    at: *mut u8,
+    is_open: bool,
+    ghost core: { CoreState } by { core_coded },
+}
+
+impl Model for Handle {
+    ghost also_owns = { λ h. handle_owns h.is_open h.at h.core };
+}
+
+impl Handle {
+    ghost use Rattle.crackd_c.specs.Lends.{core_follows};
+
+    /// Whether it holds a table.
+    pub fn is_open(&mut self) -> bool
+        ensures { (result ≡ self.old.is_open) × (self.new ≡ self.old) }
+    {
+        self.is_open
+    }
+
+    /// One that holds this table.
+    pub fn of(core: Box<Core>) -> Handle
+        ensures { (result.is_open ≡ true) × (result.core ≡ core.value) }
+    {
+        Handle::of_parts(Parts::of(core))
+    }
+
+    /// Takes the table out, and leaves none.
+    pub fn take(&mut self, alloc: Global) -> Box<Core>
+        requires { self.old.is_open ≡ true }
+        ensures value { result.value ≡ self.old.core }
+        ensures closed { self.new.is_open ≡ false }
+    {
+        let closed = Handle::closed();
+        mem::replace(self, closed).into_parts(alloc).into_box()
+    }
+
+    /// One that holds no table.
+    fn closed() -> Handle
+        ensures { result.is_open ≡ false }
+    {
+        Handle {
+            at: ptr::null_mut(),
+            is_open: false,
+        }
+    }
+
+    fn of_parts(parts: Parts<Core, Global>) -> Handle
+        ensures { (result.is_open ≡ true) × (result.core ≡ parts.value) }
+    {
+        let Parts { ptr, alloc: _ } = parts;
+        Handle {
+            at: ptr as *mut u8,
+            is_open: true,
+        }
+    }
+
+    fn into_parts(self, alloc: Global) -> Parts<Core, Global>
+        requires { self.is_open ≡ true }
+        ensures { result.value ≡ self.core }
+    {
+        let Handle { at, is_open: _ } = self;
+        Parts {
+            ptr: at as *mut Core,
+            alloc,
+        }
+    }
+
+    /// The table, to be asked.
+    pub fn core(&mut self) -> &mut Core
+        requires { self.old.is_open ≡ true }
+        ensures* writes_back { sem 𝓛 (core_follows self.entry result) }
+        ensures value { result.now ≡ self.old.core }
+    {
+        unsafe { &mut *(self.at as *mut Core) }
+    }
+}
+
+unsafe impl Send for Handle {}

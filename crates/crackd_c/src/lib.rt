@@ -1,0 +1,474 @@
+//! The partitions of one thread, for C: one call at a time at a handle.
+#![tactic(auto)]
+
+ghost use Rattle.std.specs.Prelude.{◌≡◌, true, false, None, IsSome, MatchOption, length, [], ◌∷◌};
+ghost use Rattle.crack_core.specs.Asking.{Inserts};
+ghost use Rattle.crack_core.specs.Bulk.{CountsKeys, SumsKeys, joined, InsertsAt, DeletesAt, UpdatesAt, CountsAt, SumsAt};
+ghost use Rattle.crack_core.specs.Listing.{SelectsKeys};
+ghost use Rattle.crack_core.specs.Steps.{accepted_by};
+ghost use Rattle.crackd_c.specs.Calls.{policy_at, AreEqual, ComesOut, TakesOut, Rewrites, GoesOn, Shows, FoldsOne, Opens, StaysOpen};
+
+pub mod handle;
+pub mod opening;
+mod parts;
+pub mod picture;
+pub mod status;
+
+use crack_row::{Key, Limits, Payload, RowNo, Serial, Upkeep};
+use handle::Handle;
+use picture::Totals;
+use status::{
+    ALREADY_OPEN, ANSWERED, CLOSED, LENGTHS_DIFFER, NO_SUCH_POLICY, close_list, flag, policy_of,
+};
+use std::alloc::Global;
+
+/// Opens a table at a handle that holds none.
+#[unsafe(no_mangle)]
+pub extern "C" fn crackd_open(
+    alloc: Global,
+    handle: &mut Handle,
+    splits: &[u64],
+    history: u64,
+    cells: u64,
+    life: u64,
+) -> u32
+    ensures open { handle.old.is_open ≡ true → (result ≡ ALREADY_OPEN) × (handle.new ≡ handle.old) }
+    ensures opens { handle.old.is_open ≡ false → Opens handle.old handle.new splits.now (record { history = history; cells = cells; life = life; upkeep = Upkeep.OnRequest }) result }
+{
+    if handle.is_open() {
+        return ALREADY_OPEN;
+    }
+    let limits = Limits {
+        history,
+        cells,
+        life,
+        upkeep: Upkeep::OnRequest,
+    };
+    match opening::open(alloc, splits, limits) {
+        Ok(core) => {
+            *handle = Handle::of(core);
+            ANSWERED
+        }
+        Err(refusal) => refusal.code(),
+    }
+}
+
+/// Gives back all that a table took. The handle holds none then.
+#[unsafe(no_mangle)]
+pub extern "C" fn crackd_close(alloc: Global, handle: &mut Handle) -> u32
+    ensures closed { handle.old.is_open ≡ false → (result ≡ CLOSED) × (handle.new ≡ handle.old) }
+    ensures closes { handle.old.is_open ≡ true → (result ≡ 0) × (handle.new.is_open ≡ false) }
+{
+    if !handle.is_open() {
+        return CLOSED;
+    }
+    drop(handle.take(alloc));
+    ANSWERED
+}
+
+/// Places a row, and writes its number.
+#[unsafe(no_mangle)]
+pub extern "C" fn crackd_insert(
+    handle: &mut Handle,
+    key: u64,
+    payload: i64,
+    part: &mut u32,
+    serial: &mut u64,
+) -> u32
+    ensures closed { handle.old.is_open ≡ false → (result ≡ CLOSED) × (handle.new ≡ handle.old) × (part.new ≡ part.old) × (serial.new ≡ serial.old) }
+    ensures open { handle.old.is_open ≡ true → StaysOpen handle.old handle.new }
+    ensures inserts { handle.old.is_open ≡ true → ComesOut (Inserts handle.old.core.limits handle.old.core.splits (record { 0 = key }) (record { 0 = payload })) handle.old.core handle.new.core result (record { part = part.new; serial = record { 0 = serial.new } }) ((part.new ≡ part.old) × (serial.new ≡ serial.old)) }
+{
+    if !handle.is_open() {
+        return CLOSED;
+    }
+    match handle
+        .core()
+        .insert(Key::from_number(key), Payload::from_number(payload))
+    {
+        Ok(row) => {
+            *part = row.part;
+            *serial = row.serial.0;
+            ANSWERED
+        }
+        Err(refusal) => refusal.code(),
+    }
+}
+
+/// Takes a row out, and writes whether it was there, and what it was.
+#[unsafe(no_mangle)]
+pub extern "C" fn crackd_delete(
+    handle: &mut Handle,
+    part: u32,
+    serial: u64,
+    gone: &mut u8,
+    key: &mut u64,
+    payload: &mut i64,
+) -> u32
+    ensures closed { handle.old.is_open ≡ false → (result ≡ CLOSED) × (handle.new ≡ handle.old) × (gone.new ≡ gone.old) × (key.new ≡ key.old) × (payload.new ≡ payload.old) }
+    ensures open { handle.old.is_open ≡ true → StaysOpen handle.old handle.new }
+    ensures deletes { handle.old.is_open ≡ true → TakesOut handle.old.core handle.new.core (record { part = part; serial = record { 0 = serial } }) result (λ went. MatchOption went ((gone.new ≡ 0) × (key.new ≡ key.old) × (payload.new ≡ payload.old)) (λ row. (gone.new ≡ 1) × (key.new ≡ row.key.0) × (payload.new ≡ row.payload.0))) ((gone.new ≡ gone.old) × (key.new ≡ key.old) × (payload.new ≡ payload.old)) }
+{
+    if !handle.is_open() {
+        return CLOSED;
+    }
+    let row = RowNo {
+        part,
+        serial: Serial(serial),
+    };
+    match handle.core().delete(row) {
+        Ok(Some(went)) => {
+            *gone = 1;
+            *key = went.key.number();
+            *payload = went.payload.number();
+            ANSWERED
+        }
+        Ok(None) => {
+            *gone = 0;
+            ANSWERED
+        }
+        Err(refusal) => refusal.code(),
+    }
+}
+
+/// Replaces the key and the payload of a row, and writes whether it is there.
+#[unsafe(no_mangle)]
+pub extern "C" fn crackd_update(
+    handle: &mut Handle,
+    part: u32,
+    serial: u64,
+    key: u64,
+    payload: i64,
+    found: &mut u8,
+) -> u32
+    ensures closed { handle.old.is_open ≡ false → (result ≡ CLOSED) × (handle.new ≡ handle.old) × (found.new ≡ found.old) }
+    ensures open { handle.old.is_open ≡ true → StaysOpen handle.old handle.new }
+    ensures updates { handle.old.is_open ≡ true → Rewrites handle.old.core handle.new.core (record { part = part; serial = record { 0 = serial } }) (record { 0 = key }) (record { 0 = payload }) result found.new (found.new ≡ found.old) }
+{
+    if !handle.is_open() {
+        return CLOSED;
+    }
+    let row = RowNo {
+        part,
+        serial: Serial(serial),
+    };
+    match handle
+        .core()
+        .update(row, Key::from_number(key), Payload::from_number(payload))
+    {
+        Ok(is_there) => {
+            *found = flag(is_there);
+            ANSWERED
+        }
+        Err(refusal) => refusal.code(),
+    }
+}
+
+/// Counts the rows whose keys are `first` to `last`, both included.
+#[unsafe(no_mangle)]
+pub extern "C" fn crackd_count(
+    handle: &mut Handle,
+    policy: u32,
+    first: u64,
+    last: u64,
+    count: &mut u64,
+) -> u32
+    ensures closed { handle.old.is_open ≡ false → (result ≡ CLOSED) × (handle.new ≡ handle.old) × (count.new ≡ count.old) }
+    ensures open { handle.old.is_open ≡ true → StaysOpen handle.old handle.new }
+    ensures stranger { handle.old.is_open ≡ true → policy_at policy ≡ None → (result ≡ NO_SUCH_POLICY) × (handle.new ≡ handle.old) × (count.new ≡ count.old) }
+    ensures counts { handle.old.is_open ≡ true → IsSome (policy_at policy) → ComesOut (CountsKeys handle.old.core.limits handle.old.core.splits first last) handle.old.core handle.new.core result count.new (count.new ≡ count.old) }
+{
+    if !handle.is_open() {
+        return CLOSED;
+    }
+    let Some(policy) = policy_of(policy) else {
+        return NO_SUCH_POLICY;
+    };
+    match handle.core().count_keys(first, last, policy) {
+        Ok(rows) => {
+            *count = rows;
+            ANSWERED
+        }
+        Err(refusal) => refusal.code(),
+    }
+}
+
+/// Adds up the payloads of the rows whose keys are `first` to `last`, both included: the low 64 bits of the sum, and those above them.
+#[unsafe(no_mangle)]
+pub extern "C" fn crackd_sum(
+    handle: &mut Handle,
+    policy: u32,
+    first: u64,
+    last: u64,
+    low: &mut u64,
+    high: &mut i64,
+) -> u32
+    ensures closed { handle.old.is_open ≡ false → (result ≡ CLOSED) × (handle.new ≡ handle.old) × (low.new ≡ low.old) × (high.new ≡ high.old) }
+    ensures open { handle.old.is_open ≡ true → StaysOpen handle.old handle.new }
+    ensures stranger { handle.old.is_open ≡ true → policy_at policy ≡ None → (result ≡ NO_SUCH_POLICY) × (handle.new ≡ handle.old) × (low.new ≡ low.old) × (high.new ≡ high.old) }
+    ensures sums { handle.old.is_open ≡ true → IsSome (policy_at policy) → ComesOut (SumsKeys handle.old.core.limits handle.old.core.splits first last) handle.old.core handle.new.core result (joined low.new high.new) ((low.new ≡ low.old) × (high.new ≡ high.old)) }
+{
+    if !handle.is_open() {
+        return CLOSED;
+    }
+    let Some(policy) = policy_of(policy) else {
+        return NO_SUCH_POLICY;
+    };
+    match handle.core().sum_keys(first, last, policy) {
+        Ok(sum) => {
+            let halves = crack_core::halves(sum);
+            *low = halves.0;
+            *high = halves.1;
+            ANSWERED
+        }
+        Err(refusal) => refusal.code(),
+    }
+}
+
+/// Lists the rows whose keys are `first` to `last`, both included, as far as the lists have room, and writes how many there are.
+#[unsafe(no_mangle)]
+pub extern "C" fn crackd_select(
+    handle: &mut Handle,
+    policy: u32,
+    first: u64,
+    last: u64,
+    parts: &mut [u32],
+    serials: &mut [u64],
+    keys: &mut [u64],
+    payloads: &mut [i64],
+    found: &mut u64,
+) -> u32
+    ensures closed { handle.old.is_open ≡ false → (result ≡ CLOSED) × (handle.new ≡ handle.old) × (parts.new ≡ parts.old) × (serials.new ≡ serials.old) × (keys.new ≡ keys.old) × (payloads.new ≡ payloads.old) × (found.new ≡ found.old) }
+    ensures open { handle.old.is_open ≡ true → StaysOpen handle.old handle.new }
+    ensures lengths { handle.old.is_open ≡ true → (AreEqual (length parts.old) (length serials.old ∷ length keys.old ∷ length payloads.old ∷ []) → ⊥) → (result ≡ LENGTHS_DIFFER) × (handle.new ≡ handle.old) × (parts.new ≡ parts.old) × (serials.new ≡ serials.old) × (keys.new ≡ keys.old) × (payloads.new ≡ payloads.old) × (found.new ≡ found.old) }
+    ensures stranger { handle.old.is_open ≡ true → AreEqual (length parts.old) (length serials.old ∷ length keys.old ∷ length payloads.old ∷ []) → policy_at policy ≡ None → (result ≡ NO_SUCH_POLICY) × (handle.new ≡ handle.old) × (parts.new ≡ parts.old) × (serials.new ≡ serials.old) × (keys.new ≡ keys.old) × (payloads.new ≡ payloads.old) × (found.new ≡ found.old) }
+    ensures selects { handle.old.is_open ≡ true → AreEqual (length parts.old) (length serials.old ∷ length keys.old ∷ length payloads.old ∷ []) → IsSome (policy_at policy) → ComesOut (SelectsKeys handle.old.core.limits handle.old.core.splits parts.new serials.new keys.new payloads.new first last) handle.old.core handle.new.core result found.new ((parts.new ≡ parts.old) × (serials.new ≡ serials.old) × (keys.new ≡ keys.old) × (payloads.new ≡ payloads.old) × (found.new ≡ found.old)) }
+{
+    if !handle.is_open() {
+        return CLOSED;
+    }
+    let room = parts.len();
+    if serials.len() != room || keys.len() != room || payloads.len() != room {
+        return LENGTHS_DIFFER;
+    }
+    let Some(policy) = policy_of(policy) else {
+        return NO_SUCH_POLICY;
+    };
+    match handle
+        .core()
+        .select_keys(first, last, policy, parts, serials, keys, payloads)
+    {
+        Ok(rows) => {
+            *found = rows;
+            ANSWERED
+        }
+        Err(refusal) => refusal.code(),
+    }
+}
+
+/// Writes what stands where in a partition: the totals, and the least key and the size of each piece, as far as the lists have room.
+#[unsafe(no_mangle)]
+pub extern "C" fn crackd_layout(
+    handle: &mut Handle,
+    part: u32,
+    totals: &mut Totals,
+    lows: &mut [u64],
+    sizes: &mut [u64],
+) -> u32
+    ensures closed { handle.old.is_open ≡ false → (result ≡ CLOSED) × (handle.new ≡ handle.old) × (totals.new ≡ totals.old) × (lows.new ≡ lows.old) × (sizes.new ≡ sizes.old) }
+    ensures kept { handle.old.is_open ≡ true → (handle.new.is_open ≡ true) × (handle.new.core ≡ handle.old.core) }
+    ensures lengths { handle.old.is_open ≡ true → ((length sizes.old ≡ length lows.old) → ⊥) → (result ≡ LENGTHS_DIFFER) × (handle.new ≡ handle.old) × (totals.new ≡ totals.old) × (lows.new ≡ lows.old) × (sizes.new ≡ sizes.old) }
+    ensures shows { handle.old.is_open ≡ true → length sizes.old ≡ length lows.old → Shows handle.old.core part result totals.new lows.new sizes.new ((totals.new ≡ totals.old) × (lows.new ≡ lows.old) × (sizes.new ≡ sizes.old)) }
+{
+    if !handle.is_open() {
+        return CLOSED;
+    }
+    if sizes.len() != lows.len() {
+        return LENGTHS_DIFFER;
+    }
+    match handle.core().layout(part) {
+        Ok(layout) => {
+            *totals = picture::totals_of(&layout);
+            picture::list_pieces(layout.pieces.as_slice(), lows, sizes);
+            ANSWERED
+        }
+        Err(refusal) => refusal.code(),
+    }
+}
+
+/// Folds the history of a partition, and writes how many entries went.
+#[unsafe(no_mangle)]
+pub extern "C" fn crackd_checkpoint(handle: &mut Handle, part: u32, folded: &mut u64) -> u32
+    ensures closed { handle.old.is_open ≡ false → (result ≡ CLOSED) × (handle.new ≡ handle.old) × (folded.new ≡ folded.old) }
+    ensures open { handle.old.is_open ≡ true → StaysOpen handle.old handle.new }
+    ensures folds { handle.old.is_open ≡ true → FoldsOne handle.old.core handle.new.core part result folded.new (folded.new ≡ folded.old) }
+{
+    if !handle.is_open() {
+        return CLOSED;
+    }
+    match handle.core().checkpoint(part) {
+        Ok(entries) => {
+            *folded = entries;
+            ANSWERED
+        }
+        Err(refusal) => refusal.code(),
+    }
+}
+
+/// Writes how many commands the partitions have answered since they were opened.
+#[unsafe(no_mangle)]
+pub extern "C" fn crackd_accepted(handle: &mut Handle, accepted: &mut u64) -> u32
+    ensures closed { handle.old.is_open ≡ false → (result ≡ CLOSED) × (handle.new ≡ handle.old) × (accepted.new ≡ accepted.old) }
+    ensures kept { handle.old.is_open ≡ true → (handle.new.is_open ≡ true) × (handle.new.core ≡ handle.old.core) }
+    ensures accepted { handle.old.is_open ≡ true → (result ≡ 0) × (accepted.new ≡ accepted_by handle.old.core.parts) }
+{
+    if !handle.is_open() {
+        return CLOSED;
+    }
+    *accepted = handle.core().accepted();
+    ANSWERED
+}
+
+/// Places a row for each key and payload, and writes their numbers.
+#[unsafe(no_mangle)]
+pub extern "C" fn crackd_insert_many(
+    handle: &mut Handle,
+    keys: &[u64],
+    payloads: &[i64],
+    parts: &mut [u32],
+    serials: &mut [u64],
+    done: &mut u64,
+) -> u32
+    ensures closed { handle.old.is_open ≡ false → (result ≡ CLOSED) × (handle.new ≡ handle.old) × (parts.new ≡ parts.old) × (serials.new ≡ serials.old) × (done.new ≡ done.old) }
+    ensures open { handle.old.is_open ≡ true → StaysOpen handle.old handle.new }
+    ensures lengths { handle.old.is_open ≡ true → (AreEqual (length keys.now) (length payloads.now ∷ length parts.old ∷ length serials.old ∷ []) → ⊥) → (result ≡ LENGTHS_DIFFER) × (handle.new ≡ handle.old) × (parts.new ≡ parts.old) × (serials.new ≡ serials.old) × (done.new ≡ done.old) }
+    ensures inserts { handle.old.is_open ≡ true → AreEqual (length keys.now) (length payloads.now ∷ length parts.old ∷ length serials.old ∷ []) → GoesOn (InsertsAt handle.old.core.limits handle.old.core.splits keys.now payloads.now parts.new serials.new) (length keys.now) handle.old.core handle.new.core result done.new }
+{
+    if !handle.is_open() {
+        return CLOSED;
+    }
+    let count = keys.len();
+    if payloads.len() != count || parts.len() != count || serials.len() != count {
+        return LENGTHS_DIFFER;
+    }
+    let progress = handle.core().insert_many(keys, payloads, parts, serials);
+    close_list(progress, done)
+}
+
+/// Takes rows out, and writes of each whether it was there.
+#[unsafe(no_mangle)]
+pub extern "C" fn crackd_delete_many(
+    handle: &mut Handle,
+    parts: &[u32],
+    serials: &[u64],
+    gone: &mut [u8],
+    done: &mut u64,
+) -> u32
+    ensures closed { handle.old.is_open ≡ false → (result ≡ CLOSED) × (handle.new ≡ handle.old) × (gone.new ≡ gone.old) × (done.new ≡ done.old) }
+    ensures open { handle.old.is_open ≡ true → StaysOpen handle.old handle.new }
+    ensures lengths { handle.old.is_open ≡ true → (AreEqual (length parts.now) (length serials.now ∷ length gone.old ∷ []) → ⊥) → (result ≡ LENGTHS_DIFFER) × (handle.new ≡ handle.old) × (gone.new ≡ gone.old) × (done.new ≡ done.old) }
+    ensures deletes { handle.old.is_open ≡ true → AreEqual (length parts.now) (length serials.now ∷ length gone.old ∷ []) → GoesOn (DeletesAt handle.old.core.limits handle.old.core.splits parts.now serials.now gone.new) (length parts.now) handle.old.core handle.new.core result done.new }
+{
+    if !handle.is_open() {
+        return CLOSED;
+    }
+    let count = parts.len();
+    if serials.len() != count || gone.len() != count {
+        return LENGTHS_DIFFER;
+    }
+    let progress = handle.core().delete_many(parts, serials, gone);
+    close_list(progress, done)
+}
+
+/// Replaces keys and payloads of rows, and writes of each whether it is there.
+#[unsafe(no_mangle)]
+pub extern "C" fn crackd_update_many(
+    handle: &mut Handle,
+    parts: &[u32],
+    serials: &[u64],
+    keys: &[u64],
+    payloads: &[i64],
+    found: &mut [u8],
+    done: &mut u64,
+) -> u32
+    ensures closed { handle.old.is_open ≡ false → (result ≡ CLOSED) × (handle.new ≡ handle.old) × (found.new ≡ found.old) × (done.new ≡ done.old) }
+    ensures open { handle.old.is_open ≡ true → StaysOpen handle.old handle.new }
+    ensures lengths { handle.old.is_open ≡ true → (AreEqual (length parts.now) (length serials.now ∷ length keys.now ∷ length payloads.now ∷ length found.old ∷ []) → ⊥) → (result ≡ LENGTHS_DIFFER) × (handle.new ≡ handle.old) × (found.new ≡ found.old) × (done.new ≡ done.old) }
+    ensures updates { handle.old.is_open ≡ true → AreEqual (length parts.now) (length serials.now ∷ length keys.now ∷ length payloads.now ∷ length found.old ∷ []) → GoesOn (UpdatesAt handle.old.core.limits handle.old.core.splits parts.now serials.now keys.now payloads.now found.new) (length parts.now) handle.old.core handle.new.core result done.new }
+{
+    if !handle.is_open() {
+        return CLOSED;
+    }
+    let count = parts.len();
+    if serials.len() != count || keys.len() != count || payloads.len() != count {
+        return LENGTHS_DIFFER;
+    }
+    if found.len() != count {
+        return LENGTHS_DIFFER;
+    }
+    let progress = handle
+        .core()
+        .update_many(parts, serials, keys, payloads, found);
+    close_list(progress, done)
+}
+
+/// Counts the rows of each range, from its first key to its last, both included.
+#[unsafe(no_mangle)]
+pub extern "C" fn crackd_count_many(
+    handle: &mut Handle,
+    policy: u32,
+    firsts: &[u64],
+    lasts: &[u64],
+    counts: &mut [u64],
+    done: &mut u64,
+) -> u32
+    ensures closed { handle.old.is_open ≡ false → (result ≡ CLOSED) × (handle.new ≡ handle.old) × (counts.new ≡ counts.old) × (done.new ≡ done.old) }
+    ensures open { handle.old.is_open ≡ true → StaysOpen handle.old handle.new }
+    ensures lengths { handle.old.is_open ≡ true → (AreEqual (length firsts.now) (length lasts.now ∷ length counts.old ∷ []) → ⊥) → (result ≡ LENGTHS_DIFFER) × (handle.new ≡ handle.old) × (counts.new ≡ counts.old) × (done.new ≡ done.old) }
+    ensures stranger { handle.old.is_open ≡ true → AreEqual (length firsts.now) (length lasts.now ∷ length counts.old ∷ []) → policy_at policy ≡ None → (result ≡ NO_SUCH_POLICY) × (handle.new ≡ handle.old) × (counts.new ≡ counts.old) × (done.new ≡ done.old) }
+    ensures counts { handle.old.is_open ≡ true → AreEqual (length firsts.now) (length lasts.now ∷ length counts.old ∷ []) → IsSome (policy_at policy) → GoesOn (CountsAt handle.old.core.limits handle.old.core.splits firsts.now lasts.now counts.new) (length firsts.now) handle.old.core handle.new.core result done.new }
+{
+    if !handle.is_open() {
+        return CLOSED;
+    }
+    let count = firsts.len();
+    if lasts.len() != count || counts.len() != count {
+        return LENGTHS_DIFFER;
+    }
+    let Some(policy) = policy_of(policy) else {
+        return NO_SUCH_POLICY;
+    };
+    let progress = handle.core().count_many(firsts, lasts, policy, counts);
+    close_list(progress, done)
+}
+
+/// Adds up the payloads of each range, from its first key to its last, both included: the low 64 bits of each sum, and those above them.
+#[unsafe(no_mangle)]
+pub extern "C" fn crackd_sum_many(
+    handle: &mut Handle,
+    policy: u32,
+    firsts: &[u64],
+    lasts: &[u64],
+    lows: &mut [u64],
+    highs: &mut [i64],
+    done: &mut u64,
+) -> u32
+    ensures closed { handle.old.is_open ≡ false → (result ≡ CLOSED) × (handle.new ≡ handle.old) × (lows.new ≡ lows.old) × (highs.new ≡ highs.old) × (done.new ≡ done.old) }
+    ensures open { handle.old.is_open ≡ true → StaysOpen handle.old handle.new }
+    ensures lengths { handle.old.is_open ≡ true → (AreEqual (length firsts.now) (length lasts.now ∷ length lows.old ∷ length highs.old ∷ []) → ⊥) → (result ≡ LENGTHS_DIFFER) × (handle.new ≡ handle.old) × (lows.new ≡ lows.old) × (highs.new ≡ highs.old) × (done.new ≡ done.old) }
+    ensures stranger { handle.old.is_open ≡ true → AreEqual (length firsts.now) (length lasts.now ∷ length lows.old ∷ length highs.old ∷ []) → policy_at policy ≡ None → (result ≡ NO_SUCH_POLICY) × (handle.new ≡ handle.old) × (lows.new ≡ lows.old) × (highs.new ≡ highs.old) × (done.new ≡ done.old) }
+    ensures sums { handle.old.is_open ≡ true → AreEqual (length firsts.now) (length lasts.now ∷ length lows.old ∷ length highs.old ∷ []) → IsSome (policy_at policy) → GoesOn (SumsAt handle.old.core.limits handle.old.core.splits firsts.now lasts.now lows.new highs.new) (length firsts.now) handle.old.core handle.new.core result done.new }
+{
+    if !handle.is_open() {
+        return CLOSED;
+    }
+    let count = firsts.len();
+    if lasts.len() != count || lows.len() != count || highs.len() != count {
+        return LENGTHS_DIFFER;
+    }
+    let Some(policy) = policy_of(policy) else {
+        return NO_SUCH_POLICY;
+    };
+    let progress = handle.core().sum_many(firsts, lasts, policy, lows, highs);
+    close_list(progress, done)
+}

@@ -1,0 +1,36 @@
+//! Opens partitions between splits that are numbers.
+ghost use Rattle.std.specs.Prelude.{◌≡◌, ◌⊎◌, All, map, None, IfOk, IfErr, OnOk};
+ghost use Rattle.crack_row.specs.declared.Bound.{Bound};
+ghost use Rattle.crack_core.specs.Opening.{opening_fault, MayFault};
+ghost use Rattle.crack_part.specs.Parts.{Part};
+ghost use Rattle.crack_plain.specs.Past.{no_past};
+ghost use Rattle.crackd_c.specs.Calls.{bounds_at};
+
+use crack_core::Core;
+use crack_row::{Bound, BoundNumber, Limits, Refusal};
+use std::alloc::Global;
+
+/// Partitions between these splits, on the heap. Refused as `Core::open_with` is, and with 8 where the splits find no memory.
+pub fn open(alloc: Global, splits: &[u64], limits: Limits) -> Result<Box<Core>, Refusal>
+    ensures opened { IfOk result (λ core. (core.value.splits ≡ bounds_at splits.now) × (core.value.limits ≡ limits)) }
+    ensures fresh { IfOk result (λ core. All (λ (part : Part). part.past ≡ no_past) core.value.parts) }
+    ensures none { OnOk result (opening_fault (bounds_at splits.now) limits ≡ None) }
+    ensures fault { IfErr result (λ e. MayFault (bounds_at splits.now) limits e ⊎ (e ≡ Refusal.OutOfMemory)) }
+{
+    let bounds = bounds_of(alloc, splits)?;
+    let core = Core::open_with(alloc, &bounds, limits)?;
+    let held = Box::new(alloc, core)?;
+    Ok(held)
+}
+
+/// Splits as bounds.
+fn bounds_of(alloc: Global, splits: &[u64]) -> Result<Vec<Bound>, Refusal>
+    ensures ok { IfOk result (λ bounds. bounds.items ≡ bounds_at splits.now) }
+    ensures err { IfErr result (λ e. e ≡ Refusal.OutOfMemory) }
+{
+    let mut bounds = Vec::with_capacity(alloc, splits.len())?;
+    'splits: for split in splits {
+        bounds.push_reserved(Bound::from_number(*split as BoundNumber));
+    }
+    Ok(bounds)
+}

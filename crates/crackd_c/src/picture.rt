@@ -1,0 +1,58 @@
+//! What stands where in a partition, for C.
+ghost use Rattle.std.specs.Prelude.{◌≡◌, ◌≤◌, length};
+ghost use Rattle.crackd_c.specs.Calls.{totals_in, PiecesIn};
+
+use crack_row::{Bound, GREATEST_KEY, Layout, PieceSize};
+
+/// How many rows, column places, pending deletions, pending insertions, cells, free cells and pieces a partition has.
+#[repr(C)]
+#[derive(Clone, Copy)]
+pub struct Totals {
+    pub rows: u64,
+    pub column: u64,
+    pub pending_out: u64,
+    pub pending_in: u64,
+    pub cells: u64,
+    pub free: u64,
+    pub pieces: u64,
+}
+
+/// The totals of a layout.
+pub fn totals_of(layout: &Layout) -> Totals
+    ensures { result ≡ totals_in layout.now }
+{
+    Totals {
+        rows: layout.rows,
+        column: layout.column,
+        pending_out: layout.pending_out,
+        pending_in: layout.pending_in,
+        cells: layout.cells,
+        free: layout.free,
+        pieces: layout.pieces.as_slice().len() as u64,
+    }
+}
+
+/// Writes the least key and the size of each piece, as far as there is room.
+pub fn list_pieces(pieces: &[PieceSize], lows: &mut [u64], sizes: &mut [u64])
+    requires { length sizes.old ≡ length lows.old }
+    ensures { PiecesIn pieces.now lows.new sizes.new }
+{
+    'pieces: for i in 0..pieces.len() {
+        if i >= lows.len() {
+            return;
+        }
+        let piece = pieces[i];
+        lows[i] = least_in(piece.low);
+        sizes[i] = piece.size;
+    }
+}
+
+/// The least key that isn't below a bound.
+fn least_in(bound: Bound) -> u64
+    ensures { bound.0 ≤ GREATEST_KEY → result ≡ bound.0 }
+{
+    match bound.least_key() {
+        Some(key) => key.number(),
+        None => 0,
+    }
+}

@@ -1,0 +1,54 @@
+//! The numbers that calls return.
+ghost use Rattle.std.specs.Prelude.{◌≡◌};
+ghost use Rattle.crack_core.specs.Bulk.{flag};
+ghost use Rattle.crackd_c.specs.Calls.{policy_at, status_of};
+
+use crack_core::Progress;
+use crack_row::{Policy, Refusal};
+
+/// What a call returns that was answered.
+pub const ANSWERED: u32 = 0;
+
+/// The handle holds no table.
+pub const CLOSED: u32 = 101;
+
+/// The handle holds a table already.
+pub const ALREADY_OPEN: u32 = 102;
+
+/// Lists that have to be equally long aren't.
+pub const LENGTHS_DIFFER: u32 = 103;
+
+/// There is no policy of this number.
+pub const NO_SUCH_POLICY: u32 = 104;
+
+/// The policy of a number.
+pub fn policy_of(number: u32) -> Option<Policy>
+    ensures { result ≡ policy_at number }
+{
+    match number {
+        0 => Some(Policy::Complete),
+        1 => Some(Policy::Gradual),
+        2 => Some(Policy::Ripple),
+        3 => Some(Policy::Auto),
+        _ => None,
+    }
+}
+
+/// How a list of calls went: its number, and how many were answered.
+pub fn close_list(progress: Progress, done: &mut u64) -> u32
+    ensures done { done.new ≡ progress.done }
+    ensures status { result ≡ status_of progress.refusal }
+{
+    *done = progress.done;
+    match progress.refusal {
+        Some(refusal) => refusal.code(),
+        None => ANSWERED,
+    }
+}
+
+/// A flag as a number.
+pub fn flag(is: bool) -> u8
+    ensures { result ≡ flag is }
+{
+    is as u8
+}
