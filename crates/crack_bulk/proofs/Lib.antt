@@ -6,6 +6,7 @@ pub mod Placed
 pub mod AgreeLaws
 pub mod BulkLaws
 pub mod CarryLaws
+pub mod CountLaws
 pub mod CutLaws
 pub mod DownLaws
 pub mod LeadLaws

@@ -1,8 +1,8 @@
 -- Where carries end with a row in hand: the row that came in takes the place of the one with which its carry ends, and then all are sifted.
-use Rattle.std.specs.Prelude.{ℕ, Bool, cond, nat_lt, filter, List, [], ◌∷◌, ◌++◌}
+use Rattle.std.specs.Prelude.{ℕ, suc, ◌+◌, length, Bool, cond, nat_lt, filter, List, [], ◌∷◌, ◌++◌}
 use Rattle.crack_bulk.proofs.Pieces.{Pieces, last, below}
 use Rattle.crack_bulk.proofs.Queues.{Event, comes, turns, stopped, is_below, any_row, passed}
-use Rattle.crack_bulk.proofs.Sifts.{turned}
+use Rattle.crack_bulk.proofs.Sifts.{turned, one_if_some}
 
 module _ {X : Type 0} (key : X → ℕ) (stops : X → Bool) where
   -- the rows that reach a piece, of all that come in: their carries haven't ended below, and they are of this piece or of one below
@@ -77,3 +77,16 @@ module _ {X : Type 0} (key : X → ℕ) (stops : X → Bool) where
       let above = sifted_down bound.0 pieces behind in
       let here = pass_over low above.0 [] rows in
       (here.0, below here.1 bound above.1)
+
+  -- how many rows of a piece make way for rows that reach it
+  abbrev pub made_way_to : ℕ → List X → List X → ℕ
+  made_way_to low [] rows = 0
+  made_way_to low (x ∷ xs) [] = cond (nat_lt (key x) low) (made_way_to low xs []) (made_way_to low xs (x ∷ []))
+  made_way_to low (x ∷ xs) (y ∷ ys) =
+      cond (nat_lt (key x) low) (cond (stops y) (suc (made_way_to low xs ys)) (suc (made_way_to low xs (ys ++ y ∷ [])))) (made_way_to low xs ((y ∷ ys) ++ x ∷ []))
+
+  -- how many are passed by or change places in a pass
+  abbrev pub counted_over : ℕ → List X → List X → ℕ
+  counted_over low [] rows = length (front low rows)
+  counted_over low (x ∷ xs) rows =
+      cond (nat_lt (key x) low) (length (front low rows) + (one_if_some (behind_front low rows) + counted_over low xs (turned (behind_front low rows)))) (counted_over low xs (rows ++ x ∷ []))

@@ -11,24 +11,24 @@ module _ {X : Type 0} (key : X → ℕ) (stops : X → Bool) where
   abbrev Goes : X → Type 0
   Goes x = stops x ≡ false
 
-  placed-nil : (xs : List X) → placed key stops xs [] ≡ []
+  pub placed-nil : (xs : List X) → placed key stops xs [] ≡ []
   placed-nil [] = refl
   placed-nil (x ∷ xs) = refl
 
-  placed-push : (xs rows : List X) (x : X) → Goes x → placed key stops xs (rows ++ x ∷ []) ≡ placed key stops xs rows ++ x ∷ []
+  pub placed-push : (xs rows : List X) (x : X) → Goes x → placed key stops xs (rows ++ x ∷ []) ≡ placed key stops xs rows ++ x ∷ []
   placed-push [] rows x goes = refl
   placed-push (w ∷ ws) [] x goes = rw (goes, placed-nil ws) refl
   placed-push (w ∷ ws) (y ∷ ys) x goes = ap (λ zs. cond (stops y) w y ∷ zs) (placed-push ws ys x goes)
 
   -- rows of lower pieces at the front stand there, whatever stands behind them
-  front-lower : (low : ℕ) (lower rows : List X) → All (λ x. key x < low) lower → (front key stops low (lower ++ rows) ≡ lower ++ front key stops low rows) × (behind_front key stops low (lower ++ rows) ≡ behind_front key stops low rows)
+  pub front-lower : (low : ℕ) (lower rows : List X) → All (λ x. key x < low) lower → (front key stops low (lower ++ rows) ≡ lower ++ front key stops low rows) × (behind_front key stops low (lower ++ rows) ≡ behind_front key stops low rows)
   front-lower low [] rows all = (refl, refl)
   front-lower low (x ∷ xs) rows all =
       let rest = front-lower low xs rows (All-tail (λ y. key y < low) x xs all) in
       let under = lt-ltb (key x) low (All-head (λ y. key y < low) x xs all) in
       (rw under (ap (λ ys. x ∷ ys) rest.0), rw under rest.1)
 
-  front-own : (low : ℕ) (y : X) (rows : List X) → low ≤ key y → (front key stops low (y ∷ rows) ≡ []) × (behind_front key stops low (y ∷ rows) ≡ y ∷ rows)
+  pub front-own : (low : ℕ) (y : X) (rows : List X) → low ≤ key y → (front key stops low (y ∷ rows) ≡ []) × (behind_front key stops low (y ∷ rows) ≡ y ∷ rows)
   front-own low y rows over = (rw (le-ltb (key y) low over) refl, rw (le-ltb (key y) low over) refl)
 
   pub met-own : (low : ℕ) (x : X) (xs rows : List X) → low ≤ key x → met_by key stops low (x ∷ xs) rows ≡ met_by key stops low xs (rows ++ x ∷ [])
@@ -39,16 +39,16 @@ module _ {X : Type 0} (key : X → ℕ) (stops : X → Bool) where
   survivors-own low x xs [] over = rw (le-ltb (key x) low over) refl
   survivors-own low x xs (y ∷ ys) over = rw (le-ltb (key x) low over) refl
 
-  turners-own : (low : ℕ) (x : X) (xs : List X) → low ≤ key x → turners key stops low (x ∷ xs) ≡ turners key stops low xs
+  pub turners-own : (low : ℕ) (x : X) (xs : List X) → low ≤ key x → turners key stops low (x ∷ xs) ≡ turners key stops low xs
   turners-own low x xs over = rw (le-ltb (key x) low over) refl
 
-  turners-turn : (low : ℕ) (x : X) (xs : List X) → key x < low → turners key stops low (x ∷ xs) ≡ x ∷ turners key stops low xs
+  pub turners-turn : (low : ℕ) (x : X) (xs : List X) → key x < low → turners key stops low (x ∷ xs) ≡ x ∷ turners key stops low xs
   turners-turn low x xs under = rw (lt-ltb (key x) low under) refl
 
-  pass-own : (low : ℕ) (x : X) (xs before rows : List X) → low ≤ key x → pass_over key stops low (x ∷ xs) before rows ≡ pass_over key stops low xs before (rows ++ x ∷ [])
+  pub pass-own : (low : ℕ) (x : X) (xs before rows : List X) → low ≤ key x → pass_over key stops low (x ∷ xs) before rows ≡ pass_over key stops low xs before (rows ++ x ∷ [])
   pass-own low x xs before rows over = ap (λ b. cond b (pass_over key stops low xs (before ++ (front key stops low rows ++ x ∷ [])) (turned (behind_front key stops low rows))) (pass_over key stops low xs before (rows ++ x ∷ []))) (le-ltb (key x) low over)
 
-  pass-turn : (low : ℕ) (x : X) (xs before rows : List X) → key x < low → pass_over key stops low (x ∷ xs) before rows ≡ pass_over key stops low xs (before ++ (front key stops low rows ++ x ∷ [])) (turned (behind_front key stops low rows))
+  pub pass-turn : (low : ℕ) (x : X) (xs before rows : List X) → key x < low → pass_over key stops low (x ∷ xs) before rows ≡ pass_over key stops low xs (before ++ (front key stops low rows ++ x ∷ [])) (turned (behind_front key stops low rows))
   pass-turn low x xs before rows under = ap (λ b. cond b (pass_over key stops low xs (before ++ (front key stops low rows ++ x ∷ [])) (turned (behind_front key stops low rows))) (pass_over key stops low xs before (rows ++ x ∷ []))) (lt-ltb (key x) low under)
 
   -- rows one behind the other
