@@ -1,14 +1,13 @@
 -- So many turns of a piece in which no row ends a carry are a rotation, and each bound moves up by as many carries as reach the piece above it.
-use Rattle.std.proofs.Common.{◌≡◌, ℕ, ◌+◌, ◌*◌, ◌/◌, ◌%◌, ◌<◌, ◌≤◌, Bool, true, false, cond, ltb, zero, suc, List, [], ◌∷◌, ◌++◌, take, drop, length, refl, sym, ap, ◌∙◌, inl, inr, arith}
+use Rattle.std.proofs.Common.{◌≡◌, ℕ, ◌+◌, ◌*◌, ◌/◌, ◌%◌, ◌<◌, ◌≤◌, Bool, cond, zero, suc, List, [], ◌∷◌, ◌++◌, take, drop, length, refl, sym, ap, ◌∙◌, inl, inr, arith}
 use Rattle.std.specs.List.{All}
 use Rattle.std.proofs.lemmas.Bool.{cases_Bool, lt-ltb}
 use Rattle.std.proofs.lemmas.List.{append-nil, append_assoc, take-append-drop, length-take-le, length_push}
 use Rattle.std.proofs.lemmas.Nat.{div-add-mod', mod_below}
 use Rattle.std.proofs.lemmas.List.Elements.{All-head, All-tail}
-use Rattle.crack_row.specs.declared.InnerBound.{InnerBound}
 use Rattle.crack_index.specs.declared.mark.Mark.{Mark}
 use Rattle.crack_bulk.proofs.Pieces.{Pieces, last, below, marks_of}
-use Rattle.crack_bulk.proofs.Queues.{Event, comes, turns, stopped, is_below, any_row, after, next, left, passed, in_bulk}
+use Rattle.crack_bulk.proofs.Queues.{Event, comes, turns, stopped, is_below, left, passed, in_bulk}
 use Rattle.crack_bulk.proofs.Sifts.{turned, queued}
 use Rattle.crack_bulk.proofs.PieceLaws.{mark_at}
 
