@@ -14,7 +14,7 @@ CONSTANT = re.compile(r"^(?:pub(?:\(crate\))? )?const ([A-Z_]+): \w+ =\s+(-?[0-9
 NUMBERS = [
     ("README.md", "one has at most {} rows,", "crack_row", "GREATEST_CELLS"),
     ("docs/GUIDE.md", "A partition has at most {} rows.", "crack_row", "GREATEST_CELLS"),
-    ("docs/GUIDE.md", "After {} of them, or as many as `--limit` says", "crack_row", "GREATEST_LIMIT"),
+    ("docs/GUIDE.md", "once its history has {} entries, or as many as `--limit` says", "crack_row", "GREATEST_LIMIT"),
     ("docs/GUIDE.md", "**{} cells** a partition", "crack_row", "GREATEST_CELLS"),
     ("docs/GUIDE.md", "**{} commands** a partition since its start", "crack_row", "GREATEST_LIFE"),
     ("docs/GUIDE.md", "except the room of {} entries", "crack_part", "KEPT_ENTRIES"),
