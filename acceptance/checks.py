@@ -47,7 +47,7 @@ def outcome(name: str) -> Outcome:
 def outcomes(checks: list[unittest.TestCase]) -> typing.Iterator[Outcome]:
     """What comes of these checks."""
     alone = [it.id() for it in checks if getattr(it, "alone", False)]
-    others = sorted({it.id() for it in checks} - set(alone), key=lambda it: not it.startswith(LONGEST))
+    others = sorted((it.id() for it in checks if it.id() not in alone), key=lambda it: not it.startswith(LONGEST))
     with concurrent.futures.ProcessPoolExecutor(os.cpu_count()) as pool:
         yield from pool.map(outcome, others)
     yield from map(outcome, alone)
