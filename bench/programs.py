@@ -14,7 +14,7 @@ import time
 
 TOP = pathlib.Path(__file__).resolve().parent.parent
 sys.path.append(str(TOP / "acceptance"))
-import server  # which starts servers, and holds their totals against what they must be
+import fixtures  # which starts servers, and holds their totals against what they must be
 
 OUT = TOP / "bench" / "out"
 PEERS = OUT / "peers"
@@ -159,9 +159,9 @@ def sent(word, source, port):
 def over_tcp(crackd, word, source, totals):
     """The same by a server of its own, whose replies must be those of a script."""
     try:
-        with server.serving(crackd, totals, 1, 1) as port:
+        with fixtures.serving(crackd, totals, 1, 1) as port:
             wrote, seconds = sent(word, source, port)
-    except server.Wrong as wrong:
+    except fixtures.Wrong as wrong:
         sys.exit(f"{source}: {wrong}")
     if wrote.encode() != answers([crackd, "script"], source):
         sys.exit(f"{source}: the server and a script don't answer the same")

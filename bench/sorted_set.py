@@ -12,7 +12,7 @@ import time
 
 import sizes
 from inputs import random_counts, random_insert_lines
-from programs import CRACKD, OUT, server
+from programs import CRACKD, OUT, fixtures
 
 REDIS = "redis-server"
 SECONDS = 600
@@ -103,7 +103,7 @@ class Client:
 @contextlib.contextmanager
 def redis():
     """The port of a Redis server of this run alone, which keeps nothing on disk."""
-    port = server.free_port()
+    port = fixtures.free_port()
     words = [REDIS, "--port", str(port), "--bind", "127.0.0.1", "--save", "", "--appendonly", "no", "--dir", OUT]
     started = subprocess.Popen(words, stdin=subprocess.DEVNULL, stdout=subprocess.PIPE)
     try:
@@ -119,9 +119,9 @@ def redis():
 def crackd(program, totals):
     """The port of `crackd serve` for one session, with what its totals must be."""
     try:
-        with server.serving(program, totals, 1, 1) as port:
+        with fixtures.serving(program, totals, 1, 1) as port:
             yield port
-    except server.Wrong as wrong:
+    except fixtures.Wrong as wrong:
         sys.exit(f"crackd serve: {wrong}")
 
 
