@@ -1,8 +1,9 @@
-//! Gates that say no: always, at one partition, or until another worker is inside.
+//! Gates that say no: always, at one partition, or until another worker is inside; and one that says yes, and notes to whom.
 ghost use Rattle.std.specs.Prelude.{◌≡◌, ◌<◌, not, false, nat_eq};
 ghost use Rattle.std.specs.Bool.{OnFalse};
 
 use crack_table::Gate;
+use std::alloc::{AllocError, Global};
 use std::sync::atomic::{AtomicBool, AtomicU32, Ordering};
 use std::thread;
 
@@ -153,5 +154,64 @@ impl Gate for Alone {
         give_way();
         self.inside.store(false, Ordering::SeqCst);
         turn >= 20
+    }
+}
+
+/// Who was let in by the gates that share these notes, in order.
+#[derive(Drop)]
+pub struct Notes {
+    entered: AtomicU32,
+    workers: Vec<AtomicU32>,
+}
+
+impl Notes {
+    /// Notes with room for so many.
+    pub fn new(alloc: Global, room: u32) -> Result<Notes, AllocError> {
+        let mut workers = Vec::new(alloc);
+        'places: for _ in 0..room {
+            workers.push(AtomicU32::new(u32::MAX))?;
+        }
+        Ok(Notes {
+            entered: AtomicU32::new(0),
+            workers,
+        })
+    }
+
+    /// Notes a worker after those that are noted; where there is no room, it is counted alone.
+    fn note(&self, worker: u32) {
+        let place = self.entered.fetch_add(1, Ordering::SeqCst);
+        if let Some(noted) = self.workers.get(place as usize) {
+            noted.store(worker, Ordering::SeqCst);
+        }
+    }
+
+    /// How many were let in.
+    pub fn entered(&self) -> u32 {
+        self.entered.load(Ordering::SeqCst)
+    }
+
+    /// Whether this worker was let in when so many others had been.
+    pub fn has(&self, place: u64, worker: u32) -> bool {
+        match self.workers.get(place as usize) {
+            Some(noted) => noted.load(Ordering::SeqCst) == worker,
+            None => false,
+        }
+    }
+}
+
+/// A gate that says yes, and notes its worker each time. All gates of one partition share their notes, which then stand in the order of its
+/// history, as long as each command is let in once and nobody comes between a gate's yes and the command.
+#[derive(Clone, Copy, Drop)]
+pub struct Noting<'a> {
+    pub worker: u32,
+    pub notes: &'a Notes,
+}
+
+impl Gate for Noting<'_> {
+    ghost may_refuse = { λ gate part turn. ⊥ };
+
+    fn inside(&self, _part: u32, _turn: u32) -> bool {
+        self.notes.note(self.worker);
+        true
     }
 }

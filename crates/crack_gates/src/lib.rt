@@ -1,8 +1,8 @@
-//! What tests of tables stand on: gates that say no, and what a table comes to.
+//! What tests of tables stand on: gates that say no or note whom they let in, and what a table comes to.
 #![tactic(auto)]
 
+pub mod ending;
 pub mod gates;
-pub mod totals;
 
-pub use gates::{Alone, Counting, Meeting, Shut, ShutAt};
-pub use totals::totals;
+pub use ending::totals;
+pub use gates::{Alone, Counting, Meeting, Notes, Noting, Shut, ShutAt};
