@@ -4,6 +4,7 @@ pub mod Sifts
 pub mod Carried
 pub mod Placed
 pub mod AgreeLaws
+pub mod AllLaws
 pub mod BeyondLaws
 pub mod BulkLaws
 pub mod CarryLaws

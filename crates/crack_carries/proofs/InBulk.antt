@@ -1,26 +1,13 @@
 -- All pending insertions of a range in bulk: what carry after carry leaves.
-use Rattle.std.proofs.Common.{◌≡◌, ◌⊎◌, ℕ, ◌+◌, ◌-◌, ◌<◌, ◌≤◌, Bool, true, false, not, List, [], ◌∷◌, ◌++◌, map, length, get_or, Option, Some, None, refl, sym, ap, ◌∙◌, inl, inr, arith}
-use Rattle.std.specs.List.{All, remove, filter}
-use Rattle.std.proofs.lemmas.Bool.{cases_lt, cases_Bool, leb-true, lt-leb, false≢true}
-use Rattle.std.proofs.lemmas.List.{append-nil, append_assoc, length-append, length-map, get_or-map, get_or_at, get_or_append_left, get_or-append-add, get_or-append_right, get_or_push, length_push}
-use Rattle.std.proofs.lemmas.List.Edits.{remove-append_right}
-use Rattle.std.proofs.lemmas.List.Elements.{All-nil, All-head, All-tail, All-cons, All-append, All-map, All-filter}
-use Rattle.crack_row.specs.Ranges.{Range, IsIn, is_in}
-use Rattle.crack_row.specs.declared.Row.{Row}
-use Rattle.crack_arena.specs.Arena.{Cell, Handle, no_handle}
-use Rattle.crack_arena.specs.Rows.{key_at, keys_at}
+use Rattle.std.proofs.Common.{ℕ, [], Option, Some, None, refl, inl, inr, arith}
+use Rattle.std.proofs.lemmas.Bool.{cases_lt, lt-leb}
+use Rattle.crack_row.specs.Ranges.{Range}
+use Rattle.crack_arena.specs.Rows.{keys_at}
 use Rattle.crack_pending.specs.Pending.{Finds}
-use Rattle.crack_pending.proofs.Searches.{is_in-true, is_in-false}
 use Rattle.crack_state.specs.State.{State, Carried, IsIntact}
-use Rattle.crack_state.specs.Steps.{lifted, pushed_on, hand_key, SameButRoom}
-use Rattle.crack_state.specs.Merge.{outside_of}
-use Rattle.crack_state.proofs.StepLaws.{IsIntact-lifted, IsIntact-room}
-use Rattle.crack_bulk.proofs.Queues.{Event, comes, turns, stopped, outcome}
-use Rattle.crack_bulk.proofs.Carried.{Leads, is_over, is_doomed, ends_with, inside_of, arrivals, carried_in_bulk, pieces_of}
-use Rattle.crack_bulk.proofs.AgreeLaws.{OfComing, OfEnd, outcome-ends}
-use Rattle.crack_bulk.proofs.BulkLaws.{one_at_a_time-in_bulk, outcomes-in_bulk}
-use Rattle.crack_bulk.proofs.LeadLaws.{StaysAs, IsIntact-Leads, StaysAs-Leads, carried_at, Leads-at}
-use Rattle.crack_bulk.proofs.ManyLaws.{with_room, evicted_of, bulk_from, pending-carried, bulk_from-first, bulk_from-none}
+use Rattle.crack_state.specs.Steps.{pushed_on, hand_key, SameButRoom}
+use Rattle.crack_bulk.proofs.Carried.{Leads, carried_in_bulk}
+use Rattle.crack_bulk.proofs.AllLaws.{IsUnder, in_bulk-through}
 use Rattle.crack_merge.specs.Merges.{IsCeiling, Carries, buries, evicts, ends, goes_on, CarriesIn, CarriesAll, begins, carries}
 
 -- where a carry leads, it leads by its rules
@@ -32,177 +19,13 @@ Carries-Leads (Some bound) c t (Leads.evicts d lasting over) =
 Carries-Leads ceiling c t (Leads.ends d lasting below at_end) = ends d lasting below at_end
 Carries-Leads ceiling c t (Leads.goes_on d u lasting below before rest) = goes_on d u lasting below before (Carries-Leads ceiling (pushed_on d) u rest)
 
-All-left : {X : Type 0} (P : X → Type 0) (xs ys : List X) → All P (xs ++ ys) → All P xs
-All-left P xs ys all = λ k d h. rw (get_or_append_left xs ys d k h) at (all k d (omega (arith, h, length-append xs ys)))
-
-All-right : {X : Type 0} (P : X → Type 0) (xs ys : List X) → All P (xs ++ ys) → All P ys
-All-right P xs ys all = λ k d h. rw (get_or-append-add xs ys k d) at (all (length xs + k) d (omega (arith, h, length-append xs ys)))
-
--- two tests that agree on all of these keep the same
-filter-agree : {X : Type 0} (p q : X → Bool) (xs : List X) → All (λ x. p x ≡ q x) xs → filter p xs ≡ filter q xs
-filter-agree p q [] all = refl
-filter-agree p q (x ∷ xs) all = rw (All-head (λ y. p y ≡ q y) x xs all, filter-agree p q xs (All-tail (λ y. p y ≡ q y) x xs all)) refl
-
-remove_at : (p : List Handle) (y : Handle) (ys : List Handle) → remove (p ++ y ∷ ys) (length p) ≡ p ++ ys
-remove_at p y ys =
-    let none : length p - length p ≡ 0 = omega arith in
-    remove-append_right p (y ∷ ys) (length p) (length p) refl (omega arith) ∙ rw none refl
-
--- a key is in the range, or not
-inside_or : (r : Range) (key : ℕ) → IsIn r key ⊎ (¬ IsIn r key)
-inside_or r key = elim (cases_lt key r.low) [
-  | inl l ↦ inr (λ inside. omega (arith, l, inside.0))
-  | inr l ↦ elim (cases_lt key r.high) [
-    | inl h ↦ inl (l, h)
-    | inr h ↦ inr (λ inside. omega (arith, h, inside.1))
-  ]
-]
-
-module _ (r : Range) (key : Handle → ℕ) where
-  -- the row's key isn't in the range
-  abbrev IsOutside : Handle → Type 0
-  IsOutside h = ¬ IsIn r (key h)
-
-  -- none of these is in the range, from a place on
-  abbrev NoneFrom : ℕ → List Handle → Type 0
-  NoneFrom from hs = (k : ℕ) (d : Handle) → from ≤ k → k < length hs → IsOutside (get_or hs k d)
-
-  found_next : (passed rest : List Handle) (h : Handle) (from : ℕ) → from ≤ length passed → NoneFrom from passed → IsIn r (key h) → Finds r (map key (passed ++ h ∷ rest)) from (Some (length passed))
-  found_next passed rest h from order none inside =
-      let all = passed ++ h ∷ rest in
-      let within : length passed < length all = omega (arith, length-append passed (h ∷ rest)) in
-      record {
-        after = order;
-        within = omega (arith, within, length-map all key);
-        holds = rw (get_or-map key all (length passed) no_handle 0 within, get_or_at passed h rest no_handle (length passed) refl) inside;
-        before = λ k from_on up_to. rw (get_or-map key all k no_handle 0 (omega (arith, up_to, within)), get_or_append_left passed (h ∷ rest) no_handle k up_to) (none k no_handle from_on up_to);
-      }
-
-  found_none : (passed back : List Handle) (from : ℕ) → NoneFrom from passed → All IsOutside back → Finds r (map key (passed ++ back)) from None
-  found_none passed back from none outside = λ k from_on up_to.
-      let all = passed ++ back in
-      let within : k < length all = omega (arith, up_to, length-map all key) in
-      rw (get_or-map key all k no_handle 0 within) (elim (cases_lt k (length passed)) [
-        | inl l ↦ rw (get_or_append_left passed back no_handle k l) (none k no_handle from_on l)
-        | inr l ↦ rw (get_or-append_right passed back (length passed) k no_handle refl l) (outside (k - length passed) no_handle (omega (arith, l, within, length-append passed back)))
-      ])
-
-  none_on : (passed : List Handle) (h : Handle) (from : ℕ) → NoneFrom from passed → IsOutside h → NoneFrom from (passed ++ h ∷ [])
-  none_on passed h from none outside = λ k d from_on up_to. elim (cases_lt k (length passed)) [
-    | inl l ↦ rw (get_or_append_left passed (h ∷ []) d k l) (none k d from_on l)
-    | inr l ↦ rw (get_or_push passed h d k (omega (arith, l, up_to, length_push passed h))) outside
-  ]
-
--- a key that is over the ceiling isn't in the range
-over_outside : (ceiling : Option ℕ) (r : Range) (key : ℕ) → IsCeiling ceiling r → is_over ceiling key ≡ true → ¬ IsIn r key
-over_outside None r key high over = absurd (false≢true over)
-over_outside (Some bound) r key high over = λ inside. omega (arith, inside.1, high, leb-true bound key over)
-
-inside_under : (ceiling : Option ℕ) (r : Range) (key : ℕ) → IsCeiling ceiling r → IsIn r key → is_over ceiling key ≡ false
-inside_under None r key high inside = refl
-inside_under (Some bound) r key high inside = lt-leb bound key (omega (arith, inside.1, high))
-
--- what a carry evicts isn't of the range
-evicted_outside : (ceiling : Option ℕ) (r : Range) (t : State) (e : Event Handle) → IsCeiling ceiling r → OfEnd (λ y. ends_with ceiling t y ≡ true) e → All (IsOutside r (key_at t.cells)) (evicted_of t e)
-evicted_outside ceiling r t (comes x) high end = All-nil (IsOutside r (key_at t.cells))
-evicted_outside ceiling r t (turns moved) high end = All-nil (IsOutside r (key_at t.cells))
-evicted_outside ceiling r t (stopped moved y) high end = elim (cases_Bool (is_doomed t y)) [
-  | inl doomed ↦ rw doomed (All-nil (IsOutside r (key_at t.cells)))
-  | inr lasting ↦
-      let over : is_over ceiling (key_at t.cells y) ≡ true = rw lasting at end in
-      rw lasting (All-cons (IsOutside r (key_at t.cells)) y [] (over_outside ceiling r (key_at t.cells y) high over) (All-nil (IsOutside r (key_at t.cells))))
-]
-
--- keys that are the same leave the same of a filter by them
-keys_same : (r : Range) (cells cells' : List (Cell Row)) (hs : List Handle) → All (λ h. key_at cells' h ≡ key_at cells h) hs → (inside_of cells' r hs ≡ inside_of cells r hs) × (outside_of cells' r hs ≡ outside_of cells r hs)
-keys_same r cells cells' hs same =
-    (filter-agree (λ h. is_in r (key_at cells' h)) (λ h. is_in r (key_at cells h)) hs (λ k d h. ap (is_in r) (same k d h)), filter-agree (λ h. not (is_in r (key_at cells' h))) (λ h. not (is_in r (key_at cells h))) hs (λ k d h. ap (λ n. not (is_in r n)) (same k d h)))
-
-module _ (ceiling : Option ℕ) (r : Range) (high : IsCeiling ceiling r) (s : State) (a b : ℕ) where
-  -- one carry of the first of them
-  record Step (t : State) (passed todo back : List Handle) : Type 0 where
-    v : State
-    evicted : List Handle
-    intact : IsIntact v []
-    pending : v.pending_in ≡ passed ++ (todo ++ (back ++ evicted))
-    carries : CarriesIn ceiling r s (length passed) v
-    roomy : with_room a b v ≡ v
-    stays : All (StaysAs t v) v.pending_in
-    outside : All (IsOutside r (key_at v.cells)) (back ++ evicted)
-    same : (h : Handle) (es : List (Event Handle)) (left : List Handle) → t.pending_in ≡ passed ++ h ∷ (todo ++ back) → All (OfComing (StaysAs t v)) es → with_room a b (bulk_from ceiling es (left ++ evicted) v) ≡ with_room a b (bulk_from ceiling (comes h ∷ es) left t)
-
-  step : (h : Handle) (todo : List Handle) (t : State) (from : ℕ) (passed back : List Handle) → IsIntact t [] → t.pending_in ≡ passed ++ h ∷ (todo ++ back) → from ≤ length passed → NoneFrom r (key_at t.cells) from passed → All (IsOutside r (key_at t.cells)) back → CarriesIn ceiling r s from t → IsIn r (key_at t.cells h) → Step t passed todo back
-  step h todo t from passed back intact pending order none outside before inside =
-      let place : ℕ = length passed in
-      let rest : List Handle = todo ++ back in
-      let within : place < length t.pending_in = rw pending (omega (arith, length-append passed (h ∷ rest))) in
-      let hand : get_or t.pending_in place no_handle ≡ h = rw pending (get_or_at passed h rest no_handle place refl) in
-      let under : is_over ceiling (key_at t.cells (get_or t.pending_in place no_handle)) ≡ false = rw hand (inside_under ceiling r (key_at t.cells h) high inside) in
-      let led = Leads-at ceiling place t a b within under intact in
-      let u : State = with_room led.0 led.1 t in
-      let v : State = with_room a b (carried_at ceiling place t) in
-      let e : Event Handle = outcome (key_at t.cells) (ends_with ceiling t) (comes (lifted place t).hand) (pieces_of t) in
-      let evicted : List Handle = evicted_of t e in
-      let lifted_intact = IsIntact-lifted place u within (IsIntact-room t u [] (record { same = refl }) intact) in
-      let stays = StaysAs-Leads ceiling (lifted place u) v lifted_intact led.2 in
-      let removed : remove t.pending_in place ≡ passed ++ rest = rw pending (remove_at passed h rest) in
-      let left : v.pending_in ≡ passed ++ (todo ++ (back ++ evicted)) =
-      pending-carried ceiling place t ∙ ap (λ hs. hs ++ evicted) removed ∙ append_assoc passed rest evicted ∙ ap (λ hs. passed ++ hs) (append_assoc todo back evicted) in
-      let stays_left : All (StaysAs t v) (passed ++ (todo ++ (back ++ evicted))) = rw left at stays.1 in
-      let stays_back : All (StaysAs t v) (back ++ evicted) = All-right (StaysAs t v) todo (back ++ evicted) (All-right (StaysAs t v) passed (todo ++ (back ++ evicted)) stays_left) in
-      let outside_back : All (IsOutside r (key_at t.cells)) (back ++ evicted) = All-append (IsOutside r (key_at t.cells)) back evicted outside (evicted_outside ceiling r t e high (outcome-ends (key_at t.cells) (ends_with ceiling t) (comes (lifted place t).hand) (pieces_of t) tt)) in
-      record {
-        v = v;
-        evicted = evicted;
-        intact = IsIntact-Leads ceiling (lifted place u) v lifted_intact led.2;
-        pending = left;
-        carries = carries from place t u v before (rw pending (found_next r (key_at t.cells) passed rest h from order none inside)) (record { same = refl }) (Carries-Leads ceiling (lifted place u) v led.2);
-        roomy = refl;
-        stays = stays.1;
-        outside = λ k d l. rw (stays_back k d l).0 (outside_back k d l);
-        same = λ g es left_of is coming.
-            let one : (lifted place t).hand ≡ g = rw is (get_or_at passed g rest no_handle place refl) in
-            ap (with_room a b) (bulk_from-first ceiling place t a b es left_of stays.0 coming) ∙ ap (λ x. with_room a b (bulk_from ceiling (comes x ∷ es) left_of t)) one;
-      }
-
-  -- those still to be looked at stand behind those that were passed by and before those that were evicted
-  carries_on : (todo : List Handle) (t : State) (from : ℕ) (passed back : List Handle) → IsIntact t [] → t.pending_in ≡ passed ++ (todo ++ back) → from ≤ length passed → NoneFrom r (key_at t.cells) from passed → All (IsOutside r (key_at t.cells)) back → CarriesIn ceiling r s from t → (inside_of t.cells r todo ≡ [] → with_room a b t ≡ t) → CarriesAll ceiling r s (with_room a b (bulk_from ceiling (map comes (inside_of t.cells r todo)) (passed ++ (outside_of t.cells r todo ++ back)) t))
-  carries_on [] t from passed back intact pending order none outside before roomy =
-      let same : with_room a b (bulk_from ceiling [] (passed ++ back) t) ≡ t = rw (← pending) (ap (with_room a b) (bulk_from-none ceiling t intact) ∙ roomy refl) in
-      rw same (record { from = from; carries = before; none = rw pending (found_none r (key_at t.cells) passed back from none outside) })
-  carries_on (h ∷ todo) t from passed back intact pending order none outside before roomy = elim (inside_or r (key_at t.cells h)) [
-    | inl inside ↦
-        let is : is_in r (key_at t.cells h) ≡ true = is_in-true r (key_at t.cells h) inside in
-        let one = step h todo t from passed back intact pending order none outside before inside in
-        let v = one.v in
-        let stays : All (StaysAs t v) (passed ++ (todo ++ (back ++ one.evicted))) = rw one.pending at one.stays in
-        let stays_todo : All (StaysAs t v) todo = All-left (StaysAs t v) todo (back ++ one.evicted) (All-right (StaysAs t v) passed (todo ++ (back ++ one.evicted)) stays) in
-        let kept = keys_same r t.cells v.cells todo (λ k d l. (stays_todo k d l).0) in
-        let coming : All (OfComing (StaysAs t v)) (map comes (inside_of t.cells r todo)) = All-map (OfComing (StaysAs t v)) comes (inside_of t.cells r todo) (All-filter (λ g. is_in r (key_at t.cells g)) (StaysAs t v) todo stays_todo) in
-        let all = carries_on todo v (length passed) passed (back ++ one.evicted) one.intact one.pending (omega arith) (λ k d f l. absurd (omega (arith, f, l))) one.outside one.carries (λ empty. one.roomy) in
-        let left : List Handle = passed ++ (outside_of t.cells r todo ++ back) in
-        let assoc : left ++ one.evicted ≡ passed ++ (outside_of t.cells r todo ++ (back ++ one.evicted)) = append_assoc passed (outside_of t.cells r todo ++ back) one.evicted ∙ ap (λ hs. passed ++ hs) (append_assoc (outside_of t.cells r todo) back one.evicted) in
-        rw is (rw (kept.0, kept.1, ← assoc, one.same h (map comes (inside_of t.cells r todo)) left pending coming) at all)
-    | inr beyond ↦
-        let not_in : is_in r (key_at t.cells h) ≡ false = is_in-false r (key_at t.cells h) beyond in
-        let assoc : (hs : List Handle) → (passed ++ h ∷ []) ++ hs ≡ passed ++ h ∷ hs = λ hs. append_assoc passed (h ∷ []) hs in
-        let all = carries_on todo t from (passed ++ h ∷ []) back intact (pending ∙ sym (assoc (todo ++ back))) (omega (arith, order, length_push passed h)) (none_on r (key_at t.cells) passed h from none beyond) outside before (λ empty. roomy (rw not_in empty)) in
-        rw not_in (rw (assoc (outside_of t.cells r todo ++ back)) at all)
-  ]
-
--- where a filter keeps none, none passes
-none_passes : {X : Type 0} (p : X → Bool) (xs : List X) → filter p xs ≡ [] → All (λ x. p x ≡ false) xs
-none_passes p [] empty = All-nil (λ x. p x ≡ false)
-none_passes p (x ∷ xs) empty = elim (cases_Bool (p x)) [
-  | inl passes ↦ let some : length (x ∷ filter p xs) ≡ 0 = ap length (rw passes at empty) in absurd (omega (arith, some))
-  | inr fails ↦ All-cons (λ y. p y ≡ false) x xs fails (none_passes p xs (rw fails at empty))
-]
+-- no key of a range is at or above its ceiling
+under : (ceiling : Option ℕ) (r : Range) → IsCeiling ceiling r → IsUnder ceiling r
+under None r high key inside = refl
+under (Some bound) r high key inside = lt-leb bound key (omega (arith, inside.1, high))
 
 -- all pending insertions of a range in bulk: what carry after carry leaves
 pub CarriesAll-in_bulk : (ceiling : Option ℕ) (r : Range) (s u : State) (first : ℕ) → IsCeiling ceiling r → IsIntact s [] → Finds r (keys_at s.cells s.pending_in) 0 (Some first) → SameButRoom (carried_in_bulk ceiling r s) u → CarriesAll ceiling r s u
 CarriesAll-in_bulk ceiling r s u first high intact found room =
-    let key = key_at s.cells in
-    let within : first < length s.pending_in = omega (arith, found.within, length-map s.pending_in key) in
-    let inside : is_in r (key (get_or s.pending_in first no_handle)) ≡ true = is_in-true r (key (get_or s.pending_in first no_handle)) (rw (get_or-map key s.pending_in first no_handle 0 within) at found.holds) in
-    let all = carries_on ceiling r high s u.column_room u.in_room s.pending_in s 0 [] [] intact (sym (append-nil s.pending_in)) (omega arith) (λ k d f l. absurd (omega (arith, f, l))) (All-nil (IsOutside r key)) begins (λ empty. absurd (false≢true (sym (none_passes (λ h. is_in r (key h)) s.pending_in empty first no_handle within) ∙ inside))) in
-    rw room.same (rw (append-nil (outside_of s.cells r s.pending_in), one_at_a_time-in_bulk key (ends_with ceiling s) (arrivals r s) (pieces_of s), outcomes-in_bulk key (ends_with ceiling s) (arrivals r s) (pieces_of s)) at all)
+    let all = in_bulk-through ceiling r (CarriesIn ceiling r s) s u first (under ceiling r high) (λ from place t v w before whole finds made leads. carries from place t v w before finds made (Carries-Leads ceiling _ w leads)) begins intact found room in
+    record { from = all.from; carries = all.on; none = all.none }
