@@ -223,7 +223,8 @@ def environment_for(program: pathlib.Path, folder: str) -> dict[str, str]:
     python.write_text(f'#!/bin/sh\nexec {interpreter()} "$@"\n', encoding="ascii")
     python.chmod(0o755)
     path = os.pathsep.join([folder, os.environ.get("PATH", "")])
-    return {**os.environ, "PATH": path, "CRACKD": str(program), "PYTHONPATH": str(PACKAGE), "LC_ALL": "C.UTF-8"}
+    of_library = {it: str(TOP / "lib") for it in ("CPATH", "LIBRARY_PATH", "LD_LIBRARY_PATH")}
+    return {**os.environ, **of_library, "PATH": path, "CRACKD": str(program), "PYTHONPATH": str(PACKAGE), "LC_ALL": "C.UTF-8"}
 
 
 def faults(program: pathlib.Path, page: str, heading: str) -> list[str]:

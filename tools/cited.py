@@ -5,7 +5,7 @@ import re
 
 import crates
 
-SECTION = re.compile(r"^## (crack_\w+)\n(.*?)(?=^## )", re.MULTILINE | re.DOTALL)
+SECTION = re.compile(r"^## (crackd?_\w+)\n(.*?)(?=^## )", re.MULTILINE | re.DOTALL)
 QUOTED = re.compile(r"`([^`]+)`")
 NAME = re.compile(r"[A-Za-z_][\w-]*")
 NAMED = re.compile(r"\b(?:fn|pub struct|pub enum|pub trait) (\w+)")
