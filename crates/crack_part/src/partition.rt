@@ -280,7 +280,9 @@ impl Partition {
         ensures memory { refusal_of self.old command ≡ None → IfErr result (λ e. e ≡ Refusal.OutOfMemory) }
     {
         if self.history.len() as u64 >= self.limits.history {
-            return self.apply_when_full(worker, command, policy);
+            // (a copy, and its outcome handed on, so that elsewhere neither stands in memory)
+            let asked = command;
+            return handed_on(self.apply_when_full(worker, asked, policy));
         }
         self.may_keep(&command)?;
         make_room(&mut self.history)?;
@@ -562,6 +564,17 @@ fn rewritten(row: Option<Row>) -> Reply
     }
 }
 
+/// What came of a command, piece by piece.
+#[inline(always)]
+fn handed_on(answered: Result<(Reply, Reply), Refusal>) -> Result<(Reply, Reply), Refusal>
+    ensures { result ≡ answered }
+{
+    match answered {
+        Ok((reply, receipt)) => Ok((reply, receipt)),
+        Err(refusal) => Err(refusal),
+    }
+}
+
 /// A reply with its copies.
 #[inline(always)]
 fn copied(reply: Reply, alloc: Global) -> Result<Copies, Refusal>
@@ -569,13 +582,26 @@ fn copied(reply: Reply, alloc: Global) -> Result<Copies, Refusal>
     ensures err { IfErr result (λ e. e ≡ Refusal.OutOfMemory) }
     ensures flat { IsFlat reply → IsOk result }
 {
-    let receipt = reply.copy(alloc)?;
-    let kept = reply.copy(alloc)?;
+    let receipt = copy_of(&reply, alloc)?;
+    let kept = copy_of(&reply, alloc)?;
     Ok(Copies {
         reply,
         receipt,
         kept,
     })
+}
+
+/// A copy of a reply. That of a placed row, which is met most, is made in place.
+#[inline(always)]
+fn copy_of(reply: &Reply, alloc: Global) -> Result<Reply, Refusal>
+    ensures ok { IfOk result (λ copy. copy ≡ reply.now) }
+    ensures err { IfErr result (λ e. e ≡ Refusal.OutOfMemory) }
+    ensures flat { IsFlat reply.now → IsOk result }
+{
+    match reply {
+        Reply::Placed(serial) => Ok(Reply::Placed(*serial)),
+        _ => reply.copy(alloc),
+    }
 }
 
 /// Settles the store for a range. Under `Policy::Auto` all pending rows are merged first where many insertions are pending, as a count of all keys

@@ -103,3 +103,6 @@ returns-clause-small c =
     let past = lived c.self.inside.base.rows.items c.self.inside.base.folded c.self.inside.base.placed c.self.inside.base.gone c.self.inside.history.items in
     let few : length (state_after past).rows < 2 ^ 32 = few_rows _ c.self.invariant in
     subst IsSmall (sym c.in_ok-copies.ensures.ok.0) (c.in_ok-reply.ensures.small (state_after past) (IsNumbered-after_past past c.self.invariant.legal.base) c.self.invariant.faithful few)
+
+pub returns-then-len-self-clause-refused : goal.returns-then-len-self-clause-refused
+returns-then-len-self-clause-refused c = rw c.handed_on.ensures c.apply_when_full.ensures.refused
