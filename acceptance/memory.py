@@ -33,7 +33,7 @@ SCRIPTS = {
     "rows are updated": ["insert 5 50", "update 0.0 6 60", ALL, "update 0.0 8 -80", f"select 0 {random_script.MOST}"],
     "rows wait near the range and far off": [*FOUR, "insert 17 0", "insert 90 0", "count 15 25"],
 }
-# checkpoints amid merges; of a history that is full, again and again; of rows whose cells were freed and used again; of cells and a life that end; and of so
+# checkpoints amid merges; of a history that is full, again and again, asked for or due; of rows whose cells were freed and used again; of cells and a life that end; and of so
 # long a history that its memory is given back
 FOLDS = {
     "a checkpoint amid rows that come and go": (
@@ -45,6 +45,16 @@ FOLDS = {
         random_script.Limits(3),
         ["insert 1 1", "insert 2 2", "count 0 9", "insert 3 3", "checkpoint 0", "insert 3 3", "delete 0.1", "update 0.0 5 5", "sum 0 9", "checkpoint 0",
          "checkpoint 0", "sum 0 9", "select 0 9", "insert 4 4", "checkpoint 0", "delete 0.0", "select 0 9"],
+    ),
+    "checkpoints that are due": (
+        random_script.Limits(3, is_automatic=True),
+        ["insert 1 1", "insert 2 2", "count 0 9", "insert 3 3", "delete 0.1", "update 0.0 5 5", "sum 0 9", "select 0 9", "delete 0.1", "insert 4 4",
+         "checkpoint 0", "insert 6 6", "update 0.2 7 7", "select 0 9", "count 0 9"],
+    ),
+    "checkpoints that are due, cells and a life that end": (
+        random_script.Limits(2, 3, 9, is_automatic=True),
+        ["insert 1 1", "insert 2 2", "insert 3 3", "insert 4 4", "delete 0.1", "insert 4 4", "select 0 9", "count 0 9", "update 0.0 8 8", "checkpoint 0", "sum 0 9",
+         "insert 5 5"],
     ),
     "a checkpoint of cells that were used again": (
         random_script.Limits(),

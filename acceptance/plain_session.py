@@ -173,7 +173,8 @@ class Session:
             return False
         (kind, told), (part,) = said, self.parts_of(said)
         is_outside = kind == "update" and not part.low <= told[2] < part.high
-        is_over = part.kept == part.limits.history or part.folded + part.kept == part.limits.life
+        is_shut = part.is_full() and not part.limits.is_automatic
+        is_over = is_shut or part.folded + part.kept == part.limits.life
         needs_cell = kind == "insert" or (kind == "update" and told[1] in part.settled)
         return is_outside or is_over or (needs_cell and part.has_no_cell())
 

@@ -1,8 +1,8 @@
 """Answers seeded scripts of a thousand random statements of all kinds by lists in Python, and compares.
 
 What a statement is answered is written here from docs/SPECIFICATION.md alone: a list of rows for each partition, changed and filtered, and no
-more; all four policies answer alike. A seed says how many splits there are, how far keys go, whether histories get full, and whether limits are
-so small that statements are often refused with 6, 9 and 10. Keys and ends of ranges are often splits, or beside one, or at a limit, as payloads are, which
+more; all four policies answer alike. A seed says how many splits there are, how far keys go, whether histories get full, whether limits are
+so small that statements are often refused with 6, 9 and 10, and whether checkpoints are made where they are due, so that none is refused with 6. Keys and ends of ranges are often splits, or beside one, or at a limit, as payloads are, which
 have either sign. Checkpoints stand amid the other statements. A layout is compared by its equations, since no rule fixes more of it: the pieces' sizes add
 up to the column; column, pending insertions and free cells make up the cells; the rows are the column less the pending deletions and the pending
 insertions, and as many as the list has; the pieces join from one end of the partition's keys to the other.
@@ -25,9 +25,10 @@ EDGES = [0, 1, 2**31 - 1, 2**31, 2**32 - 1, 2**32, 2**32 + 1, 2**63 - 1, 2**63, 
 STATEMENTS = 1000
 SECONDS = 20
 POLICIES = ["complete", "gradual", "ripple", "auto"]
-SEEDS = range(18)
-# by the seed, whether limits are small
+SEEDS = range(36)
+# by the seed, whether limits are small, and whether checkpoints are made where they are due
 TIGHT = [False, True]
+AUTOMATIC = [False, True]
 # by the seed: the greatest key; and how many splits, with how many entries histories have that get full, which those of the greatest keys do, and
 # about how many commands a partition accepts in all where limits are small
 KEYS = [20, 1000, MOST - 1]
@@ -42,15 +43,17 @@ class Refused(Exception):
 
 
 class Limits(typing.NamedTuple):
-    """What bounds each partition: the entries of a history, the cells, and the commands in all."""
+    """What bounds each partition: the entries of a history, the cells, and the commands in all; and whether it makes the checkpoints that are due."""
 
     history: int = MOST_ENTRIES
     cells: int = MOST_CELLS
     life: int = MOST_LIFE
+    is_automatic: bool = False
 
     def words(self):
         """The options of a command line."""
-        return ["--limit", str(self.history), "--cells", str(self.cells), "--life", str(self.life)]
+        upkeep = ["--auto-checkpoint"] if self.is_automatic else []
+        return ["--limit", str(self.history), "--cells", str(self.cells), "--life", str(self.life), *upkeep]
 
 
 class Part:
@@ -69,14 +72,20 @@ class Part:
 
     def test(self):
         """Refuses a command where no more is accepted."""
-        if self.kept == self.limits.history:
+        if self.is_full() and not self.limits.is_automatic:
             raise Refused(f"refused 6 {self.kept}")
         if self.folded + self.kept == self.limits.life:
             raise Refused("refused 10")
 
+    def is_full(self):
+        """Whether the history has as many entries as it may."""
+        return self.kept == self.limits.history
+
     def keep(self):
-        """Counts a command that is answered."""
+        """Counts a command that is answered, after the checkpoint that is due."""
         self.test()
+        if self.is_full():
+            self.checkpoint()
         self.kept += 1
         self.has_cell = None
 
@@ -342,7 +351,7 @@ def script(seed):
     limit = small if most == KEYS[-1] else MOST_ENTRIES
     splits = random_splits(numbers, most, count)
     is_tight = TIGHT[seed // 9 % 2]
-    limits = limits_of(numbers, is_tight, limit, life)
+    limits = limits_of(numbers, is_tight, limit, life)._replace(is_automatic=AUTOMATIC[seed // 18 % 2])
     table, policy = Table(splits, limits), numbers.choice(POLICIES)
     while len(pairs) < STATEMENTS - 1:
         pairs.append(random_statement(numbers, table, most))

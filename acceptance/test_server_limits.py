@@ -93,6 +93,19 @@ def check_folds(lines):
             raise Wrong(f"partition {part}: {sum(folds[part::WORKERS])} entries were folded of {OWN_LINES + 1} at most")
 
 
+def keep_rows(number, parts, ask):
+    """Rows of a client of this number come and go amid those of others in its partition. `ask` gives the reply to a statement that asks a partition."""
+    part, low = number % parts, number % parts * 10_000 + number * 1000
+    rows = []
+    for key in range(low, low + ROWS):
+        line = ask(f"insert {key} {number}", part)
+        rows.append(line.removeprefix("row "))
+        expect("a count of own rows", f"count {len(rows) - (len(rows) - 1) // 10}", ask(f"count {low} {low + ROWS}", part))
+        if len(rows) % 10 == 0:
+            expect("an own row", f"gone {key} {number}", ask(f"delete {rows[-1]}", part))
+    expect("a sum of own rows", f"sum {number * (ROWS - ROWS // 10)}", ask(f"sum {low} {low + ROWS}", part))
+
+
 class SmallLimits(fixtures.Case):
     """Checkpoints and small limits where many ask one partition."""
 
@@ -124,20 +137,29 @@ class SmallLimits(fixtures.Case):
         parts, each = 2, 2 * ROWS + ROWS // 10 + 1
 
         def work(client, number):
-            part, low = number % parts, number % parts * 10_000 + number * 1000
-            rows = []
-            for key in range(low, low + ROWS):
-                line = client.insist(f"insert {key} {number}", part)
-                rows.append(line.removeprefix("row "))
-                expect("a count of own rows", f"count {len(rows) - (len(rows) - 1) // 10}", client.insist(f"count {low} {low + ROWS}", part))
-                if len(rows) % 10 == 0:
-                    expect("an own row", f"gone {key} {number}", client.insist(f"delete {rows[-1]}", part))
-            expect("a sum of own rows", f"sum {number * (ROWS - ROWS // 10)}", client.insist(f"sum {low} {low + ROWS}", part))
+            keep_rows(number, parts, client.insist)
 
         accepted, inserted = CLIENTS * each, CLIENTS * ROWS
         totals = accepted, inserted, inserted // 10, inserted - inserted // 10
         with serving(self.program, totals, CLIENTS, CLIENTS + 1, "--limit", str(LIMIT), "10000") as port:
             check_folded(port, at_once(port, CLIENTS, work), parts, accepted)
+
+    def test_checkpoints_that_are_due(self):
+        """Clients that share partitions of a small limit are answered all that they ask, at once, and none of them asks for a checkpoint. Since the last one
+        that was due there are as many entries as were accepted beyond whole histories."""
+        parts, each = 2, 2 * ROWS + ROWS // 10 + 1
+
+        def work(client, number):
+            keep_rows(number, parts, lambda statement, _: client.reply(statement))
+
+        accepted, inserted = CLIENTS * each, CLIENTS * ROWS
+        totals = accepted, inserted, inserted // 10, inserted - inserted // 10
+        with serving(self.program, totals, CLIENTS, CLIENTS + 1, "--limit", str(LIMIT), "--auto-checkpoint", "10000") as port:
+            at_once(port, CLIENTS, work)
+            with Client(port) as last:
+                for part in range(parts):
+                    last.ask(f"checkpoint {part}", f"folded {(accepted // parts - 1) % LIMIT + 1}")
+                last.end()
 
     def test_a_life_ends_for_all(self):
         """A partition answers as many commands as its life is long, to all clients together, however often it is folded; layouts and checkpoints go on."""
