@@ -9,7 +9,7 @@ use crate::{GREATEST_CELLS, GREATEST_LIFE, GREATEST_LIMIT};
 pub enum Upkeep {
     /// It refuses the command: checkpoints are made where they are asked for.
     OnRequest,
-    /// It makes the checkpoint that is due, or takes out the rows that were deleted, and then answers the command.
+    /// Where its history is full it makes a checkpoint, and then answers the command.
     Automatic,
 }
 
