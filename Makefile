@@ -7,7 +7,7 @@ help:
 	@echo 'make lib     proves the library for C and Python as make run does, and builds lib/libcrackd.so and lib/crackd.h; the package finds it'
 	@echo 'make lib-unproved  the same without a proof, in a minute: lib/libcrackd-unproved.so'
 	@echo 'make test    proves everything from nothing, runs the tests, the programs and the acceptance cases: 26 to 30 minutes on 4'
-	@echo 'make edits   tries that the prover refuses the wrong bodies; OF="NAME .." those of these crates alone: behind make test 35 minutes on 4'
+	@echo 'make edits   tries that the prover refuses the wrong bodies; OF="NAME .." those of these crates alone: after make test 35 minutes on 4'
 	@echo 'make trust   prints what a reader has to read to know what is promised, and counts it; OF=--count: the numbers alone'
 
 run:
