@@ -1,6 +1,6 @@
 //! What one worker is told under small limits, with checkpoints amid its commands.
 use crate::values::{ask, insert};
-use crack_commands::{write_folded, write_refusal, write_reply};
+use crack_commands::{write_folded, write_layout, write_refusal, write_reply};
 use crack_gates::totals;
 use crack_row::{
     Command, GREATEST_LIMIT, Key, KeyNumber, KeyRange, Limits, Payload, PayloadNumber, Refusal,
@@ -12,11 +12,12 @@ use std::io::Write;
 use std::sync::Wait;
 use std::test::Fail;
 
-/// A command at partition 0, or a checkpoint of a partition.
+/// A command at partition 0, or a checkpoint or a layout of a partition.
 #[derive(Clone, Copy)]
 enum Turn {
     Ask(Command),
     Fold(u32),
+    Look(u32),
 }
 
 /// An insert of a row whose payload is its key.
@@ -60,6 +61,10 @@ fn tell<R: Wait, W: Write>(
         },
         Turn::Fold(part) => match worker.checkpoint(rt, table, part) {
             Ok(count) => write_folded(count, writer),
+            Err(refusal) => write_refusal(&refusal, writer),
+        },
+        Turn::Look(part) => match worker.layout(rt, table, part) {
+            Ok(layout) => write_layout(part, &layout, writer),
             Err(refusal) => write_refusal(&refusal, writer),
         },
     }
@@ -115,6 +120,28 @@ fn a_full_history_goes_on_behind_a_checkpoint(rt: HostRuntime) -> Result<(), Fai
     assert_eq!(rt; text.as_slice(), wanted.as_slice());
     workers.push(worker)?;
     assert_eq!(rt; totals(alloc, table, workers), Ok([5, 3, 1, 2]));
+    Ok(())
+}
+
+/// A layout folds nothing: the checkpoint after it counts all entries, and the one after that none.
+#[test]
+fn a_layout_folds_nothing(rt: HostRuntime) -> Result<(), Fail> {
+    let alloc: Global = rt.alloc();
+    let (table, mut workers) = Table::open_with(alloc, &[], greatest(), 1)?;
+    let mut worker = workers.pop().ok_or("worker")?;
+    let turns = [
+        place(1),
+        count_all(),
+        Turn::Look(0),
+        Turn::Fold(0),
+        Turn::Fold(0),
+    ];
+    let text = told(&rt, alloc, &mut worker, &table, &turns);
+    let wanted =
+        b"row 0.0\ncount 1\nlayout 0 rows 1 column 1 out 0 in 0 cells 1 free 0 pieces 1\npiece 0 18446744073709551616 1\nfolded 2\nfolded 0\n";
+    assert_eq!(rt; text.as_slice(), wanted.as_slice());
+    workers.push(worker)?;
+    assert_eq!(rt; totals(alloc, table, workers), Ok([2, 1, 0, 1]));
     Ok(())
 }
 

@@ -209,3 +209,49 @@ fn a_table_that_a_stranger_was_refused_is_gathered_by_its_own_worker(
     assert_eq!(rt; totals(alloc, table, workers), Ok([2, 2, 0, 2]));
     Ok(())
 }
+
+/// A gathering that is refused folds nothing: each partition has its entries yet, which a checkpoint then counts.
+#[test]
+fn a_refused_gathering_folds_nothing(rt: HostRuntime) -> Result<(), Fail> {
+    let alloc: Global = rt.alloc();
+    let (table, mut workers) = Table::open(alloc, &splits(), 10, 1)?;
+    let mut own = workers.pop().ok_or("own")?;
+    assert!(rt; ask(&rt, &mut own, &table, 0, insert(7)).is_ok());
+    assert!(rt; ask(&rt, &mut own, &table, 0, insert(8)).is_ok());
+    assert!(rt; ask(&rt, &mut own, &table, 1, insert(1000007)).is_ok());
+    let (_, table) = refused_with_a_stranger(alloc, table)?;
+    assert_eq!(rt; own.checkpoint(&rt, &table, 0), Ok(2));
+    assert_eq!(rt; own.checkpoint(&rt, &table, 1), Ok(1));
+    workers.push(own)?;
+    assert_eq!(rt; totals(alloc, table, workers), Ok([3, 3, 0, 3]));
+    Ok(())
+}
+
+/// Inserts as many rows into one of four partitions as its number and one more.
+fn insert_rows<R: Wait>(rt: &R, worker: &mut Worker, table: &Table, part: u32) -> bool {
+    let mut fine = true;
+    'rows: for row in 0..=part {
+        let key = part.wrapping_mul(100).wrapping_add(row);
+        fine = ask(rt, worker, table, part, insert(key)).is_ok() && fine;
+    }
+    fine
+}
+
+/// A checkpoint folds the partition that it names, and no other: each still counts its own entries, in whatever order they are folded.
+#[test]
+fn a_checkpoint_folds_its_own_partition_alone(rt: HostRuntime) -> Result<(), Fail> {
+    let alloc: Global = rt.alloc();
+    let (table, mut workers) = Table::open(alloc, &four(), 10, 1)?;
+    let mut own = workers.pop().ok_or("own")?;
+    let mut fine = true;
+    'fills: for part in 0..4u32 {
+        fine = insert_rows(&rt, &mut own, &table, part) && fine;
+    }
+    'folds: for part in [2u32, 0, 3, 1] {
+        fine = own.checkpoint(&rt, &table, part) == Ok(u64::from(part).wrapping_add(1)) && fine;
+    }
+    assert!(rt; fine);
+    workers.push(own)?;
+    assert_eq!(rt; totals(alloc, table, workers), Ok([10, 10, 0, 10]));
+    Ok(())
+}

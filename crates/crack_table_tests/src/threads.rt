@@ -1,6 +1,6 @@
 //! Workers on threads of their own.
 use crate::values::{ask, ask_by, count, insert, splits};
-use crack_gates::{Alone, Meeting, totals};
+use crack_gates::{Alone, Meeting, Notes, Noting, totals};
 use crack_row::{Command, KeyRange, Layout, Refusal, Reply};
 use crack_table::{Table, Worker};
 use std::alloc::Global;
@@ -72,6 +72,48 @@ fn one_partition_lets_one_inside(rt: HostRuntime) -> Result<(), Fail> {
     workers.push(second)?;
     workers.push(first)?;
     assert_eq!(rt; totals(alloc, table, workers), Ok([2, 2, 0, 2]));
+    Ok(())
+}
+
+/// Inserts 1000 rows into partition 0 behind a gate that notes the worker, and finds for each row whether the note at its place in the
+/// history, which is its serial, is the worker's.
+fn enter_noted<R: Wait>(
+    rt: &R,
+    mut worker: Worker,
+    table: &Table,
+    notes: &Notes,
+) -> (Worker, bool) {
+    let own = worker.book().worker();
+    let gate = Noting { worker: own, notes };
+    let mut fine = true;
+    'rows: for key in 0..1000u32 {
+        let reply = ask_by(rt, &mut worker, table, &gate, 0, insert(key));
+        let noted = matches!(reply, Ok(Reply::Placed(serial)) if notes.has(serial.0, own));
+        fine = noted && fine;
+    }
+    (worker, fine)
+}
+
+/// Were the lock let go between the gate's yes and the command, another worker's note would stand at some row's place; were the gate asked
+/// twice for a command, there would be more notes than rows.
+#[test]
+fn each_command_is_let_in_once_and_follows_at_once(rt: HostRuntime) -> Result<(), Fail> {
+    let alloc: Global = rt.alloc();
+    let (table, workers) = Table::open(alloc, &[], 1000000, 4)?;
+    let notes = Notes::new(alloc, 4000)?;
+    let (shared, runtime, noted) = (&table, &rt, &notes);
+    let done = thread::map_vec(
+        &rt,
+        workers,
+        &|worker| { enter_noted(runtime, worker, shared, noted) },
+    )?;
+    let mut back = Vec::new(alloc);
+    'done: for (worker, fine) in done {
+        assert!(rt; fine);
+        back.push(worker)?;
+    }
+    assert_eq!(rt; notes.entered(), 4000);
+    assert_eq!(rt; totals(alloc, table, back), Ok([4000, 4000, 0, 4000]));
     Ok(())
 }
 
