@@ -229,11 +229,6 @@ class Client:
         for line in wanted:
             expect(statement, line + "\n", self.lines.readline())
 
-    def ask_all(self, *pairs: str) -> None:
-        """Sends statements in turn, each written with its reply of one line behind a `|`."""
-        for pair in pairs:
-            self.ask(*pair.split(" | "))
-
     def end(self) -> None:
         self.ask("quit", "bye")
         expect("after quit", "", self.lines.readline())

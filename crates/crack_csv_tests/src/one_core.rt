@@ -53,7 +53,7 @@ fn serve_and_export<R: Read, W: Write>(
         R.remaining (device reader.old) ≡ Some bytes → W.contents (device writer.old) ≡ Some out →
         (between : List PlainView) × (written : List ℕ)
         × AreTold (bounds_of core.old.limits) core.old.splits (tables_of core.old.parts) (statements bytes) out told.0.first_short (Some between) (Some written)
-        × IsExported core.old.splits between told.1 (Some (tables_of core.new.parts)) (Some written) (W.contents (device writer.new))) }
+        × IsExported (bounds_of core.old.limits) core.old.splits between told.1 (Some (tables_of core.new.parts)) (Some written) (W.contents (device writer.new))) }
 {
     match serve(alloc, core, Policy::Ripple, reader, writer) {
         Ok(end) => match export_csv(alloc, core, Policy::Ripple, writer) {

@@ -10,5 +10,5 @@ returns-in-Ok-export_csv g c = λ bytes out e h.
       tables_of c.serve.new.desk.parts,
       out ++ concat one.texts,
       rw one.written_is at one,
-      rw (c.serve.ensures.splits, one.written_is) at told,
+      rw (c.serve.ensures.bounds, c.serve.ensures.splits, one.written_is) at told,
     )
