@@ -168,10 +168,11 @@ def take(case: Case, text: str, number: int) -> None:
 
 def held(case: Case) -> Case:
     """A case that is read whole. A misfit where what it says doesn't go together."""
+    place = f"{case.path.name}:{case.line}"
     if case.words is None:
-        raise Misfit("no line with the words of the command line")
+        raise Misfit(f"{place}: no line with the words of the command line")
     if bool(case.given) + bool(case.source) > 1 or bool(case.wanted) + bool(case.texts) + bool(case.target) > 1:
-        raise Misfit("what is read, or what is written, is given twice")
+        raise Misfit(f"{place}: what is read, or what is written, is given twice")
     return case
 
 
@@ -179,17 +180,17 @@ def cases_of(path: pathlib.Path) -> typing.Iterator[Case]:
     """The cases of a file. A misfit tells its line."""
     case = None
     for number, text in enumerate(path.read_text(encoding="utf-8").split("\n"), 1):
-        try:
-            if text.startswith("== "):
-                if case:
-                    yield held(case)
-                case = Case(path, number, text[3:].strip())
-            elif text.strip() and not (text.startswith("#") and case is None):
-                if case is None:
-                    raise Misfit("no case has begun")
+        if text.startswith("== "):
+            if case:
+                yield held(case)
+            case = Case(path, number, text[3:].strip())
+        elif case and text.strip():
+            try:
                 take(case, text, number)
-        except (Misfit, ValueError) as error:
-            raise Misfit(f"{path.name}:{number}: {error}") from error
+            except (Misfit, ValueError) as error:
+                raise Misfit(f"{path.name}:{number}: {error}") from error
+        elif text.strip() and not text.startswith("#"):
+            raise Misfit(f"{path.name}:{number}: no case has begun")
     if case:
         yield held(case)
 

@@ -1,0 +1,60 @@
+#!/usr/bin/env python3
+"""What run.py takes for a case, and which line of its file it names where something else comes."""
+
+import pathlib
+import tempfile
+import unittest
+
+import fixtures
+import run
+
+BATCH = """# Two workers.
+
+== a-batch
+$ batch --workers 2 100
+1 insert 150 6\\r | row 1.0
+< \\s\\s
+0 select 0 \\{2 1} | rows 1
+                | 0.0 5 -5
+> accepted 2 inserted 1 deleted 0 held 1
+! crackd: a word\\c
+= 1
+"""
+WROTE = b"worker 0\nrows 1\n0.0 5 -5\nworker 1\nrow 1.0\naccepted 2 inserted 1 deleted 0 held 1\n"
+
+
+def cases(text):
+    """The cases of a file with this text."""
+    with tempfile.TemporaryDirectory() as room:
+        path = pathlib.Path(room) / "batches.cases"
+        path.write_text(text, encoding="utf-8")
+        return list(run.cases_of(path))
+
+
+class Cases(unittest.TestCase):
+    def test_a_case_is_read_byte_by_byte_and_a_batch_worker_by_worker(self):
+        (case,) = cases(BATCH)
+        self.assertEqual((case.name, case.words, case.given), ("a-batch", ["batch", "--workers", "2", "100"], b"1 insert 150 6\r\n  \n0 select 0 11\n"))
+        self.assertEqual(b"".join(it.text for it in case.output()), WROTE)
+        self.assertEqual(([it.line for it in case.output()], case.complaints[0].text), ([3, 7, 8, 3, 5, 9], b"crackd: a word"))
+
+    def test_the_line_that_first_differs_is_named(self):
+        (case,) = cases(BATCH)
+        lines = WROTE.splitlines(keepends=True)
+        case.path = run.CASES / "batches.cases"
+        self.assertEqual(run.first_difference(case, "output", case.output(), WROTE), [])
+        for at, line in enumerate([3, 7, 8, 3, 5, 9]):
+            for put in [[], [lines[at][:-1]], [b"x\n"]]:
+                (fault,) = run.first_difference(case, "output", case.output(), b"".join([*lines[:at], *put, *lines[at + 1 :]]))
+                self.assertTrue(fault.startswith(f"acceptance/cases/batches.cases:{line}: output: wanted {lines[at]!r}"), fault)
+        (more,) = run.first_difference(case, "output", case.output(), WROTE + b"more\n")
+        self.assertIn("1 lines more than are wanted, the first b'more\\n'", more)
+
+    def test_what_is_no_case_is_told_with_its_line(self):
+        for text, line in [("$ script\n", 1), ("== a\n\ninsert 1 1\n", 3), ("== a\n$ script\n| row\n", 3), ("== a\n$ script\n@ into x\n", 3), ("== a\n$ script\ninsert \\q | row\n", 3), ("== a\n", 1)]:
+            with self.assertRaisesRegex(run.Misfit, f"batches.cases:{line}: "):
+                cases(text)
+
+
+if __name__ == "__main__":
+    fixtures.main()
