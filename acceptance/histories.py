@@ -319,7 +319,7 @@ def words_of(seed, statements, policy, workers=WORKERS):
     """The words of a run. By the seed histories get full once half was asked since a checkpoint, or cells may run out, or lives end before all was asked."""
     each = statements * workers // len(PARTS)
     limits = [Limits(each // 2 + 1), Limits(MOST_ENTRIES, each // 16 + 1), Limits(each // 8 + 1, life=each * 3 // 4 + 1)][seed % 3]
-    return [str(it) for it in (seed, workers, statements, policy, *limits)]
+    return [str(it) for it in (seed, workers, statements, policy, limits.history, limits.cells, limits.life)]
 
 
 def tried(program, words):
