@@ -54,7 +54,8 @@ class Examples(fixtures.Case):
 
     def test_table(self):
         """A table in the process. Rows and answers are those of a list."""
-        self.needs_program(str(package.LIBRARY))
+        if not package.LIBRARY.exists():
+            self.skipTest("the library isn't built")
         wanted = "count 500\nsum 499500\nselect [(10, 20), (11, 22), (12, 24)]\nafter updates 499\nsum 498502\n"
         expect("table.py", wanted, printed("table.py", "1000", package.interpreter()))
 
