@@ -250,16 +250,15 @@ impl Partition {
         self.store.layout()
     }
 
-    /// Answers one command of a worker and keeps it in the history. The second reply is a copy, for a receipt.
-    /// Where the history is full and upkeep is automatic, it makes a checkpoint first, as `checkpoint` does, and the history is then this
-    /// command alone. Refused, in this order: with 4 where the command brings a key that isn't the partition's, with 6 where the history
-    /// is full and upkeep is on request, with 10 where it has accepted as many commands as its life, with 9 where an insert, or an update of a row of the
-    /// column, finds no free cell and as many cells as their limit, with 8 where no memory is found. After 4, 6, 10 and 9 nothing has changed.
-    /// After 8 no checkpoint is made; a command that reads no range has
-    /// changed nothing, and one that reads a range has at most cracked the column at its ends and merged in part, or in whole.
-    /// An insert, a delete and an update are O(1), amortised. A command that reads a range cracks the pieces in which its ends fall
-    /// and merges by the policy what its range needs; a count is then O(log pieces), a sum O(m), and a select O(m log m) for m rows
-    /// in the range.
+    /// Answers one command of a worker and keeps it in the history. The second reply is a copy, for a receipt. Where the history is full
+    /// and upkeep is automatic, it makes a checkpoint first, as `checkpoint` does. Refused, in this order: with 4 where the command brings
+    /// a key that isn't the partition's, with 6 where the history is full and upkeep is on request, with 10 where it has accepted as many
+    /// commands as its life, with 9 where an insert, or an update of a row of the column, finds no free cell and as many cells as their
+    /// limit, with 8 where no memory is found. After 4, 6, 10 and 9 nothing has changed. After 8 no checkpoint is made; a command that
+    /// reads no range has changed nothing, and one that reads a range has at most cracked the column at its ends and merged in part, or in
+    /// whole. An insert, a delete and an update are O(1), amortised. A command that reads a range cracks the pieces in which its ends fall
+    /// and merges by the policy what its range needs; a count is then O(log pieces), a sum O(m), and a select O(m log m) for m rows in the
+    /// range.
     #[inline(always)]
     pub fn apply(
         &mut self,
@@ -280,7 +279,6 @@ impl Partition {
         ensures memory { refusal_of self.old command ≡ None → IfErr result (λ e. e ≡ Refusal.OutOfMemory) }
     {
         if self.history.len() as u64 >= self.limits.history {
-            // (a copy, and its outcome handed on, so that elsewhere neither stands in memory)
             let asked = command;
             return handed_on(self.apply_when_full(worker, asked, policy));
         }
@@ -305,8 +303,7 @@ impl Partition {
         Ok((copies.reply, copies.receipt))
     }
 
-    /// Answers a command where the history is full, as `apply` does. What the checkpoint needs of memory is taken before the command is
-    /// answered, so that nothing is folded where that finds none.
+    /// Answers a command where the history is full, as `apply` does. What a checkpoint needs of memory is taken before the command is answered.
     #[inline(never)]
     fn apply_when_full(
         &mut self,
@@ -564,7 +561,7 @@ fn rewritten(row: Option<Row>) -> Reply
     }
 }
 
-/// What came of a command, piece by piece.
+/// What came of a command, piece by piece: where it isn't asked for, it stands in no memory.
 #[inline(always)]
 fn handed_on(answered: Result<(Reply, Reply), Refusal>) -> Result<(Reply, Reply), Refusal>
     ensures { result ≡ answered }
