@@ -1,7 +1,9 @@
 //! The arena: cells, and the links of the free ones.
-ghost use Rattle.std.specs.Prelude.{◌≡◌, ◌+◌, ◌<◌, ◌≤◌, List, [], length, take, drop, option_copied, MatchOption, MatchResult, IfOk, IfErr, OnOk, OnErr, OnSome, is_some, None, Some};
+ghost use Rattle.std.specs.Prelude.{◌≡◌, ◌+◌, ◌<◌, ◌≤◌, List, [], length, take, drop, option_copied, MatchOption};
+ghost use Rattle.std.specs.Prelude.{MatchResult, IfOk, IfErr, OnOk, OnErr, OnSome, is_some, None, Some};
 ghost use Rattle.crack_row.specs.declared.refusal.Refusal.TheVariants.{OutOfMemory};
-ghost use Rattle.crack_arena.specs.Arena.{read, freed, CanPut, handle_for, put_in, set_at, freed_at, cell_at, IsWhole, IsSpent, KeepsSpent, Call, after_calls};
+ghost use Rattle.crack_arena.specs.Arena.{read, freed, CanPut, handle_for, put_in, set_at, freed_at, cell_at, IsWhole};
+ghost use Rattle.crack_arena.specs.Arena.{IsSpent, KeepsSpent, Call, after_calls};
 
 use crate::cell_list::CellList;
 use crate::cells::{Cell, Content};
@@ -127,7 +129,8 @@ impl<T> Arena<T> {
         }
     }
 
-    /// The cells from this number on that stand side by side, up to 256 of them: those of a page. None from `cells()` on. O(1).
+    /// The cells from this number on that stand side by side, up to 256 of them: those of a page. None from `cells()`
+    /// on. O(1).
     pub fn stretch_from(&self, slot: u32) -> Stretch<'_, T>
         ensures cells { result ≡ take (length result) (drop slot self.now.cells) }
         ensures some { slot < length self.now.cells → 0 < length result }
@@ -248,7 +251,8 @@ impl<T> Arena<T> {
         ensures after { MatchOption result (self.new ≡ self.old) (λ _. self.new ≡ freed_at handle self.old) }
         ensures keeps_spent { KeepsSpent self.old.cells self.new.cells }
         ensures spent { OnSome result (IsSpent self.new.cells handle) }
-        ensures ever_after { OnSome result ((calls : List (Call T)) → read (after_calls calls self.new).cells handle ≡ None) }
+        ensures ever_after { OnSome result ((calls : List (Call T)) →
+            read (after_calls calls self.new).cells handle ≡ None) }
     {
         let slot = handle.slot() as usize;
         let generation = handle.generation();

@@ -1,6 +1,9 @@
-//! A list of cells in pages. A page is taken whole, and its cells never move: a growth takes more pages and room in the list of pages, and copies no cell.
+//! A list of cells in pages. A page is taken whole, and its cells never move: a growth takes more pages and room in
+//! the list of pages, and copies no cell.
 ghost use Rattle.crack_arena.specs.declared.TheConstants.{MOST_CELLS};
-ghost use Rattle.std.specs.Prelude.{◌≡◌, ◌+◌, ◌-◌, ◌*◌, ◌<◌, ◌≤◌, [], ◌∷◌, ◌++◌, length, is_ok, if◌then◌else◌, replicate, slice_index_or, slice_set, take, drop, vec_len, vec_capacity, OnOk, OnErr};
+ghost use Rattle.std.specs.Prelude.{◌≡◌, ◌+◌, ◌-◌, ◌*◌, ◌<◌, ◌≤◌, [], ◌∷◌, ◌++◌, length, is_ok, if◌then◌else◌};
+ghost use Rattle.std.specs.Prelude.{replicate, slice_index_or, slice_set, take, drop, vec_len, vec_capacity, OnOk};
+ghost use Rattle.std.specs.Prelude.{OnErr};
 ghost use Rattle.std.specs.Slice.{IsItemAt};
 
 use crate::page::{CELLS, Page};
@@ -136,7 +139,8 @@ fn pages_for(used: usize, additional: usize) -> usize
     additional / CELLS + (additional % CELLS + used + (CELLS - 1)) / CELLS
 }
 
-/// Takes as many pages more. Where one of them is refused, or room in the list of pages, those that were taken are given back.
+/// Takes as many pages more. Where one of them is refused, or room in the list of pages, those that were taken are
+/// given back.
 #[cold]
 #[inline(never)]
 fn take_pages<C>(pages: &mut Vec<Page<C>>, more: usize) -> Result<(), AllocError>

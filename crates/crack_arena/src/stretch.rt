@@ -6,7 +6,8 @@ ghost use Rattle.crack_arena.specs.Links.{cells_of};
 use crate::cells::{Cell, Content};
 use std::marker::Model;
 
-/// Cells of an arena that follow one another and stand side by side, to be read one after the other. Contracts see a list of cells.
+/// Cells of an arena that follow one another and stand side by side, to be read one after the other. Contracts see a
+/// list of cells.
 #[derive(Drop)]
 pub struct Stretch<'a, T> {
     cells: &'a [Cell<T>],
@@ -40,8 +41,8 @@ impl<'a, T> Stretch<'a, T> {
         self.cells.len()
     }
 
-    /// The value of the cell at this place of the stretch, from 0, if it has one: a free cell has none, and neither has a place from `len()`
-    /// on. O(1), takes no memory.
+    /// The value of the cell at this place of the stretch, from 0, if it has one: a free cell has none, and neither
+    /// has a place from `len()` on. O(1), takes no memory.
     pub fn value_at(&self, place: usize) -> Option<&'a T>
         ensures { option_copied result ≡ (cell_at self.now place).value }
     {

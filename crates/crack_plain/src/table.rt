@@ -2,7 +2,8 @@
 ghost use Rattle.std.specs.Prelude.{◌≡◌, ◌+◌, ◌<◌, ◌≤◌, ◌^◌, false, length, Err, IfOk, IfErr, IsOk, OnErr, OnOk};
 ghost use Rattle.crack_row.specs.Layouts.{IsLayout};
 ghost use Rattle.crack_row.specs.Replies.{IsFlat};
-ghost use Rattle.crack_plain.specs.Plain.{PlainState, accepted_of, checkpointed, no_rows, answer, reply_to, changed, places_row, all_keys, whole_layout, IsNumbered, IsSmall, TakesNoMemory};
+ghost use Rattle.crack_plain.specs.Plain.{PlainState, accepted_of, checkpointed, no_rows, answer, reply_to, changed};
+ghost use Rattle.crack_plain.specs.Plain.{places_row, all_keys, whole_layout, IsNumbered, IsSmall, TakesNoMemory};
 
 use crate::MOST_ACCEPTED;
 use crate::list::{count_in, replace, row_in, rows_in, sum_in, take_out};
@@ -13,8 +14,8 @@ use crack_row::{
 use std::alloc::Global;
 use std::marker::Model;
 
-/// A slow table: a list of rows, and no more. Contracts see its plain state, how many commands it accepted up to its last
-/// checkpoint, and how many since.
+/// A slow table: a list of rows, and no more. Contracts see its plain state, how many commands it accepted up to its
+/// last checkpoint, and how many since.
 #[derive(Drop)]
 pub struct PlainTable {
     rows: Vec<Row>,
@@ -30,9 +31,15 @@ impl Model for PlainTable {
 
     ghost Value = { PlainView };
 
-    ghost view = { λ t. record { state = record { rows = t.rows.items; next = t.next }; folded = t.folded; since = t.since } };
+    ghost view = { λ t. record {
+      state = record { rows = t.rows.items; next = t.next };
+      folded = t.folded;
+      since = t.since;
+    } };
 
-    ghost invariant = { λ t. (let state : PlainState = record { rows = t.rows.items; next = t.next } in IsNumbered state) × (length t.rows.items ≤ t.folded + t.since) × (t.next ≤ t.folded + t.since) × (t.folded + t.since ≤ MOST_ACCEPTED) };
+    ghost invariant = { λ t. (let state : PlainState = record { rows = t.rows.items; next = t.next } in
+        IsNumbered state) × (length t.rows.items ≤ t.folded + t.since) × (t.next ≤ t.folded + t.since) ×
+        (t.folded + t.since ≤ MOST_ACCEPTED) };
 }
 
 impl PlainTable {
@@ -77,7 +84,8 @@ impl PlainTable {
         since
     }
 
-    /// What stands where, if the rows are taken as a column of one piece: O(1). Refused with 8 where it finds no memory.
+    /// What stands where, if the rows are taken as a column of one piece: O(1). Refused with 8 where it finds no
+    /// memory.
     pub fn whole_layout(&self) -> Result<Layout, Refusal>
         ensures ok { IfOk result (λ layout. layout ≡ whole_layout self.now.state) }
         ensures equations { IfOk result (λ layout. IsLayout all_keys layout) }
@@ -102,7 +110,8 @@ impl PlainTable {
     }
 
     /// Answers one command. An insert is O(1), all else O(rows).
-    /// Refused with 8 where an insert or a select finds no memory, and with 6 once `MOST_ACCEPTED` commands were accepted.
+    /// Refused with 8 where an insert or a select finds no memory, and with 6 once `MOST_ACCEPTED` commands were
+    /// accepted.
     pub fn apply(&mut self, command: &Command) -> Result<Reply, Refusal>
         ensures reply { IfOk result (λ reply. reply ≡ (answer self.old.state command.now).0) }
         ensures small { IfOk result IsSmall }
@@ -152,10 +161,12 @@ impl PlainTable {
     }
 }
 
-/// Makes a change of the rows, if there is one: O(rows), and O(1) for a row more. Refused with 8 where a row more finds no memory.
+/// Makes a change of the rows, if there is one: O(rows), and O(1) for a row more. Refused with 8 where a row more
+/// finds no memory.
 fn change_rows(rows: &mut Vec<Row>, next: &mut u64, change: Option<Change>) -> Result<(), Refusal>
     requires small { next.old + 1 < 2 ^ 64 }
-    ensures changed { OnOk result (let old : PlainState = record { rows = rows.old.items; next = next.old } in let new : PlainState = record { rows = rows.new.items; next = next.new } in new ≡ changed old change) }
+    ensures changed { OnOk result (let old : PlainState = record { rows = rows.old.items; next = next.old } in
+        let new : PlainState = record { rows = rows.new.items; next = next.new } in new ≡ changed old change) }
     ensures same { OnErr result ((rows.new.items ≡ rows.old.items) × (next.new ≡ next.old)) }
     ensures err { IfErr result (λ e. e ≡ Refusal.OutOfMemory) }
     ensures spare { places_row change ≡ false → IsOk result }

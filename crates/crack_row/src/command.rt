@@ -101,10 +101,11 @@ pub enum Policy {
     Complete,
     /// Those alone whose key is in the range.
     Gradual,
-    /// Those alone whose key is in the range, with room made near it: a row that stands in the way behind the range is evicted, and is a
-    /// pending insertion again.
+    /// Those alone whose key is in the range, with room made near it: a row that stands in the way behind the range is
+    /// evicted, and is a pending insertion again.
     Ripple,
-    /// As `Complete` where many insertions are pending beside the rows of the column, else as `Ripple`; chosen anew at each range command.
+    /// As `Complete` where many insertions are pending beside the rows of the column, else as `Ripple`; chosen anew at
+    /// each range command.
     Auto,
 }
 
@@ -128,7 +129,8 @@ pub enum Reply {
 }
 
 impl Reply {
-    /// A copy, as for a receipt: O(rows of its list). Refused with 8 where it finds no memory; a reply without a list wants none.
+    /// A copy, as for a receipt: O(rows of its list). Refused with 8 where it finds no memory; a reply without a list
+    /// wants none.
     pub fn copy(&self, alloc: Global) -> Result<Reply, Refusal>
         ensures ok { IfOk result (λ r. r ≡ self.now) }
         ensures err { IfErr result (λ e. e ≡ Refusal.OutOfMemory) }

@@ -50,7 +50,8 @@ impl PieceList {
     }
 }
 
-/// How many rows, column places, pending deletions, pending insertions, cells and free cells a partition has, and its pieces.
+/// How many rows, column places, pending deletions, pending insertions, cells and free cells a partition has, and its
+/// pieces.
 #[derive(Drop, Debug)]
 pub struct Layout {
     pub rows: u64,

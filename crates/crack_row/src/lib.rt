@@ -56,7 +56,8 @@ pub struct Serial(pub u64);
 #[derive(Clone, Copy, PartialEq, Eq, PartialOrd, Ord, Hash, Debug)]
 pub struct Bound(BoundNumber);
 
-/// A bound that stands between two keys: 1 to `GREATEST_KEY`. It is as wide as a key, and a cracker index has no others.
+/// A bound that stands between two keys: 1 to `GREATEST_KEY`. It is as wide as a key, and a cracker index has no
+/// others.
 #[derive(Clone, Copy, PartialEq, Eq, PartialOrd, Ord, Hash, Debug)]
 pub struct InnerBound(KeyNumber);
 

@@ -13,8 +13,9 @@ pub enum Upkeep {
     Automatic,
 }
 
-/// What bounds a partition: how many entries its history may have (1 to `GREATEST_LIMIT`), how many cells its rows may take (1 to
-/// `GREATEST_CELLS`), and how many commands it may accept in all (1 to `GREATEST_LIFE`); and what it does at these limits.
+/// What bounds a partition: how many entries its history may have (1 to `GREATEST_LIMIT`), how many cells its rows may
+/// take (1 to `GREATEST_CELLS`), and how many commands it may accept in all (1 to `GREATEST_LIFE`); and what it does
+/// at these limits.
 #[derive(Clone, Copy, PartialEq, Eq, Hash, Debug)]
 pub struct Limits {
     pub history: u64,

@@ -59,7 +59,8 @@ impl KeyRange {
 
     /// The range between two bounds; refused with 2 where they are no ends of one.
     pub fn between(low: Bound, high: Bound) -> Result<KeyRange, Refusal>
-        ensures ok { IfOk result (λ r. (r.low ≡ low.0) × (r.high ≡ high.0) × (low.0 ≤ high.0) × (high.0 ≤ GREATEST_BOUND)) }
+        ensures ok { IfOk result (λ r. (r.low ≡ low.0) × (r.high ≡ high.0) × (low.0 ≤ high.0) ×
+            (high.0 ≤ GREATEST_BOUND)) }
         ensures err { IfErr result (λ e. (e ≡ Refusal.BadRange) × ((low.0 ≤ high.0) × (high.0 ≤ GREATEST_BOUND) → ⊥)) }
     {
         KeyRange::new(low.0, high.0)
@@ -99,7 +100,8 @@ impl KeyRange {
     /// The least key in the range and the greatest; none where it has no key.
     #[inline]
     pub fn first_and_last(&self) -> Option<(Key, Key)>
-        ensures value { MatchOption result (self.now.high ≤ self.now.low) (λ ends. (ends.0.0 ≡ self.now.low) × (ends.1.0 + 1 ≡ self.now.high)) }
+        ensures value { MatchOption result (self.now.high ≤ self.now.low) (λ ends. (ends.0.0 ≡ self.now.low) ×
+            (ends.1.0 + 1 ≡ self.now.high)) }
         ensures order { IfSome result (λ ends. ends.0.0 ≤ ends.1.0) }
     {
         if self.is_empty() {
@@ -143,8 +145,8 @@ impl KeyRange {
     }
 }
 
-/// An end of a range: its number, or 0 where it is the one past all keys, and whether it is. Unlike a number of 128 bits it may stand where one of
-/// 64 may, so that what holds ranges is smaller.
+/// An end of a range: its number, or 0 where it is the one past all keys, and whether it is. Unlike a number of 128
+/// bits it may stand where one of 64 may, so that what holds ranges is smaller.
 #[derive(Clone, Copy, Debug)]
 struct End {
     number: KeyNumber,
@@ -164,7 +166,8 @@ impl Model for End {
 
     ghost inverse = { λ end. record { number = end_number end; is_past = past_all end } };
 
-    ghost inverse_ok = { λ e is i. record { number = number_back e.is_past e.number is i; is_past = past_back e.is_past e.number is i } };
+    ghost inverse_ok = { λ e is i.
+        record { number = number_back e.is_past e.number is i; is_past = past_back e.is_past e.number is i } };
 }
 
 impl PartialEq for End {

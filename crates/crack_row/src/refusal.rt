@@ -60,7 +60,8 @@ pub enum Refusal {
     /// The writer failed.
     #[error("refused 18")]
     WriteFault,
-    /// A record of CSV hasn't just two fields, or one of them is no number in range: the record's number from 1, a header counted.
+    /// A record of CSV hasn't just two fields, or one of them is no number in range: the record's number from 1, a
+    /// header counted.
     #[error("refused 19 {number}")]
     BadRecord { number: u64 },
 }
