@@ -97,7 +97,7 @@ class Own:
         rowed = ROW.fullmatch(statement)
         needs_cell = INSERT.fullmatch(statement) or (rowed and rowed[1] == "update" and (int(rowed[2]), int(rowed[3])) in self.rows)
         right = {
-            f"refused {FULL} {self.limits.history}": FULL if self.limits.history < MOST_ENTRIES else None,
+            f"refused {FULL} {self.limits.history}": FULL if self.limits.history < MOST_ENTRIES and not self.limits.is_automatic else None,
             f"refused {NO_CELL}": NO_CELL if needs_cell and self.limits.cells < MOST_CELLS else None,
             f"refused {OVER}": OVER if self.limits.life < MOST_LIFE else None,
         }

@@ -73,10 +73,11 @@ def wait_for_a_place(port):
         time.sleep(0.005)
 
 
-def planned(numbers, sessions, workers):
-    """The kinds of a run, each with its number of sessions: those that take long first, of each fewer than half as many as there are workers."""
+def planned(numbers, sessions, workers, of=KINDS[1:]):
+    """The kinds of a run, each with its number of sessions, honest ones beside these: those that take long first, of each fewer than half as many as there
+    are workers."""
     kinds, left = [], sessions
-    for kind, share, most in KINDS[1:]:
+    for kind, share, most in of:
         count = max(1, round(sessions * share / 100))
         count = count if most is None else min(count, most)
         count = min(count, (workers - 1) // 2) if kind in TAKE_LONG else count
@@ -175,20 +176,34 @@ class Storm:
         self.policy = numbers.choice(["complete", "gradual", "ripple", "auto"])
         self.limits = LIMITS[seed % len(LIMITS)]
         self.clients = []
+        # how many entries were folded by checkpoints that were due
+        self.due = 0
+
+    def words(self):
+        """The options of its server."""
+        return ["--sessions", str(self.sessions), "--quiet", "--policy", self.policy, *self.limits.words()]
 
     def run(self):
         """Runs it. What it came to, as numbers by their names."""
         before = time.monotonic()
-        words = ["--sessions", str(self.sessions), "--quiet", "--policy", self.policy, *self.limits.words(), *map(str, self.splits)]
+        words = [*self.words(), *map(str, self.splits)]
         with Server(self.program, self.workers, *words, environment=MAPPED_FROM if self.folds else {}) as server:
             peak = Peak(server.process.pid)
             peak.start()
-            self.visit_all(server.port)
-            account = self.look(server.port, peak)
+            account = self.visit(server, peak)
             status, wrote, complained = server.ended()
-            expect("status and standard error", (0, ""), (status, complained))
+            self.check_end(status, complained)
         peak.join()
         return self.hold(account, wrote, peak) | {"seconds": round(time.monotonic() - before, 1)}
+
+    def visit(self, server, peak):
+        """Has all clients come. What stands once they have gone."""
+        self.visit_all(server.port)
+        return self.look(server.port, peak)
+
+    def check_end(self, status, complained):
+        """Holds how the server ended."""
+        expect("status and standard error", (0, ""), (status, complained))
 
     def visit_all(self, port):
         """Has all clients come, as many at a time as there are workers and some more, and the silent ones speak once the others have gone."""
@@ -231,7 +246,7 @@ class Storm:
         own = {"least": account.asked, "most": account.asked, "inserted": account.inserted, "deleted": 0, "listed": len(account.rows)}
         counts = {name: it + own[name] for name, it in counts.items()}
         accepted = check_totals(wrote, counts)
-        check_folded(accepted, sum(account.folded.values()) + sum(sum(it.folded.values()) for it in self.clients))
+        check_folded(accepted, sum(account.folded.values()) + sum(sum(it.folded.values()) for it in self.clients) + self.due)
         took, most = peak.bytes - peak.first, most_bytes(accepted, counts["listed"], self.sessions)
         if took > most:
             raise Wrong(f"memory: at most {most} bytes were wanted, and {took} taken")

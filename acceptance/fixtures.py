@@ -106,8 +106,8 @@ def watched(child: subprocess.Popen, seconds: float = SECONDS) -> typing.Iterato
 
 
 def started(command: list[str], **how: typing.Any) -> subprocess.Popen:
-    """A child with pipes for all that it reads and writes."""
-    return subprocess.Popen(command, stdin=subprocess.PIPE, stdout=subprocess.PIPE, stderr=subprocess.PIPE, **how)
+    """A child with pipes for all that it reads and writes, but for what is said otherwise."""
+    return subprocess.Popen(command, **{"stdin": subprocess.PIPE, "stdout": subprocess.PIPE, "stderr": subprocess.PIPE, **how})
 
 
 def write_pieces(target: typing.IO[bytes], given: bytes, piece: int) -> threading.Thread:
@@ -140,17 +140,20 @@ def free_port() -> int:
 
 
 class Server:
-    """A server that listens, and its port. Where another program took the port in the meantime, it is tried again. It is killed at the end, if it is there."""
+    """A server that listens, and its port. Where another program took the port in the meantime, it is tried again. It is killed at the end, if it is there.
+    Its standard error goes to a file, so that it may write as much as it wants before anybody reads that."""
 
     def __init__(self, program: str, workers: int, *words: str, environment: typing.Mapping[str, str] = {}) -> None:
         for _ in range(TRIES):
-            self.port = free_port()
+            self.port, self.log = free_port(), tempfile.TemporaryFile("a+", encoding="ascii")
             command = [program, "serve", "--port", str(self.port), "--workers", str(workers), *words]
-            self.process = started(command, text=True, env={**os.environ, **environment})
+            self.process = started(command, text=True, stderr=self.log, env={**os.environ, **environment})
             line = self.process.stdout.readline()
             if line == f"listening {self.port}\n":
                 return
-            complaint = self.process.communicate(timeout=SECONDS)[1]
+            self.process.communicate(timeout=SECONDS)
+            complaint = self.complained()
+            self.log.close()
             if "refused 17" not in complaint:
                 raise Wrong(f"the server said {line!r} and {complaint!r}")
         raise Wrong("no port was free")
@@ -161,8 +164,13 @@ class Server:
     def __exit__(self, *_: object) -> None:
         self.process.kill()
         self.process.wait()
-        for pipe in (self.process.stdin, self.process.stdout, self.process.stderr):
+        for pipe in (self.process.stdin, self.process.stdout, self.log):
             pipe.close()
+
+    def complained(self) -> str:
+        """What it has written to standard error."""
+        self.log.seek(0)
+        return self.log.read()
 
     def close(self) -> None:
         """Ends the server's input."""
@@ -174,7 +182,7 @@ class Server:
             status = self.process.wait(SECONDS)
         except subprocess.TimeoutExpired as error:
             raise Wrong("the server didn't end") from error
-        return status, self.process.stdout.read(), self.process.stderr.read()
+        return status, self.process.stdout.read(), self.complained()
 
     def wait(self, totals: typing.Sequence[object], *notes: str) -> None:
         """Waits for the server's end. Its totals and its lines on standard error are as they must be, these in any order."""

@@ -9,6 +9,7 @@ from plain_csv import HEADER, MARK, exported
 
 LONG_RECORD = 64 * 2**20
 MANY_FIELDS = 100_000
+MANY_ROWS = 100_000
 SMALL = b"key,payload\n150,6\n50,5\n"
 
 
@@ -111,6 +112,17 @@ class Csv(fixtures.Case):
         fields = b",".join([b"1"] * MANY_FIELDS)
         given = [(1, fields), (2, HEADER + fields + b"\n"), (3, HEADER + b"1,2\n" + fields + b"\n3,4\n"), (1, b"," * MANY_FIELDS), (1, b'"",' * MANY_FIELDS)]
         self.assert_right(*(fault_of_input(self.program, it, wanted=(1, b"", b"crackd: refused 19 %d\n" % number)) for number, it in given))
+
+    def test_more_rows_than_histories_have_entries(self):
+        """A load that fills each history a hundred times is whole where checkpoints are made that are due, and refused where none is."""
+        keys = [number * 7919 % MANY_ROWS for number in range(MANY_ROWS)]
+        splits = [MANY_ROWS // 4 * it for it in range(1, 4)]
+        given = b"".join(b"%d,%d\n" % (key, -number) for number, key in enumerate(keys))
+        parts = [b"".join(b"%d,%d\n" % (key, -number) for number, key in enumerate(keys) if low <= key < low + MANY_ROWS // 4) for low in [0, *splits]]
+        small = random_script.Limits(MANY_ROWS // 400)
+        self.assert_right(fault_of_input(self.program, given, splits, small._replace(is_automatic=True), wanted=(0, HEADER + b"".join(parts), b"")))
+        self.assert_right(fault_of_input(self.program, given, splits, small, wanted=(1, b"", b"crackd: refused 6 %d\n" % small.history)))
+
 
 fixtures.add_seeds(Csv, range(1, 21), fault)
 
