@@ -1,5 +1,5 @@
 -- The texts of replies, layouts and refusals, in lines.
-use Rattle.std.specs.Prelude.{ℕ, ℤ, ◌<◌, ◌==◌, List, [], ◌++◌, length, take, filter, Option, codes, decimal}
+use Rattle.std.specs.Prelude.{◌≡◌, ℕ, ℤ, ◌<◌, ◌==◌, true, List, [], ◌++◌, length, take, filter, Option, Result, OnOk, IfErr, codes, decimal}
 use Rattle.std.specs.List.{flat_map, range_with_len}
 use Rattle.std.specs.Int.{bit_at}
 use Rattle.std.specs.Fmt.{signed_decimal}
@@ -15,7 +15,9 @@ use Rattle.crack_row.specs.declared.command.Reply.TheVariants.{Placed, Gone, Cha
 use Rattle.crack_row.specs.declared.layout.Layout.{Layout}
 use Rattle.crack_row.specs.declared.layout.PieceSize.{PieceSize}
 use Rattle.crack_row.specs.declared.refusal.Refusal.{Refusal}
-use Rattle.crack_row.specs.declared.refusal.Refusal.TheVariants.{HistoryFull, WorkersMissing, StrangeReceipt, BadRecord}
+use Rattle.crack_row.specs.declared.watched.Watched.{Watched}
+use Rattle.crack_row.specs.declared.refusal.Refusal.TheVariants.{WriteFault, HistoryFull, WorkersMissing, StrangeReceipt, BadRecord}
+use Rattle.crack_row.specs.Devices.{device, has_failed}
 use Rattle.crack_row.specs.Refusals.{code_of}
 use Rattle.crack_row.specs.Rows.{amount}
 
@@ -104,3 +106,10 @@ refusal_text refusal = codes "refused " ++ decimal (code_of refusal) ++ carried_
 -- of the text a front is written that is shorter than it
 abbrev pub AppendsFront : Option (List ℕ) → Option (List ℕ) → List ℕ → Type 0
 AppendsFront old new text = (n : ℕ) × (n < length text) × Appends old new (take n text)
+
+-- All of a text is written, or, where the writer failed, a front of it that is shorter.
+pub record Writes {W : Type 0} (contents : W → Option (List ℕ)) (text : List ℕ) (result : Result (Unit {0}) Refusal) (old new : Watched W) : Type 0 where
+  pub ok : OnOk result (Appends (contents (device old)) (contents (device new)) text)
+  pub unfailed : OnOk result (has_failed new ≡ has_failed old)
+  pub err : IfErr result (λ e. (e ≡ WriteFault) × (has_failed new ≡ true))
+  pub front : IfErr result (λ _. AppendsFront (contents (device old)) (contents (device new)) text)

@@ -1,10 +1,8 @@
 //! The texts of replies, layouts and refusals, to a writer.
-ghost use Rattle.std.specs.Prelude.{◌≡◌, ◌+◌, ◌<◌, ◌≤◌, ◌++◌, true, length, decimal, codes, IfErr, OnOk};
-ghost use Rattle.std.specs.Io.KnownBytes.{Appends};
-ghost use Rattle.crack_row.specs.Devices.{device, has_failed};
+ghost use Rattle.std.specs.Prelude.{◌≡◌, ◌+◌, ◌<◌, ◌≤◌, ◌++◌, length, decimal, codes};
 ghost use Rattle.std.specs.List.{flat_map};
 ghost use Rattle.std.specs.Fmt.{signed_decimal};
-ghost use Rattle.crack_commands.specs.Texts.{key_text, payload_text, bound_text, reply_text, count_text, sum_text, head_text, row_text, layout_text, piece_text, folded_text, policy_text, refusal_text, field_text, bits_text, AppendsFront};
+ghost use Rattle.crack_commands.specs.Texts.{key_text, payload_text, bound_text, reply_text, count_text, sum_text, head_text, row_text, layout_text, piece_text, folded_text, policy_text, refusal_text, field_text, bits_text, Writes};
 ghost use Rattle.crack_commands.specs.Inside.{placed_text, gone_text, rows_text, layout_head, two_fields, refused_text, has_bit, bit_text};
 
 use crate::output::send;
@@ -31,10 +29,7 @@ pub fn write_reply<W: Write>(
     reply: &Reply,
     writer: &mut Watched<W>,
 ) -> Result<(), Refusal>
-    ensures ok { OnOk result (Appends (W.contents (device writer.old)) (W.contents (device writer.new)) (reply_text part reply.now)) }
-    ensures unfailed { OnOk result (has_failed writer.new ≡ has_failed writer.old) }
-    ensures err { IfErr result (λ e. (e ≡ Refusal.WriteFault) × (has_failed writer.new ≡ true)) }
-    ensures front { IfErr result (λ _. AppendsFront (W.contents (device writer.old)) (W.contents (device writer.new)) (reply_text part reply.now)) }
+    ensures { Writes W.contents (reply_text part reply.now) result writer.old writer.new }
 {
     match reply {
         Reply::Placed(serial) => write_placed(part, *serial, writer),
@@ -50,10 +45,7 @@ pub fn write_reply<W: Write>(
 /// Writes the line of a row that was placed.
 #[inline(always)]
 fn write_placed<W: Write>(part: u32, serial: Serial, writer: &mut Watched<W>) -> Result<(), Refusal>
-    ensures ok { OnOk result (Appends (W.contents (device writer.old)) (W.contents (device writer.new)) (placed_text part serial)) }
-    ensures unfailed { OnOk result (has_failed writer.new ≡ has_failed writer.old) }
-    ensures err { IfErr result (λ e. (e ≡ Refusal.WriteFault) × (has_failed writer.new ≡ true)) }
-    ensures front { IfErr result (λ _. AppendsFront (W.contents (device writer.old)) (W.contents (device writer.new)) (placed_text part serial)) }
+    ensures { Writes W.contents (placed_text part serial) result writer.old writer.new }
 {
     let mut text = ArrayVec::new();
     push_part(&mut text, part);
@@ -81,10 +73,7 @@ fn push_part(text: &mut ArrayVec<u8, PLACED_BYTES>, part: u32)
 
 /// Writes the line of a row that was taken out.
 fn write_gone<W: Write>(row: &Row, writer: &mut Watched<W>) -> Result<(), Refusal>
-    ensures ok { OnOk result (Appends (W.contents (device writer.old)) (W.contents (device writer.new)) (gone_text row.now)) }
-    ensures unfailed { OnOk result (has_failed writer.new ≡ has_failed writer.old) }
-    ensures err { IfErr result (λ e. (e ≡ Refusal.WriteFault) × (has_failed writer.new ≡ true)) }
-    ensures front { IfErr result (λ _. AppendsFront (W.contents (device writer.old)) (W.contents (device writer.new)) (gone_text row.now)) }
+    ensures { Writes W.contents (gone_text row.now) result writer.old writer.new }
 {
     let mut text = Text::new();
     push(&mut text, b"gone ");
@@ -97,10 +86,7 @@ fn write_gone<W: Write>(row: &Row, writer: &mut Watched<W>) -> Result<(), Refusa
 
 /// Writes the line of a count.
 pub fn write_count<W: Write>(count: u64, writer: &mut Watched<W>) -> Result<(), Refusal>
-    ensures ok { OnOk result (Appends (W.contents (device writer.old)) (W.contents (device writer.new)) (count_text count)) }
-    ensures unfailed { OnOk result (has_failed writer.new ≡ has_failed writer.old) }
-    ensures err { IfErr result (λ e. (e ≡ Refusal.WriteFault) × (has_failed writer.new ≡ true)) }
-    ensures front { IfErr result (λ _. AppendsFront (W.contents (device writer.old)) (W.contents (device writer.new)) (count_text count)) }
+    ensures { Writes W.contents (count_text count) result writer.old writer.new }
 {
     let mut text = Text::new();
     push(&mut text, b"count ");
@@ -111,10 +97,7 @@ pub fn write_count<W: Write>(count: u64, writer: &mut Watched<W>) -> Result<(), 
 
 /// Writes the line of a sum.
 pub fn write_sum<W: Write>(sum: i128, writer: &mut Watched<W>) -> Result<(), Refusal>
-    ensures ok { OnOk result (Appends (W.contents (device writer.old)) (W.contents (device writer.new)) (sum_text sum)) }
-    ensures unfailed { OnOk result (has_failed writer.new ≡ has_failed writer.old) }
-    ensures err { IfErr result (λ e. (e ≡ Refusal.WriteFault) × (has_failed writer.new ≡ true)) }
-    ensures front { IfErr result (λ _. AppendsFront (W.contents (device writer.old)) (W.contents (device writer.new)) (sum_text sum)) }
+    ensures { Writes W.contents (sum_text sum) result writer.old writer.new }
 {
     let mut text = Text::new();
     push(&mut text, b"sum ");
@@ -125,10 +108,7 @@ pub fn write_sum<W: Write>(sum: i128, writer: &mut Watched<W>) -> Result<(), Ref
 
 /// Writes the line of a checkpoint, which says how many entries it folded.
 pub fn write_folded<W: Write>(folded: u64, writer: &mut Watched<W>) -> Result<(), Refusal>
-    ensures ok { OnOk result (Appends (W.contents (device writer.old)) (W.contents (device writer.new)) (folded_text folded)) }
-    ensures unfailed { OnOk result (has_failed writer.new ≡ has_failed writer.old) }
-    ensures err { IfErr result (λ e. (e ≡ Refusal.WriteFault) × (has_failed writer.new ≡ true)) }
-    ensures front { IfErr result (λ _. AppendsFront (W.contents (device writer.old)) (W.contents (device writer.new)) (folded_text folded)) }
+    ensures { Writes W.contents (folded_text folded) result writer.old writer.new }
 {
     let mut text = Text::new();
     push(&mut text, b"folded ");
@@ -139,10 +119,7 @@ pub fn write_folded<W: Write>(folded: u64, writer: &mut Watched<W>) -> Result<()
 
 /// Writes the lines of rows: how many there are, and then each.
 fn write_rows<W: Write>(part: u32, rows: &[Row], writer: &mut Watched<W>) -> Result<(), Refusal>
-    ensures ok { OnOk result (Appends (W.contents (device writer.old)) (W.contents (device writer.new)) (rows_text part rows.now)) }
-    ensures unfailed { OnOk result (has_failed writer.new ≡ has_failed writer.old) }
-    ensures err { IfErr result (λ e. (e ≡ Refusal.WriteFault) × (has_failed writer.new ≡ true)) }
-    ensures front { IfErr result (λ _. AppendsFront (W.contents (device writer.old)) (W.contents (device writer.new)) (rows_text part rows.now)) }
+    ensures { Writes W.contents (rows_text part rows.now) result writer.old writer.new }
 {
     write_head(rows.len() as u64, writer)?;
     write_each_row(part, rows, writer)
@@ -154,10 +131,7 @@ pub fn write_each_row<W: Write>(
     rows: &[Row],
     writer: &mut Watched<W>,
 ) -> Result<(), Refusal>
-    ensures ok { OnOk result (Appends (W.contents (device writer.old)) (W.contents (device writer.new)) (flat_map (row_text part) rows.now)) }
-    ensures unfailed { OnOk result (has_failed writer.new ≡ has_failed writer.old) }
-    ensures err { IfErr result (λ e. (e ≡ Refusal.WriteFault) × (has_failed writer.new ≡ true)) }
-    ensures front { IfErr result (λ _. AppendsFront (W.contents (device writer.old)) (W.contents (device writer.new)) (flat_map (row_text part) rows.now)) }
+    ensures { Writes W.contents (flat_map (row_text part) rows.now) result writer.old writer.new }
 {
     'rows: for row in rows {
         write_row(part, row, writer)?;
@@ -167,10 +141,7 @@ pub fn write_each_row<W: Write>(
 
 /// Writes the line above rows, which says how many there are.
 pub fn write_head<W: Write>(total: u64, writer: &mut Watched<W>) -> Result<(), Refusal>
-    ensures ok { OnOk result (Appends (W.contents (device writer.old)) (W.contents (device writer.new)) (head_text total)) }
-    ensures unfailed { OnOk result (has_failed writer.new ≡ has_failed writer.old) }
-    ensures err { IfErr result (λ e. (e ≡ Refusal.WriteFault) × (has_failed writer.new ≡ true)) }
-    ensures front { IfErr result (λ _. AppendsFront (W.contents (device writer.old)) (W.contents (device writer.new)) (head_text total)) }
+    ensures { Writes W.contents (head_text total) result writer.old writer.new }
 {
     let mut text = Text::new();
     push(&mut text, b"rows ");
@@ -181,10 +152,7 @@ pub fn write_head<W: Write>(total: u64, writer: &mut Watched<W>) -> Result<(), R
 
 /// Writes the line of a partition's row.
 pub fn write_row<W: Write>(part: u32, row: &Row, writer: &mut Watched<W>) -> Result<(), Refusal>
-    ensures ok { OnOk result (Appends (W.contents (device writer.old)) (W.contents (device writer.new)) (row_text part row.now)) }
-    ensures unfailed { OnOk result (has_failed writer.new ≡ has_failed writer.old) }
-    ensures err { IfErr result (λ e. (e ≡ Refusal.WriteFault) × (has_failed writer.new ≡ true)) }
-    ensures front { IfErr result (λ _. AppendsFront (W.contents (device writer.old)) (W.contents (device writer.new)) (row_text part row.now)) }
+    ensures { Writes W.contents (row_text part row.now) result writer.old writer.new }
 {
     let mut text = Text::new();
     push_number(&mut text, part as u64);
@@ -204,10 +172,7 @@ pub fn write_layout<W: Write>(
     layout: &Layout,
     writer: &mut Watched<W>,
 ) -> Result<(), Refusal>
-    ensures ok { OnOk result (Appends (W.contents (device writer.old)) (W.contents (device writer.new)) (layout_text part layout.now)) }
-    ensures unfailed { OnOk result (has_failed writer.new ≡ has_failed writer.old) }
-    ensures err { IfErr result (λ e. (e ≡ Refusal.WriteFault) × (has_failed writer.new ≡ true)) }
-    ensures front { IfErr result (λ _. AppendsFront (W.contents (device writer.old)) (W.contents (device writer.new)) (layout_text part layout.now)) }
+    ensures { Writes W.contents (layout_text part layout.now) result writer.old writer.new }
 {
     write_layout_head(part, layout, writer)?;
     write_pieces(layout.pieces.as_slice(), writer)
@@ -219,10 +184,7 @@ fn write_layout_head<W: Write>(
     layout: &Layout,
     writer: &mut Watched<W>,
 ) -> Result<(), Refusal>
-    ensures ok { OnOk result (Appends (W.contents (device writer.old)) (W.contents (device writer.new)) (layout_head part layout.now)) }
-    ensures unfailed { OnOk result (has_failed writer.new ≡ has_failed writer.old) }
-    ensures err { IfErr result (λ e. (e ≡ Refusal.WriteFault) × (has_failed writer.new ≡ true)) }
-    ensures front { IfErr result (λ _. AppendsFront (W.contents (device writer.old)) (W.contents (device writer.new)) (layout_head part layout.now)) }
+    ensures { Writes W.contents (layout_head part layout.now) result writer.old writer.new }
 {
     write_fields(b"layout ", part as u64, b" rows ", layout.rows, writer)?;
     write_fields(
@@ -247,10 +209,7 @@ fn write_fields<W: Write>(
     writer: &mut Watched<W>,
 ) -> Result<(), Refusal>
     requires { (length first.now ≤ 10) × (length second.now ≤ 10) }
-    ensures ok { OnOk result (Appends (W.contents (device writer.old)) (W.contents (device writer.new)) (two_fields first.now number second.now other)) }
-    ensures unfailed { OnOk result (has_failed writer.new ≡ has_failed writer.old) }
-    ensures err { IfErr result (λ e. (e ≡ Refusal.WriteFault) × (has_failed writer.new ≡ true)) }
-    ensures front { IfErr result (λ _. AppendsFront (W.contents (device writer.old)) (W.contents (device writer.new)) (two_fields first.now number second.now other)) }
+    ensures { Writes W.contents (two_fields first.now number second.now other) result writer.old writer.new }
 {
     let mut text = Text::new();
     push(&mut text, first);
@@ -262,10 +221,7 @@ fn write_fields<W: Write>(
 
 /// Writes the lines of pieces.
 fn write_pieces<W: Write>(pieces: &[PieceSize], writer: &mut Watched<W>) -> Result<(), Refusal>
-    ensures ok { OnOk result (Appends (W.contents (device writer.old)) (W.contents (device writer.new)) (flat_map piece_text pieces.now)) }
-    ensures unfailed { OnOk result (has_failed writer.new ≡ has_failed writer.old) }
-    ensures err { IfErr result (λ e. (e ≡ Refusal.WriteFault) × (has_failed writer.new ≡ true)) }
-    ensures front { IfErr result (λ _. AppendsFront (W.contents (device writer.old)) (W.contents (device writer.new)) (flat_map piece_text pieces.now)) }
+    ensures { Writes W.contents (flat_map piece_text pieces.now) result writer.old writer.new }
 {
     'pieces: for piece in pieces {
         write_piece(piece, writer)?;
@@ -275,10 +231,7 @@ fn write_pieces<W: Write>(pieces: &[PieceSize], writer: &mut Watched<W>) -> Resu
 
 /// Writes the line of a piece.
 fn write_piece<W: Write>(piece: &PieceSize, writer: &mut Watched<W>) -> Result<(), Refusal>
-    ensures ok { OnOk result (Appends (W.contents (device writer.old)) (W.contents (device writer.new)) (piece_text piece.now)) }
-    ensures unfailed { OnOk result (has_failed writer.new ≡ has_failed writer.old) }
-    ensures err { IfErr result (λ e. (e ≡ Refusal.WriteFault) × (has_failed writer.new ≡ true)) }
-    ensures front { IfErr result (λ _. AppendsFront (W.contents (device writer.old)) (W.contents (device writer.new)) (piece_text piece.now)) }
+    ensures { Writes W.contents (piece_text piece.now) result writer.old writer.new }
 {
     let mut text = Text::new();
     push(&mut text, b"piece ");
@@ -293,10 +246,7 @@ fn write_piece<W: Write>(piece: &PieceSize, writer: &mut Watched<W>) -> Result<(
 
 /// Writes the line of a refusal.
 pub fn write_refusal<W: Write>(refusal: &Refusal, writer: &mut Watched<W>) -> Result<(), Refusal>
-    ensures ok { OnOk result (Appends (W.contents (device writer.old)) (W.contents (device writer.new)) (refusal_text refusal.now)) }
-    ensures unfailed { OnOk result (has_failed writer.new ≡ has_failed writer.old) }
-    ensures err { IfErr result (λ e. (e ≡ Refusal.WriteFault) × (has_failed writer.new ≡ true)) }
-    ensures front { IfErr result (λ _. AppendsFront (W.contents (device writer.old)) (W.contents (device writer.new)) (refusal_text refusal.now)) }
+    ensures { Writes W.contents (refusal_text refusal.now) result writer.old writer.new }
 {
     let code = refusal.code();
     match refusal {
@@ -317,10 +267,7 @@ fn write_refused<W: Write>(
     writer: &mut Watched<W>,
 ) -> Result<(), Refusal>
     requires { length numbers.now ≤ 2 }
-    ensures ok { OnOk result (Appends (W.contents (device writer.old)) (W.contents (device writer.new)) (refused_text code (flat_map field_text numbers.now))) }
-    ensures unfailed { OnOk result (has_failed writer.new ≡ has_failed writer.old) }
-    ensures err { IfErr result (λ e. (e ≡ Refusal.WriteFault) × (has_failed writer.new ≡ true)) }
-    ensures front { IfErr result (λ _. AppendsFront (W.contents (device writer.old)) (W.contents (device writer.new)) (refused_text code (flat_map field_text numbers.now))) }
+    ensures { Writes W.contents (refused_text code (flat_map field_text numbers.now)) result writer.old writer.new }
 {
     let mut text = Text::new();
     push(&mut text, b"refused ");
@@ -332,10 +279,7 @@ fn write_refused<W: Write>(
 
 /// Writes the line of a refusal that carries the numbers of missing workers, a number at a time: all of them pass a text.
 fn write_missing<W: Write>(code: u32, missing: u64, writer: &mut Watched<W>) -> Result<(), Refusal>
-    ensures ok { OnOk result (Appends (W.contents (device writer.old)) (W.contents (device writer.new)) (refused_text code (bits_text missing 64))) }
-    ensures unfailed { OnOk result (has_failed writer.new ≡ has_failed writer.old) }
-    ensures err { IfErr result (λ e. (e ≡ Refusal.WriteFault) × (has_failed writer.new ≡ true)) }
-    ensures front { IfErr result (λ _. AppendsFront (W.contents (device writer.old)) (W.contents (device writer.new)) (refused_text code (bits_text missing 64))) }
+    ensures { Writes W.contents (refused_text code (bits_text missing 64)) result writer.old writer.new }
 {
     write_code(code, writer)?;
     write_bits(missing, writer)?;
@@ -344,10 +288,7 @@ fn write_missing<W: Write>(code: u32, missing: u64, writer: &mut Watched<W>) -> 
 
 /// Writes the begin of a refusal's line.
 fn write_code<W: Write>(code: u32, writer: &mut Watched<W>) -> Result<(), Refusal>
-    ensures ok { OnOk result (Appends (W.contents (device writer.old)) (W.contents (device writer.new)) (codes "refused " ++ decimal code)) }
-    ensures unfailed { OnOk result (has_failed writer.new ≡ has_failed writer.old) }
-    ensures err { IfErr result (λ e. (e ≡ Refusal.WriteFault) × (has_failed writer.new ≡ true)) }
-    ensures front { IfErr result (λ _. AppendsFront (W.contents (device writer.old)) (W.contents (device writer.new)) (codes "refused " ++ decimal code)) }
+    ensures { Writes W.contents (codes "refused " ++ decimal code) result writer.old writer.new }
 {
     let mut text = Text::new();
     push(&mut text, b"refused ");
@@ -357,10 +298,7 @@ fn write_code<W: Write>(code: u32, writer: &mut Watched<W>) -> Result<(), Refusa
 
 /// Writes the numbers of the bits that are set.
 fn write_bits<W: Write>(bits: u64, writer: &mut Watched<W>) -> Result<(), Refusal>
-    ensures ok { OnOk result (Appends (W.contents (device writer.old)) (W.contents (device writer.new)) (bits_text bits 64)) }
-    ensures unfailed { OnOk result (has_failed writer.new ≡ has_failed writer.old) }
-    ensures err { IfErr result (λ e. (e ≡ Refusal.WriteFault) × (has_failed writer.new ≡ true)) }
-    ensures front { IfErr result (λ _. AppendsFront (W.contents (device writer.old)) (W.contents (device writer.new)) (bits_text bits 64)) }
+    ensures { Writes W.contents (bits_text bits 64) result writer.old writer.new }
 {
     'numbers: for number in 0..64u32 {
         write_bit(bits, number, writer)?;
@@ -371,10 +309,7 @@ fn write_bits<W: Write>(bits: u64, writer: &mut Watched<W>) -> Result<(), Refusa
 /// Writes the number of a bit, where it is set.
 fn write_bit<W: Write>(bits: u64, number: u32, writer: &mut Watched<W>) -> Result<(), Refusal>
     requires { number < 64 }
-    ensures ok { OnOk result (Appends (W.contents (device writer.old)) (W.contents (device writer.new)) (bit_text bits number)) }
-    ensures unfailed { OnOk result (has_failed writer.new ≡ has_failed writer.old) }
-    ensures err { IfErr result (λ e. (e ≡ Refusal.WriteFault) × (has_failed writer.new ≡ true)) }
-    ensures front { IfErr result (λ _. AppendsFront (W.contents (device writer.old)) (W.contents (device writer.new)) (bit_text bits number)) }
+    ensures { Writes W.contents (bit_text bits number) result writer.old writer.new }
 {
     let mut text = Text::new();
     if has_bit(bits, number) {
@@ -394,10 +329,7 @@ fn has_bit(bits: u64, number: u32) -> bool
 
 /// Writes bytes and a line feed.
 pub fn write_text<W: Write>(bytes: &[u8], writer: &mut Watched<W>) -> Result<(), Refusal>
-    ensures ok { OnOk result (Appends (W.contents (device writer.old)) (W.contents (device writer.new)) (bytes.now ++ codes "\n")) }
-    ensures unfailed { OnOk result (has_failed writer.new ≡ has_failed writer.old) }
-    ensures err { IfErr result (λ e. (e ≡ Refusal.WriteFault) × (has_failed writer.new ≡ true)) }
-    ensures front { IfErr result (λ _. AppendsFront (W.contents (device writer.old)) (W.contents (device writer.new)) (bytes.now ++ codes "\n")) }
+    ensures { Writes W.contents (bytes.now ++ codes "\n") result writer.old writer.new }
 {
     send(writer, bytes)?;
     send(writer, b"\n")

@@ -1,22 +1,18 @@
 -- What private clauses alone cite.
 use Rattle.std.specs.List.{flat_map}
-use Rattle.std.specs.Prelude.{◌≡◌, ℕ, ℤ, ◌+◌, ◌⊎◌, ◌++◌, sum_by, Bool, true, false, List, Option, None, Some, Result, is_ok, OnOk, IfErr, if◌then◌else◌}
-use Rattle.std.specs.Io.KnownBytes.{Appends}
-use Rattle.crack_row.specs.Devices.{device, has_failed}
+use Rattle.std.specs.Prelude.{◌≡◌, ℕ, ℤ, ◌+◌, ◌⊎◌, ◌++◌, sum_by, Bool, true, false, List, Option, None, Some, Result, is_ok, if◌then◌else◌}
 use Rattle.crack_row.specs.Rows.{total_by}
 use Rattle.crack_row.specs.declared.Bound.{Bound}
 use Rattle.crack_row.specs.declared.command.Policy.{Policy as MergePolicy}
 use Rattle.crack_row.specs.declared.refusal.Refusal.{Refusal}
-use Rattle.crack_row.specs.declared.refusal.Refusal.TheVariants.{WriteFault}
 use Rattle.crack_row.specs.declared.watched.Watched.{Watched}
 use Rattle.crack_plain.specs.Plain.{PlainView}
 use Rattle.crack_commands.specs.Grammar.{Reading}
-use Rattle.crack_commands.specs.Texts.{AppendsFront}
 use Rattle.crack_session.specs.declared.answer.Answer.{Answer}
 use Rattle.crack_session.specs.declared.session.Progress.{Progress}
 use Rattle.crack_row.specs.Ranges.{Range}
 use Rattle.crack_row.specs.declared.refusal.Refusal.TheVariants.{OutOfMemory}
-use Rattle.crack_commands.specs.Texts.{head_text, row_text}
+use Rattle.crack_commands.specs.Texts.{head_text, row_text, Writes}
 use Rattle.crack_session.specs.declared.answer.Answer.TheVariants.{Set, Refused}
 use Rattle.crack_session.specs.declared.query.PartReply.{PartReply}
 use Rattle.crack_session.specs.declared.query.Query.{Query}
@@ -40,13 +36,6 @@ marked None n false = None
 abbrev pub policy_after : MergePolicy → Answer → MergePolicy
 policy_after policy (Set next) = next
 policy_after policy _ = policy
-
--- All of a text is written, or, where the writer failed, a front of it that is shorter.
-pub record Writes {W : Type 0} (contents : W → Option (List ℕ)) (text : List ℕ) (result : Result (Unit {0}) Refusal) (old new : Watched W) : Type 0 where
-  pub ok : OnOk result (Appends (contents (device old)) (contents (device new)) text)
-  pub unfailed : OnOk result (has_failed new ≡ has_failed old)
-  pub err : IfErr result (λ e. (e ≡ WriteFault) × (has_failed new ≡ true))
-  pub front : IfErr result (λ _. AppendsFront (contents (device old)) (contents (device new)) text)
 
 -- An answer is told: a first want of room and another policy are noted, its text is written, and it is counted where that is whole.
 pub record Tells {W : Type 0} (contents : W → Option (List ℕ)) (answer : Answer) (old new : Progress) (result : Result (Unit {0}) Refusal) (writer writer' : Watched W) : Type 0 where

@@ -4,7 +4,8 @@ ghost use Rattle.std.specs.Result.{result_and};
 ghost use Rattle.std.specs.List.{flat_map};
 ghost use Rattle.crack_plain.specs.Plain.{PlainView, IsSmall};
 ghost use Rattle.crack_core.specs.Routes.{route, parts_of};
-ghost use Rattle.crack_session.specs.Telling.{list_text, lists_text, AsksSeveral, AsksDesk, Writes};
+ghost use Rattle.crack_commands.specs.Texts.{Writes};
+ghost use Rattle.crack_session.specs.Telling.{list_text, lists_text, AsksSeveral, AsksDesk};
 ghost use Rattle.crack_session.specs.Answers.{IsAnswer, IsAnswerTo, IsAsked, AsksInTurn, AsksParts, IsLaidOut, IsFolded, is_short_answer, answer_text};
 
 use crate::desk::Desk;

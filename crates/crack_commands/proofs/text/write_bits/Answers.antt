@@ -1,12 +1,16 @@
-use Rattle.std.proofs.Common.{◌∙◌, refl}
+use Rattle.std.proofs.Common.{◌∙◌, refl, rules}
 use Rattle.crack_commands.proofs.Bits.{Appends-no_bit, Appends-bit, front_in_bits}
 use Rattle.crack_commands.proofs.Sending.{on_err}
 use Rattle.crack_commands.proofs.text.write_bits.Goals as goal
 
-pub returns-in_err-write_bit-clause-front : goal.returns-in_err-write_bit-clause-front
-returns-in_err-write_bit-clause-front g c =
-    on_err c.from_residual.result
-    (front_in_bits c.args.bits c.numbers.number 64 _ _ _ c.numbers-test.true c.numbers.invariant.sent c.in_err-write_bit.ensures.front)
+pub returns-in_err-write_bit : goal.returns-in_err-write_bit
+returns-in_err-write_bit g c = record {
+  ok = search rules;
+  unfailed = search rules;
+  err = search rules;
+  front = on_err c.from_residual.result
+      (front_in_bits c.args.bits c.numbers.number 64 _ _ _ c.numbers-test.true c.numbers.invariant.sent c.in_err-write_bit.ensures.front);
+}
 
 pub numbers-init : goal.numbers-init
 numbers-init g c = record {

@@ -1,14 +1,10 @@
 use Rattle.std.proofs.Common.{rules}
 use Rattle.crack_commands.proofs.text.write_piece.Goals as goal
 
-pub returns-clause-ok : goal.returns-clause-ok
-returns-clause-ok g c = search rules
-
-pub returns-clause-unfailed : goal.returns-clause-unfailed
-returns-clause-unfailed g c = search rules
-
-pub returns-clause-err : goal.returns-clause-err
-returns-clause-err g c = search rules
-
-pub returns-clause-front : goal.returns-clause-front
-returns-clause-front g c = search rules
+pub returns : goal.returns
+returns g c = record {
+  ok = search rules;
+  unfailed = search rules;
+  err = search rules;
+  front = search rules;
+}
