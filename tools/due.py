@@ -1,9 +1,9 @@
 """Which must-fail edits are due: those of the crates that changed since all were tried, and a tenth of the others.
 
-A crate has changed where its own text has (sources, definitions or proofs), or where it names something of a crate below it whose meaning has: a
-definition, the statement of a law, a type, or a function's contract, be it that its own text changed or that of something which it names in turn. What
-stands in a function's body or in a law's proof is of no meaning for the crates above. Of a crate that hasn't changed, the edits are due that are new or
-changed themselves.
+A crate has changed where its own text has (sources, definitions or proofs, without lines of comment), or where it names something of a crate below it
+whose meaning has: a definition, the statement of a law, a type, or a function's contract, be it that its own text changed or that of something which
+it names in turn. What stands in a function's body or in a law's proof is of no meaning for the crates above. Of a crate that hasn't changed, the
+edits are due that are new or changed themselves.
 """
 
 import hashlib
@@ -15,12 +15,18 @@ import functions
 
 WORD = re.compile(r"[^\W\d][\w'⁻₀-₉-]*")
 ITEM = re.compile(r"^(?:(?:pub|abbrev|unfoldable|opaque|data|record|syntax|instance)\s+)*([^\s:(){},]+)")
+COMMENT_LINE = re.compile(r"(?m)^[ \t]*(?://|--).*\n?")
 RUST_ITEM = re.compile(r"^\s*(?:pub(?:\([^)]*\))?\s+)?(?:struct|enum|trait|const|static|type|mod|macro_rules!|ghost)\s+(\w+)")
 
 
 def words_of(text):
     """The words of a text, comments left out."""
     return set(WORD.findall(re.sub(r"(?m)(?:--|//).*$", "", text)))
+
+
+def without_comments(text):
+    """A file's text without its lines of comment, which no proof depends on."""
+    return COMMENT_LINE.sub("", text).strip()
 
 
 def definitions(text, with_bodies):
@@ -71,16 +77,16 @@ def items_of(path, text):
 
 
 def texts_before(commit, crate):
-    """A crate's files at a commit, by path."""
+    """A crate's files at a commit, by path, without lines of comment."""
     prefix = f"crates/{crate.name}/"
     folders = [f"{prefix}{it}" for it in crates.PARTS]
     names = edits.git("ls-tree", "-r", "--name-only", commit, "--", *folders).splitlines()
-    return {it.removeprefix(prefix): edits.git("show", f"{commit}:{it}") for it in names}
+    return {it.removeprefix(prefix): without_comments(edits.git("show", f"{commit}:{it}")) for it in names}
 
 
 def texts_now(crate):
-    """A crate's files as they are, by path."""
-    return {str(it.relative_to(crate.folder)): it.read_text(errors="replace").strip() for it in crate.sources()}
+    """A crate's files as they are, by path, without lines of comment."""
+    return {str(it.relative_to(crate.folder)): without_comments(it.read_text(errors="replace")) for it in crate.sources()}
 
 
 def stated(texts):

@@ -216,6 +216,11 @@ class Due(unittest.TestCase):
         self.assertEqual([it for it in before if before[it] != after[it]], ["size", "size-nil"])
         self.assertEqual(due.definitions(LAWS, False), due.definitions(turned, False))
 
+    def test_a_line_of_comment_changes_nothing(self):
+        told = "/// Its length.\nfn len() -> u64 {\n    // (counted)\n    4 - 1\n}\n"
+        self.assertEqual(due.without_comments(told), "fn len() -> u64 {\n    4 - 1\n}")
+        self.assertEqual(due.without_comments("-- a law\nlaw : 1 ≡ 1\n  -- by itself\nlaw = refl\n"), "law : 1 ≡ 1\nlaw = refl")
+
     def test_what_cites_a_changed_name_has_changed(self):
         now = {"twice": "twice n = size n", "thrice": "thrice n = twice n", "other": "other n = n"}
         self.assertEqual(due.changed_names(now, now, {"size"}), {"twice", "thrice"})
