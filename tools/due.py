@@ -98,9 +98,14 @@ def stated(texts):
     return found
 
 
+def alike(one, other):
+    """Whether two texts differ in their spaces and ends of lines alone."""
+    return "".join((one or "").split()) == "".join((other or "").split())
+
+
 def changed_names(before, now, changed_below):
     """The names of a crate whose meaning changed: by their own text, or by a name that they cite."""
-    names = {it for it in {*before, *now} if before.get(it) != now.get(it)}
+    names = {it for it in {*before, *now} if not alike(before.get(it), now.get(it))}
     cited = {name: words_of(text) for name, text in now.items()}
     while True:
         more = {name for name, words in cited.items() if name not in names and words & (names | changed_below)}

@@ -221,6 +221,11 @@ class Due(unittest.TestCase):
         self.assertEqual(due.without_comments(told), "fn len() -> u64 {\n    4 - 1\n}")
         self.assertEqual(due.without_comments("-- a law\nlaw : 1 ≡ 1\n  -- by itself\nlaw = refl\n"), "law : 1 ≡ 1\nlaw = refl")
 
+    def test_a_line_that_is_laid_out_anew_changes_no_meaning(self):
+        before = {"twice": "twice n = size (n + n)\n"}
+        self.assertEqual(due.changed_names(before, {"twice": "twice n =\nsize (n + n)\n"}, set()), set())
+        self.assertEqual(due.changed_names(before, {"twice": "twice n = size (n + 1)\n"}, set()), {"twice"})
+
     def test_what_cites_a_changed_name_has_changed(self):
         now = {"twice": "twice n = size n", "thrice": "thrice n = twice n", "other": "other n = n"}
         self.assertEqual(due.changed_names(now, now, {"size"}), {"twice", "thrice"})
