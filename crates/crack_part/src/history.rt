@@ -49,6 +49,7 @@ pub(crate) fn fresh_list(history: &Vec<Entry>, alloc: Global) -> Result<Option<V
 }
 
 /// Adds an element where there is room.
+#[inline(always)]
 pub(crate) fn push_reserved<T: Drop>(items: &mut Vec<T>, item: T)
     requires { vec_len items.old < vec_capacity items.old }
     ensures { items.new.items ≡ items.old.items ++ item ∷ [] }

@@ -4,5 +4,6 @@
 mod history;
 pub mod partition;
 mod reads;
+mod replies;
 
 pub use partition::Partition;

@@ -23,10 +23,11 @@ ghost use Rattle.crack_part.specs.Inside.{IsCommon, AreCommon, MayPerform, base_
 
 use crate::history::{fresh_list, make_room, push_reserved};
 use crate::reads::{count, select, sum};
+use crate::replies::{copied, gone, rewritten};
 use crack_merge::{merge_complete, merge_gradual};
 use crack_ripple::merge_ripple;
 use crack_row::{
-    Change, Command, Entry, GREATEST_LIMIT, Key, KeyRange, Layout, Limits, Payload, Policy,
+    Command, Entry, GREATEST_LIMIT, Key, KeyRange, Layout, Limits, Payload, Policy,
     Refusal, Reply, Row, RowList, Serial, Upkeep,
 };
 use crack_store::{MergeReport, Store};
@@ -280,7 +281,7 @@ impl Partition {
     {
         if self.history.len() as u64 >= self.limits.history {
             let asked = command;
-            return handed_on(self.apply_when_full(worker, asked, policy));
+            return self.apply_apart(worker, asked, policy);
         }
         self.may_keep(&command)?;
         make_room(&mut self.history)?;
@@ -301,6 +302,31 @@ impl Partition {
         };
         push_reserved(&mut self.history, entry);
         Ok((copies.reply, copies.receipt))
+    }
+
+    /// Answers a command where the history is full. What comes of it has its place in memory here, so that where `apply` begins none is
+    /// cleared for it.
+    #[inline(always)]
+    fn apply_apart(
+        &mut self,
+        worker: u32,
+        command: Command,
+        policy: Policy,
+    ) -> Result<(Reply, Reply), Refusal>
+        requires full { self.old.limits.history ≤ length self.old.past.tail }
+        ensures replies { IfOk result (λ replies. (replies.0 ≡ reply_to (state_of self.old) command) × (replies.1 ≡ replies.0)) }
+        ensures small { IfOk result (λ replies. IsSmall replies.0) }
+        ensures kept { IfOk result (λ replies. self.new.past ≡ with_entry (upkept self.old.limits self.old.past) (record { worker = worker; command = command; reply = replies.0 })) }
+        ensures state { OnOk result (state_of self.new ≡ after (state_of self.old) command) }
+        ensures store { OnOk result (Serves policy self.old.keys self.old.next command self.old.store self.new.store) }
+        ensures opened { (self.new.keys ≡ self.old.keys) × (self.new.limits ≡ self.old.limits) }
+
+        ensures err { OnErr result (self.new.past ≡ self.old.past) }
+        ensures spared { OnErr result (Spares policy self.old.keys (range_of command) self.old.store self.new.store) }
+        ensures refused { IfSome (refusal_of self.old command) (λ e. (result ≡ Err e) × (self.new ≡ self.old)) }
+        ensures memory { refusal_of self.old command ≡ None → IfErr result (λ e. e ≡ Refusal.OutOfMemory) }
+    {
+        handed_on(self.apply_when_full(worker, command, policy))
     }
 
     /// Answers a command where the history is full, as `apply` does. What a checkpoint needs of memory is taken before the command is answered.
@@ -399,25 +425,15 @@ fn lacks_cell(store: &Store, most: u64, command: &Command) -> bool
 }
 
 /// Whether a command needs a cell more: an insert, or an update of a row of the column. O(1).
+#[inline(always)]
 fn takes_cell(store: &Store, command: &Command) -> bool
     ensures { result ≡ takes_cell store.now (change_of command.now) }
 {
-    match command.change() {
-        Some(Change::Place { .. }) => true,
-        Some(Change::Rewrite { serial, .. }) => matches!(store.is_pending(serial), Some(false)),
+    match *command {
+        Command::Insert { .. } => true,
+        Command::Update { serial, .. } => matches!(store.is_pending(serial), Some(false)),
         _ => false,
     }
-}
-
-/// A reply with its copies.
-#[derive(Drop)]
-struct Copies {
-    /// For the worker who asked.
-    reply: Reply,
-    /// For the worker's receipt.
-    receipt: Reply,
-    /// For the history.
-    kept: Reply,
 }
 
 /// Whether the key that a command brings, if any, is one of these.
@@ -425,9 +441,9 @@ struct Copies {
 fn allows(keys: KeyRange, command: &Command) -> bool
     ensures { result ≡ is_key_in keys (key_of command.now) }
 {
-    match command.key() {
-        Some(key) => keys.contains(key),
-        None => true,
+    match *command {
+        Command::Insert { key, .. } | Command::Update { key, .. } => keys.contains(key),
+        _ => true,
     }
 }
 
@@ -537,30 +553,6 @@ fn carry_out(
     }
 }
 
-/// What a delete is replied where this is the row of its serial.
-fn gone(row: Option<Row>) -> Reply
-    ensures is { result ≡ gone row }
-    ensures flat { IsFlat result }
-    ensures small { IsSmall result }
-{
-    match row {
-        Some(row) => Reply::Gone(row),
-        None => Reply::NoRow,
-    }
-}
-
-/// What an update is replied where this is the row of its serial.
-fn rewritten(row: Option<Row>) -> Reply
-    ensures is { result ≡ rewritten row }
-    ensures flat { IsFlat result }
-    ensures small { IsSmall result }
-{
-    match row {
-        Some(_) => Reply::Changed,
-        None => Reply::NoRow,
-    }
-}
-
 /// What came of a command, piece by piece: where it isn't asked for, it stands in no memory.
 #[inline(always)]
 fn handed_on(answered: Result<(Reply, Reply), Refusal>) -> Result<(Reply, Reply), Refusal>
@@ -569,35 +561,6 @@ fn handed_on(answered: Result<(Reply, Reply), Refusal>) -> Result<(Reply, Reply)
     match answered {
         Ok((reply, receipt)) => Ok((reply, receipt)),
         Err(refusal) => Err(refusal),
-    }
-}
-
-/// A reply with its copies.
-#[inline(always)]
-fn copied(reply: Reply, alloc: Global) -> Result<Copies, Refusal>
-    ensures ok { IfOk result (λ copies. (copies.reply ≡ reply) × (copies.receipt ≡ reply) × (copies.kept ≡ reply)) }
-    ensures err { IfErr result (λ e. e ≡ Refusal.OutOfMemory) }
-    ensures flat { IsFlat reply → IsOk result }
-{
-    let receipt = copy_of(&reply, alloc)?;
-    let kept = copy_of(&reply, alloc)?;
-    Ok(Copies {
-        reply,
-        receipt,
-        kept,
-    })
-}
-
-/// A copy of a reply. That of a placed row, which is met most, is made in place.
-#[inline(always)]
-fn copy_of(reply: &Reply, alloc: Global) -> Result<Reply, Refusal>
-    ensures ok { IfOk result (λ copy. copy ≡ reply.now) }
-    ensures err { IfErr result (λ e. e ≡ Refusal.OutOfMemory) }
-    ensures flat { IsFlat reply.now → IsOk result }
-{
-    match reply {
-        Reply::Placed(serial) => Ok(Reply::Placed(*serial)),
-        _ => reply.copy(alloc),
     }
 }
 

@@ -105,4 +105,4 @@ returns-clause-small c =
     subst IsSmall (sym c.in_ok-copies.ensures.ok.0) (c.in_ok-reply.ensures.small (state_after past) (IsNumbered-after_past past c.self.invariant.legal.base) c.self.invariant.faithful few)
 
 pub returns-then-len-self-clause-refused : goal.returns-then-len-self-clause-refused
-returns-then-len-self-clause-refused c = rw c.handed_on.ensures c.apply_when_full.ensures.refused
+returns-then-len-self-clause-refused c = c.apply_apart.ensures.refused

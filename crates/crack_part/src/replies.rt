@@ -1,0 +1,72 @@
+//! Replies and their copies.
+ghost use Rattle.std.specs.Prelude.{◌≡◌, IsOk, IfOk, IfErr};
+ghost use Rattle.crack_row.specs.Replies.{IsFlat};
+ghost use Rattle.crack_plain.specs.Plain.{IsSmall};
+ghost use Rattle.crack_plain.specs.Inside.{gone, rewritten};
+
+use crack_row::{Refusal, Reply, Row};
+use std::alloc::Global;
+
+/// A reply with its copies.
+#[derive(Drop)]
+pub(crate) struct Copies {
+    /// For the worker who asked.
+    pub(crate) reply: Reply,
+    /// For the worker's receipt.
+    pub(crate) receipt: Reply,
+    /// For the history.
+    pub(crate) kept: Reply,
+}
+
+/// What a delete is replied where this is the row of its serial.
+pub(crate) fn gone(row: Option<Row>) -> Reply
+    ensures is { result ≡ gone row }
+    ensures flat { IsFlat result }
+    ensures small { IsSmall result }
+{
+    match row {
+        Some(row) => Reply::Gone(row),
+        None => Reply::NoRow,
+    }
+}
+
+/// What an update is replied where this is the row of its serial.
+pub(crate) fn rewritten(row: Option<Row>) -> Reply
+    ensures is { result ≡ rewritten row }
+    ensures flat { IsFlat result }
+    ensures small { IsSmall result }
+{
+    match row {
+        Some(_) => Reply::Changed,
+        None => Reply::NoRow,
+    }
+}
+
+/// A reply with its copies.
+#[inline(always)]
+pub(crate) fn copied(reply: Reply, alloc: Global) -> Result<Copies, Refusal>
+    ensures ok { IfOk result (λ copies. (copies.reply ≡ reply) × (copies.receipt ≡ reply) × (copies.kept ≡ reply)) }
+    ensures err { IfErr result (λ e. e ≡ Refusal.OutOfMemory) }
+    ensures flat { IsFlat reply → IsOk result }
+{
+    let receipt = copy_of(&reply, alloc)?;
+    let kept = copy_of(&reply, alloc)?;
+    Ok(Copies {
+        reply,
+        receipt,
+        kept,
+    })
+}
+
+/// A copy of a reply. That of a placed row, which is met most, is made in place.
+#[inline(always)]
+fn copy_of(reply: &Reply, alloc: Global) -> Result<Reply, Refusal>
+    ensures ok { IfOk result (λ copy. copy ≡ reply.now) }
+    ensures err { IfErr result (λ e. e ≡ Refusal.OutOfMemory) }
+    ensures flat { IsFlat reply.now → IsOk result }
+{
+    match reply {
+        Reply::Placed(serial) => Ok(Reply::Placed(*serial)),
+        _ => reply.copy(alloc),
+    }
+}
