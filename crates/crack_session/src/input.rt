@@ -112,7 +112,6 @@ impl LineReader {
     /// Takes the next line where it is an insert that is written as most are, and says whether it is: its end isn't looked for before it is read.
     #[inline(always)]
     fn take_insert(&mut self) -> bool
-        requires { (self.old.line ≡ []) × (self.old.joined ≡ true) }
         ensures found { IsTrue result → has_feed self.old.unread ≡ true }
         ensures rest { IsTrue result → self.new.unread ≡ after_line self.old.unread }
         ensures line { IsTrue result → self.new.line ≡ first_line self.old.unread }
@@ -121,6 +120,7 @@ impl LineReader {
     {
         match leading_insert(&self.bytes[self.at..self.end]) {
             Some(found) => {
+                self.line_start = self.at;
                 self.line_end = self.at + found.len;
                 self.at = self.line_end + 1;
                 self.insert = Some((found.key, found.payload));
@@ -226,10 +226,10 @@ pub fn next_line<R: Read, W: Write>(
         × IsPaid input.old input.new (R.remaining (device reader.old)) (R.remaining (device reader.new)))))) }
 {
     let _counted = reader.reads();
-    input.begin_line();
     if input.take_insert() {
         return Ok(true);
     }
+    input.begin_line();
     'reading: loop {
         if input.take_line() {
             return Ok(true);

@@ -26,6 +26,7 @@ pub fn read_line(line: &[u8]) -> Option<Result<Statement, Refusal>>
 }
 
 /// Whether a line says that the session ends.
+#[inline(always)]
 pub fn says_quit(reading: &Result<Statement, Refusal>) -> bool
     ensures { result ≡ is_quit reading.now }
 {

@@ -108,7 +108,9 @@ fn respond<D: Desk, W: Write>(
     if let Some((key, payload)) = inserted(&reading) {
         return respond_to_insert(desk, key, payload, progress, writer);
     }
-    respond_to_any(alloc, desk, reading, progress, writer)
+    // a copy, so that what an insert says stands in no memory
+    let said = reading;
+    respond_to_any(alloc, desk, said, progress, writer)
 }
 
 /// Answers what any line says, and writes the text.

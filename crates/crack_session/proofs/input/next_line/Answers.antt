@@ -7,20 +7,19 @@ use Rattle.crack_session.proofs.input.next_line.Goals as goal
 
 pub returns-then-take_insert-clause-line : goal.returns-then-take_insert-clause-line
 returns-then-take_insert-clause-line g c = λ u e.
-    SoFar-found c.begin_line.new.self.unread (g.R.Read.remaining (device c.args.reader.now)) c.take_insert.new.self.line c.take_insert.new.self.unread
-    (SoFar-none_taken u _ [] (rw c.begin_line.ensures.unread e) refl) (c.if-take_insert.ensures.found refl) (c.if-take_insert.ensures.line refl) (c.if-take_insert.ensures.rest refl)
+    SoFar-found c.args.input.now.unread (g.R.Read.remaining (device c.args.reader.now)) c.take_insert.new.self.line c.take_insert.new.self.unread
+    (SoFar-none_taken u _ [] e refl) (c.if-take_insert.ensures.found refl) (c.if-take_insert.ensures.line refl) (c.if-take_insert.ensures.rest refl)
 
 pub returns-then-take_insert-clause-falls : goal.returns-then-take_insert-clause-falls
 returns-then-take_insert-clause-falls g c = λ _.
-    let shorter = after_line-shorter c.begin_line.new.self.unread (c.if-take_insert.ensures.found refl) in
+    let shorter = after_line-shorter c.args.input.now.unread (c.if-take_insert.ensures.found refl) in
     let rest = ap length (c.if-take_insert.ensures.rest refl) in
-    let begun = ap length c.begin_line.ensures.unread in
-    omega (arith, shorter, rest, begun, c.if-take_insert.ensures.reads.0, c.begin_line.ensures.reads.0)
+    omega (arith, shorter, rest, c.if-take_insert.ensures.reads.0)
 
 pub returns-then-take_insert-clause-last : goal.returns-then-take_insert-clause-last
 returns-then-take_insert-clause-last g c = λ _ u e none.
-    absurd (false≢true (sym none ∙ SoFar-feed c.begin_line.new.self.unread (g.R.Read.remaining (device c.args.reader.now))
-    (SoFar-none_taken u _ [] (rw c.begin_line.ensures.unread e) refl) (c.if-take_insert.ensures.found refl)))
+    absurd (false≢true (sym none ∙ SoFar-feed c.args.input.now.unread (g.R.Read.remaining (device c.args.reader.now))
+    (SoFar-none_taken u _ [] e refl) (c.if-take_insert.ensures.found refl)))
 
 pub returns-then-take_line-clause-line : goal.returns-then-take_line-clause-line
 returns-then-take_line-clause-line g c = λ u e.

@@ -2,15 +2,14 @@ use Rattle.std.proofs.Common.{◌+◌, ◌-◌, drop, slice_range, sym, ap, ◌�
 use Rattle.crack_session.specs.Input.{Input, first_line, after_line, has_feed}
 use Rattle.crack_session.specs.Readings.{reading_of}
 use Rattle.crack_session.proofs.Passing.{insert_found, insert_read}
-use Rattle.crack_session.proofs.Ranges.{line_begun, range_behind}
+use Rattle.crack_session.proofs.Ranges.{range_front, range_behind}
 use Rattle.crack_session.proofs.input.LineReader.take_insert.Goals as goal
 
 pub invariant_of-self : goal.invariant_of-self
 invariant_of-self c =
     let long = length-take (c.self.inside.end - c.self.inside.at) (drop c.self.inside.at c.self.inside.bytes) in
     let within = c.in-Some.ensures.within in
-    let line = line_begun c.self.inside.bytes c.self.inside.line_start c.self.inside.line_end c.self.inside.at c.self.inside.end c.in-Some.found.len c.args.self.now.line
-    (ap (λ (i : Input). i.line) c.self.view_is) c.requires.0 (ap (λ (i : Input). i.joined) c.self.view_is ∙ c.requires.1) (omega arith) c.in-Some.ensures.within in
+    let line = sym (range_front c.self.inside.bytes c.self.inside.at c.self.inside.end c.in-Some.found.len (omega (arith, within))) in
     (omega arith, omega arith, omega (arith, long, within), omega arith, ap reading_of line ∙ insert_read _ _ c.in-Some.ensures)
 
 pub returns-in-Some-clause-found : goal.returns-in-Some-clause-found
@@ -24,6 +23,6 @@ returns-in-Some-clause-rest c = λ _.
 pub returns-in-Some-clause-line : goal.returns-in-Some-clause-line
 returns-in-Some-clause-line c = λ _.
     let seen = ap (λ (i : Input). i.unread) c.self.view_is in
-    let line = line_begun c.self.inside.bytes c.self.inside.line_start c.self.inside.line_end c.self.inside.at c.self.inside.end c.in-Some.found.len c.args.self.now.line
-    (ap (λ (i : Input). i.line) c.self.view_is) c.requires.0 (ap (λ (i : Input). i.joined) c.self.view_is ∙ c.requires.1) (omega arith) c.in-Some.ensures.within in
+    let within = c.in-Some.ensures.within in
+    let line = sym (range_front c.self.inside.bytes c.self.inside.at c.self.inside.end c.in-Some.found.len (omega (arith, within))) in
     line ∙ sym (insert_found _ _ c.in-Some.ensures).1 ∙ ap first_line seen
