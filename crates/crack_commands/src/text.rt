@@ -33,7 +33,11 @@ pub fn write_reply<W: Write>(
 {
     match reply {
         Reply::Placed(serial) => write_placed(part, *serial, writer),
-        Reply::Gone(row) => write_gone(row, writer),
+        Reply::Gone(row) => {
+            // a copy, so that a placed row's reply stands in no memory
+            let gone = *row;
+            write_gone(&gone, writer)
+        }
         Reply::Changed => send(writer, b"changed\n"),
         Reply::NoRow => send(writer, b"none\n"),
         Reply::Counted(count) => write_count(*count, writer),

@@ -36,11 +36,6 @@ line_grown xs s l i j p line unread is is' joined before within =
     let front : take p unread ≡ slice_range xs i (i + p) = ap (take p) (sym is') ∙ range_front xs i j p (omega (arith, long, within)) in
     range_joined xs s i (i + p) (omega (arith, at, before)) (omega arith) ∙ ap (λ n. slice_range xs s n ++ slice_range xs i (i + p)) (sym at) ∙ ap (λ z. z ++ slice_range xs i (i + p)) is ∙ ap (λ z. line ++ z) (sym front)
 
--- a line that begins with the front of what stands behind it
-pub line_begun : (xs : List ℕ) (s l i j p : ℕ) (line : List ℕ) → slice_range xs s l ≡ line → line ≡ [] → eqb l i ≡ true → s ≤ l → p < length (slice_range xs i j) → slice_range xs s (i + p) ≡ take p (slice_range xs i j)
-line_begun xs s l i j p line is none joined before within =
-    line_grown xs s l i j p [] (slice_range xs i j) (is ∙ none) refl joined before (omega (arith, within))
-
 -- a line's kept bytes, moved to end at 202
 pub line_moved : (xs new : List ℕ) (s l k : ℕ) (line : List ℕ) → new ≡ copy_within xs s (s + k) (202 - k) → slice_range xs s l ≡ line → k ≡ min (l - s) 202 → s ≤ l → l ≤ length xs → 202 ≤ length xs → slice_range new (202 - k) 202 ≡ take 202 line
 line_moved xs new s l k line is is' kept before within room =
