@@ -27,8 +27,8 @@ use crate::replies::{copied, gone, rewritten};
 use crack_merge::{merge_complete, merge_gradual};
 use crack_ripple::merge_ripple;
 use crack_row::{
-    Command, Entry, GREATEST_LIMIT, Key, KeyRange, Layout, Limits, Payload, Policy,
-    Refusal, Reply, Row, RowList, Serial, Upkeep,
+    Command, Entry, GREATEST_LIMIT, Key, KeyRange, Layout, Limits, Payload, Policy, Refusal, Reply,
+    Row, RowList, Serial, Upkeep,
 };
 use crack_store::{MergeReport, Store};
 use std::alloc::Global;
