@@ -15,7 +15,7 @@ import sources
 # the members of a model that are read with its type: the others say that values can be told from one another, and which fields make a value. What a
 # type keeps of its own fields, its invariant, is a private clause: no value breaks it, and where a promise rests on it a call says so by a clause.
 READ = ("Value", "view")
-CLAUSE = re.compile(r"^\s*(requires|ensures)\s+(\w*)")
+CLAUSE = re.compile(r"^\s*(requires|ensures)\*?\s+(\w*)")
 VARIANT = re.compile(r"(?m)^    \w+")
 PARAMETER = re.compile(r"\b(\w+): ")
 
@@ -102,6 +102,21 @@ def ghost_items(source, block, names):
     ]
 
 
+def ghost_fields(source, names):
+    """The ghost fields of the structs of a file: contracts see them, so each is an item like a member of a model."""
+    found = []
+    for at, (_, keyword, name) in source.types().items():
+        for line in source.whole(at, ("}", ";")) if keyword == "struct" else ():
+            match = sources.GHOST.match(source.lines[line])
+            if match:
+                span, item = source.whole(line, (",",)), source.named(name)
+                text = text_of(source.said(span)).partition("{")[2]
+                cites = definitions.cited(text, source.scope, definitions.bound_in(text)) - {item}
+                lines, beside = source.said(span), source.remarks(span)
+                found.append(definitions.Item(f"{item} as ghost::{match[1]}", "model", source.crate, source.path, lines, beside, frozenset(cites), item in names.public))
+    return found
+
+
 def clause_at(source, at, scope, bound):
     """The clause that begins in a line, and the line after it."""
     found = CLAUSE.match(source.lines[at])
@@ -180,5 +195,5 @@ def items_of(files, names):
             if block.trait == "Model":
                 models[source.named(block.owner)] = {it.name for it in items if it.name.rpartition("::")[2] in READ}
     for source in files:
-        found += [*type_items(source, names, models), *calls_of(source, blocks[source.path], names)]
+        found += [*type_items(source, names, models), *ghost_fields(source, names), *calls_of(source, blocks[source.path], names)]
     return found

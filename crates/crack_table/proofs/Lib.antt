@@ -10,4 +10,5 @@ mod Totals
 mod Missing
 mod Refusing
 mod Others
+mod RepeatLaws
 pub mod Crosses

@@ -1,9 +1,21 @@
 -- What private clauses alone cite.
--- What a table keeps.
-use Rattle.std.specs.Prelude.{◌≡◌, ℕ, ◌+◌, ◌≤◌, List, length}
+-- What a table keeps, and what comes of asking a partition for a worker.
+use Rattle.std.specs.Prelude.{◌≡◌, ℕ, ◌+◌, ◌≤◌, List, [], ◌∷◌, ◌++◌, length, None, Result, Err, IfOk, IfErr, IfSome, OnOk, OnErr}
+use Rattle.crack_row.specs.Commands.{range_of}
 use Rattle.crack_row.specs.Limits.{AreLimits}
 use Rattle.crack_row.specs.declared.Bound.{Bound}
+use Rattle.crack_row.specs.declared.command.Command.{Command}
+use Rattle.crack_row.specs.declared.command.Policy.{Policy}
+use Rattle.crack_row.specs.declared.command.Reply.{Reply}
 use Rattle.crack_row.specs.declared.limit.Limits.{Limits}
+use Rattle.crack_row.specs.declared.refusal.Refusal.{Refusal}
+use Rattle.crack_row.specs.declared.refusal.Refusal.TheVariants.{OutOfMemory}
+use Rattle.crack_plain.specs.Past.{with_entry, accepted_in}
+use Rattle.crack_plain.specs.Plain.{IsSmall, reply_to, after}
+use Rattle.crack_part.specs.Parts.{Part, state_of, Serves, Spares}
+use Rattle.crack_part.specs.Refusals.{refusal_of}
+use Rattle.crack_part.specs.Upkeep.{upkept}
+use Rattle.crack_core.specs.Receipts.{BookState}
 use Rattle.crack_core.specs.Routes.{AreSplits}
 use Rattle.crack_table.specs.declared.TheConstants.{MOST_WORKERS}
 
@@ -13,3 +25,18 @@ pub record IsTable (splits : List Bound) (limits : Limits) (workers locks : ℕ)
   pub limited : AreLimits limits
   pub few : workers ≤ MOST_WORKERS
   pub all : locks ≡ length splits + 1
+
+-- A partition of this number is asked for the worker of a book, and this comes of it: the reply of its plain rows, an entry more in its past and a
+-- receipt of that in the book, or a refusal for its cause, which leaves past and receipts.
+pub record AsksFor (part : ℕ) (command : Command) (policy : Policy) (answered : Result Reply Refusal) (book book' : BookState) (old new : Part) : Type 0 where
+  pub receipt : IfOk answered (λ reply. book'.receipts ≡ book.receipts
+      ++ record { part = part; position = accepted_in old.past; worker = book.worker; command = command; reply = reply } ∷ [])
+  pub reply : IfOk answered (λ reply. reply ≡ reply_to (state_of old) command)
+  pub small : IfOk answered IsSmall
+  pub kept : IfOk answered (λ reply. new.past ≡ with_entry (upkept old.limits old.past) (record { worker = book.worker; command = command; reply = reply }))
+  pub state : OnOk answered (state_of new ≡ after (state_of old) command)
+  pub store : OnOk answered (Serves policy old.keys old.next command old.store new.store)
+  pub err : OnErr answered ((book'.receipts ≡ book.receipts) × (new.past ≡ old.past))
+  pub spared : OnErr answered (Spares policy old.keys (range_of command) old.store new.store)
+  pub refused : IfSome (refusal_of old command) (λ e. (answered ≡ Err e) × (new ≡ old))
+  pub memory : refusal_of old command ≡ None → IfErr answered (λ e. e ≡ OutOfMemory)

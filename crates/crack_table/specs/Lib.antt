@@ -4,3 +4,4 @@ pub mod Cover
 pub mod Marks
 pub mod Gather
 pub mod Keeps
+pub mod Repeats

@@ -1,6 +1,7 @@
 //! What a command waits for under a lock.
 ghost use Rattle.std.specs.Prelude.{◌≡◌, ◌<◌, ℕ, IfErr};
 ghost use Rattle.std.specs.Bool.{OnFalse};
+ghost use Rattle.crack_table.specs.declared.TheConstants.{GATE_TURNS};
 
 use crate::GATE_TURNS;
 use crack_row::Refusal;
@@ -31,7 +32,7 @@ impl Gate for OpenGate {
 /// Asks a gate until it says yes. Refused with 7 where it says no at each turn.
 pub(crate) fn pass<G: Gate>(gate: &G, part: u32) -> Result<(), Refusal>
     ensures cause { IfErr result (λ e. e ≡ Refusal.GateGaveUp) }
-    ensures turns { IfErr result (λ _. (turn : ℕ) → turn < 1000 → G.may_refuse gate.now part turn) }
+    ensures turns { IfErr result (λ _. (turn : ℕ) → turn < GATE_TURNS → G.may_refuse gate.now part turn) }
 {
     'turns: for turn in 0..GATE_TURNS {
         if gate.inside(part, turn) {

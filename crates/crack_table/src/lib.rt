@@ -12,6 +12,7 @@ mod kinds;
 mod locks;
 mod marks;
 mod order;
+pub mod repeating;
 pub mod table;
 pub mod worker;
 
@@ -19,6 +20,7 @@ pub use covering::cover;
 pub use gate::{Gate, OpenGate};
 pub use gathering::{Closed, GatherRefused, gather};
 pub use kept::Kept;
+pub use repeating::one_thread_repeats;
 pub use table::Table;
 pub use worker::Worker;
 

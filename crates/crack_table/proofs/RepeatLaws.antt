@@ -1,0 +1,358 @@
+-- That replies follow from the base and from the commands, so that steps that ask the same are answered the same.
+use Rattle.std.specs.Prelude.{◌≡◌, ◌≢◌, ◌⊎◌, ℕ, zero, suc, ◌+◌, ◌<◌, ◌≤◌, ◌==◌, ◌&&◌, not, Bool, true, false, cond, List, [], ◌∷◌, ◌++◌, length, map, take, Option, None, Some, IfSome, IsOk, Result, Ok, Err, slice_get, All, nat_le, nat_lt, if◌then◌else◌}
+use Rattle.std.specs.Option.{option_map, option_or}
+use Rattle.std.proofs.Common.{ap, sym, refl, subst, ◌∙◌, arith, inl, inr, ⊎_elim, get_or, append-nil, append_assoc, length-append}
+use Rattle.std.proofs.lemmas.Bool.{eq-eqb, ne_eqb, cases_eq, le-leb, lt-leb, lt-ltb}
+use Rattle.std.proofs.lemmas.List.{map-append, length-map}
+use Rattle.std.proofs.lemmas.Option.{slice_get-map, slice_get_within, slice_get-get_or, get_or_from_slice_get}
+use Rattle.crack_row.specs.Commands.{key_of}
+use Rattle.crack_row.specs.Ranges.{Range, IsIn}
+use Rattle.crack_row.specs.declared.Bound.{Bound}
+use Rattle.crack_row.specs.declared.Key.{Key}
+use Rattle.crack_row.specs.declared.command.Command.{Command}
+use Rattle.crack_row.specs.declared.command.Entry.{Entry}
+use Rattle.crack_row.specs.declared.command.Reply.{Reply}
+use Rattle.crack_row.specs.declared.limit.Limits.{Limits}
+use Rattle.crack_row.specs.declared.refusal.Refusal.{Refusal}
+use Rattle.crack_row.specs.declared.refusal.Refusal.TheVariants.{KeyOutside, HistoryFull, LifeOver, OutOfMemory, NoCell}
+use Rattle.crack_plain.specs.Past.{Past, IsLegal, state_after, with_entry, accepted_in}
+use Rattle.crack_plain.specs.Plain.{PlainState, PlainView, IsWithin, BringWithin, AreReplies, reply_to, after, replay_from}
+use Rattle.crack_part.specs.Parts.{Part, IsSound}
+use Rattle.crack_part.specs.Refusals.{is_key_in, table_of, stopped_by, first_cause}
+use Rattle.crack_part.specs.Upkeep.{is_automatic, upkept}
+use Rattle.crack_part.proofs.UpkeepLaws.{upkept-room}
+use Rattle.crack_core.specs.Opening.{AreParts}
+use Rattle.crack_core.specs.Routes.{keys_of_part}
+use Rattle.crack_core.specs.Steps.{bounds_of, reply_unless, expected, MayLackCell, IsOutcome, pasts_of}
+use Rattle.crack_core.specs.Jobs.{part_of, performed, past_after, past_at, IsJobOutcome, AreExpectedOutcomes}
+use Rattle.crack_core.specs.declared.step.Step.{Step}
+use Rattle.crack_core.specs.declared.step.Job.{Job}
+use Rattle.crack_core.specs.declared.step.Job.TheVariants.{Perform}
+use Rattle.crack_core.specs.declared.step.Done.{Done}
+use Rattle.crack_core.specs.declared.step.Done.TheVariants.{Replied}
+use Rattle.crack_table.specs.Repeats.{asked, asked_of, replies_at, first_refusal, at_base, said, AreAsked, AreRepeated, Repeats}
+
+-- an entry in the middle has the reply of the state that those before it leave
+middle-reply : (s : PlainState) (xs ys : List Entry) (e : Entry) → AreReplies s (xs ++ e ∷ ys) → e.reply ≡ reply_to (replay_from s xs) e.command
+middle-reply s [] ys e legal = legal.0
+middle-reply s (x ∷ xs) ys e legal = middle-reply (after s x.command) xs ys e legal.1
+
+-- and a key of the partition, if it brings one
+middle-within : (keys : Range) (xs ys : List Entry) (e : Entry) → BringWithin keys (xs ++ e ∷ ys) → IsWithin keys e.command
+middle-within keys [] ys e bring = bring 0 e (omega arith)
+middle-within keys (x ∷ xs) ys e bring = middle-within keys xs ys e (λ k d within. bring (suc k) d (omega (arith, within)))
+
+key-tested : (keys : Range) (key : Option Key) → IfSome key (λ (k : Key). IsIn keys k.0) → is_key_in keys key ≡ true
+key-tested keys None is = refl
+key-tested keys (Some key) is = rw (le-leb keys.low key.0 is.0, lt-ltb key.0 keys.high is.1) refl
+
+-- where nothing is tested true there is no cause
+uncaused : (limits : Limits) (own full over : Bool) → own ≡ true → full ≡ false → over ≡ false → ◌≡◌ {A = Option Refusal} (if own then option_or (if full then Some (HistoryFull limits.history) else (if over then Some LifeOver else None)) None else Some KeyOutside) None
+uncaused limits own full over is goes lives = rw (is, goes, lives) refl
+
+-- a past on the way to another: of the same base, with the first entries of its tail; and the commands of the others are still to come
+record OnTheWay (past now : Past) (asks : List (ℕ × Command)) : Type 0 where
+  pub rest : List Entry
+  pub base : now.base ≡ past.base
+  pub tails : past.tail ≡ now.tail ++ rest
+  pub coming : asks ≡ map asked rest
+
+-- the next command of a partition is to be answered as it was
+next-answered : (limits : Limits) (keys : Range) (past now : Past) (e : Entry) (rest : List Entry) → IsLegal keys limits past → now.base ≡ past.base → past.tail ≡ now.tail ++ e ∷ rest → expected (bounds_of limits) keys (Some (table_of now)) e.command ≡ Ok e.reply
+next-answered limits keys past now e rest legal base tails =
+    let long : length past.tail ≡ length now.tail + length (e ∷ rest) = ap length tails ∙ length-append now.tail (e ∷ rest) in
+    let more : length (e ∷ rest) ≡ suc (length rest) = refl in
+    let room : length now.tail < limits.history = omega (arith, long, more, legal.limited) in
+    let folded_same : now.base.folded ≡ past.base.folded = ap (λ b. b.folded) base in
+    let lives : accepted_in now < limits.life = omega (arith, long, more, folded_same, legal.lived) in
+    let full : (nat_le limits.history (length now.tail) && not (is_automatic limits.upkeep)) ≡ false = ap (λ (b : Bool). b && not (is_automatic limits.upkeep)) (lt-leb limits.history (length now.tail) room) in
+    let within : IsWithin keys e.command = middle-within keys now.tail rest e (subst (λ (es : List Entry). BringWithin keys es) tails legal.within) in
+    let none = uncaused limits (is_key_in keys (key_of e.command)) (nat_le limits.history (length now.tail) && not (is_automatic limits.upkeep)) (nat_le limits.life (accepted_in now)) (key-tested keys (key_of e.command) within) full (lt-leb limits.life (accepted_in now) lives) in
+    let reply : e.reply ≡ reply_to (state_after now) e.command = rw base (middle-reply past.base.state now.tail rest e (subst (λ (es : List Entry). AreReplies past.base.state es) tails legal.replies)) in
+    ap (λ (o : Option Refusal). reply_unless o (reply_to (state_after now) e.command)) none ∙ ap Ok (sym reply)
+
+-- what comes of a step comes as its job's
+unperformed : (r s : Result Reply Refusal) → performed r ≡ performed s → r ≡ s
+unperformed (Ok x) (Ok y) same = let is : x ≡ y = cc same in ap Ok is
+unperformed (Ok x) (Err e) same = cc same
+unperformed (Err e) (Ok x) same = cc same
+unperformed (Err e) (Err f) same = let is : e ≡ f = cc same in ap Err is
+
+-- a reply, or a want of memory or of a cell
+answered-or : {Lacks : Type 0} (reply : Reply) (o r : Result Reply Refusal) → o ≡ Ok reply → (r ≡ o) ⊎ (IsOk o × ((r ≡ Err OutOfMemory) ⊎ ((r ≡ Err NoCell) × Lacks))) → (r ≡ Ok reply) ⊎ ((r ≡ Err OutOfMemory) ⊎ (r ≡ Err NoCell))
+answered-or {Lacks} reply o r is comes = ⊎_elim (λ (same : r ≡ o). inl (same ∙ is)) (λ (wants : IsOk o × ((r ≡ Err OutOfMemory) ⊎ ((r ≡ Err NoCell) × Lacks))). inr (⊎_elim (λ (m : r ≡ Err OutOfMemory). inl m) (λ (c : (r ≡ Err NoCell) × Lacks). inr c.0) wants.1)) comes
+
+-- steps come out as those of partitions that have these pasts
+abbrev Outcomes : Limits → List Bound → (ℕ → Option Past) → List Step → List (Result Reply Refusal) → Type 0
+Outcomes limits splits now steps results =
+    (k : ℕ) (job : Job) (result : Result Done Refusal) → slice_get (map Perform steps) k ≡ Some job → slice_get (map performed results) k ≡ Some result →
+    IsJobOutcome (bounds_of limits) splits (option_map (λ (past : Past). table_of (past_at limits (part_of job) (take k (map Perform steps)) (take k (map performed results)) past)) (now (part_of job))) job result
+
+-- the partitions after one step
+abbrev stepped : Limits → Step → Result Reply Refusal → (ℕ → Option Past) → ℕ → Option Past
+stepped limits step result now part = option_map (past_after limits part (Perform step) (performed result)) (now part)
+
+mapped-twice : {A B C : Type 0} (f : A → B) (g : B → C) (o : Option A) → option_map g (option_map f o) ≡ option_map (λ x. g (f x)) o
+mapped-twice f g None = refl
+mapped-twice f g (Some x) = refl
+
+outcomes-rest : (limits : Limits) (splits : List Bound) (now : ℕ → Option Past) (step : Step) (steps : List Step) (result : Result Reply Refusal) (results : List (Result Reply Refusal)) → Outcomes limits splits now (step ∷ steps) (result ∷ results) → Outcomes limits splits (stepped limits step result now) steps results
+outcomes-rest limits splits now step steps result results outcomes = λ k job r at there.
+    subst (λ (o : Option PlainView). IsJobOutcome (bounds_of limits) splits o job r)
+    (sym (mapped-twice (past_after limits (part_of job) (Perform step) (performed result)) (λ (past : Past). table_of (past_at limits (part_of job) (take k (map Perform steps)) (take k (map performed results)) past)) (now (part_of job))))
+    (outcomes (suc k) job r at there)
+
+-- each partition is on the way to its past
+abbrev Going : (ℕ → Option Past) → (ℕ → Option Past) → List Step → Type 0
+Going final now steps = (part : ℕ) (past : Past) → final part ≡ Some past → (cur : Past) × (now part ≡ Some cur) × OnTheWay past cur (asked_of part steps)
+
+-- each step's partition is there
+abbrev AreThere : (ℕ → Option Past) → List Step → Type 0
+AreThere final [] = Unit {0}
+AreThere final (step ∷ steps) = ((past : Past) × (final step.part ≡ Some past)) × AreThere final steps
+
+abbrev AreLegal : Limits → List Bound → (ℕ → Option Past) → Type 0
+AreLegal limits splits final = (part : ℕ) (past : Past) → final part ≡ Some past → IsLegal (keys_of_part splits part) limits past
+
+-- what follows of such steps
+record Followed (final now : ℕ → Option Past) (steps : List Step) (results : List (Result Reply Refusal)) : Type 0 where
+  pub whole : first_refusal results ≡ None → (part : ℕ) (past cur : Past) → final part ≡ Some past → now part ≡ Some cur → map said past.tail ≡ map said cur.tail ++ (replies_at part steps results ++ [])
+  pub begun : (part : ℕ) (past cur : Past) → final part ≡ Some past → now part ≡ Some cur → (rest : List Reply) × (map said past.tail ≡ map said cur.tail ++ (replies_at part steps results ++ rest))
+  pub refused : IfSome (first_refusal results) (λ e. (e ≡ OutOfMemory) ⊎ (e ≡ NoCell))
+
+-- a step of a partition's own comes first of what that is asked
+asked-own : (step : Step) (steps : List Step) → asked_of step.part (step ∷ steps) ≡ (step.worker, step.command) ∷ asked_of step.part steps
+asked-own step steps = ap (λ (b : Bool). cond b ((step.worker, step.command) ∷ asked_of step.part steps) (asked_of step.part steps)) (eq-eqb step.part step.part refl)
+
+asked-other : (part : ℕ) (step : Step) (steps : List Step) → step.part ≢ part → asked_of part (step ∷ steps) ≡ asked_of part steps
+asked-other part step steps differs = ap (λ (b : Bool). cond b ((step.worker, step.command) ∷ asked_of part steps) (asked_of part steps)) (ne_eqb step.part part differs)
+
+replies-own : (step : Step) (steps : List Step) (reply : Reply) (results : List (Result Reply Refusal)) → replies_at step.part (step ∷ steps) (Ok reply ∷ results) ≡ reply ∷ replies_at step.part steps results
+replies-own step steps reply results = ap (λ (b : Bool). cond b (reply ∷ replies_at step.part steps results) (replies_at step.part steps results)) (eq-eqb step.part step.part refl)
+
+replies-other : (part : ℕ) (step : Step) (steps : List Step) (reply : Reply) (results : List (Result Reply Refusal)) → step.part ≢ part → replies_at part (step ∷ steps) (Ok reply ∷ results) ≡ replies_at part steps results
+replies-other part step steps reply results differs = ap (λ (b : Bool). cond b (reply ∷ replies_at part steps results) (replies_at part steps results)) (ne_eqb step.part part differs)
+
+-- the entry that a step makes
+abbrev made : Step → Reply → Entry
+made step reply = record { worker = step.worker; command = step.command; reply = reply }
+
+-- and what it leaves
+after-own : (limits : Limits) (step : Step) (reply : Reply) (past : Past) → length past.tail < limits.history → past_after limits step.part (Perform step) (Ok (Replied reply)) past ≡ with_entry past (made step reply)
+after-own limits step reply past room =
+    ap (λ (b : Bool). cond b (with_entry (upkept limits past) (made step reply)) past) (eq-eqb step.part step.part refl)
+    ∙ ap (λ (p : Past). with_entry p (made step reply)) (upkept-room limits past room)
+
+after-other : (limits : Limits) (part : ℕ) (step : Step) (reply : Reply) (past : Past) → step.part ≢ part → past_after limits part (Perform step) (Ok (Replied reply)) past ≡ past
+after-other limits part step reply past differs = ap (λ (b : Bool). cond b (with_entry (upkept limits past) (made step reply)) past) (ne_eqb step.part part differs)
+
+-- the next entry of a step's partition
+record Next (final now : ℕ → Option Past) (step : Step) (steps : List Step) : Type 0 where
+  pub past : Past
+  pub cur : Past
+  pub entry : Entry
+  pub rest : List Entry
+  pub final_is : final step.part ≡ Some past
+  pub now_is : now step.part ≡ Some cur
+  pub base : cur.base ≡ past.base
+  pub tails : past.tail ≡ cur.tail ++ entry ∷ rest
+  pub worker : entry.worker ≡ step.worker
+  pub command : entry.command ≡ step.command
+  pub coming : asked_of step.part steps ≡ map asked rest
+
+next-by : (final now : ℕ → Option Past) (step : Step) (steps : List Step) (past cur : Past) → final step.part ≡ Some past → now step.part ≡ Some cur → cur.base ≡ past.base → (rest : List Entry) → past.tail ≡ cur.tail ++ rest → (step.worker, step.command) ∷ asked_of step.part steps ≡ map asked rest → Next final now step steps
+next-by final now step steps past cur final_is now_is base [] tails coming = absurd (cc coming)
+next-by final now step steps past cur final_is now_is base (e ∷ rest) tails coming =
+    let pair : (step.worker, step.command) ≡ asked e = cc coming in
+    record { past = past; cur = cur; entry = e; rest = rest; final_is = final_is; now_is = now_is; base = base; tails = tails; worker = sym (ap (λ p. p.0) pair); command = sym (ap (λ p. p.1) pair); coming = cc coming }
+
+next : (final now : ℕ → Option Past) (step : Step) (steps : List Step) → Going final now (step ∷ steps) → AreThere final (step ∷ steps) → Next final now step steps
+next final now step steps going there =
+    let past = there.0.0 in
+    let way = going step.part past there.0.1 in
+    next-by final now step steps past way.0 there.0.1 way.1 way.2.base way.2.rest way.2.tails (sym (asked-own step steps) ∙ way.2.coming)
+
+module _ (limits : Limits) (splits : List Bound) (final : ℕ → Option Past) (legal : AreLegal limits splits final) where
+  -- there is room for the next entry
+  next-room : (now : ℕ → Option Past) (step : Step) (steps : List Step) (n : Next final now step steps) → length n.cur.tail < limits.history
+  next-room now step steps n =
+      let long : length n.past.tail ≡ length n.cur.tail + length (n.entry ∷ n.rest) = ap length n.tails ∙ length-append n.cur.tail (n.entry ∷ n.rest) in
+      let more : length (n.entry ∷ n.rest) ≡ suc (length n.rest) = refl in
+      let few : length n.past.tail ≤ limits.history = (legal step.part n.past n.final_is).limited in
+      omega (arith, long, more, few)
+
+  -- what comes of a step is the reply of that entry, or a want
+  comes : (now : ℕ → Option Past) (step : Step) (steps : List Step) (result : Result Reply Refusal) (results : List (Result Reply Refusal)) (n : Next final now step steps) → Outcomes limits splits now (step ∷ steps) (result ∷ results) → (result ≡ Ok n.entry.reply) ⊎ ((result ≡ Err OutOfMemory) ⊎ (result ≡ Err NoCell))
+  comes now step steps result results n outcomes =
+      let keys = keys_of_part splits step.part in
+      let job : IsJobOutcome (bounds_of limits) splits (option_map (λ (past : Past). table_of past) (now step.part)) (Perform step) (performed result) = outcomes 0 (Perform step) (performed result) refl refl in
+      let mine : IsOutcome (bounds_of limits) keys (Some (table_of n.cur)) step.command job.0 = subst (λ (o : Option Past). IsOutcome (bounds_of limits) keys (option_map (λ (past : Past). table_of past) o) step.command job.0) n.now_is job.2 in
+      let same : expected (bounds_of limits) keys (Some (table_of n.cur)) step.command ≡ Ok n.entry.reply = subst (λ (c : Command). expected (bounds_of limits) keys (Some (table_of n.cur)) c ≡ Ok n.entry.reply) n.command (next-answered limits keys n.past n.cur n.entry n.rest (legal step.part n.past n.final_is) n.base n.tails) in
+      rw (unperformed result job.0 job.1) (answered-or n.entry.reply (expected (bounds_of limits) keys (Some (table_of n.cur)) step.command) job.0 same mine)
+
+  -- and then all are still on the way
+  gone-on : (now : ℕ → Option Past) (step : Step) (steps : List Step) (n : Next final now step steps) → Going final now (step ∷ steps) → Going final (stepped limits step (Ok n.entry.reply) now) steps
+  gone-on now step steps n going = λ part past is. ⊎_elim (λ (same : part ≡ step.part). own part past is same) (λ (other : part ≢ step.part). else_where part past is other) (cases_eq part step.part)
+    where
+      cur-after : Past
+      cur-after = with_entry n.cur (made step n.entry.reply)
+
+      entry-made : made step n.entry.reply ≡ n.entry
+      entry-made = rw (← n.worker, ← n.command) refl
+
+      own : (part : ℕ) (past : Past) → final part ≡ Some past → part ≡ step.part → (cur : Past) × (stepped limits step (Ok n.entry.reply) now part ≡ Some cur) × OnTheWay past cur (asked_of part steps)
+      own part past is same =
+          let one : n.past ≡ past = cc (is, same, n.final_is) in
+          let there : stepped limits step (Ok n.entry.reply) now part ≡ Some cur-after = rw (same, n.now_is) (ap Some (after-own limits step n.entry.reply n.cur (next-room now step steps n))) in
+          let tails : past.tail ≡ (n.cur.tail ++ made step n.entry.reply ∷ []) ++ n.rest = rw (← one, entry-made) (n.tails ∙ sym (append_assoc n.cur.tail (n.entry ∷ []) n.rest)) in
+          (cur-after, there, record { rest = n.rest; base = rw (← one) n.base; tails = tails; coming = rw same n.coming })
+
+      else_where : (part : ℕ) (past : Past) → final part ≡ Some past → part ≢ step.part → (cur : Past) × (stepped limits step (Ok n.entry.reply) now part ≡ Some cur) × OnTheWay past cur (asked_of part steps)
+      else_where part past is other =
+          let way = going part past is in
+          let differs : step.part ≢ part = λ e. other (sym e) in
+          let there : stepped limits step (Ok n.entry.reply) now part ≡ Some way.0 = rw way.1 (ap Some (after-other limits part step n.entry.reply way.0 differs)) in
+          (way.0, there, record { rest = way.2.rest; base = way.2.base; tails = way.2.tails; coming = sym (asked-other part step steps differs) ∙ way.2.coming })
+
+  -- what is said of the steps behind it is said of these
+  said-on : (now : ℕ → Option Past) (step : Step) (steps : List Step) (results : List (Result Reply Refusal)) (n : Next final now step steps) (part : ℕ) (tail : List Reply) (cur : Past) (rest : List Reply) → now part ≡ Some cur → ((cur' : Past) → stepped limits step (Ok n.entry.reply) now part ≡ Some cur' → tail ≡ map said cur'.tail ++ (replies_at part steps results ++ rest)) → tail ≡ map said cur.tail ++ (replies_at part (step ∷ steps) (Ok n.entry.reply ∷ results) ++ rest)
+  said-on now step steps results n part tail cur rest is behind = ⊎_elim own else_where (cases_eq part step.part)
+    where
+      reply : Reply
+      reply = n.entry.reply
+
+      own : part ≡ step.part → tail ≡ map said cur.tail ++ (replies_at part (step ∷ steps) (Ok reply ∷ results) ++ rest)
+      own same =
+          let one : n.cur ≡ cur = cc (is, same, n.now_is) in
+          let there : stepped limits step (Ok reply) now part ≡ Some (with_entry n.cur (made step reply)) = rw (same, n.now_is) (ap Some (after-own limits step reply n.cur (next-room now step steps n))) in
+          let given = behind (with_entry n.cur (made step reply)) there in
+          let here : tail ≡ map said n.cur.tail ++ (replies_at step.part (step ∷ steps) (Ok reply ∷ results) ++ rest) =
+          subst (λ (p : ℕ). tail ≡ map said (n.cur.tail ++ made step reply ∷ []) ++ (replies_at p steps results ++ rest)) same given
+          ∙ ap (λ (l : List Reply). l ++ (replies_at step.part steps results ++ rest)) (map-append said n.cur.tail (made step reply ∷ []))
+          ∙ append_assoc (map said n.cur.tail) (reply ∷ []) (replies_at step.part steps results ++ rest)
+          ∙ ap (λ (l : List Reply). map said n.cur.tail ++ (l ++ rest)) (sym (replies-own step steps reply results)) in
+          subst (λ (c : Past). tail ≡ map said c.tail ++ (replies_at part (step ∷ steps) (Ok reply ∷ results) ++ rest)) one
+          (subst (λ (p : ℕ). tail ≡ map said n.cur.tail ++ (replies_at p (step ∷ steps) (Ok reply ∷ results) ++ rest)) (sym same) here)
+
+      else_where : part ≢ step.part → tail ≡ map said cur.tail ++ (replies_at part (step ∷ steps) (Ok reply ∷ results) ++ rest)
+      else_where other =
+          let differs : step.part ≢ part = λ e. other (sym e) in
+          let there : stepped limits step (Ok reply) now part ≡ Some cur = rw is (ap Some (after-other limits part step reply cur differs)) in
+          behind cur there ∙ ap (λ (l : List Reply). map said cur.tail ++ (l ++ rest)) (sym (replies-other part step steps reply results differs))
+
+  followed-on : (now : ℕ → Option Past) (step : Step) (steps : List Step) (results : List (Result Reply Refusal)) (n : Next final now step steps) → Followed final (stepped limits step (Ok n.entry.reply) now) steps results → Followed final now (step ∷ steps) (Ok n.entry.reply ∷ results)
+  followed-on now step steps results n f = record {
+    whole = λ none part past cur is at. said-on now step steps results n part (map said past.tail) cur [] at (λ cur' there. f.whole none part past cur' is there);
+    begun = λ part past cur is at. begun part past cur is at;
+    refused = f.refused;
+  }
+    where
+      begun : (part : ℕ) (past cur : Past) → final part ≡ Some past → now part ≡ Some cur → (rest : List Reply) × (map said past.tail ≡ map said cur.tail ++ (replies_at part (step ∷ steps) (Ok n.entry.reply ∷ results) ++ rest))
+      begun part past cur is at = by_now (stepped limits step (Ok n.entry.reply) now part) refl
+        where
+          there : stepped limits step (Ok n.entry.reply) now part ≡ Some (past_after limits part (Perform step) (Ok (Replied n.entry.reply)) cur)
+          there = ap (option_map (past_after limits part (Perform step) (Ok (Replied n.entry.reply)))) at
+
+          by_now : (o : Option Past) → stepped limits step (Ok n.entry.reply) now part ≡ o → (rest : List Reply) × (map said past.tail ≡ map said cur.tail ++ (replies_at part (step ∷ steps) (Ok n.entry.reply ∷ results) ++ rest))
+          by_now None none = absurd (cc (none, there))
+          by_now (Some cur') now_is =
+              let b = f.begun part past cur' is now_is in
+              (b.0, said-on now step steps results n part (map said past.tail) cur b.0 at (λ other is_other. let same : other ≡ cur' = cc (is_other, now_is) in rw same b.1))
+
+  -- where the next step is refused, for a want
+  followed-refused : (now : ℕ → Option Past) (step : Step) (steps : List Step) (e : Refusal) (results : List (Result Reply Refusal)) → Going final now (step ∷ steps) → (e ≡ OutOfMemory) ⊎ (e ≡ NoCell) → Followed final now (step ∷ steps) (Err e ∷ results)
+  followed-refused now step steps e results going wants = record {
+    whole = λ none part past cur is at. absurd (cc none);
+    begun = λ part past cur is at. begun part past cur is at;
+    refused = wants;
+  }
+    where
+      begun : (part : ℕ) (past cur : Past) → final part ≡ Some past → now part ≡ Some cur → (rest : List Reply) × (map said past.tail ≡ map said cur.tail ++ ([] ++ rest))
+      begun part past cur is at =
+          let way = going part past is in
+          let one : way.0 ≡ cur = cc (at, way.1) in
+          (map said way.2.rest, rw (← one) (ap (map said) way.2.tails ∙ map-append said way.0.tail way.2.rest))
+
+  follow : (now : ℕ → Option Past) (steps : List Step) (results : List (Result Reply Refusal)) → length results ≡ length steps → Outcomes limits splits now steps results → Going final now steps → AreThere final steps → Followed final now steps results
+  follow now [] [] same outcomes going there = record {
+    whole = λ none part past cur is at. over part past cur is at;
+    begun = λ part past cur is at. ([], over part past cur is at);
+    refused = tt;
+  }
+    where
+      none-coming : (rest : List Entry) → [] ≡ map asked rest → rest ≡ []
+      none-coming [] is = refl
+      none-coming (e ∷ rest) is = absurd (cc is)
+
+      over : (part : ℕ) (past cur : Past) → final part ≡ Some past → now part ≡ Some cur → map said past.tail ≡ map said cur.tail ++ ([] ++ [])
+      over part past cur is at =
+          let way = going part past is in
+          let one : way.0 ≡ cur = cc (at, way.1) in
+          rw (← one) (ap (map said) (way.2.tails ∙ ap (λ (l : List Entry). way.0.tail ++ l) (none-coming way.2.rest way.2.coming)) ∙ map-append said way.0.tail [])
+  follow now [] (r ∷ results) same outcomes going there = absurd (omega (arith, same))
+  follow now (step ∷ steps) [] same outcomes going there = absurd (omega (arith, same))
+  follow now (step ∷ steps) (Ok reply ∷ results) same outcomes going there =
+      let n = next final now step steps going there in
+      let is : reply ≡ n.entry.reply = ⊎_elim (λ (e : Ok reply ≡ Ok n.entry.reply). cc e) (⊎_elim (λ (e : Ok reply ≡ Err OutOfMemory). cc e) (λ (e : Ok reply ≡ Err NoCell). cc e)) (comes now step steps (Ok reply) results n outcomes) in
+      let ahead = outcomes-rest limits splits now step steps (Ok reply) results outcomes in
+      let on = follow (stepped limits step (Ok n.entry.reply) now) steps results (omega (arith, same)) (subst (λ (r : Reply). Outcomes limits splits (stepped limits step (Ok r) now) steps results) is ahead) (gone-on now step steps n going) there.1 in
+      subst (λ (r : Reply). Followed final now (step ∷ steps) (Ok r ∷ results)) (sym is) (followed-on now step steps results n on)
+  follow now (step ∷ steps) (Err e ∷ results) same outcomes going there =
+      let n = next final now step steps going there in
+      followed-refused now step steps e results going (⊎_elim (λ (r : Err e ≡ Ok n.entry.reply). cc r) (⊎_elim (λ (r : Err e ≡ Err OutOfMemory). inl (cc r)) (λ (r : Err e ≡ Err NoCell). inr (cc r))) (comes now step steps (Err e) results n outcomes))
+
+pub repeats : (splits : List Bound) (limits : Limits) (parts : List Part) → AreParts splits limits parts → Repeats splits limits (pasts_of parts)
+repeats splits limits parts are steps results asks outcomes = record {
+  whole = λ none part past is. f.whole none part past (at_base past) is (now-is part past is) ∙ append-nil (replies_at part steps results);
+  begun = λ part past is. f.begun part past (at_base past) is (now-is part past is);
+  refused = f.refused;
+}
+  where
+    pasts : List Past
+    pasts = pasts_of parts
+
+    final : ℕ → Option Past
+    final part = slice_get pasts part
+
+    now : ℕ → Option Past
+    now part = slice_get (map at_base pasts) part
+
+    now-is : (part : ℕ) (past : Past) → final part ≡ Some past → now part ≡ Some (at_base past)
+    now-is part past is = slice_get-map at_base pasts part ∙ ap (option_map at_base) is
+
+    legal : AreLegal limits splits final
+    legal part past is = by_part (slice_get parts part) refl
+      where
+        mapped : slice_get pasts part ≡ option_map (λ (p : Part). p.past) (slice_get parts part)
+        mapped = slice_get-map (λ (p : Part). p.past) parts part
+
+        by_part : (o : Option Part) → slice_get parts part ≡ o → IsLegal (keys_of_part splits part) limits past
+        by_part None at = absurd (cc (is, mapped, at))
+        by_part (Some p) at =
+            let same : p.past ≡ past = cc (is, mapped, at) in
+            let within = slice_get_within parts part p at in
+            let here : get_or parts part p ≡ p = get_or_from_slice_get parts part p p at in
+            let sound : IsSound p = subst IsSound here (are.sound part p within) in
+            let keys : p.keys ≡ keys_of_part splits part = sym (ap (λ (q : Part). q.keys) here) ∙ are.keys part p within in
+            let alike : p.limits ≡ limits = sym (ap (λ (q : Part). q.limits) here) ∙ are.alike part p within in
+            rw (← same, ← keys, ← alike) sound.legal
+
+    going : Going final now steps
+    going part past is = (at_base past, now-is part past is, record { rest = past.tail; base = refl; tails = refl; coming = asks.commands part past is })
+
+    there-all : (some : List Step) → All (λ (step : Step). step.part < length pasts) some → AreThere final some
+    there-all [] are_there = tt
+    there-all (step ∷ some) are_there = (there step (are_there 0 step (omega arith)), there-all some (λ k d within. are_there (suc k) d (omega (arith, within))))
+      where
+        there : (s : Step) → s.part < length pasts → (past : Past) × (final s.part ≡ Some past)
+        there s within = by_past (slice_get pasts s.part) refl
+          where
+            by_past : (o : Option Past) → slice_get pasts s.part ≡ o → (past : Past) × (final s.part ≡ Some past)
+            by_past (Some past) is = (past, is)
+            by_past None is = absurd (cc (is, slice_get-get_or pasts s.part (record { base = record { state = record { rows = []; next = 0 }; folded = 0; placed = 0; gone = 0 }; tail = [] }) within))
+
+    same : length results ≡ length steps
+    same = sym (length-map results performed) ∙ outcomes.each ∙ length-map steps Perform
+
+    f : Followed final now steps results
+    f = follow limits splits final legal now steps results same outcomes.outcomes going (there-all steps asks.there)
