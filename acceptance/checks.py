@@ -1,4 +1,4 @@
-"""Runs the checks that unittest finds, side by side, and those that want the machine to themselves one behind the other."""
+"""Runs the checks that unittest finds, side by side, and those that want the machine to themselves in turn."""
 
 from __future__ import annotations
 
@@ -22,18 +22,11 @@ class Outcome(typing.NamedTuple):
     wrong: str = ""
     skipped: str = ""
 
-    @property
-    def module(self) -> str:
-        return self.name.split(".")[0].removeprefix("test_")
-
 
 def flat(suite: unittest.TestSuite) -> typing.Iterator[unittest.TestCase]:
     """The checks of a suite."""
     for it in suite:
-        if isinstance(it, unittest.TestSuite):
-            yield from flat(it)
-        else:
-            yield it
+        yield from flat(it) if isinstance(it, unittest.TestSuite) else [it]
 
 
 def outcome(name: str) -> Outcome:
@@ -47,7 +40,7 @@ def outcome(name: str) -> Outcome:
 def outcomes(checks: list[unittest.TestCase]) -> typing.Iterator[Outcome]:
     """What comes of these checks."""
     alone = [it.id() for it in checks if getattr(it, "alone", False)]
-    others = sorted((it.id() for it in checks if it.id() not in alone), key=lambda it: not it.startswith(LONGEST))
+    others = sorted({it.id() for it in checks} - set(alone), key=lambda it: (not it.startswith(LONGEST), it))
     with concurrent.futures.ProcessPoolExecutor(os.cpu_count()) as pool:
         yield from pool.map(outcome, others)
     yield from map(outcome, alone)
@@ -55,15 +48,16 @@ def outcomes(checks: list[unittest.TestCase]) -> typing.Iterator[Outcome]:
 
 def run_all() -> tuple[int, int]:
     """Runs all checks. How many passed, and how many failed."""
-    checks = [it for folder in FOLDERS for it in flat(unittest.TestLoader().discover(str(folder), top_level_dir=str(folder)))]
+    suites = [unittest.TestLoader().discover(str(it), top_level_dir=str(it)) for it in FOLDERS]
     passed, failed = collections.Counter(), collections.Counter()
-    for it in outcomes(checks):
+    for it in outcomes([check for suite in suites for check in flat(suite)]):
         if it.wrong:
             print(f"{it.name} FAILED\n{it.wrong}", flush=True)
         elif it.skipped:
             print(f"{it.name} skipped, since {it.skipped}", flush=True)
-        passed[it.module] += not it.wrong and not it.skipped
-        failed[it.module] += bool(it.wrong)
+        module = it.name.split(".")[0].removeprefix("test_")
+        passed[module] += not it.wrong and not it.skipped
+        failed[module] += bool(it.wrong)
     for module in sorted(passed):
         print(f"{module}: {passed[module]} passed, {failed[module]} failed", flush=True)
     return sum(passed.values()), sum(failed.values())

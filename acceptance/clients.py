@@ -1,10 +1,12 @@
 """A server among clients of all kinds, most of them bad ones.
 
-Some connect and close, reset the connection, send half a line, one byte a second, random bytes, 64 MB without a line feed or 200,000 statements at once, say
-nothing, or have large lists written to them and read none. In between are honest ones. Each has keys of its own: every reply that is read is held against a
-list of the client's own rows, and when all have gone the rows that stand, the totals and the memory that the server took are held against what all of them
-were answered (client_rows.py). Honest ones ask for checkpoints amid their work, but in one case, and where a history is full; of three seeds two have small
-limits. The server has to end by itself once its sessions are served. A seed gives the same clients again; in which order a server comes to them it doesn't say.
+Some connect and close, reset the connection, send half a line, one byte a second, random bytes, 64 MB without a line
+feed or 200,000 statements at once, say nothing, or have large lists written to them and read none. In between are
+honest ones. Each has keys of its own: every reply that is read is held against a list of the client's own rows, and
+when all have gone the rows that stand, the totals and the memory that the server took are held against what all of them
+were answered (client_rows.py). Honest ones ask for checkpoints amid their work, but in one case, and where a history is
+full; of three seeds two have small limits. The server has to end by itself once its sessions are served. A seed gives
+the same clients again; in which order a server comes to them it doesn't say.
 """
 
 import concurrent.futures
@@ -16,17 +18,18 @@ import time
 from client_kinds import ABRUPT, KINDS, TAKE_LONG, Connection, Guest, honest, silent
 from client_rows import Account, Own, check_folded, check_totals, come_to, most_bytes
 from fixtures import FAULTS, MOST_WORKERS, SECONDS, Server, Wrong, expect
-from random_script import MOST, MOST_LIFE, Limits
+from plain_session import MOST, MOST_LIFE, POLICIES, Limits
 
 SEED, SESSIONS, SLOW_SECONDS = 1, 400, 8
 MOST_SESSIONS, MOST_SECONDS = 3000, 40
 # how many splits there are, and how many connections may wait for a worker
-SPLITS, WAITING = 7, 32
-BACKLOG = 16
-# what bounds a partition, by the seed: histories that get full, and lives that end; nothing that is reached; histories, and cells that run out
+SPLITS, WAITING, BACKLOG = 7, 32, 16
+# what bounds a partition, by the seed: histories that get full, and lives that end; nothing that is reached; histories,
+# and cells that run out
 LIMITS = [Limits(500, life=4000), Limits(), Limits(500, 1500)]
-# from this size on a block of memory is mapped by itself; else the C library raises that size to that of the greatest block that was given back, as the one of
-# a folded history is, and what grows in smaller blocks leaves holes, which aren't what the server asks for. Without checkpoints nothing is given back.
+# from this size on a block of memory is mapped by itself; else the C library raises that size to that of the greatest
+# block that was given back, as the one of a folded history is, and what grows in smaller blocks leaves holes, which
+# aren't what the server asks for. Without checkpoints nothing is given back.
 MAPPED_FROM = {"MALLOC_MMAP_THRESHOLD_": "131072"}
 
 
@@ -38,6 +41,7 @@ class Peak(threading.Thread):
         self.status = pathlib.Path(f"/proc/{number}/status")
         self.first = self.bytes = self.of("VmRSS")
         self.often = threading.Event()
+        self.start()
 
     def of(self, name):
         """The bytes that the process's status has under this name; 0 once it has ended."""
@@ -45,8 +49,8 @@ class Peak(threading.Thread):
             text = self.status.read_text()
         except (FileNotFoundError, ProcessLookupError):
             return 0
-        told = [line.split() for line in text.splitlines() if line.startswith(f"{name}:")]
-        return int(told[0][1]) * 1024 if told else 0
+        found = [line.split() for line in text.splitlines() if line.startswith(f"{name}:")]
+        return int(found[0][1]) * 1024 if found else 0
 
     def run(self):
         while it := self.of("VmHWM"):
@@ -65,7 +69,8 @@ def waiting(port):
 
 
 def wait_for_a_place(port):
-    """Waits until few connections wait. One that goes before a worker came to it may be lost where too many do, and the server has a session less."""
+    """Waits until few connections wait. One that goes before a worker came to it may be lost where too many do, and the
+    server has a session less."""
     end = time.monotonic() + SECONDS
     while waiting(port) > WAITING:
         if time.monotonic() > end:
@@ -74,13 +79,12 @@ def wait_for_a_place(port):
 
 
 def planned(numbers, sessions, workers, of=KINDS[1:]):
-    """The kinds of a run, each with its number of sessions, honest ones beside these: those that take long first, of each fewer than half as many as there
-    are workers."""
+    """The kinds of a run, each with its number of sessions, honest ones beside these: those that take long first, of
+    each fewer than half as many as there are workers."""
     kinds, left = [], sessions
     for kind, share, most in of:
         count = max(1, round(sessions * share / 100))
-        count = count if most is None else min(count, most)
-        count = min(count, (workers - 1) // 2) if kind in TAKE_LONG else count
+        count = min(count, most or count, (workers - 1) // 2 if kind in TAKE_LONG else count)
         kinds += [(kind, 1)] * count
         left -= count
     while left > 0:
@@ -123,7 +127,8 @@ class Look:
             self.account.folded[part] += int(line.removeprefix("folded "))
 
     def take(self):
-        """Reads all rows behind checkpoints, so that no history is full, learns how many rows each partition was given, and folds once more."""
+        """Reads all rows after checkpoints, so that no history is full, learns how many rows each partition was given,
+        and folds once more."""
         self.fold()
         if self.limits.life == MOST_LIFE:
             self.account.read_rows(self.ask(f"select 0 {MOST}"))
@@ -137,7 +142,7 @@ class Look:
         self.fold()
 
     def read_part(self, part):
-        """Reads the rows of a partition. Where its life is over its layout tells how many there are."""
+        """Reads the rows of a partition. Where its life is over its layout says how many there are."""
         lines = self.ask(f"select {self.ends[part]} {self.ends[part + 1]}")
         if lines == ["refused 10"]:
             self.account.closed[part] = int(self.ask(f"layout {part}")[0].split(" ")[3])
@@ -146,7 +151,8 @@ class Look:
             self.account.asked += 1
 
     def given(self, part):
-        """How many rows a partition was given: the number of one more; where it takes none, those that it has and those that went."""
+        """How many rows a partition was given: the number of one more; where it takes none, those that it has and those
+        that went."""
         (line,) = self.ask(f"insert {self.ends[part]} 0") if part not in self.account.closed else [""]
         if line.startswith(f"row {part}."):
             self.account.asked += 1
@@ -155,15 +161,16 @@ class Look:
         allowed = [""] + ["refused 9"] * (self.limits != Limits()) + ["refused 10"] * (self.limits.life < MOST_LIFE)
         if line not in allowed:
             raise Wrong(f"an insert into partition {part}: {line!r}")
-        rows = self.account.closed.get(part, sum(number[0] == part for number in self.account.rows))
-        return rows + sum(client.gone[part] for client in self.clients)
+        return self.account.rows_of(part) + sum(client.gone[part] for client in self.clients)
 
 
 class Storm:
-    """A server, and clients of all kinds that a seed gives."""
+    """A server, and clients of all kinds that a seed gives. Of the sessions one for each worker is kept for a last
+    look; the slow clients send `seconds` bytes, one a second; `folds` says whether honest ones ask for checkpoints."""
 
-    def __init__(self, program, seed, sessions, workers, seconds, folds):
-        self.program, self.workers, self.sessions, self.seconds, self.folds = program, workers, sessions, seconds, folds
+    def __init__(self, program, seed=SEED, sessions=SESSIONS, workers=MOST_WORKERS, seconds=SLOW_SECONDS, folds=True):
+        self.program, self.workers, self.sessions = program, workers, sessions
+        self.seconds, self.folds = seconds, folds
         numbers = random.Random(seed)
         self.plan = planned(numbers, sessions - workers, workers)
         # how many keys each client has, and where they begin
@@ -173,7 +180,7 @@ class Storm:
         # (some clients have a split amid their keys)
         self.splits = sorted(it * self.width + numbers.choice([0, self.width // 2]) for it in places)
         self.seed = numbers.randrange(MOST)
-        self.policy = numbers.choice(["complete", "gradual", "ripple", "auto"])
+        self.policy = numbers.choice(POLICIES)
         self.limits = LIMITS[seed % len(LIMITS)]
         self.clients = []
         # how many entries were folded by checkpoints that were due
@@ -189,7 +196,6 @@ class Storm:
         words = [*self.words(), *map(str, self.splits)]
         with Server(self.program, self.workers, *words, environment=MAPPED_FROM if self.folds else {}) as server:
             peak = Peak(server.process.pid)
-            peak.start()
             account = self.visit(server, peak)
             status, wrote, complained = server.ended()
             self.check_end(status, complained)
@@ -206,12 +212,13 @@ class Storm:
         expect("status and standard error", (0, ""), (status, complained))
 
     def visit_all(self, port):
-        """Has all clients come, as many at a time as there are workers and some more, and the silent ones speak once the others have gone."""
+        """Has all clients come, as many at a time as there are workers and some more, and the silent ones speak once
+        the others have gone."""
         others_gone = threading.Event()
         with concurrent.futures.ThreadPoolExecutor(self.workers + min(self.workers, BACKLOG)) as pool:
             visits = []
-            for number, (kind, times) in enumerate(self.plan):
-                own = Own(self.splits, self.lows[number], self.lows[number] + self.width, self.limits, self.folds)
+            for number, ((kind, times), low) in enumerate(zip(self.plan, self.lows)):
+                own = Own(self.splits, low, low + self.width, self.limits, self.folds)
                 guest = Guest(port, own, self.seed + number, times, self.seconds, others_gone)
                 self.clients.append(own)
                 visits.append((kind, pool.submit(visit, guest, kind)))
@@ -222,8 +229,8 @@ class Storm:
             raise Wrong("\n    ".join(faults[:5]))
 
     def look(self, port, peak):
-        """What stands once all have gone. So many connections as there are workers are served at once, so no worker is at an earlier one; one of them
-        takes a look."""
+        """What stands once all have gone. So many connections as there are workers are served at once, so no worker is
+        at an earlier one; one of them takes a look."""
         account = Account(self.splits)
         last = [Connection(port) for _ in range(self.workers)]
         for it in last:
@@ -233,30 +240,30 @@ class Storm:
         Look(last[0], account, self.clients, self.limits).take()
         peak.often.set()
         for it in last:
-            it.send("quit\n")
-            expect("quit", ["bye"], it.reply())
-            it.is_at_end()
-            it.lines.close()
-            it.socket.close()
+            with it:
+                it.end()
         return account
 
     def hold(self, account, wrote, peak):
         """Holds rows, totals and memory against what the clients were answered."""
         counts = come_to(account, self.clients)
-        own = {"least": account.asked, "most": account.asked, "inserted": account.inserted, "deleted": 0, "listed": len(account.rows)}
-        counts = {name: it + own[name] for name, it in counts.items()}
+        for name in ("least", "most"):
+            counts[name] += account.asked
+        counts["inserted"] += account.inserted
+        counts["listed"] += len(account.rows)
         accepted = check_totals(wrote, counts)
-        check_folded(accepted, sum(account.folded.values()) + sum(sum(it.folded.values()) for it in self.clients) + self.due)
+        folded = [account.folded, *(it.folded for it in self.clients)]
+        check_folded(accepted, sum(sum(it.values()) for it in folded) + self.due)
         took, most = peak.bytes - peak.first, most_bytes(accepted, counts["listed"], self.sessions)
         if took > most:
             raise Wrong(f"memory: at most {most} bytes were wanted, and {took} taken")
-        return {"sessions": self.sessions, "accepted": accepted, "listed": counts["listed"], "bytes": took, "most": most}
+        figures = {"sessions": self.sessions, "accepted": accepted, "listed": counts["listed"]}
+        return figures | {"bytes": took, "most": most}
 
 
-def storm(program, seed=SEED, sessions=SESSIONS, workers=MOST_WORKERS, seconds=SLOW_SECONDS, folds=True):
-    """Runs a server among the clients of a seed: what they come to. Of the sessions one for each worker is kept for a last look; the slow clients send
-    `seconds` bytes, one a second; `folds` says whether honest ones ask for checkpoints."""
-    return Storm(program, seed, sessions, workers, seconds, folds).run()
+def storm(program, *given, **how):
+    """Runs a server among the clients of a seed: what they come to."""
+    return Storm(program, *given, **how).run()
 
 
 def fault(program, seed):

@@ -1,112 +1,149 @@
-"""Holds what a session wrote against the lists of plain_session.py, also where some statements may have been refused for want of memory.
+"""Holds what a session wrote against the lists of plain_session.py, also where some statements may have been refused
+for want of memory.
 
-Each statement that is answered `refused 8` must be one that asks a partition, and one that nothing else refuses before; the lists then never see it.
-(A range over several partitions may have been answered in part: that is kept in their histories, so a checkpoint may tell of so many entries more, and changes
-no row.) All else that is written must be the list's answer, to the last byte; a layout must meet its equations and have the list's number of rows.
+Each statement that is answered `refused 8` must be one that asks a partition, and one that nothing else refuses before;
+the lists then never see it. (A range over several partitions may have been answered in part: that is kept in their
+histories, so a checkpoint may report so many entries more, and changes no row.) All else that is written must be the
+list's answer, to the last byte. A layout is held against its equations, since no rule fixes more of it: the pieces'
+sizes add up to the column; column, pending insertions and free cells make up the cells; the rows are the column less
+the pending deletions and with the pending insertions, and as many as the list has; the pieces join from one end of the
+partition's keys to the other; and there are as many of each as are known, at least.
 """
 
-import random_script
-from plain_session import Layout, Session
+from __future__ import annotations
+
+import dataclasses
+
+from plain_session import NO_CELL, Part, Said, Session
 
 SHORT = "refused 8"
+HEAD = ["layout", "rows", "column", "out", "in", "cells", "free", "pieces"]
 
 
+@dataclasses.dataclass
 class Seen:
-    """What was found: what is wrong, or None; how many statements were answered `refused 8`; and what the replies say of the totals."""
+    """What was found: what is wrong, or None; how many statements were answered `refused 8`; the lines that each
+    statement was answered; and what the replies say of the totals."""
 
-    def __init__(self):
-        self.wrong, self.short = None, 0
-        # the lines that each statement was answered
-        self.answers = []
-        self.inserted = self.deleted = 0
-        # the fewest and the most commands that histories keep: a range that was refused may have been answered in part
-        self.accepted = self.accepted_most = 0
+    wrong: str | None = None
+    short: int = 0
+    answers: list[list[str]] = dataclasses.field(default_factory=list)
+    inserted: int = 0
+    deleted: int = 0
+    # the fewest and the most commands that histories keep: a range that was refused may have been answered in part
+    accepted: int = 0
+    accepted_most: int = 0
 
-    def count(self, said, parts, answer):
+    def count(self, said: Said, parts: int, answer: list[str] | Part) -> None:
         """Counts the answer to a statement that asks so many partitions."""
-        if isinstance(answer, Layout) or not parts or said[0] in ("layout", "checkpoint") or answer[0].startswith("refused"):
-            return
-        self.accepted += parts
-        self.accepted_most += parts
-        self.inserted += said[0] == "insert"
-        self.deleted += answer[0].startswith("gone")
-
-    def count_short(self, said, parts):
-        """Counts a refusal for want of memory."""
-        self.short += 1
-        if said[0] in ("count", "sum", "select"):
-            self.accepted_most += parts - 1
+        is_kept = parts and not isinstance(answer, Part) and said[0] != "checkpoint"
+        if is_kept and not answer[0].startswith("refused"):
+            self.accepted += parts
+            self.accepted_most += parts
+            self.inserted += said[0] == "insert"
+            self.deleted += answer[0].startswith("gone")
 
 
-def may_be_short(session, said, may_be_first):
-    """Whether what was said may be answered `refused 8`. At a desk where that may come first it may be so even where another refusal is due."""
-    return session.parts_asked(said) > 0 and (may_be_first or not session.is_refused_without_memory(said))
+def is_number(word: str) -> bool:
+    """Whether a word is a number as they are written: decimal digits, without zeros before them."""
+    # (int() would take signs and more)
+    return word.isascii() and word.isdecimal() and str(int(word)) == word
 
 
-def folded_answer(session, said, line):
-    """The answer to a checkpoint: as many entries as the list has kept, or more by some of those that nobody was told of."""
-    (part,) = session.parts_of(said)
-    least, most = part.kept, part.kept + part.untold
-    told = random_script.numbers_of(line, ["folded"])
-    if told and least < told[0] <= most:
-        part.kept = told[0]
-    return session.answer(said)
+def numbers_of(line: str, names: list[str]) -> list[int] | None:
+    """The numbers of a line after these names, each name before its number; None where the line has another form."""
+    words = line.split(" ")
+    if len(words) != 2 * len(names) or words[::2] != names or not all(map(is_number, words[1::2])):
+        return None
+    return [int(word) for word in words[1::2]]
 
 
-def answer_of(session, said, line):
+def misfit_of_layout(lines: list[str], part: Part, rows: int) -> tuple[str | None, int]:
+    """What is wrong with the layout at the front of the lines of a partition that has so many rows, and how many lines
+    it has."""
+    head = numbers_of(lines[0], HEAD) if lines else None
+    if head is None:
+        return "no head line", 1
+    number, reported, column, out, pending, cells, free, pieces = head
+    low, sizes = part.low, 0
+    for line in lines[1 : pieces + 1]:
+        kind, *words = line.split(" ")
+        is_piece = kind == "piece" and len(words) == 3 and all(map(is_number, words))
+        if not is_piece or int(words[0]) != low or int(words[1]) < low:
+            return f"the pieces don't join at {line!r}", pieces + 1
+        low, sizes = int(words[1]), sizes + int(words[2])
+    if len(lines) <= pieces or low != part.high:
+        return f"the pieces end at {low}", pieces + 1
+    is_right = number == part.number and sizes == column and column + pending + free == cells
+    is_right = is_right and reported == column - out + pending == rows
+    return None if is_right else f"equations: {lines[0]!r}, sizes {sizes}, rows {rows}", pieces + 1
+
+
+def misfit_of_look(part: Part, lines: list[str]) -> tuple[str | None, int]:
+    """The same, beside what is known of the partition's cells. It reports whether there is one for one row more."""
+    misfit, taken = misfit_of_layout(lines, part, len(part.rows))
+    if misfit is None:
+        _, _, column, out, pending, cells, free, _ = numbers_of(lines[0], HEAD)
+        is_right = part.waiting <= out <= len(part.doomed) and cells <= part.limits.cells
+        is_right = is_right and pending >= len(part.fresh) and column - out >= len(part.settled)
+        known = f"out {part.waiting} to {len(part.doomed)}, in {len(part.fresh)} or more, settled {len(part.settled)}"
+        misfit = None if is_right else f"{lines[0]!r}, where cells are {part.limits.cells} at most, {known}"
+        part.has_cell = cells < part.limits.cells or free > 0
+    return misfit, taken
+
+
+def answer_of(session: Session, said: Said, line: str) -> list[str] | Part:
     """The list's answer to what was said, where that may depend on the first line that was written."""
-    if isinstance(said, str) or not session.parts_asked(said):
-        return session.answer(said)
-    if said[0] == "checkpoint":
-        return folded_answer(session, said, line)
-    if line == random_script.NO_CELL and said[0] in ("insert", "update"):
-        return session.table.without_cell(*said)
+    parts = session.parts_of(said)
+    if parts and said[0] == "checkpoint":
+        # (as many entries as the list has kept, or more by some of those that were never reported)
+        folded = numbers_of(line, ["folded"])
+        if folded and parts[0].kept < folded[0] <= parts[0].kept + parts[0].untold:
+            parts[0].kept = folded[0]
+    if parts and line == NO_CELL and said[0] in ("insert", "update"):
+        return session.without_cell(said)
     return session.answer(said)
 
 
-def held_short(session, said, seen, may_be_first):
-    """Holds a refusal for want of memory against the rules. What is wrong, or None."""
-    seen.count_short(said, session.parts_asked(said))
-    if not may_be_short(session, said, may_be_first):
-        return f"{SHORT} where no memory is asked for"
-    session.leave_without_memory(said)
-    return None
-
-
-def held(session, said, lines, at, seen, may_be_first):
-    """Holds the answer that begins at this line against the list's. What is wrong or None, and how many lines the answer has."""
-    line = lines[at] if at < len(lines) else ""
+def held(
+    session: Session, said: Said, lines: list[str], at: int, seen: Seen, may_be_first: bool
+) -> tuple[str | None, int]:
+    """Holds the answer that begins at this line against the list's: what is wrong or None, and how many lines it has.
+    At a desk where a want of memory may come first it may do so even where another refusal is due."""
+    line, parts = lines[at] if at < len(lines) else "", len(session.parts_of(said))
     if line == SHORT:
-        return held_short(session, said, seen, may_be_first), 1
+        seen.short += 1
+        seen.accepted_most += parts - 1 if said[0] in ("count", "sum", "select") else 0
+        if not parts or (session.is_refused_without_memory(said) and not may_be_first):
+            return f"{SHORT} where no memory is asked for", 1
+        session.leave_without_memory(said)
+        return None, 1
     answer = answer_of(session, said, line)
-    seen.count(said, session.parts_asked(said), answer)
-    if isinstance(answer, Layout):
-        # (as many pieces as the head line tells)
-        pieces = line.rpartition(" ")[2]
-        wanted = lines[at : at + 1 + int(pieces)] if pieces.isdecimal() else lines[at : at + 1]
-        return random_script.misfit_of_look(answer.part, wanted)
+    seen.count(said, parts, answer)
+    if isinstance(answer, Part):
+        return misfit_of_look(answer, lines[at:])
     got = lines[at : at + len(answer)]
     return (None if got == answer else f"wanted {answer[:4]!r}, got {got[:4]!r}"), len(answer)
 
 
-def lines_of(wrote):
+def lines_of(wrote: bytes) -> list[str] | None:
     """The lines of a text; None where it is none, or its last line has no end."""
     if wrote and not wrote.endswith(b"\n") or not wrote.isascii():
         return None
     return wrote.decode("ascii").split("\n")[:-1]
 
 
-def compare(said, wrote, session=None, short=0, may_be_first=False):
-    """Compares what a session wrote, in bytes, with what was said in it. At most `short` statements may be answered `refused 8`."""
+def compare(
+    said: list[Said], wrote: bytes, session: Session | None = None, short: int = 0, may_be_first: bool = False
+) -> Seen:
+    """Compares what a session wrote with what was said in it. At most `short` statements may be answered
+    `refused 8`."""
     session, seen, lines, at = session or Session(), Seen(), lines_of(wrote), 0
     if lines is None:
         seen.wrong = f"no lines of text: {wrote[-80:]!r}"
         return seen
     for number, one in enumerate(said, 1):
-        try:
-            wrong, taken = held(session, one, lines, at, seen, may_be_first)
-        except ValueError as error:
-            wrong, taken = f"no number: {error}", 1
+        wrong, taken = held(session, one, lines, at, seen, may_be_first)
         if wrong:
             seen.wrong = f"statement {number}, {one!r}: {wrong}"
             return seen

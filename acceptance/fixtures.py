@@ -1,7 +1,8 @@
-"""What the checks stand on: the programs, a server and its clients, a child that ends, one that is given its input in pieces, and one to which memory is refused.
+"""What the checks stand on: the programs, a server and its clients, a child that ends, one that is given its input in
+pieces, and one to which memory is refused.
 
-A module of checks ends with `fixtures.main()`: `python3 acceptance/test_NAME.py [PROGRAM] [WORD ..]` runs it on that program, or on the checkout's, with the
-words that unittest takes (-k WORD: those whose name has the word).
+A module of checks ends with `fixtures.main()`: `python3 acceptance/test_NAME.py [PROGRAM] [WORD ..]` runs it on that
+program, or on the checkout's, with the words that unittest takes (-k WORD: those whose name has the word).
 """
 
 from __future__ import annotations
@@ -21,14 +22,12 @@ import threading
 import typing
 import unittest
 
-import random_script
+from plain_session import MOST  # noqa: F401 (most checks name it)
 
 TOP = pathlib.Path(__file__).resolve().parent.parent
 CRATES = TOP / "crates"
 # how long a child or a server may take, and how often another port is tried
-SECONDS = 60
-TRIES = 5
-MOST, MOST_WORKERS = random_script.MOST, 64
+SECONDS, TRIES, MOST_WORKERS = 60, 5, 64
 COMPILERS = ["cc", "gcc", "clang", "tcc"]
 Ended = tuple[int, typing.Any, typing.Any]
 
@@ -48,7 +47,8 @@ def expect(what: object, wanted: object, got: object) -> None:
 
 
 def built(name: str = "crackd", top: pathlib.Path | None = None) -> str:
-    """The path of a program, of this checkout or of another; that of this one's `crackd` may be given by the environment."""
+    """The path of a program, of this checkout or of another; that of this one's `crackd` may be given by the
+    environment."""
     own = (top or TOP) / "crates" / name / "out" / name
     return str(pathlib.Path(os.environ.get("CRACKD", own) if name == "crackd" and not top else own).resolve())
 
@@ -66,16 +66,22 @@ class Case(unittest.TestCase):
             self.skipTest(f"{self.needs} isn't built")
 
     def assert_right(self, *faults: str | None) -> None:
-        """Fails where a fault is told."""
+        """Fails where a fault is reported."""
         for fault in faults:
             if fault is not None:
                 self.fail(fault)
 
 
+def add(of: type[unittest.TestCase], name: str, check: typing.Callable, *given: object) -> None:
+    """Adds a check of this name, which calls a function of the case and of what is given."""
+    words = "_".join("".join(it if it.isalnum() else " " for it in name).split())
+    setattr(of, f"test_{words}", lambda self: check(self, *given))
+
+
 def add_seeds(of: type[Case], seeds: typing.Iterable[int], fault: typing.Callable[[str, int], str | None]) -> None:
     """Adds a check for each seed of what a function says is wrong with the program."""
     for seed in seeds:
-        setattr(of, f"test_seed_{seed:02}", lambda self, seed=seed: self.assert_right(fault(self.program, seed)))
+        add(of, f"seed {seed:02}", lambda self, seed: self.assert_right(fault(self.program, seed)), seed)
 
 
 def main() -> None:
@@ -85,17 +91,21 @@ def main() -> None:
     unittest.main(module="__main__")
 
 
-def ran(command: typing.Iterable[object], given: str | bytes | None = b"", seconds: float = SECONDS, **how: typing.Any) -> Ended:
+def ran(command: typing.Iterable[object], given: str | bytes | None = b"", seconds: float = SECONDS, **how) -> Ended:
     """Runs a child to its end: its status, what it wrote, and what it complained; as text, if it is given a text."""
     streams = {} if {"stdout", "stderr"} & how.keys() else {"capture_output": True}
     source = {} if "stdin" in how else {"input": given}
-    it = subprocess.run(list(map(str, command)), text=isinstance(given, str), timeout=seconds, check=False, **streams, **source, **how)
+    words = list(map(str, command))
+    it = subprocess.run(words, text=isinstance(given, str), timeout=seconds, check=False, **streams, **source, **how)
     return it.returncode, it.stdout, it.stderr
 
 
 @contextlib.contextmanager
-def watched(child: subprocess.Popen, seconds: float = SECONDS) -> typing.Iterator[subprocess.Popen]:
-    """A child that is killed where it hasn't ended in time."""
+def watched(command: list[str], seconds: float = SECONDS, **how) -> typing.Iterator[subprocess.Popen]:
+    """A child with pipes for all that it reads and writes, as far as nothing else is said. It is killed where it hasn't
+    ended in time."""
+    pipes = dict.fromkeys(["stdin", "stdout", "stderr"], subprocess.PIPE)
+    child = subprocess.Popen(command, **{**pipes, **how})
     watch = threading.Timer(seconds, child.kill)
     watch.start()
     try:
@@ -103,11 +113,6 @@ def watched(child: subprocess.Popen, seconds: float = SECONDS) -> typing.Iterato
             yield child
     finally:
         watch.cancel()
-
-
-def started(command: list[str], **how: typing.Any) -> subprocess.Popen:
-    """A child with pipes for all that it reads and writes, but for what is said otherwise."""
-    return subprocess.Popen(command, **{"stdin": subprocess.PIPE, "stdout": subprocess.PIPE, "stderr": subprocess.PIPE, **how})
 
 
 def write_pieces(target: typing.IO[bytes], given: bytes, piece: int) -> threading.Thread:
@@ -125,8 +130,9 @@ def write_pieces(target: typing.IO[bytes], given: bytes, piece: int) -> threadin
 
 
 def fed(command: list[str], given: bytes, piece: int = 65536) -> Ended:
-    """Runs a child that is given these bytes in pieces of so many: its status, what it wrote, and what it complained."""
-    with watched(started(command)) as it:
+    """Runs a child that is given these bytes in pieces of so many: its status, what it wrote, and what it
+    complained."""
+    with watched(command) as it:
         writer = write_pieces(it.stdin, given, piece)
         wrote, complained = it.stdout.read(), it.stderr.read()
         writer.join()
@@ -140,23 +146,27 @@ def free_port() -> int:
 
 
 class Server:
-    """A server that listens, and its port. Where another program took the port in the meantime, it is tried again. It is killed at the end, if it is there.
-    Its standard error goes to a file, so that it may write as much as it wants before anybody reads that."""
+    """A server that listens, and its port. Where another program took the port in the meantime, it is tried again. It
+    is killed at the end, if it is there. Its standard error goes to a file, so that it may write as much as it wants
+    before anybody reads that. With `may_end` it may end before it listens."""
 
-    def __init__(self, program: str, workers: int, *words: str, environment: typing.Mapping[str, str] = {}) -> None:
+    def __init__(self, program: str, workers: int, *words: str, environment={}, may_end: bool = False) -> None:
+        pipes = {"stdin": subprocess.PIPE, "stdout": subprocess.PIPE, "env": {**os.environ, **environment}}
         for _ in range(TRIES):
             self.port, self.log = free_port(), tempfile.TemporaryFile("a+", encoding="ascii")
             command = [program, "serve", "--port", str(self.port), "--workers", str(workers), *words]
-            self.process = started(command, text=True, stderr=self.log, env={**os.environ, **environment})
+            self.process = subprocess.Popen(command, text=True, stderr=self.log, **pipes)
             line = self.process.stdout.readline()
-            if line == f"listening {self.port}\n":
+            self.listens = line == f"listening {self.port}\n"
+            if self.listens:
                 return
-            self.process.communicate(timeout=SECONDS)
-            complaint = self.complained()
-            self.log.close()
-            if "refused 17" not in complaint:
-                raise Wrong(f"the server said {line!r} and {complaint!r}")
-        raise Wrong("no port was free")
+            self.last = self.ended()
+            if self.last[2] != "crackd: refused 17\n":
+                break
+            self.__exit__()
+        if not may_end:
+            self.__exit__()
+            raise Wrong(f"the server said {line!r} and {self.last[2]!r}")
 
     def __enter__(self) -> Server:
         return self
@@ -177,7 +187,7 @@ class Server:
         self.process.stdin.close()
 
     def ended(self) -> Ended:
-        """Waits for the server's end: its status, what it wrote behind its first line, and what it complained."""
+        """Waits for the server's end: its status, what it wrote after its first line, and what it complained."""
         try:
             status = self.process.wait(SECONDS)
         except subprocess.TimeoutExpired as error:
@@ -185,7 +195,8 @@ class Server:
         return status, self.process.stdout.read(), self.complained()
 
     def wait(self, totals: typing.Sequence[object], *notes: str) -> None:
-        """Waits for the server's end. Its totals and its lines on standard error are as they must be, these in any order."""
+        """Waits for the server's end. Its totals and its lines on standard error are as they must be, these in any
+        order."""
         status, wrote, complained = self.ended()
         expect("totals", "accepted {} inserted {} deleted {} held {}\n".format(*totals), wrote)
         expect("standard error", sorted(notes), sorted(complained.splitlines()))
@@ -199,7 +210,8 @@ class Server:
 
 @contextlib.contextmanager
 def serving_any(program: str, workers: int, sessions: int, *words: str) -> typing.Iterator[tuple[int, list]]:
-    """A server's port, and a list that must have its totals once the clients have ended: it must then end by itself, with these."""
+    """A server's port, and a list that must have its totals once the clients have ended: it must then end by itself,
+    with these."""
     totals: list = []
     with Server(program, workers, "--sessions", str(sessions), "--quiet", *words) as it:
         yield it.port, totals
@@ -207,7 +219,7 @@ def serving_any(program: str, workers: int, sessions: int, *words: str) -> typin
 
 
 @contextlib.contextmanager
-def serving(program: str, totals: typing.Iterable[int], workers: int, sessions: int, *words: str) -> typing.Iterator[int]:
+def serving(program: str, totals: typing.Iterable, workers: int, sessions: int, *words: str) -> typing.Iterator[int]:
     """The same of a server whose totals are known."""
     with serving_any(program, workers, sessions, *words) as (port, found):
         yield port
@@ -217,9 +229,13 @@ def serving(program: str, totals: typing.Iterable[int], workers: int, sessions: 
 class Client:
     """A connection that sends lines and reads lines."""
 
-    def __init__(self, port: int) -> None:
-        self.socket = socket.create_connection(("127.0.0.1", port), SECONDS)
-        self.lines = self.socket.makefile("r", encoding="ascii")
+    def __init__(self, port: int, seconds: float = SECONDS, room: int | None = None) -> None:
+        self.socket = socket.socket()
+        if room:
+            self.socket.setsockopt(socket.SOL_SOCKET, socket.SO_RCVBUF, room)
+        self.socket.settimeout(seconds)
+        self.socket.connect(("127.0.0.1", port))
+        self.lines = self.socket.makefile("r", encoding="ascii", newline="\n")
 
     def __enter__(self) -> typing.Any:
         return self
@@ -237,9 +253,22 @@ class Client:
         for line in wanted:
             expect(statement, line + "\n", self.lines.readline())
 
+    def talk(self, text: str) -> None:
+        """Asks the statements of a text, a line each, `STATEMENT | REPLY`, with a further `|` before each further line
+        of a reply."""
+        for line in text.strip().splitlines():
+            self.ask(*map(str.strip, line.split("|")))
+
+    def reset(self) -> None:
+        """Has the connection end by a reset once it is closed."""
+        self.socket.setsockopt(socket.SOL_SOCKET, socket.SO_LINGER, struct.pack("ii", 1, 0))
+
+    def is_at_end(self) -> None:
+        expect("after the last reply", "", self.lines.readline())
+
     def end(self) -> None:
         self.ask("quit", "bye")
-        expect("after quit", "", self.lines.readline())
+        self.is_at_end()
 
 
 @functools.cache
@@ -273,9 +302,7 @@ class Refusing:
         """The environment of a child whose calls are to be refused so."""
         return {**os.environ, **self.which, "REFUSE_TELLS": self.file.name, "LD_PRELOAD": refusing_library() or ""}
 
-    def told(self) -> tuple[int, int]:
+    def counted(self) -> tuple[int, int]:
         """How many calls there were, and how many were refused."""
         self.file.seek(0)
         return struct.unpack("QQ", self.file.read(16))
-
-

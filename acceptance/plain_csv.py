@@ -1,90 +1,60 @@
 """CSV as docs/SPECIFICATION.md and RFC 4180 have it, read byte by byte.
 
-Fields stand between commas; a field that begins with a quote goes on to the next quote that isn't doubled, and what stands behind that quote belongs to the
-field; a line feed or a carriage return ends a record; a line without anything is none.
+Fields stand between commas; a field that begins with a quote goes on to the next quote that isn't doubled, and what
+stands after that quote belongs to the field; a line feed or a carriage return ends a record; a line without anything is
+none.
 """
 
 import plain_session
-import random_script
+from plain_session import MOST, Limits, Refused, Session
 
 HEADER = b"key,payload\n"
 MARK = b"\xef\xbb\xbf"
+# no field of a record has begun; one begins here; in one; in one that is quoted; after a quote of that
 BEFORE, BEGUN, PLAIN, QUOTED, CLOSED = range(5)
-
-
-class Records:
-    """Reads records, byte by byte."""
-
-    def __init__(self):
-        self.records, self.fields, self.field, self.state = [], [], bytearray(), BEFORE
-
-    def end_field(self):
-        self.fields.append(bytes(self.field))
-        self.field = bytearray()
-        self.state = BEGUN
-
-    def end_record(self):
-        self.end_field()
-        self.records.append(self.fields)
-        self.fields, self.state = [], BEFORE
-
-    def take(self, byte):
-        """Takes a byte. `BEFORE`: no field of a record has begun; `BEGUN`: one begins here; `CLOSED`: behind a quote of a quoted field."""
-        if self.state == QUOTED:
-            if byte == 0x22:
-                self.state = CLOSED
-            else:
-                self.field.append(byte)
-        elif byte == 0x22 and self.state == CLOSED:
-            self.field.append(byte)
-            self.state = QUOTED
-        elif byte == 0x22 and self.state in (BEFORE, BEGUN):
-            self.state = QUOTED
-        elif byte == 0x2C:
-            self.end_field()
-        elif byte in b"\r\n":
-            if self.state != BEFORE:
-                self.end_record()
-        else:
-            self.field.append(byte)
-            self.state = PLAIN
-
-    def end(self):
-        """The records, once all bytes were taken."""
-        if self.state != BEFORE:
-            self.end_record()
-        return self.records
 
 
 def records(given):
     """The records of these bytes, each as the list of its fields."""
-    reader = Records()
-    for byte in given.removeprefix(MARK):
-        reader.take(byte)
-    return reader.end()
+    found, fields, field, state = [], [], bytearray(), BEFORE
+    for byte in [*given.removeprefix(MARK), "end"]:
+        if state == QUOTED and byte not in (0x22, "end"):
+            field.append(byte)
+        elif byte == 0x22 and state == QUOTED:
+            state = CLOSED
+        elif byte == 0x22 and state == CLOSED:
+            field.append(byte)
+            state = QUOTED
+        elif byte == 0x22 and state in (BEFORE, BEGUN):
+            state = QUOTED
+        elif byte in (0x0A, 0x0D, "end"):
+            if state != BEFORE:
+                found.append([*fields, bytes(field)])
+            fields, field, state = [], bytearray(), BEFORE
+        elif byte == 0x2C:
+            fields.append(bytes(field))
+            field, state = bytearray(), BEGUN
+        else:
+            field.append(byte)
+            state = PLAIN
+    return found
 
 
-def loaded(given, splits, limits):
-    """A table with the rows of these bytes; or the number of the first record that is none, or what is refused where a partition is at a limit."""
-    table = random_script.Table(splits, limits)
-    for number, fields in enumerate(records(given), 1):
-        if number == 1 and fields == [b"key", b"payload"]:
-            continue
-        row = plain_session.numbers(fields, plain_session.key, plain_session.payload)
-        if row is None:
-            raise random_script.Refused(f"refused 19 {number}")
-        table.part_of(row[0]).insert(*row)
-    return table
-
-
-def exported(given, splits=(), limits=random_script.Limits()):
-    """The status, what is exported, and the complaint."""
-    wrote = b""
+def exported(given, splits=(), limits=Limits()):
+    """The status, what is exported, and the complaint: the number of the first record that is no row, or what is
+    refused where a partition is at a limit."""
+    wrote, session = b"", Session(splits, limits)
     try:
-        table = loaded(given, list(splits), limits)
+        for number, fields in enumerate(records(given), 1):
+            if number == 1 and fields == [b"key", b"payload"]:
+                continue
+            row = plain_session.numbers(fields, [plain_session.key, plain_session.payload])
+            if row is None:
+                raise Refused(f"refused 19 {number}")
+            session.part_of(row[0]).insert(*row)
         wrote += HEADER
-        for part in table.parts:
-            wrote += b"".join(b"%d,%d\n" % (key, payload) for _, key, payload in part.between(0, random_script.MOST))
-    except random_script.Refused as refused:
+        for part in session.parts:
+            wrote += b"".join(b"%d,%d\n" % (key, payload) for _, key, payload in part.between(0, MOST))
+    except Refused as refused:
         return 1, wrote, f"crackd: {refused}\n".encode("ascii")
     return 0, wrote, b""

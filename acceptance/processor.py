@@ -1,8 +1,9 @@
 """The processor time of the processes below one, by crate and by what they do, sampled while it runs.
 
-Reads the system's list of processes (/proc) four times a second. A process is known by its command line: the crate is that behind
-`--crate-name`; one whose output is a test program proves tests, and all others prove, build or run the crate itself. What a process used after it was
-last seen is missing, a quarter of a second at most. Where a system has no /proc, nothing is seen.
+Reads the system's list of processes (/proc) four times a second. A process is known by its command line: the crate is
+that after `--crate-name`; one whose output is a test program proves tests, and all others prove, build or run the crate
+itself. What a process used after it was last seen is missing, a quarter of a second at most. Where a system has no
+/proc, nothing is seen.
 """
 
 import os

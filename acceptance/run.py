@@ -1,7 +1,8 @@
 #!/usr/bin/env python3
 """Runs the program on the acceptance cases: run.py PROGRAM [WORD ..]
 
-With words only the cases whose name, or whose file's name, has one of them. A file of cases/ has the cases of a topic, with a blank line before each:
+With words only the cases whose name, or whose file's name, has one of them. A file of cases/ has the cases of a topic,
+with a blank line before each:
 
     == a-full-history-refuses
     $ script --limit 2
@@ -10,23 +11,27 @@ With words only the cases whose name, or whose file's name, has one of them. A f
                         | 0.0 1 1
     count 0 5           | refused 6 2
 
-    == NAME             a case begins; its name has the words that mark in docs/SPECIFICATION.md, behind a §, the rules that it shows
+    == NAME             a case begins; its name has the words that mark in docs/SPECIFICATION.md, after a §, the rules
+                        that it shows
     $ WORD ..           the words of the command line
-    STATEMENT | REPLY   a line of input and the first line of its reply; each further one stands behind a `|` of its own
+    STATEMENT | REPLY   a line of input and the first line of its reply; each further one stands after a `|` of its own
     < LINE              a line of input that has no reply
     > LINE              a line of output that is no statement's reply
     ! LINE              a line of standard error
     = STATUS            the exit status, where it isn't 0
     ~ TEXT              a text that the output has, where it isn't given line by line
-    @ from PATH         what is read in place of a pipe: a path of the system, or `.`, an empty folder; `@ to PATH`: what is written
+    @ from PATH         what is read in place of a pipe: a path of the system, or `.`, an empty folder
+    @ to PATH           what is written
     @ fits LINES WIDTH  how many lines the output has at most, and how many columns each
     # TEXT              a comment
 
-In a batch the replies of a worker's statements stand together, behind `worker N`: that line is put there, for each worker, by the runner.
-In a line `\\r` is a carriage return, `\\t` a tab, `\\s` a space (at an end, where it would be dropped), `\\\\` a backslash, `\\xHH` a byte, `\\{N TEXT}` N times
-a text, and `\\c` at the end says that no line feed follows.
+In a batch the replies of a worker's statements stand together, after `worker N`: that line is put there, for each
+worker, by the runner. In a line `\\r` is a carriage return, `\\t` a tab, `\\s` a space (at an end, where it would be
+dropped), `\\\\` a backslash, `\\xHH` a byte, `\\{N TEXT}` N times a text, and `\\c` at the end says that no line feed
+follows.
 
-Prints for each case that fails its file, the first line of it that differs, what was wanted there and what came, and last 'acceptance: N passed, M failed'.
+Prints for each case that fails its file, the first line of it that differs, what was wanted there and what came, and
+last 'acceptance: N passed, M failed'.
 """
 
 from __future__ import annotations
@@ -55,8 +60,7 @@ class Misfit(Exception):
     """What a file of cases says that it can't."""
 
 
-@dataclasses.dataclass
-class Wanted:
+class Wanted(typing.NamedTuple):
     """A line that must come: its bytes, the line of the file that says so, and the worker of a batch whose it is."""
 
     text: bytes
@@ -90,11 +94,12 @@ class Case:
         """The lines of output, those of a batch worker by worker."""
         workers = self.workers() if self.wanted else 0
         heads = [Wanted(b"worker %d\n" % it, self.line, it) for it in range(workers)]
-        said = sorted((it for it in [*heads, *self.wanted] if it.worker is not None), key=lambda it: it.worker % workers if workers else 0)
+        said = [it for it in [*heads, *self.wanted] if it.worker is not None]
+        said.sort(key=lambda it: it.worker % workers if workers else 0)
         return said + [it for it in self.wanted if it.worker is None]
 
     def place(self, line: int) -> str:
-        """A line of its file, as it is told."""
+        """A line of its file, as it is printed."""
         return f"{self.path.relative_to(CASES.parent.parent)}:{line}"
 
 
@@ -113,12 +118,6 @@ def unescaped(text: str) -> bytes:
     return ESCAPED.sub(byte, repeated) + (b"" if text.endswith("\\c") else b"\n")
 
 
-def worker_of(statement: bytes) -> int:
-    """The number before a statement of a batch; 0 where there is none."""
-    number = statement.split(b" ")[0].strip()
-    return int(number) if number.isdigit() else 0
-
-
 def take_device(case: Case, text: str) -> None:
     """Takes a line of what is read, written or fitted in."""
     found = DEVICE.fullmatch(text)
@@ -126,10 +125,8 @@ def take_device(case: Case, text: str) -> None:
         raise Misfit("no path and no size")
     if found[3]:
         case.fits = int(found[3]), int(found[4])
-    elif found[1] == "from":
-        case.source = found[2]
     else:
-        case.target = found[2]
+        setattr(case, {"from": "source", "to": "target"}[found[1]], found[2])
 
 
 def take_statement(case: Case, text: str, number: int) -> None:
@@ -139,7 +136,10 @@ def take_statement(case: Case, text: str, number: int) -> None:
         raise Misfit("no statement with its reply")
     statement = unescaped(found[1].strip()) if found[1].strip() else b""
     case.given += statement
-    worker = worker_of(statement) if statement else (case.wanted[-1].worker if case.wanted else None)
+    worker = case.wanted[-1].worker if case.wanted else None
+    if statement:
+        first = statement.split(b" ")[0].strip()
+        worker = int(first) if first.isdigit() else 0
     if worker is None:
         raise Misfit("no statement is above this line of a reply")
     case.wanted.append(Wanted(unescaped(found[2] or ""), number, worker))
@@ -154,16 +154,14 @@ def take(case: Case, text: str, number: int) -> None:
         case.words = [unescaped(it)[:-1].decode() for it in rest.split()]
     elif kind == "<":
         case.given += unescaped(rest)
-    elif kind == ">":
-        case.wanted.append(Wanted(unescaped(rest), number))
-    elif kind == "!":
-        case.complaints.append(Wanted(unescaped(rest), number))
     elif kind == "=":
         case.status = Wanted(rest.encode(), number)
     elif kind == "~":
         case.texts.append(Wanted(unescaped(rest)[:-1], number))
     elif kind == "@":
         take_device(case, rest)
+    elif kind in ">!":
+        (case.wanted if kind == ">" else case.complaints).append(Wanted(unescaped(rest), number))
 
 
 def held(case: Case) -> Case:
@@ -177,7 +175,7 @@ def held(case: Case) -> Case:
 
 
 def cases_of(path: pathlib.Path) -> typing.Iterator[Case]:
-    """The cases of a file. A misfit tells its line."""
+    """The cases of a file. A misfit names its line."""
     case = None
     for number, text in enumerate(path.read_text(encoding="utf-8").split("\n"), 1):
         if text.startswith("== "):
@@ -195,33 +193,29 @@ def cases_of(path: pathlib.Path) -> typing.Iterator[Case]:
         yield held(case)
 
 
-def all_cases(words: typing.Iterable[str] = ()) -> list[Case]:
+def all_cases(words: typing.Sequence[str] = ()) -> list[Case]:
     """The cases of all files in their order; with words those whose name, or whose file's name, has one of them."""
     found = [case for path in sorted(CASES.glob("*.cases")) for case in cases_of(path)]
     names = [it.name for it in found]
     twice = sorted({it for it in names if names.count(it) > 1})
     if twice:
         raise Misfit(f"two cases of one name: {', '.join(twice)}")
-    words = list(words)
     return [it for it in found if not words or any(word in it.name or word in it.path.stem for word in words)]
-
-
-def opened(room: str, name: str, flags: int, stack: contextlib.ExitStack) -> int | None:
-    """The file, folder or device of this name, or None where there is no name."""
-    if not name:
-        return None
-    handle = os.open(pathlib.Path(room) / name, flags)
-    stack.callback(os.close, handle)
-    return handle
 
 
 def ran(program: str, case: Case) -> tuple[int, bytes | None, bytes]:
     """What came: the status, standard output (None where it went elsewhere) and standard error."""
     with tempfile.TemporaryDirectory() as room, contextlib.ExitStack() as stack:
-        source, target = opened(room, case.source, os.O_RDONLY, stack), opened(room, case.target, os.O_WRONLY, stack)
-        given: dict = {"stdin": source} if source is not None else {"input": case.given}
-        to = subprocess.PIPE if target is None else target
-        it = subprocess.run([program, *(case.words or [])], stdout=to, stderr=subprocess.PIPE, cwd=room, timeout=SECONDS, check=False, **given)
+
+        def opened(name: str, flags: int) -> int:
+            handle = os.open(pathlib.Path(room) / name, flags)
+            stack.callback(os.close, handle)
+            return handle
+
+        given = {"stdin": opened(case.source, os.O_RDONLY)} if case.source else {"input": case.given}
+        to = opened(case.target, os.O_WRONLY) if case.target else subprocess.PIPE
+        how = {"stdout": to, "stderr": subprocess.PIPE, "cwd": room, "timeout": SECONDS, "check": False}
+        it = subprocess.run([program, *(case.words or [])], **how, **given)
     return it.returncode, it.stdout, it.stderr
 
 
@@ -233,15 +227,22 @@ def first_difference(case: Case, what: str, wanted: list[Wanted], wrote: bytes) 
         if it.text != came:
             return [f"{case.place(it.line)}: {what}: wanted {it.text!r}, got {came or 'no more'!r}"]
     more = got[len(wanted) :]
-    return [f"{case.place(case.line)}: {what}: {len(more)} lines more than are wanted, the first {more[0]!r}"] if more else []
+    said = f"{case.place(case.line)}: {what}: {len(more)} lines more than are wanted, the first"
+    return [f"{said} {more[0]!r}"] if more else []
 
 
-def excess(case: Case, wrote: bytes) -> list[str]:
-    """What of the output goes beyond the lines and the columns that a case allows, a line each."""
-    most, width = case.fits or (0, 0)
-    lines = wrote.decode().splitlines()
-    wide = [f"{case.place(case.line)}: more than {width} columns: {it!r}" for it in lines if len(it) > width]
-    return [f"{case.place(case.line)}: {len(lines)} lines, and at most {most} are allowed"] * (len(lines) > most) + wide
+def output_faults(case: Case, wrote: bytes) -> list[str]:
+    """What is wrong with the output of a case, a line each."""
+    if case.texts:
+        found = [f"{case.place(it.line)}: the output lacks {it.text!r}" for it in case.texts if it.text not in wrote]
+    else:
+        found = first_difference(case, "output", case.output(), wrote)
+    if case.fits:
+        most, width = case.fits
+        lines, place = wrote.decode().splitlines(), case.place(case.line)
+        found += [f"{place}: {len(lines)} lines, and at most {most} are allowed"] * (len(lines) > most)
+        found += [f"{place}: more than {width} columns: {it!r}" for it in lines if len(it) > width]
+    return found
 
 
 def faults(program: str, case: Case) -> list[str]:
@@ -252,13 +253,7 @@ def faults(program: str, case: Case) -> list[str]:
         return [f"{case.place(case.line)}: it had not ended after {SECONDS} seconds"]
     except OSError as error:
         return [f"{case.place(case.line)}: it could not be run: {error}"]
-    found = []
-    if case.texts and wrote is not None:
-        found += [f"{case.place(it.line)}: the output lacks {it.text!r}" for it in case.texts if it.text not in wrote]
-    elif wrote is not None:
-        found += first_difference(case, "output", case.output(), wrote)
-    if case.fits and wrote is not None:
-        found += excess(case, wrote)
+    found = output_faults(case, wrote) if wrote is not None else []
     found += first_difference(case, "standard error", case.complaints, complained)
     wanted = case.status or Wanted(b"0", case.line)
     if status != int(wanted.text):

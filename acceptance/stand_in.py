@@ -1,56 +1,50 @@
 #!/usr/bin/env python3
-"""A program in the program's place, right or with a fault, for the cases of test_hostile_checks.py: stand_in.py FAULT SUBCOMMAND ..
+"""A program in the program's place, right or with a fault, for the checks of test_hostile_checks.py: stand_in.py FAULT
+SUBCOMMAND ..
 
-It answers `script`, `batch` and `csv` by plain_session.py and plain_csv.py, and has one fault: none; drop, double, change (of the last line but one);
-short (the last statement is refused with 8, though memory is there); ahead (where writing fails it has written other bytes than it should have).
+It answers `script`, `batch` and `csv` by plain_session.py and plain_csv.py, and has one fault: none; drop, double,
+change (of the last line but one); short (the last statement is refused with 8, though memory is there); ahead (where
+writing fails it has written other bytes than it should have).
 """
 
 import os
 import sys
 
 import plain_csv
-import plain_session
-import random_script
+from plain_session import Limits, Part, Session, statements
 
 LIMITS = {"--limit": "history", "--cells": "cells", "--life": "life"}
 
 
 def doctored(text, fault):
     """A text of lines with a fault."""
-    lines = text.splitlines(keepends=True)
-    if len(lines) < 2:
-        return text
-    at = len(lines) - 2
-    match fault:
-        case "drop":
-            return b"".join(lines[:at] + lines[at + 1 :])
-        case "double":
-            return b"".join(lines[: at + 1] + lines[at:])
-        case "change":
-            return b"".join([*lines[:at], lines[at][:-2] + b"x\n", *lines[at + 1 :]])
-        case "short":
-            return b"".join([*lines[:-1], b"refused 8\n"])
-        case _:
-            return text
+    *front, line, last = [b"", b"", *text.splitlines(keepends=True)]
+    put = {
+        "drop": [last],
+        "double": [line, line, last],
+        "change": [line[:-2] + b"x\n" if line else line, last],
+        "short": [line, b"refused 8\n"],
+    }
+    return b"".join(front + put.get(fault, [line, last])) if line else text
 
 
 def text_of(answer):
     """The text of an answer; a layout is of one piece."""
-    if isinstance(answer, plain_session.Layout):
-        part, out, pending = answer.part, answer.part.waiting, len(answer.part.fresh)
-        column, cells = answer.rows - pending + out, answer.rows + out
-        head = f"layout {part.number} rows {answer.rows} column {column} out {out} in {pending} cells {cells} free 0 pieces 1"
-        answer = [head, f"piece {part.low} {part.high} {column}"]
+    if isinstance(answer, Part):
+        rows, out, pending = len(answer.rows), answer.waiting, len(answer.fresh)
+        column = rows - pending + out
+        head = f"layout {answer.number} rows {rows} column {column} out {out} in {pending}"
+        answer = [f"{head} cells {rows + out} free 0 pieces 1", f"piece {answer.low} {answer.high} {column}"]
     return "".join(f"{line}\n" for line in answer).encode("ascii")
 
 
 def session_text(given, session, totals):
     """The text of a session's replies, which raises the totals."""
     text = b""
-    for said in plain_session.statements(given):
-        answer = session.answer(said)
-        if session.parts_asked(said) and said[0] not in ("layout", "checkpoint") and not answer[0].startswith("refused"):
-            totals[0] += session.parts_asked(said)
+    for said in statements(given):
+        answer, parts = session.answer(said), len(session.parts_of(said))
+        if parts and said[0] not in ("layout", "checkpoint") and not answer[0].startswith("refused"):
+            totals[0] += parts
             totals[1] += said[0] == "insert"
             totals[2] += answer[0].startswith("gone")
         text += text_of(answer)
@@ -65,20 +59,24 @@ def batch_text(given, splits, workers):
         own[int(number) % workers] += rest
     totals, text = [0, 0, 0], b""
     for worker, it in enumerate(own):
-        text += b"worker %d\n" % worker + session_text(it, plain_session.Session(splits), totals)
+        text += b"worker %d\n" % worker + session_text(it, Session(splits), totals)
     return text + b"accepted %d inserted %d deleted %d held %d\n" % (*totals, totals[1] - totals[2])
 
 
 def options_of(words):
-    """The options and the splits of the words behind a subcommand."""
-    pairs = {words[at]: words[at + 1] for at in range(len(words) - 1) if words[at].startswith("--")}
-    values = {at + 1 for at in range(len(words)) if words[at].startswith("--")}
-    return pairs, [int(it) for at, it in enumerate(words) if not it.startswith("--") and at not in values]
+    """The options and the splits of the words after a subcommand."""
+    options, splits, words = {}, [], iter(words)
+    for word in words:
+        if word.startswith("--"):
+            options[word] = next(words)
+        else:
+            splits.append(int(word))
+    return options, splits
 
 
 def limits_of(options):
     """What bounds a partition by these options."""
-    return random_script.Limits(**{field: int(options[name]) for name, field in LIMITS.items() if name in options})
+    return Limits(**{field: int(options[name]) for name, field in LIMITS.items() if name in options})
 
 
 def main(fault, subcommand, *words):
@@ -87,7 +85,7 @@ def main(fault, subcommand, *words):
     given, status, complained = sys.stdin.buffer.read(), 0, b""
     match subcommand:
         case "script":
-            text = session_text(given, plain_session.Session(splits, limits), [0, 0, 0])
+            text = session_text(given, Session(splits, limits), [0, 0, 0])
         case "batch":
             text = batch_text(given, splits, int(options["--workers"]))
         case _:

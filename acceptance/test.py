@@ -1,11 +1,12 @@
 #!/usr/bin/env python3
-"""Runs the gate without the must-fail edits, and then, on the program that it built, the acceptance cases, all checks of acceptance/ and tools/, and the tests
-of the Python package.
+"""Runs the gate without the must-fail edits, and then, on the program that it built, the acceptance cases, all checks
+of acceptance/ and tools/, and the tests of the Python package.
 
-The gate, `rt ci`, proves every crate from nothing, runs the tests, and runs each program as both compilers build it. It has no switch for the edits, so
-it runs on a copy of this checkout that has none, and what it built is brought back: `make run` and `make edits` prove nothing again that it has proved.
-What it writes is passed on as it comes. Before the last line stands the processor time of each crate, for its proof and its tests, as far as that was
-seen. The last line is the sum of all, 'N passed, M failed'; the status is 0 only where nothing failed.
+The gate, `rt ci`, proves every crate from nothing, runs the tests, and runs each program as both compilers build it. It
+has no switch for the edits, so it runs on a copy of this checkout that has none, and what it built is brought back:
+`make run` and `make edits` prove nothing again that it has proved. What it writes is passed on as it comes. Before the
+last line stands the processor time of each crate, for its proof and its tests, as far as that was seen. The last line
+is the sum of all, 'N passed, M failed'; the status is 0 only where nothing failed.
 """
 
 import contextlib
@@ -61,8 +62,8 @@ def sums():
 
 
 def bring_back(top, unchanged):
-    """Brings what was built in a copy back, and takes away each program that wasn't. Of the crates that are named the copy has the text that stands here,
-    so what was built of them is up to date."""
+    """Brings what was built in a copy back, and takes away each program that wasn't. Of the crates that are named the
+    copy has the text that stands here, so what was built of them is up to date."""
     held = rooms.held(crates.listed())
     for crate in crates.listed().values():
         target = prove.made_of(crate)
@@ -93,12 +94,13 @@ def bring_tests_back(top):
 
 
 def gate():
-    """Runs the gate on a copy. How many passed, and how many failed; a gate that fails and counts nothing as failed is one failure."""
+    """Runs the gate on a copy. How many passed, and how many failed; a gate that fails and counts nothing as failed is
+    one failure."""
     before = sums()
     with copied() as top:
         unchanged = {name for name, it in sums().items() if before[name] == it}
-        how = {"cwd": top, "stdin": subprocess.DEVNULL, "stdout": subprocess.PIPE, "stderr": subprocess.STDOUT, "errors": "replace"}
-        started = subprocess.Popen(["rt", "ci"], **how)
+        pipes = {"stdin": subprocess.DEVNULL, "stdout": subprocess.PIPE, "stderr": subprocess.STDOUT}
+        started = subprocess.Popen(["rt", "ci"], cwd=top, errors="replace", **pipes)
         sampler = processor.Sampler(started.pid)
         sampler.start()
         last = None
@@ -120,7 +122,8 @@ def gate():
 
 def build_library():
     """Builds the library for C and Python, which the gate proves and doesn't build. Whether that failed."""
-    return subprocess.run([sys.executable, str(TOP / "tools" / "library.py")], check=False).returncode != 0
+    command = [sys.executable, str(TOP / "tools" / "library.py")]
+    return subprocess.run(command, check=False).returncode != 0
 
 
 def test_all():

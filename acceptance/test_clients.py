@@ -7,7 +7,8 @@ import fixtures
 from client_kinds import Connection, Guest, honest
 from client_rows import Own
 from clients import SEED, storm
-from fixtures import MOST, MOST_WORKERS, Server, expect
+from fixtures import MOST_WORKERS, Server, expect
+from plain_session import MOST
 
 
 class Clients(fixtures.Case):
@@ -36,7 +37,8 @@ class Clients(fixtures.Case):
         self.storm(SEED + 2)
 
     def test_all_but_one_are_silent(self):
-        """Silent clients hold their own workers alone: with one worker left, a hundred clients are served one behind the other."""
+        """Silent clients hold their own workers alone: with one worker left, a hundred clients are served one after the
+        other."""
         served, others_gone = 100, threading.Event()
         sessions = served + MOST_WORKERS - 1
         width = MOST // sessions
@@ -45,14 +47,15 @@ class Clients(fixtures.Case):
             quiet = [Connection(server.port) for _ in guests[served:]]
             for number, own in enumerate(guests[:served]):
                 honest(Guest(server.port, own, number, 1, 0, others_gone))
-            for it in quiet:
-                it.send(f"count 0 {MOST}\nquit\n")
             held = sum(len(it.rows) for it in guests)
             for it in quiet:
                 with it:
-                    expect("a silent client", [[f"count {held}"], ["bye"]], [it.reply(), it.reply()])
-            accepted = sum(it.accepted for it in guests) + len(quiet)
-            server.wait((accepted, sum(it.inserted for it in guests), sum(it.deleted for it in guests), held))
+                    it.ask(f"count 0 {MOST}", f"count {held}")
+                    it.end()
+            accepted, inserted, deleted = (
+                sum(getattr(it, name) for it in guests) for name in ("accepted", "inserted", "deleted")
+            )
+            server.wait((accepted + len(quiet), inserted, deleted, held))
 
 
 if __name__ == "__main__":

@@ -6,23 +6,39 @@ import random
 import fixtures
 import random_script
 from plain_csv import HEADER, MARK, exported
+from plain_session import Limits
 
 LONG_RECORD = 64 * 2**20
-MANY_FIELDS = 100_000
-MANY_ROWS = 100_000
+MANY_FIELDS = MANY_ROWS = 100_000
 SMALL = b"key,payload\n150,6\n50,5\n"
+# quotes, carriage returns, blank lines and byte order marks, each where it may stand and where it may not
+INPUTS = [
+    b'"key","payload"\r\n"1","2"\r\n', b'1,"2', b'1,"2"3\n4,5\n', b'"1""2",3\n', b'1,2"\n', b'"",1\n', b'""',
+    b'1,"2\n3,4\n5,6\n', b"1,2\r3,4\r\r5,6", b"\r\n\n\r1,2\r\n\r\n", b"\n\n\n", b"key,payload\rkey,payload\r",
+    b"key,payload\n\n1,2", b"payload,key\n", b"key\n", MARK + b"1,2\n", MARK + b"key,payload\n1,2\n",
+    b"1,2\n" + MARK + b"3,4\n", MARK + MARK + b"1,2\n", MARK[:2] + b"1,2\n", b"1,2,3\n", b"1\n", b"1,2\n3\n", b",\n",
+    b",,", b" 1,2\n", b"1, 2\n", b"1\t,2\n", b"1,2 \n", b"1;2\n", b"'1','2'\n", b"18446744073709551616,0\n",
+    b"18446744073709551615,9223372036854775807\n", b"0,9223372036854775808\n", b"4294967296,4294967296\n",
+    b"0,-9223372036854775808\n", b"0,-9223372036854775809\n", b"00000000000000000001,1\n",
+    b"000000000000000000001,1\n", b"-1,1\n", b"-0,1\n", b"1,+1\n", b"1,-1\n2,-0\n", b"1,-00000000000000000001\n",
+    b"1,-000000000000000000001\n", b"1,--1\n", b"1,- 1\n", b"1, -1\n", b"1,-\n", b"1,1-\n", b"1,-1.0\n",
+    b'1,"-1"\n', b'1,"-"1\n', b'1,-"1"\n', b"1,-1_0\n", b"1,\xe2\x88\x921\n", b"1,2\0\n", b"\0", b"\xff,\xfe\n",
+    b"#1,2\n", b"1,2\n\x1a",
+]  # fmt: skip
 
 
-def fault_of_input(program, given, splits=(), limits=random_script.Limits(), piece=65536, wanted=None):
+def fault_of_input(program, given, splits=(), limits=Limits(), piece=65536, wanted=None):
     """What is wrong with what comes of these bytes, given in pieces; or None."""
     words = ["csv", *limits.words(), *map(str, splits)]
     wanted = exported(given, splits, limits) if wanted is None else wanted
     got = fixtures.fed([program, *words], given, piece)
-    return None if got == wanted else f"{given[:80]!r} (of {len(given)} bytes, in pieces of {piece}): wanted {wanted!r:.300}, got {got!r:.300}"
+    what = f"{given[:80]!r} (of {len(given)} bytes, in pieces of {piece})"
+    return None if got == wanted else f"{what}: wanted {wanted!r:.300}, got {got!r:.300}"
 
 
 def random_field(numbers, place):
-    """A key, or at another place than the first a payload, often at a limit; seldom one past the limits or none at all; at times quoted."""
+    """A key, or at another place than the first a payload, often at a limit; seldom one past the limits or none at all;
+    at times quoted."""
     drawn = numbers.random()
     if place:
         text = random_script.payload_text(numbers, random_script.random_payload(numbers)).encode("ascii")
@@ -31,7 +47,8 @@ def random_field(numbers, place):
         text = (b"%d" % key).rjust(numbers.choice([0, 0, 20]), b"0")
     if drawn > 0.995:
         past = [b"9223372036854775808", b"-9223372036854775809"] if place else [b"18446744073709551616", b"-1"]
-        text = numbers.choice([*past, b"", b" 1", b"+1", b"- 1", b"-", b"x", b"0" * 21, b'1"2', MARK + b"1"])
+        none = [b"", b" 1", b"+1", b"- 1", b"-", b"x", b"0" * 21, b'1"2', MARK + b"1"]
+        text = numbers.choice([*past, *none])
     return b'"' + text + b'"' if numbers.random() < 0.2 else text
 
 
@@ -39,62 +56,70 @@ def random_input(numbers):
     """Random records, most of them right, with or without a header."""
     given = numbers.choice([b"", HEADER, MARK, MARK + HEADER, b'"key","payload"\r\n'])
     for _ in range(numbers.randrange(400)):
-        fields = [random_field(numbers, place) for place in range(2 if numbers.random() < 0.998 else numbers.randrange(5))]
-        given += b",".join(fields) + numbers.choice([b"\n", b"\n", b"\r\n", b"\r", b"\n\n", b"\r\n\r"])
+        count = 2 if numbers.random() < 0.998 else numbers.randrange(5)
+        fields = b",".join(random_field(numbers, place) for place in range(count))
+        given += fields + numbers.choice([b"\n", b"\n", b"\r\n", b"\r", b"\n\n", b"\r\n\r"])
     return given
 
 
+def changed(numbers, given):
+    """Bytes of which one was changed."""
+    at = numbers.randrange(len(given) + 1)
+    byte = numbers.choice(b'",\r\n 09-+\0') if numbers.random() < 0.7 else numbers.randrange(256)
+    return given[:at] + bytes([byte]) + given[at + 1 :]
+
+
 def fault(program, seed):
-    """What is wrong with what comes of the random records of a seed, whole, cut off, and with a byte that was changed; or None."""
+    """What is wrong with what comes of the random records of a seed, whole, cut off, and with a byte that was changed;
+    or None."""
     numbers = random.Random(seed)
-    splits = sorted({numbers.choice([numbers.randrange(1, 300), numbers.choice(random_script.EDGES[2:-1])]) for _ in range(numbers.randrange(4))})
-    small = [random_script.Limits(100), random_script.Limits(cells=100), random_script.Limits(life=100)]
-    limits = numbers.choice([random_script.Limits()] * 5 + small)
+    edges = random_script.EDGES[2:-1]
+    splits = [numbers.choice([numbers.randrange(1, 300), numbers.choice(edges)]) for _ in range(numbers.randrange(4))]
+    splits = sorted(set(splits))
+    limits = numbers.choice([Limits()] * 5 + [Limits(100), Limits(cells=100), Limits(life=100)])
     given = random_input(numbers)
     cuts = [given[: numbers.randrange(len(given) + 1)] for _ in range(10)]
-    places = [numbers.randrange(len(given) + 1) for _ in range(10)]
-    changed = [given[:at] + bytes([numbers.choice(b'",\r\n 09-+\0') if numbers.random() < 0.7 else numbers.randrange(256)]) + given[at + 1 :] for at in places]
+    others = [changed(numbers, given) for _ in range(10)]
     piece = numbers.choice([1, 3, 64, 4096, 65536])
-    found = (fault_of_input(program, it, splits, limits, piece) for it in [given, *cuts, *changed])
-    wrong = next((it for it in found if it), None)
+    found = (fault_of_input(program, it, splits, limits, piece) for it in [given, *cuts, *others])
+    wrong = next(filter(None, found), None)
     return wrong and f"csv, seed {seed}, splits {splits}, {limits}: {wrong}"
 
 
 class Csv(fixtures.Case):
     """CSV of all kinds."""
 
+    def assert_exported(self, given, *more, **how):
+        self.assert_right(fault_of_input(self.program, given, *more, **how))
+
     def test_cut_anywhere(self):
-        """A small input is cut behind each byte: by the specification's own table, and as it is read here."""
-        ends = {0: (0, 0), **dict.fromkeys(range(1, 11), (1, 0)), 11: (0, 0), 12: (0, 0), **dict.fromkeys(range(13, 17), (2, 0))}
-        ends |= {17: (0, 1), 18: (0, 1), **dict.fromkeys(range(19, 22), (3, 1)), 22: (0, 2), 23: (0, 2)}
+        """A small input is cut after each byte: by the specification's own table, and as it is read here."""
+        # (by the length, the number of the record that is refused, or 0, and how many rows are exported)
+        ends = [(0, 0)] + [(1, 0)] * 10 + [(0, 0)] * 2 + [(2, 0)] * 4 + [(0, 1)] * 2 + [(3, 1)] * 3 + [(0, 2)] * 2
         rows = [b"150,6\n", b"50,5\n"]
-        for size, (record, count) in ends.items():
-            right = (1, b"", b"crackd: refused 19 %d\n" % record) if record else (0, HEADER + b"".join(rows[:count]), b"")
-            self.assertEqual(exported(SMALL[:size]), right, f"read here otherwise than by the table, behind {size} bytes")
-            self.assert_right(fault_of_input(self.program, SMALL[:size], wanted=right, piece=size % 5 + 1))
-        self.assert_right(*(fault_of_input(self.program, SMALL[:size], [100]) for size in range(len(SMALL) + 1)))
+        for size, (record, count) in enumerate(ends):
+            right = (0, HEADER + b"".join(rows[:count]), b"")
+            if record:
+                right = (1, b"", b"crackd: refused 19 %d\n" % record)
+            self.assertEqual(exported(SMALL[:size]), right, "plain_csv.py reads CSV otherwise than by the table")
+            self.assert_exported(SMALL[:size], wanted=right, piece=size % 5 + 1)
+        for size in range(len(SMALL) + 1):
+            self.assert_exported(SMALL[:size], [100])
 
     def test_quotes_and_ends_of_all_kinds(self):
-        """Quotes, carriage returns, blank lines and byte order marks, each where it may stand and where it may not, cut behind each byte."""
-        given = [
-            b'"key","payload"\r\n"1","2"\r\n', b'1,"2', b'1,"2"3\n4,5\n', b'"1""2",3\n', b'1,2"\n', b'"",1\n', b'""', b'1,"2\n3,4\n5,6\n',
-            b"1,2\r3,4\r\r5,6", b"\r\n\n\r1,2\r\n\r\n", b"\n\n\n", b"key,payload\rkey,payload\r", b"key,payload\n\n1,2", b"payload,key\n", b"key\n",
-            MARK + b"1,2\n", MARK + b"key,payload\n1,2\n", b"1,2\n" + MARK + b"3,4\n", MARK + MARK + b"1,2\n", MARK[:2] + b"1,2\n",
-            b"1,2,3\n", b"1\n", b"1,2\n3\n", b",\n", b",,", b" 1,2\n", b"1, 2\n", b"1\t,2\n", b"1,2 \n", b"1;2\n", b"'1','2'\n",
-            b"18446744073709551615,9223372036854775807\n", b"18446744073709551616,0\n", b"0,9223372036854775808\n", b"4294967296,4294967296\n",
-            b"0,-9223372036854775808\n", b"0,-9223372036854775809\n", b"00000000000000000001,1\n", b"000000000000000000001,1\n", b"-1,1\n", b"-0,1\n", b"1,+1\n",
-            b"1,-1\n2,-0\n", b"1,-00000000000000000001\n", b"1,-000000000000000000001\n", b"1,--1\n", b"1,- 1\n", b"1, -1\n", b"1,-\n", b"1,1-\n", b"1,-1.0\n",
-            b'1,"-1"\n', b'1,"-"1\n', b'1,-"1"\n', b"1,-1_0\n", b"1,\xe2\x88\x921\n", b"1,2\0\n", b"\0", b"\xff,\xfe\n", b"#1,2\n", b"1,2\n\x1a",
-        ]  # fmt: skip
-        for it in given:
-            self.assert_right(*(fault_of_input(self.program, it[:size]) for size in range(1, len(it) + 1)))
+        """Each of INPUTS, cut after each byte."""
+        for it in INPUTS:
+            for size in range(1, len(it) + 1):
+                self.assert_exported(it[:size])
 
     def test_a_byte_order_mark_in_pieces(self):
         """A byte order mark is dropped however it is read."""
-        self.assert_right(*(fault_of_input(self.program, MARK + b"key,payload\n1,2\n", piece=piece) for piece in [1, 2, 3, 4]))
+        for piece in [1, 2, 3, 4]:
+            self.assert_exported(MARK + b"key,payload\n1,2\n", piece=piece)
 
     def test_records_of_64_megabytes(self):
-        """A record of 64 MB is refused with its number, also one whose quote never closes; 64 MB of line feeds are no record."""
+        """A record of 64 MB is refused with its number, also one whose quote never closes; 64 MB of line feeds are no
+        record."""
         refused = [(1, b"", b"crackd: refused 19 %d\n" % it) for it in range(4)]
         for front, filling, wanted in [
             (b"", b"1", refused[1]),
@@ -105,23 +130,28 @@ class Csv(fixtures.Case):
             (HEADER, b"\r", (0, HEADER, b"")),
             (HEADER + b"1,2\n", b"\0", refused[3]),
         ]:
-            self.assert_right(fault_of_input(self.program, front + filling * (LONG_RECORD - len(front)), wanted=wanted))
+            self.assert_exported(front + filling * (LONG_RECORD - len(front)), wanted=wanted)
 
     def test_very_many_fields(self):
         """A record of 100,000 fields is refused with its number, first or not."""
         fields = b",".join([b"1"] * MANY_FIELDS)
-        given = [(1, fields), (2, HEADER + fields + b"\n"), (3, HEADER + b"1,2\n" + fields + b"\n3,4\n"), (1, b"," * MANY_FIELDS), (1, b'"",' * MANY_FIELDS)]
-        self.assert_right(*(fault_of_input(self.program, it, wanted=(1, b"", b"crackd: refused 19 %d\n" % number)) for number, it in given))
+        given = [(1, fields), (2, HEADER + fields + b"\n"), (3, HEADER + b"1,2\n" + fields + b"\n3,4\n")]
+        for number, it in [*given, (1, b"," * MANY_FIELDS), (1, b'"",' * MANY_FIELDS)]:
+            self.assert_exported(it, wanted=(1, b"", b"crackd: refused 19 %d\n" % number))
 
     def test_more_rows_than_histories_have_entries(self):
-        """A load that fills each history a hundred times is whole where checkpoints are made that are due, and refused where none is."""
-        keys = [number * 7919 % MANY_ROWS for number in range(MANY_ROWS)]
-        splits = [MANY_ROWS // 4 * it for it in range(1, 4)]
-        given = b"".join(b"%d,%d\n" % (key, -number) for number, key in enumerate(keys))
-        parts = [b"".join(b"%d,%d\n" % (key, -number) for number, key in enumerate(keys) if low <= key < low + MANY_ROWS // 4) for low in [0, *splits]]
-        small = random_script.Limits(MANY_ROWS // 400)
-        self.assert_right(fault_of_input(self.program, given, splits, small._replace(is_automatic=True), wanted=(0, HEADER + b"".join(parts), b"")))
-        self.assert_right(fault_of_input(self.program, given, splits, small, wanted=(1, b"", b"crackd: refused 6 %d\n" % small.history)))
+        """A load that fills each history a hundred times is whole where checkpoints are made that are due, and refused
+        where none is."""
+        width = MANY_ROWS // 4
+        rows = [(number * 7919 % MANY_ROWS, -number) for number in range(MANY_ROWS)]
+        given, *parts = (
+            b"".join(b"%d,%d\n" % row for row in rows if low <= row[0] < high)
+            for low, high in [(0, MANY_ROWS), *((width * it, width * it + width) for it in range(4))]
+        )
+        splits, small = [width, 2 * width, 3 * width], Limits(MANY_ROWS // 400)
+        due = small._replace(is_automatic=True)
+        self.assert_exported(given, splits, due, wanted=(0, HEADER + b"".join(parts), b""))
+        self.assert_exported(given, splits, small, wanted=(1, b"", b"crackd: refused 6 %d\n" % small.history))
 
 
 fixtures.add_seeds(Csv, range(1, 21), fault)

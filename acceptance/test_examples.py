@@ -1,6 +1,6 @@
 #!/usr/bin/env python3
-"""The examples, most against a server of the program. What one must print is written here from docs/SPECIFICATION.md; one whose program isn't installed is
-skipped."""
+"""The examples, most against a server of the program. What one must print is read off docs/SPECIFICATION.md; one whose
+program isn't installed is skipped."""
 
 import shutil
 import sys
@@ -8,8 +8,8 @@ import sys
 import fixtures
 import package
 import plain_session
-import random_script
 from fixtures import TOP, Wrong, expect, ran, serving
+from plain_session import MOST, Limits
 
 EXAMPLES = TOP / "examples"
 # of a script that goes on for ever: how long its histories may be, and how many times as many statements it is given
@@ -24,7 +24,8 @@ def printed(example, given, *interpreter, more=(), text=""):
 
 
 def statements_for_ever():
-    """Some times as many statements as a history's limit: rows come, change and go, and are counted and listed, in both partitions or in one."""
+    """Some times as many statements as a history's limit: rows come, change and go, and are counted and listed, in both
+    partitions or in one."""
     for number in range(0, FOR_EVER * LIMIT, 5):
         part, key = number % 2, number % 2 * 100 + number % 97
         yield f"insert {key} {number}"
@@ -42,13 +43,14 @@ class Examples(fixtures.Case):
             self.skipTest(f"{name} isn't installed")
 
     def test_first(self):
-        layout = "layout 0 rows 4 column 4 out 0 in 0 cells 4 free 0 pieces 3\npiece 0 15 1\npiece 15 35 2\npiece 35 18446744073709551616 1\n"
-        wanted = f"policy auto\nrow 0.0\nrow 0.1\nrow 0.2\nrow 0.3\nsum 5\n{layout}bye\n"
+        layout = "layout 0 rows 4 column 4 out 0 in 0 cells 4 free 0 pieces 3\npiece 0 15 1\npiece 15 35 2\n"
+        wanted = f"policy auto\nrow 0.0\nrow 0.1\nrow 0.2\nrow 0.3\nsum 5\n{layout}piece 35 {MOST} 1\nbye\n"
         given = (EXAMPLES / "first.txt").read_text()
         expect("first.txt: status, output and standard error", (0, wanted, ""), ran([self.program, "script"], given))
 
     def test_client(self):
-        wanted = "rows 0.0 to 0.999\ncount 500\nsum 499500\nselect [('0.10', 10, 20), ('0.11', 11, 22), ('0.12', 12, 24)]\n"
+        rows = "[('0.10', 10, 20), ('0.11', 11, 22), ('0.12', 12, 24)]"
+        wanted = f"rows 0.0 to 0.999\ncount 500\nsum 499500\nselect {rows}\n"
         with serving(self.program, (1003, 1000, 0, 1000), 1, 1) as port:
             expect("client.py", wanted, printed("client.py", port, sys.executable))
 
@@ -77,13 +79,14 @@ class Examples(fixtures.Case):
         """A script whose histories get full again and again is answered as if they had no limit."""
         text = "".join(f"{it}\n" for it in statements_for_ever())
         wanted = plain_session.replies(text.encode("ascii"), SPLITS).decode("ascii")
-        small = plain_session.Session(SPLITS, random_script.Limits(LIMIT))
+        small = plain_session.Session(SPLITS, Limits(LIMIT))
         answers = [small.answer(it) for it in plain_session.statements(text.encode("ascii"))]
         if len(answers) < 10 * LIMIT or [f"refused 6 {LIMIT}"] not in answers or "refused 6" in wanted:
             raise Wrong(f"for_ever.py: {len(answers)} statements, and no history of {LIMIT} entries gets full")
         words = [str(LIMIT), *map(str, SPLITS)]
         for more, last in [("", ""), ("quit\ninsert 1 1\n", "bye\n")]:
-            expect("for_ever.py", wanted + last, printed("for_ever.py", self.program, sys.executable, more=words, text=text + more))
+            came = printed("for_ever.py", self.program, sys.executable, more=words, text=text + more)
+            expect("for_ever.py", wanted + last, came)
 
 
 if __name__ == "__main__":

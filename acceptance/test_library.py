@@ -1,8 +1,10 @@
 #!/usr/bin/env python3
-"""The library for C: library.c uses each call of crackd.h. By itself, under valgrind where it is installed, and with each call for memory refused in turn."""
+"""The library for C: library.c uses each call of crackd.h. By itself, under valgrind where it is installed, and with
+each call for memory refused in turn."""
 
 import os
 import pathlib
+import re
 import shutil
 import subprocess
 import tempfile
@@ -42,7 +44,8 @@ class Calls(unittest.TestCase):
     def compiled(self, source):
         """A program in C, compiled and linked with the library."""
         made, program = library(), self.room / source.stem
-        command = [compiler(), *WARNINGS, f"-I{TOP / 'include'}", "-o", str(program), str(source), str(made), f"-Wl,-rpath,{made.parent}"]
+        linked = [str(source), str(made), f"-Wl,-rpath,{made.parent}"]
+        command = [compiler(), *WARNINGS, f"-I{TOP / 'include'}", "-o", str(program), *linked]
         ran = subprocess.run(command, capture_output=True, text=True, check=False)
         self.assertEqual((ran.returncode, ran.stderr), (0, ""))
         return program
@@ -52,15 +55,14 @@ class Calls(unittest.TestCase):
         source = self.room / "rows.c"
         source.write_text(page.split("```c\n")[1].split("```")[0], encoding="utf-8")
         printed = page.split("It prints\n\n```\n")[1].split("```")[0]
-        ran = subprocess.run([str(self.compiled(source))], capture_output=True, text=True, timeout=fixtures.SECONDS, check=False)
-        self.assertEqual((ran.returncode, ran.stdout, ran.stderr), (0, printed, ""))
+        self.assertEqual(fixtures.ran([self.compiled(source)], ""), (0, printed, ""))
 
     def run_program(self, *before, **environment):
         """How many calls for memory were refused."""
-        how = {"env": {**os.environ, **environment}, "capture_output": True, "text": True, "timeout": fixtures.SECONDS}
-        ran = subprocess.run([*before, str(self.program)], check=False, **how)
-        self.assertEqual((ran.returncode, ran.stderr), (0, ""), ran.stdout)
-        return int(ran.stdout.split()[0])
+        command, environment = [*before, self.program], {**os.environ, **environment}
+        status, wrote, complained = fixtures.ran(command, "", env=environment)
+        self.assertEqual((status, complained), (0, ""), wrote)
+        return int(wrote.split()[0])
 
     def test_each_call(self):
         self.assertEqual(self.run_program(), 0)
@@ -88,7 +90,7 @@ class Exports(unittest.TestCase):
         ran = subprocess.run(["nm", "-D", "--defined-only", str(library())], capture_output=True, text=True, check=True)
         exported = {line.split()[2] for line in ran.stdout.splitlines()}
         header = (TOP / "include" / "crackd.h").read_text(encoding="utf-8")
-        declared = {word.partition("(")[0].lstrip("*") for word in header.split() if word.lstrip("*").startswith("crackd_") and "(" in word}
+        declared = set(re.findall(r"\b(crackd_\w+)\(", header))
         self.assertEqual(exported, declared)
 
 

@@ -4,8 +4,8 @@
 import fixtures
 import memory
 import memory_workers
-import random_script
 from fixtures import CRATES
+from plain_session import POLICIES
 
 # how many seeds there are of each kind
 RANDOM_SWEEPS, WORKER_SWEEPS = 4, 2
@@ -20,13 +20,12 @@ class Sweeps(fixtures.Case):
         if fixtures.refusing_library() is None:
             self.skipTest(f"no C compiler works here: {', '.join(fixtures.COMPILERS)}")
 
-    def swept(self, fault, *given):
-        """Runs a sweep, which tells what is wrong, or None, and how many runs there were."""
-        self.assert_right(fault(*given)[0])
-
 
 class Refused(Sweeps):
-    """Sweeps over runs of the program. What a check is given is told by its name."""
+    """Sweeps over runs of the program. What a check is given stands in its name."""
+
+    def sweep(self, fault, *given):
+        self.assert_right(fault(self.program, *given))
 
 
 class Tests(Sweeps):
@@ -39,18 +38,18 @@ class Tests(Sweeps):
         built = CRATES / crate / "out" / crate.replace("_tests", "_tests_tests")
         if not built.exists():
             self.skipTest(f"the tests of {crate} aren't built")
-        self.swept(memory_workers.fault_of_test, str(built), name)
+        self.assert_right(memory_workers.fault_of_test(str(built), name))
 
 
 def add(name, fault, *given):
     """Adds a sweep of this name over the program."""
-    setattr(Refused, f"test_{name.replace(' ', '_')}", lambda self: self.swept(fault, self.program, *given))
+    fixtures.add(Refused, name, Refused.sweep, fault, *given)
 
 
 for crate, name in memory_workers.sweeps_of(CRATES):
-    setattr(Tests, f"test_{crate}_{name.replace('::', '_')}", lambda self, crate=crate, name=name: self.sweep(crate, name))
+    fixtures.add(Tests, f"{crate} {name}", Tests.sweep, crate, name)
 for way in memory.WAYS:
-    for policy in random_script.POLICIES:
+    for policy in POLICIES:
         for name in memory.SCRIPTS:
             add(f"{way} {policy} {name}", memory.fault_of_named, name, policy, way)
         for name in memory.FOLDS:

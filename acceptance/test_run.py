@@ -5,7 +5,6 @@ import pathlib
 import tempfile
 import unittest
 
-import fixtures
 import run
 
 BATCH = """# Two workers.
@@ -20,7 +19,19 @@ $ batch --workers 2 100
 ! crackd: a word\\c
 = 1
 """
+GIVEN = b"1 insert 150 6\r\n  \n0 select 0 11\n"
 WROTE = b"worker 0\nrows 1\n0.0 5 -5\nworker 1\nrow 1.0\naccepted 2 inserted 1 deleted 0 held 1\n"
+# the line of the file for each line of output
+LINES = [3, 7, 8, 3, 5, 9]
+# what is no case, and the line that is named
+WRONG = {
+    "$ script\n": 1,
+    "== a\n": 1,
+    "== a\n\ninsert 1 1\n": 3,
+    "== a\n$ script\n| row\n": 3,
+    "== a\n$ script\n@ into x\n": 3,
+    "== a\n$ script\ninsert \\q | row\n": 3,
+}
 
 
 def cases(text):
@@ -34,27 +45,30 @@ def cases(text):
 class Cases(unittest.TestCase):
     def test_a_case_is_read_byte_by_byte_and_a_batch_worker_by_worker(self):
         (case,) = cases(BATCH)
-        self.assertEqual((case.name, case.words, case.given), ("a-batch", ["batch", "--workers", "2", "100"], b"1 insert 150 6\r\n  \n0 select 0 11\n"))
+        self.assertEqual((case.name, case.words, case.given), ("a-batch", ["batch", "--workers", "2", "100"], GIVEN))
         self.assertEqual(b"".join(it.text for it in case.output()), WROTE)
-        self.assertEqual(([it.line for it in case.output()], case.complaints[0].text), ([3, 7, 8, 3, 5, 9], b"crackd: a word"))
+        self.assertEqual([it.line for it in case.output()], LINES)
+        self.assertEqual((case.complaints[0].text, case.status.text), (b"crackd: a word", b"1"))
 
     def test_the_line_that_first_differs_is_named(self):
         (case,) = cases(BATCH)
         lines = WROTE.splitlines(keepends=True)
         case.path = run.CASES / "batches.cases"
         self.assertEqual(run.first_difference(case, "output", case.output(), WROTE), [])
-        for at, line in enumerate([3, 7, 8, 3, 5, 9]):
+        for at, line in enumerate(LINES):
             for put in [[], [lines[at][:-1]], [b"x\n"]]:
-                (fault,) = run.first_difference(case, "output", case.output(), b"".join([*lines[:at], *put, *lines[at + 1 :]]))
-                self.assertTrue(fault.startswith(f"acceptance/cases/batches.cases:{line}: output: wanted {lines[at]!r}"), fault)
+                wrote = b"".join([*lines[:at], *put, *lines[at + 1 :]])
+                (fault,) = run.first_difference(case, "output", case.output(), wrote)
+                place = f"acceptance/cases/batches.cases:{line}: output: wanted {lines[at]!r}"
+                self.assertTrue(fault.startswith(place), fault)
         (more,) = run.first_difference(case, "output", case.output(), WROTE + b"more\n")
         self.assertIn("1 lines more than are wanted, the first b'more\\n'", more)
 
-    def test_what_is_no_case_is_told_with_its_line(self):
-        for text, line in [("$ script\n", 1), ("== a\n\ninsert 1 1\n", 3), ("== a\n$ script\n| row\n", 3), ("== a\n$ script\n@ into x\n", 3), ("== a\n$ script\ninsert \\q | row\n", 3), ("== a\n", 1)]:
+    def test_what_is_no_case_is_named_with_its_line(self):
+        for text, line in WRONG.items():
             with self.assertRaisesRegex(run.Misfit, f"batches.cases:{line}: "):
                 cases(text)
 
 
 if __name__ == "__main__":
-    fixtures.main()
+    unittest.main()

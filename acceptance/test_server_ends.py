@@ -1,18 +1,20 @@
 #!/usr/bin/env python3
-"""Servers that end when their input ends, and that let silent clients go. What is sent and what must come is written here from docs/SPECIFICATION.md."""
+"""Servers that end when their input ends, and that let silent clients go. What must come is read off
+docs/SPECIFICATION.md."""
 
 import contextlib
 import re
-import socket
 import threading
 import time
 
 import fixtures
 from fixtures import SECONDS, Client, Server, Wrong, expect
+from plain_session import MOST
 
 LOADED = 30_000
-CUT_OFF_READ = "crackd: worker {}: session cut off: refused 17: reading from the client failed or waited too long"
-CUT_OFF_WRITE = "crackd: worker {}: session cut off: refused 18: writing to the client failed or waited too long"
+CUT_OFF = "crackd: worker 0: session cut off: "
+CUT_OFF_READ = f"{CUT_OFF}refused 17: reading from the client failed or waited too long"
+CUT_OFF_WRITE = f"{CUT_OFF}refused 18: writing to the client failed or waited too long"
 
 
 def is_served(port):
@@ -51,13 +53,13 @@ class Ends(fixtures.Case):
                 it.close()
                 # (a client that comes before the server has noticed the end is still served)
                 others = sum(1 for _ in iter(lambda: is_served(it.port), False))
-                one.ask("insert 6 60", "row 0.1")
-                one.ask("sum 0 10", "sum 110")
+                one.talk("insert 6 60 | row 0.1\nsum 0 10 | sum 110")
                 one.end()
             it.wait((3, 2, 0, 2), *it.notes(1 + others))
 
     def test_a_load_loses_no_reply(self):
-        """A server whose input ends amid a load answers all that the client sent, and its totals are what it replied."""
+        """A server whose input ends amid a load answers all that the client sent, and its totals are what it
+        replied."""
         with self.ending(2) as it, Client(it.port) as one:
             statements = "".join(f"insert {n} 1\n" for n in range(LOADED)) + "quit\n"
             sender = threading.Thread(target=one.send, args=(statements,))
@@ -74,15 +76,15 @@ class Ends(fixtures.Case):
         with self.ending(2) as it, Client(it.port) as one, Client(it.port) as two:
             one.ask("insert 1 1", "row 0.0")
             two.ask("insert 2 2", "row 0.1")
-            with socket.create_connection(("127.0.0.1", it.port), SECONDS) as third:
-                third.sendall(b"insert 3 3\n")
+            with Client(it.port) as third:
+                third.send("insert 3 3\n")
                 it.close()
                 time.sleep(0.2)
                 one.end()
                 two.end()
                 it.wait((2, 2, 0, 2), *it.notes(2))
                 with contextlib.suppress(ConnectionError):
-                    expect("the client in the queue", b"", third.recv(1))
+                    expect("the client in the queue", "", third.lines.read(1))
 
     def test_a_silent_client_is_let_go(self):
         """With --idle a client that says nothing is let go, and its worker serves the next one."""
@@ -96,22 +98,22 @@ class Ends(fixtures.Case):
                 next_one.ask("count 0 5", "count 1")
                 next_one.end()
             it.close()
-            it.wait((2, 1, 0, 1), *it.notes(2, CUT_OFF_READ.format(0)))
+            it.wait((2, 1, 0, 1), *it.notes(2, CUT_OFF_READ))
 
     def test_a_client_that_takes_nothing_is_let_go(self):
         """With --idle a client that reads no reply is let go, once no more of them fits."""
         with self.ending(1, "--idle", "1") as it:
-            with socket.create_connection(("127.0.0.1", it.port), SECONDS) as deaf:
-                deaf.setsockopt(socket.SOL_SOCKET, socket.SO_RCVBUF, 4096)
-                deaf.sendall("".join(f"insert {n} {n}\n" for n in range(2_000)).encode())
+            with Client(it.port, room=4096) as deaf:
+                deaf.send("".join(f"insert {n} {n}\n" for n in range(2_000)))
                 with contextlib.suppress(OSError):
-                    deaf.sendall(b"select 0 18446744073709551616\n" * 1_000)
+                    deaf.send(f"select 0 {MOST}\n" * 1_000)
                 with Client(it.port) as next_one:
                     next_one.ask("insert 1 1", "row 0.2000")
                     next_one.end()
             it.close()
             status, wrote, complained = it.ended()
-            expect("status and standard error", (0, it.notes(2, CUT_OFF_WRITE.format(0))), (status, complained.splitlines()))
+            expect("status", 0, status)
+            expect("standard error", it.notes(2, CUT_OFF_WRITE), complained.splitlines())
             if not re.fullmatch(r"accepted \d+ inserted 2001 deleted 0 held 2001\n", wrote):
                 raise Wrong("the totals are not those of the replies")
 
@@ -137,17 +139,10 @@ class Ends(fixtures.Case):
 
     def test_arguments_that_are_refused(self):
         """One of --sessions and --until-eof has to be there, and not both; --idle is at least a second."""
-        common = ["serve", "--port", "4000", "--workers", "1"]
-        wrong = [
-            [],
-            ["--sessions", "1", "--until-eof"],
-            ["--until-eof", "--idle", "0"],
-            ["--until-eof", "--idle", "4294967296"],
-            ["--until-eof", "--idle"],
-            ["--until-eof", "--idle", "x"],
-        ]
-        for words in wrong:
-            status, wrote, complained = fixtures.ran([self.program, *common, *words], "")
+        wrong = ["", "--sessions 1 --until-eof", "--until-eof --idle 0", "--until-eof --idle 4294967296"]
+        for words in [*wrong, "--until-eof --idle", "--until-eof --idle x"]:
+            command = [self.program, *f"serve --port 4000 --workers 1 {words}".split()]
+            status, wrote, complained = fixtures.ran(command, "")
             expect(words, (2, "", "crackd: bad arguments"), (status, wrote, complained.split("\n")[0]))
 
 

@@ -1,30 +1,29 @@
 #!/usr/bin/env python3
-"""Checkpoints and small limits, where many ask one partition of a server or a batch. What is sent and what must come is written here from
+"""Checkpoints and small limits, where many ask one partition of a server or a batch. What must come is read off
 docs/SPECIFICATION.md.
 
-A checkpoint of one client empties a partition's history for all; what all checkpoints tell comes to what was accepted, since each entry is folded once;
-limits hold for all clients together; and the totals are as without.
+A checkpoint of one client empties a partition's history for all; what all checkpoints report comes to what was
+accepted, since each entry is folded once; limits hold for all clients together; and the totals are as without.
 """
 
-import re
 import threading
 
 import fixtures
-from fixtures import FAULTS, MOST, SECONDS, Client, Wrong, expect, serving
+from compare import numbers_of
+from fixtures import FAULTS, SECONDS, Client, Wrong, expect, serving
+from plain_session import MOST
 from test_server import batch
 
 CLIENTS, LIMIT, LIFE, CELLS = 8, 50, 1000, 100
 ROWS, EACH = 300, 5
 LINES_OF_A_WORKER, OWN_LINES, WORKERS = 40, 1000, 4
-FOLDED = re.compile("folded ([0-9]+)")
 
 
 class Counting(Client):
-    """A client that counts what it was answered: commands that were accepted, and entries that its checkpoints folded."""
+    """A client that counts what it was answered: commands that were accepted, and entries that its checkpoints
+    folded."""
 
-    def __init__(self, port):
-        super().__init__(port)
-        self.accepted = self.folded = 0
+    accepted = folded = 0
 
     def reply(self, statement):
         """The one line of the reply to a statement."""
@@ -32,15 +31,15 @@ class Counting(Client):
         return self.lines.readline().removesuffix("\n")
 
     def fold(self, part):
-        """Asks for a checkpoint. It tells at most as many entries as a history may have."""
+        """Asks for a checkpoint. It reports at most as many entries as a history may have."""
         line = self.reply(f"checkpoint {part}")
-        told = FOLDED.fullmatch(line)
-        if not told or int(told[1]) > LIMIT:
+        folded = numbers_of(line, ["folded"])
+        if not folded or folded[0] > LIMIT:
             raise Wrong(f"checkpoint {part}: {line!r}")
-        self.folded += int(told[1])
+        self.folded += folded[0]
 
     def insist(self, statement, part):
-        """The reply to a statement, which is asked again behind a checkpoint for as long as the history is full."""
+        """The reply to a statement, which is asked again after a checkpoint for as long as the history is full."""
         while (line := self.reply(statement)) == f"refused 6 {LIMIT}":
             self.fold(part)
         self.accepted += not line.startswith("refused")
@@ -48,7 +47,8 @@ class Counting(Client):
 
 
 def at_once(port, count, work):
-    """Runs so many clients at once, each on a thread with a connection of its own and its number. They are given back once all have ended."""
+    """Runs so many clients at once, each on a thread with a connection of its own and its number. They are given back
+    once all have ended."""
     clients, faults = [Counting(port) for _ in range(count)], []
 
     def run(number):
@@ -81,7 +81,8 @@ def check_folded(port, clients, parts, accepted):
 
 
 def check_folds(lines):
-    """Holds what the worker was answered that folds all. Of its own partition it knows each number; of another no more goes than was asked of it."""
+    """Holds what the worker was answered that folds all. Of its own partition it knows each number; of another no more
+    goes than was asked of it."""
     folds = [int(line.removeprefix("folded ")) for line in lines if line.startswith("folded ")]
     others = [line for line in lines if not line.startswith("folded ")]
     expect("rows of worker 0", [f"row 0.{number}" for number in range(OWN_LINES)], others[:-1])
@@ -94,13 +95,15 @@ def check_folds(lines):
 
 
 def keep_rows(number, parts, ask):
-    """Rows of a client of this number come and go amid those of others in its partition. `ask` gives the reply to a statement that asks a partition."""
+    """Rows of a client of this number come and go amid those of others in its partition. `ask` gives the reply to a
+    statement that asks a partition."""
     part, low = number % parts, number % parts * 10_000 + number * 1000
     rows = []
     for key in range(low, low + ROWS):
         line = ask(f"insert {key} {number}", part)
         rows.append(line.removeprefix("row "))
-        expect("a count of own rows", f"count {len(rows) - (len(rows) - 1) // 10}", ask(f"count {low} {low + ROWS}", part))
+        counted = ask(f"count {low} {low + ROWS}", part)
+        expect("a count of own rows", f"count {len(rows) - (len(rows) - 1) // 10}", counted)
         if len(rows) % 10 == 0:
             expect("an own row", f"gone {key} {number}", ask(f"delete {rows[-1]}", part))
     expect("a sum of own rows", f"sum {number * (ROWS - ROWS // 10)}", ask(f"sum {low} {low + ROWS}", part))
@@ -110,59 +113,54 @@ class SmallLimits(fixtures.Case):
     """Checkpoints and small limits where many ask one partition."""
 
     def test_a_checkpoint_of_one_is_for_all(self):
-        """Behind a checkpoint of one client the other is answered again, over the same rows; each partition is folded for itself."""
-        with serving(self.program, (8, 3, 1, 2), 2, 2, "--limit", "4", "100") as port, Client(port) as one, Client(port) as two:
-            one.ask("insert 50 5", "row 0.0")
-            two.ask("insert 60 -6", "row 0.1")
-            one.ask("count 0 100", "count 2")
-            two.ask("sum 0 100", "sum -1")
-            one.ask("count 0 100", "refused 6 4")
-            two.ask("delete 0.0", "refused 6 4")
-            one.ask("checkpoint 1", "folded 0")
-            two.ask("delete 0.0", "refused 6 4")
-            two.ask("checkpoint 0", "folded 4")
-            one.ask("count 0 100", "count 2")
-            one.ask("delete 0.0", "gone 50 5")
-            two.ask("checkpoint 0", "folded 2")
-            one.ask("checkpoint 0", "folded 0")
-            one.ask("checkpoint 2", "refused 5")
-            one.ask("checkpoint", "refused 1")
-            two.ask("select 0 100", "rows 1", "0.1 60 -6")
-            one.ask("insert 70 7", "row 0.2")
+        """After a checkpoint of one client the other is answered again, over the same rows; each partition is folded
+        for itself."""
+        words = "--limit", "4", "100"
+        with serving(self.program, (8, 3, 1, 2), 2, 2, *words) as port, Client(port) as one, Client(port) as two:
+            one.talk("insert 50 5 | row 0.0")
+            two.talk("insert 60 -6 | row 0.1")
+            one.talk("count 0 100 | count 2")
+            two.talk("sum 0 100 | sum -1")
+            one.talk("count 0 100 | refused 6 4")
+            two.talk("delete 0.0 | refused 6 4")
+            one.talk("checkpoint 1 | folded 0")
+            two.talk("delete 0.0 | refused 6 4\ncheckpoint 0 | folded 4")
+            one.talk("count 0 100 | count 2\ndelete 0.0 | gone 50 5")
+            two.talk("checkpoint 0 | folded 2")
+            one.talk("checkpoint 0 | folded 0\ncheckpoint 2 | refused 5\ncheckpoint | refused 1")
+            two.talk("select 0 100 | rows 1 | 0.1 60 -6")
+            one.talk("insert 70 7 | row 0.2")
             one.end()
             two.end()
 
-    def test_many_at_a_small_limit(self):
-        """Clients that share partitions whose histories are full again and again are answered all that they ask, and keep their rows."""
-        parts, each = 2, 2 * ROWS + ROWS // 10 + 1
-
-        def work(client, number):
-            keep_rows(number, parts, client.insist)
-
-        accepted, inserted = CLIENTS * each, CLIENTS * ROWS
+    def assert_kept(self, words, ask, check):
+        """Clients that share two partitions are answered all that they ask, and keep their rows."""
+        accepted, inserted = CLIENTS * (2 * ROWS + ROWS // 10 + 1), CLIENTS * ROWS
         totals = accepted, inserted, inserted // 10, inserted - inserted // 10
-        with serving(self.program, totals, CLIENTS, CLIENTS + 1, "--limit", str(LIMIT), "10000") as port:
-            check_folded(port, at_once(port, CLIENTS, work), parts, accepted)
+        words = ["--limit", str(LIMIT), *words, "10000"]
+        with serving(self.program, totals, CLIENTS, CLIENTS + 1, *words) as port:
+            work = lambda client, number: keep_rows(number, 2, lambda *given: ask(client, *given))
+            check(port, at_once(port, CLIENTS, work), accepted)
+
+    def test_many_at_a_small_limit(self):
+        """Where histories are full again and again, and the clients ask for checkpoints."""
+        self.assert_kept([], Counting.insist, lambda port, clients, accepted: check_folded(port, clients, 2, accepted))
 
     def test_checkpoints_that_are_due(self):
-        """Clients that share partitions of a small limit are answered all that they ask, at once, and none of them asks for a checkpoint. Since the last one
-        that was due there are as many entries as were accepted beyond whole histories."""
-        parts, each = 2, 2 * ROWS + ROWS // 10 + 1
+        """Where none of them asks for a checkpoint. Since the last one that was due there are as many entries as were
+        accepted beyond whole histories."""
 
-        def work(client, number):
-            keep_rows(number, parts, lambda statement, _: client.reply(statement))
-
-        accepted, inserted = CLIENTS * each, CLIENTS * ROWS
-        totals = accepted, inserted, inserted // 10, inserted - inserted // 10
-        with serving(self.program, totals, CLIENTS, CLIENTS + 1, "--limit", str(LIMIT), "--auto-checkpoint", "10000") as port:
-            at_once(port, CLIENTS, work)
+        def check(port, _, accepted):
             with Client(port) as last:
-                for part in range(parts):
-                    last.ask(f"checkpoint {part}", f"folded {(accepted // parts - 1) % LIMIT + 1}")
+                for part in range(2):
+                    last.ask(f"checkpoint {part}", f"folded {(accepted // 2 - 1) % LIMIT + 1}")
                 last.end()
 
+        self.assert_kept(["--auto-checkpoint"], lambda client, statement, _: client.reply(statement), check)
+
     def test_a_life_ends_for_all(self):
-        """A partition answers as many commands as its life is long, to all clients together, however often it is folded; layouts and checkpoints go on."""
+        """A partition answers as many commands as its life is long, to all clients together, however often it is
+        folded; layouts and checkpoints go on."""
 
         def work(client, number):
             while (line := client.insist(f"count {number} {number + 1}", 0)) == "count 0":
@@ -172,18 +170,21 @@ class SmallLimits(fixtures.Case):
             for _ in range(3):
                 client.fold(0)
                 expect("a life that is over", "refused 10", client.reply(f"insert {number} 1"))
-            client.ask("layout 1", "layout 1 rows 0 column 0 out 0 in 0 cells 0 free 0 pieces 1", f"piece 10000 {MOST} 0")
+            head = "layout 1 rows 0 column 0 out 0 in 0 cells 0 free 0 pieces 1"
+            client.ask("layout 1", head, f"piece 10000 {MOST} 0")
 
-        with serving(self.program, (LIFE, 0, 0, 0), CLIENTS, CLIENTS + 1, "--limit", str(LIMIT), "--life", str(LIFE), "10000") as port:
+        words = ["--limit", str(LIMIT), "--life", str(LIFE), "10000"]
+        with serving(self.program, (LIFE, 0, 0, 0), CLIENTS, CLIENTS + 1, *words) as port:
             check_folded(port, at_once(port, CLIENTS, work), 2, LIFE)
 
     def test_cells_run_out_for_all(self):
-        """A partition has rows in as many cells as there may be, of all clients together; a row that goes before a query needs it leaves its cell at once."""
+        """A partition has rows in as many cells as there may be, of all clients together; a row that goes before a
+        query needs it leaves its cell at once."""
         meeting = threading.Barrier(CLIENTS, timeout=SECONDS)
 
         def work(client, number):
-            rows = []
-            while (line := client.insist(f"insert {number} 1", 0)).startswith("row "):
+            rows, insert = [], lambda: client.insist(f"insert {number} 1", 0)
+            while (line := insert()).startswith("row "):
                 rows.append(line.removeprefix("row "))
             expect("cells that ran out", "refused 9", line)
             meeting.wait()
@@ -192,11 +193,11 @@ class SmallLimits(fixtures.Case):
                 expect("an own row", f"gone {number} 1", client.insist(f"delete {row}", 0))
             meeting.wait()
             for _ in gone:
-                expect("a cell that is free", "row ", client.insist(f"insert {number} 1", 0)[:4])
+                expect("a cell that is free", "row ", insert()[:4])
             meeting.wait()
-            expect("cells that ran out again", "refused 9", client.insist(f"insert {number} 1", 0))
+            expect("cells that ran out again", "refused 9", insert())
             client.fold(0)
-            expect("cells behind a checkpoint", "refused 9", client.insist(f"insert {number} 1", 0))
+            expect("cells after a checkpoint", "refused 9", insert())
             freed.append(len(gone))
 
         freed, words = [], ["--limit", str(LIMIT), "--cells", str(CELLS)]
@@ -206,43 +207,47 @@ class SmallLimits(fixtures.Case):
             totals += [CELLS + 2 * sum(freed), CELLS + sum(freed), sum(freed), CELLS]
 
     def test_a_batch_that_folds(self):
-        """Each worker folds its own partition before its history is full, so all is answered, and the totals are as without."""
-        text, wanted, each = "", "", OWN_LINES // LINES_OF_A_WORKER
+        """Each worker folds its own partition before its history is full, so all is answered, and the totals are as
+        without."""
+        text, wanted, limit = "", "", LINES_OF_A_WORKER * 5 // 4
         for worker in range(WORKERS):
             wanted += f"worker {worker}\n"
             for number in range(OWN_LINES):
                 key = worker * 1000 + number
-                text += f"{worker} insert {key} 1\n{worker} delete {worker}.{number}\n" if number % 4 == 0 else f"{worker} insert {key} 1\n"
-                wanted += f"row {worker}.{number}\n" + (f"gone {key} 1\n" if number % 4 == 0 else "")
+                text += f"{worker} insert {key} 1\n"
+                wanted += f"row {worker}.{number}\n"
+                if number % 4 == 0:
+                    text += f"{worker} delete {worker}.{number}\n"
+                    wanted += f"gone {key} 1\n"
                 if number % LINES_OF_A_WORKER == LINES_OF_A_WORKER - 1:
                     text += f"{worker} checkpoint {worker}\n"
-                    wanted += f"folded {LINES_OF_A_WORKER * 5 // 4}\n"
+                    wanted += f"folded {limit}\n"
         inserted = WORKERS * OWN_LINES
         wanted += f"accepted {inserted * 5 // 4} inserted {inserted} deleted {inserted // 4} held {inserted * 3 // 4}\n"
-        expect("checkpoints of each worker", each * WORKERS, text.count("checkpoint"))
-        words = ["--limit", str(LINES_OF_A_WORKER * 5 // 4), "1000", "2000", "3000"]
+        expect("checkpoints of all workers", inserted // LINES_OF_A_WORKER, text.count("checkpoint"))
+        words = ["--limit", limit, "1000", "2000", "3000"]
         expect("batch", (0, wanted, ""), batch(self.program, WORKERS, text, *words))
 
     def test_a_batch_that_one_worker_folds(self):
-        """One worker folds the partitions of all amid its work and theirs: what they are answered and the totals are as without, and no entry is folded twice."""
+        """One worker folds the partitions of all amid its work and theirs: what they are answered and the totals are as
+        without, and no entry is folded twice."""
         text, wanted = "", ""
         for number in range(OWN_LINES):
-            for worker in range(WORKERS):
-                text += f"{worker} insert {worker * 1000 + number} 1\n"
+            text += "".join(f"{worker} insert {worker * 1000 + number} 1\n" for worker in range(WORKERS))
             if number % 50 == 49:
                 text += "".join(f"0 checkpoint {part}\n" for part in range(WORKERS))
-        for worker in range(WORKERS):
-            text += f"{worker} count 0 {MOST}\n" if worker == 0 else f"{worker} sum {worker * 1000} {worker * 1000 + 1000}\n"
+        text += f"0 count 0 {MOST}\n"
         for worker in range(1, WORKERS):
+            text += f"{worker} sum {worker * 1000} {worker * 1000 + 1000}\n"
             rows = "".join(f"row {worker}.{number}\n" for number in range(OWN_LINES))
             wanted += f"worker {worker}\n{rows}sum {OWN_LINES}\n"
         inserted = WORKERS * OWN_LINES
         # (the count asks each partition)
-        totals = f"accepted {inserted + 2 * WORKERS - 1} inserted {inserted} deleted 0 held {inserted}\n"
+        wanted += f"accepted {inserted + 2 * WORKERS - 1} inserted {inserted} deleted 0 held {inserted}\n"
         status, wrote, complained = batch(self.program, WORKERS, text, "1000", "2000", "3000")
         expect("status and standard error", (0, ""), (status, complained))
         at = wrote.index("worker 1\n")
-        expect("what the others were answered, and the totals", wanted + totals, wrote[at:])
+        expect("what the others were answered, and the totals", wanted, wrote[at:])
         check_folds(wrote[:at].splitlines()[1:])
 
 
