@@ -5,8 +5,8 @@ use Rattle.std.proofs.lemmas.Bool.{cases_lt}
 use Rattle.std.proofs.lemmas.List.{drop-append-le, drop_all, length-drop}
 use Rattle.std.proofs.lemmas.List.Elements.{All-head, All-tail, All-cons, All-same}
 use Rattle.crack_index.specs.declared.mark.Mark.{Mark}
-use Rattle.crack_bulk.proofs.Pieces.{Pieces, last, below, column_of, marks_of}
-use Rattle.crack_bulk.proofs.Queues.{Event, comes, turns, stopped, is_below, any_row, left, passed, in_bulk}
+use Rattle.crack_bulk.specs.Pieces.{Pieces, last, below, column_of, marks_of}
+use Rattle.crack_bulk.specs.Queues.{Event, comes, turns, stopped, is_below, any_row, left, passed, in_bulk}
 use Rattle.crack_bulk.proofs.AgreeLaws.{Each}
 use Rattle.crack_bulk.proofs.TurnLaws.{arriving}
 

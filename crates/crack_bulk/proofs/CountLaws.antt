@@ -5,8 +5,8 @@ use Rattle.std.proofs.lemmas.Bool.{cases_lt, cases_Bool, lt-ltb, le-ltb}
 use Rattle.std.proofs.lemmas.List.{append-nil, append_assoc, length_push}
 use Rattle.std.proofs.lemmas.List.Elements.{All-nil, All-head, All-tail, All-push}
 use Rattle.std.proofs.lemmas.List.Sums.{sum_by-cons}
-use Rattle.crack_bulk.proofs.Queues.{Event, comes, turns, stopped, passed}
-use Rattle.crack_bulk.proofs.Sifts.{turned, one_if_some}
+use Rattle.crack_bulk.specs.Queues.{Event, comes, turns, stopped, passed}
+use Rattle.crack_column.specs.Sifts.{turned_once, one_if_some}
 use Rattle.crack_bulk.proofs.SiftLaws.{moved_of}
 use Rattle.crack_bulk.proofs.Placed.{reaching, turners, survivors, placed, front, behind_front, made_way_to, counted_over}
 use Rattle.crack_bulk.proofs.PlacedLaws.{placed-nil, placed-push, front-lower, front-own, survivors-own, turners-own, turners-turn}
@@ -21,10 +21,10 @@ module _ {X : Type 0} (key : X → ℕ) (stops : X → Bool) where
   way-own low x xs (y ∷ ys) over = rw (le-ltb (key x) low over) refl
 
   counted-own : (low : ℕ) (x : X) (xs rows : List X) → low ≤ key x → counted_over key stops low (x ∷ xs) rows ≡ counted_over key stops low xs (rows ++ x ∷ [])
-  counted-own low x xs rows over = ap (λ b. cond b (length (front key stops low rows) + (one_if_some (behind_front key stops low rows) + counted_over key stops low xs (turned (behind_front key stops low rows)))) (counted_over key stops low xs (rows ++ x ∷ []))) (le-ltb (key x) low over)
+  counted-own low x xs rows over = ap (λ b. cond b (length (front key stops low rows) + (one_if_some (behind_front key stops low rows) + counted_over key stops low xs (turned_once (behind_front key stops low rows)))) (counted_over key stops low xs (rows ++ x ∷ []))) (le-ltb (key x) low over)
 
-  counted-turn : (low : ℕ) (x : X) (xs rows : List X) → key x < low → counted_over key stops low (x ∷ xs) rows ≡ length (front key stops low rows) + (one_if_some (behind_front key stops low rows) + counted_over key stops low xs (turned (behind_front key stops low rows)))
-  counted-turn low x xs rows under = ap (λ b. cond b (length (front key stops low rows) + (one_if_some (behind_front key stops low rows) + counted_over key stops low xs (turned (behind_front key stops low rows)))) (counted_over key stops low xs (rows ++ x ∷ []))) (lt-ltb (key x) low under)
+  counted-turn : (low : ℕ) (x : X) (xs rows : List X) → key x < low → counted_over key stops low (x ∷ xs) rows ≡ length (front key stops low rows) + (one_if_some (behind_front key stops low rows) + counted_over key stops low xs (turned_once (behind_front key stops low rows)))
+  counted-turn low x xs rows under = ap (λ b. cond b (length (front key stops low rows) + (one_if_some (behind_front key stops low rows) + counted_over key stops low xs (turned_once (behind_front key stops low rows)))) (counted_over key stops low xs (rows ++ x ∷ []))) (lt-ltb (key x) low under)
 
   -- the count is right for the rows that come after the first
   abbrev IsCounted : ℕ → List X → Type 0

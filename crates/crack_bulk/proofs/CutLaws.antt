@@ -9,8 +9,8 @@ use Rattle.crack_index.specs.declared.mark.Mark.{Mark}
 use Rattle.crack_index.specs.Marks.{Rising}
 use Rattle.crack_index.proofs.MarkLaws.{Rising-head, Rising-tail}
 use Rattle.crack_state.specs.State.{State, IsIntact}
-use Rattle.crack_bulk.proofs.Pieces.{Pieces, last, below, column_of, marks_of, cut, AreDivided}
-use Rattle.crack_bulk.proofs.Carried.{pieces_of}
+use Rattle.crack_bulk.specs.Pieces.{Pieces, last, below, column_of, marks_of, cut, AreDivided}
+use Rattle.crack_bulk.specs.Carried.{pieces_of}
 
 module _ {X : Type 0} where
   pub column_of-cut : (place : ℕ) (marks : List Mark) (rows : List X) → column_of (cut place marks rows) ≡ rows

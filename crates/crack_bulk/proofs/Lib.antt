@@ -1,5 +1,3 @@
-pub mod Pieces
-pub mod Queues
 pub mod Sifts
 pub mod Carried
 pub mod Placed
@@ -8,6 +6,7 @@ pub mod AllLaws
 pub mod BeyondLaws
 pub mod BulkLaws
 pub mod CarryLaws
+pub mod ClearLaws
 pub mod CountLaws
 pub mod CutLaws
 pub mod DownLaws
@@ -17,4 +16,5 @@ pub mod PieceLaws
 pub mod PlacedLaws
 pub mod SiftLaws
 pub mod SiftedLaws
+pub mod StepsDown
 pub mod TurnLaws

@@ -1,8 +1,8 @@
 -- Where carries end with a row in hand: the row that came in takes the place of the one with which its carry ends, and then all are sifted.
 use Rattle.std.specs.Prelude.{ℕ, suc, ◌+◌, length, Bool, cond, nat_lt, filter, List, [], ◌∷◌, ◌++◌}
-use Rattle.crack_bulk.proofs.Pieces.{Pieces, last, below}
-use Rattle.crack_bulk.proofs.Queues.{Event, comes, turns, stopped, is_below, any_row, passed}
-use Rattle.crack_bulk.proofs.Sifts.{turned, one_if_some}
+use Rattle.crack_bulk.specs.Pieces.{Pieces, last, below}
+use Rattle.crack_bulk.specs.Queues.{Event, comes, turns, stopped, is_below, any_row, passed}
+use Rattle.crack_column.specs.Sifts.{turned_once, one_if_some}
 
 module _ {X : Type 0} (key : X → ℕ) (stops : X → Bool) where
   -- the rows that reach a piece, of all that come in: their carries haven't ended below, and they are of this piece or of one below
@@ -51,7 +51,7 @@ module _ {X : Type 0} (key : X → ℕ) (stops : X → Bool) where
   abbrev pub pass_over : ℕ → List X → List X → List X → List X × List X
   pass_over low [] lower rows = (lower ++ front low rows, behind_front low rows)
   pass_over low (x ∷ xs) lower rows =
-      cond (nat_lt (key x) low) (pass_over low xs (lower ++ (front low rows ++ x ∷ [])) (turned (behind_front low rows))) (pass_over low xs lower (rows ++ x ∷ []))
+      cond (nat_lt (key x) low) (pass_over low xs (lower ++ (front low rows ++ x ∷ [])) (turned_once (behind_front low rows))) (pass_over low xs lower (rows ++ x ∷ []))
 
   -- the rows whose carries go on
   abbrev pub going : List X → List (Event X) → List X
@@ -89,4 +89,4 @@ module _ {X : Type 0} (key : X → ℕ) (stops : X → Bool) where
   abbrev pub counted_over : ℕ → List X → List X → ℕ
   counted_over low [] rows = length (front low rows)
   counted_over low (x ∷ xs) rows =
-      cond (nat_lt (key x) low) (length (front low rows) + (one_if_some (behind_front low rows) + counted_over low xs (turned (behind_front low rows)))) (counted_over low xs (rows ++ x ∷ []))
+      cond (nat_lt (key x) low) (length (front low rows) + (one_if_some (behind_front low rows) + counted_over low xs (turned_once (behind_front low rows)))) (counted_over low xs (rows ++ x ∷ []))

@@ -4,7 +4,7 @@ use Rattle.std.specs.List.{All}
 use Rattle.std.proofs.lemmas.Bool.{cases_lt, cases_Bool, lt-ltb, le-ltb}
 use Rattle.std.proofs.lemmas.List.{append-nil, append_assoc}
 use Rattle.std.proofs.lemmas.List.Elements.{All-nil, All-head, All-tail, All-push}
-use Rattle.crack_bulk.proofs.Sifts.{turned}
+use Rattle.crack_column.specs.Sifts.{turned_once}
 use Rattle.crack_bulk.proofs.Placed.{turners, met_by, survivors, placed, front, behind_front, pass_over}
 
 module _ {X : Type 0} (key : X → ℕ) (stops : X → Bool) where
@@ -46,10 +46,10 @@ module _ {X : Type 0} (key : X → ℕ) (stops : X → Bool) where
   turners-turn low x xs under = rw (lt-ltb (key x) low under) refl
 
   pub pass-own : (low : ℕ) (x : X) (xs before rows : List X) → low ≤ key x → pass_over key stops low (x ∷ xs) before rows ≡ pass_over key stops low xs before (rows ++ x ∷ [])
-  pass-own low x xs before rows over = ap (λ b. cond b (pass_over key stops low xs (before ++ (front key stops low rows ++ x ∷ [])) (turned (behind_front key stops low rows))) (pass_over key stops low xs before (rows ++ x ∷ []))) (le-ltb (key x) low over)
+  pass-own low x xs before rows over = ap (λ b. cond b (pass_over key stops low xs (before ++ (front key stops low rows ++ x ∷ [])) (turned_once (behind_front key stops low rows))) (pass_over key stops low xs before (rows ++ x ∷ []))) (le-ltb (key x) low over)
 
-  pub pass-turn : (low : ℕ) (x : X) (xs before rows : List X) → key x < low → pass_over key stops low (x ∷ xs) before rows ≡ pass_over key stops low xs (before ++ (front key stops low rows ++ x ∷ [])) (turned (behind_front key stops low rows))
-  pass-turn low x xs before rows under = ap (λ b. cond b (pass_over key stops low xs (before ++ (front key stops low rows ++ x ∷ [])) (turned (behind_front key stops low rows))) (pass_over key stops low xs before (rows ++ x ∷ []))) (lt-ltb (key x) low under)
+  pub pass-turn : (low : ℕ) (x : X) (xs before rows : List X) → key x < low → pass_over key stops low (x ∷ xs) before rows ≡ pass_over key stops low xs (before ++ (front key stops low rows ++ x ∷ [])) (turned_once (behind_front key stops low rows))
+  pass-turn low x xs before rows under = ap (λ b. cond b (pass_over key stops low xs (before ++ (front key stops low rows ++ x ∷ [])) (turned_once (behind_front key stops low rows))) (pass_over key stops low xs before (rows ++ x ∷ []))) (lt-ltb (key x) low under)
 
   -- rows one behind the other
   joined : (before lower ts : List X) (x : X) → (before ++ (lower ++ x ∷ [])) ++ ts ≡ (before ++ lower) ++ x ∷ ts

@@ -6,9 +6,10 @@ use Rattle.std.proofs.lemmas.List.{length_push}
 use Rattle.std.proofs.lemmas.List.Elements.{All-nil, All-cons, All-head, All-tail, All-take}
 use Rattle.std.proofs.lemmas.List.Sums.{sum_by-cons}
 use Rattle.crack_row.specs.declared.InnerBound.{InnerBound}
-use Rattle.crack_bulk.proofs.Pieces.{Pieces, last, below, marks_of, AreDivided}
-use Rattle.crack_bulk.proofs.Queues.{Event, comes, turns, stopped, is_below, any_row, left, passed, in_bulk, bulk_outcomes}
-use Rattle.crack_bulk.proofs.Sifts.{turned, one_if_some, below_bound, queued, made_way, sifted, all_made_way, count_below, OfMet, risen}
+use Rattle.crack_bulk.specs.Pieces.{Pieces, last, below, marks_of, AreDivided}
+use Rattle.crack_bulk.specs.Queues.{Event, comes, turns, stopped, is_below, any_row, left, passed, in_bulk, bulk_outcomes}
+use Rattle.crack_column.specs.Sifts.{turned_once, one_if_some, below_bound, queued, made_way}
+use Rattle.crack_bulk.proofs.Sifts.{sifted, all_made_way, count_below, OfMet, risen}
 
 -- one more behind them
 All-take_push : {X : Type 0} (P : X → Type 0) (n : ℕ) (xs : List X) (x : X) → All P (take n xs) → P x → All P (take n (xs ++ x ∷ []))
@@ -66,23 +67,23 @@ module _ {X : Type 0} (key : X → ℕ) (stops : X → Bool) where
     total_is : sum_by moved_of (passed key stops own es rows) ≡ sum_by moved_of es + made_way key low (filter own xs) rows
     next_are : AreNext own xs (passed key stops own es rows)
 
-  below_count : (low : ℕ) (x : X) (xs : List X) → key x < low → count_below key low (x ∷ xs) ≡ suc (count_below key low xs)
+  pub below_count : (low : ℕ) (x : X) (xs : List X) → key x < low → count_below key low (x ∷ xs) ≡ suc (count_below key low xs)
   below_count low x xs under = sum_by-cons (λ y. cond {A = ℕ} (ltb (key y) low) 1 0) x xs ∙ rw (lt-ltb (key x) low under) (omega arith)
 
-  above_count : (low : ℕ) (x : X) (xs : List X) → low ≤ key x → count_below key low (x ∷ xs) ≡ count_below key low xs
+  pub above_count : (low : ℕ) (x : X) (xs : List X) → low ≤ key x → count_below key low (x ∷ xs) ≡ count_below key low xs
   above_count low x xs over = sum_by-cons (λ y. cond {A = ℕ} (ltb (key y) low) 1 0) x xs ∙ rw (le-ltb (key x) low over) (omega arith)
 
   queued-own : (low : ℕ) (x : X) (xs rows : List X) → low ≤ key x → queued key low (x ∷ xs) rows ≡ queued key low xs (rows ++ x ∷ [])
-  queued-own low x xs rows over = ap (λ b. queued key low xs (cond b (turned rows) (rows ++ x ∷ []))) (le-ltb (key x) low over)
+  queued-own low x xs rows over = ap (λ b. queued key low xs (cond b (turned_once rows) (rows ++ x ∷ []))) (le-ltb (key x) low over)
 
-  queued-turn : (low : ℕ) (x : X) (xs rows : List X) → key x < low → queued key low (x ∷ xs) rows ≡ queued key low xs (turned rows)
-  queued-turn low x xs rows under = ap (λ b. queued key low xs (cond b (turned rows) (rows ++ x ∷ []))) (lt-ltb (key x) low under)
+  queued-turn : (low : ℕ) (x : X) (xs rows : List X) → key x < low → queued key low (x ∷ xs) rows ≡ queued key low xs (turned_once rows)
+  queued-turn low x xs rows under = ap (λ b. queued key low xs (cond b (turned_once rows) (rows ++ x ∷ []))) (lt-ltb (key x) low under)
 
   made_way-own : (low : ℕ) (x : X) (xs rows : List X) → low ≤ key x → made_way key low (x ∷ xs) rows ≡ made_way key low xs (rows ++ x ∷ [])
-  made_way-own low x xs rows over = ap (λ b. cond b (one_if_some rows + made_way key low xs (turned rows)) (made_way key low xs (rows ++ x ∷ []))) (le-ltb (key x) low over)
+  made_way-own low x xs rows over = ap (λ b. cond b (one_if_some rows + made_way key low xs (turned_once rows)) (made_way key low xs (rows ++ x ∷ []))) (le-ltb (key x) low over)
 
-  made_way-turn : (low : ℕ) (x : X) (xs rows : List X) → key x < low → made_way key low (x ∷ xs) rows ≡ one_if_some rows + made_way key low xs (turned rows)
-  made_way-turn low x xs rows under = ap (λ b. cond b (one_if_some rows + made_way key low xs (turned rows)) (made_way key low xs (rows ++ x ∷ []))) (lt-ltb (key x) low under)
+  made_way-turn : (low : ℕ) (x : X) (xs rows : List X) → key x < low → made_way key low (x ∷ xs) rows ≡ one_if_some rows + made_way key low xs (turned_once rows)
+  made_way-turn low x xs rows under = ap (λ b. cond b (one_if_some rows + made_way key low xs (turned_once rows)) (made_way key low xs (rows ++ x ∷ []))) (lt-ltb (key x) low under)
 
   through : (low : ℕ) (own : X → Bool) → ((x : X) → key x < low → own x ≡ true) → (xs : List X) (es : List (Event X)) (rows : List X) → AreOf low xs es → All Goes xs → All Goes (take (count_below key low xs) rows) → Through low own xs es rows
   through low own lower [] [] rows are coming met = record { left_is = refl; total_is = omega arith; next_are = tt }
@@ -185,19 +186,19 @@ module _ {X : Type 0} (key : X → ℕ) (stops : X → Bool) where
   none-moved (x ∷ xs) = omega (arith, none-moved xs, sum_by-cons moved_of (comes x) (map comes xs))
 
   -- each row of a piece makes place for one, and those of the piece itself come to it
-  length-turned : (rows : List X) → length (turned rows) ≡ length rows
+  length-turned : (rows : List X) → length (turned_once rows) ≡ length rows
   length-turned [] = refl
   length-turned (y ∷ ys) = omega (arith, length_push ys y)
 
   length-queued : (low : ℕ) (xs rows : List X) → length (queued key low xs rows) + count_below key low xs ≡ length rows + length xs
   length-queued low [] rows = omega arith
   length-queued low (x ∷ xs) rows = elim (cases_lt (key x) low) [
-    | inl under ↦ omega (arith, ap length (queued-turn low x xs rows under), length-queued low xs (turned rows), length-turned rows, below_count low x xs under)
+    | inl under ↦ omega (arith, ap length (queued-turn low x xs rows under), length-queued low xs (turned_once rows), length-turned rows, below_count low x xs under)
     | inr over ↦ omega (arith, ap length (queued-own low x xs rows over), length-queued low xs (rows ++ x ∷ []), length_push rows x, above_count low x xs over)
   ]
 
   -- of the rows below a bound as many are below a lower one as of all
-  count-below_bound : (low bound : ℕ) (xs : List X) → low ≤ bound → (count_below key low (below_bound key bound xs) ≡ count_below key low xs) × (length (below_bound key bound xs) ≡ count_below key bound xs)
+  pub count-below_bound : (low bound : ℕ) (xs : List X) → low ≤ bound → (count_below key low (below_bound key bound xs) ≡ count_below key low xs) × (length (below_bound key bound xs) ≡ count_below key bound xs)
   count-below_bound low bound [] order = (refl, refl)
   count-below_bound low bound (x ∷ xs) order =
       let rest = count-below_bound low bound xs order in

@@ -11,16 +11,17 @@ use Rattle.crack_arena.specs.Arena.{Handle, no_handle}
 use Rattle.crack_arena.specs.Rows.{key_at}
 use Rattle.crack_state.specs.State.{State, IsIntact, greatest}
 use Rattle.crack_state.specs.Merge.{outside_of}
-use Rattle.crack_bulk.proofs.Pieces.{column_of, marks_of}
-use Rattle.crack_bulk.proofs.Queues.{Event, comes, turns, stopped, in_bulk, bulk_outcomes}
+use Rattle.crack_bulk.specs.Pieces.{column_of, marks_of}
+use Rattle.crack_bulk.specs.Queues.{Event, comes, turns, stopped, in_bulk, bulk_outcomes}
 use Rattle.crack_bulk.proofs.Sifts.{sifted, all_made_way, count_below, OfMet, risen}
-use Rattle.crack_bulk.proofs.Carried.{pieces_of, is_over, is_doomed, ends_with, moved_by, ended_so, ended_by, inside_of, put_in_by, arrivals, carried_in_bulk, carried_by_sifting}
+use Rattle.crack_bulk.specs.Carried.{pieces_of, is_over, is_doomed, ends_with, moved_by, ended_so, ended_by, inside_of, put_in_by, arrivals, carried_in_bulk}
+use Rattle.crack_bulk.proofs.Carried.{carried_by_sifting}
 use Rattle.crack_bulk.proofs.CutLaws.{IsCut-intact}
 use Rattle.crack_bulk.proofs.LeadLaws.{pending-lasts}
 use Rattle.crack_bulk.proofs.SiftLaws.{moved_of, IsTurn, AreSifted-of, AreOf-coming, none-moved, marks_of-sifted, none_below}
 
 -- a counter that is raised twice
-min_and : (n j k : ℕ) → min (min (n + j) greatest + k) greatest ≡ min (n + (j + k)) greatest
+pub min_and : (n j k : ℕ) → min (min (n + j) greatest + k) greatest ≡ min (n + (j + k)) greatest
 min_and n j k = elim (cases_lt (n + j) greatest) [
   | inl l ↦
       let one : min (n + j) greatest ≡ n + j = min-eq_left (omega (arith, l)) in

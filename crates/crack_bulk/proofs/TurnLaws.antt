@@ -6,15 +6,15 @@ use Rattle.std.proofs.lemmas.List.{append-nil, append_assoc, take-append-drop, l
 use Rattle.std.proofs.lemmas.Nat.{div-add-mod', mod_below}
 use Rattle.std.proofs.lemmas.List.Elements.{All-head, All-tail}
 use Rattle.crack_index.specs.declared.mark.Mark.{Mark}
-use Rattle.crack_bulk.proofs.Pieces.{Pieces, last, below, marks_of}
-use Rattle.crack_bulk.proofs.Queues.{Event, comes, turns, stopped, is_below, left, passed, in_bulk}
-use Rattle.crack_bulk.proofs.Sifts.{turned, queued}
+use Rattle.crack_bulk.specs.Pieces.{Pieces, last, below, marks_of}
+use Rattle.crack_bulk.specs.Queues.{Event, comes, turns, stopped, is_below, left, passed, in_bulk}
+use Rattle.crack_column.specs.Sifts.{turned_once, queued}
 use Rattle.crack_bulk.proofs.PieceLaws.{mark_at}
 
 -- the first row went behind the last, so many times
 abbrev pub turned_by : {X : Type 0} → ℕ → List X → List X
 turned_by zero rows = rows
-turned_by (suc g) rows = turned_by g (turned rows)
+turned_by (suc g) rows = turned_by g (turned_once rows)
 
 module _ {X : Type 0} where
   turned_by-front : (xs ys : List X) → turned_by (length xs) (xs ++ ys) ≡ ys ++ xs
@@ -38,7 +38,7 @@ module _ {X : Type 0} where
       rw none refl
   turned_by-sum (suc g) h rows =
       let one : suc g + h ≡ suc (g + h) = omega arith in
-      rw one (turned_by-sum g h (turned rows))
+      rw one (turned_by-sum g h (turned_once rows))
 
   -- again and again: all is as it was
   pub turned_by-rounds : (rounds : ℕ) (rows : List X) → turned_by (rounds * length rows) rows ≡ rows
@@ -66,7 +66,7 @@ module _ {X : Type 0} where
   queued-run key low [] xs rows all = refl
   queued-run key low (x ∷ run) xs rows all =
       let under = lt-ltb (key x) low (All-head (λ y. key y < low) x run all) in
-      ap (λ b. queued key low (run ++ xs) (cond b (turned rows) (rows ++ x ∷ []))) under ∙ queued-run key low run xs (turned rows) (All-tail (λ y. key y < low) x run all)
+      ap (λ b. queued key low (run ++ xs) (cond b (turned_once rows) (rows ++ x ∷ []))) under ∙ queued-run key low run xs (turned_once rows) (All-tail (λ y. key y < low) x run all)
 
 -- how many of the carries reach a piece from below
 abbrev pub arriving : {X : Type 0} → List (Event X) → ℕ

@@ -3,6 +3,8 @@ pub mod Divisions
 mod HeldLaws
 mod LabelLaws
 mod Passes
+mod SiftLaws
+mod Sifting
 pub mod Remembering
 mod TicketLaws
 mod Thirds

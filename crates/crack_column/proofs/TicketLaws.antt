@@ -341,51 +341,110 @@ unread-between ts len from to within order end =
     let split : ks ≡ take from ks ++ (between from to ks ++ drop to ks) = split_in_three ks from to order in
     rw (← stretch_of remembered_key 0 ts len from to within end) (omega (arith, ap (times unknown) split, times-append unknown (take from ks) (between from to ks ++ drop to ks), times-append unknown (between from to ks) (drop to ks)))
 
--- a stretch of the column was turned
-module _ (cells : List (Cell Row)) (gs : List ℕ) (bound from to : ℕ) (ts ts' : List Tag) (place learned len : ℕ) (are : AreDrawn gs ts len) (order : from ≤ to) (end : to ≤ len) (turned : Turns cells gs bound from to ts ts' place learned) where
-  -- handles and tickets are read off what a crack keeps
-  handles_bare : (xs : List Tag) → map (tag_handle gs) xs ≡ map (tag_handle gs) (map forgotten xs)
-  handles_bare [] = refl
-  handles_bare (t ∷ xs) = ap (λ ys. tag_handle gs t ∷ ys) (handles_bare xs)
+-- handles and tickets are read off what a crack keeps
+handles_bare : (gs : List ℕ) (xs : List Tag) → map (tag_handle gs) xs ≡ map (tag_handle gs) (map forgotten xs)
+handles_bare gs [] = refl
+handles_bare gs (t ∷ xs) = ap (λ ys. tag_handle gs t ∷ ys) (handles_bare gs xs)
 
-  tickets_bare : (xs : List Tag) → map ticket_of xs ≡ map ticket_of (map forgotten xs)
-  tickets_bare [] = refl
-  tickets_bare (t ∷ xs) = ap (λ ys. t.ticket ∷ ys) (tickets_bare xs)
+tickets_bare : (xs : List Tag) → map ticket_of xs ≡ map ticket_of (map forgotten xs)
+tickets_bare [] = refl
+tickets_bare (t ∷ xs) = ap (λ ys. t.ticket ∷ ys) (tickets_bare xs)
 
-  stretch_long : length turned.stretch ≡ to - from
+-- a stretch of the column stands in another order, and so many of its rows are known that weren't
+pub record Reorders (from to : ℕ) (tags tags' : List Tag) (learned : ℕ) : Type 0 where
+  pub stretch : List Tag
+  pub are : tags' ≡ take from tags ++ stretch ++ drop to tags
+  pub kept : IsPermutation (map forgotten (between from to tags)) (map forgotten stretch)
+  pub fewer : unread_in stretch + learned ≡ unread_in (between from to tags)
+
+module _ (gs : List ℕ) (from to : ℕ) (ts ts' : List Tag) (learned len : ℕ) (are : AreDrawn gs ts len) (order : from ≤ to) (end : to ≤ len) (reorders : Reorders from to ts ts' learned) where
+  stretch_long : length reorders.stretch ≡ to - from
   stretch_long =
-      let same = length_permutation (map forgotten (between from to ts)) (map forgotten turned.stretch) turned.kept in
-      omega (arith, same, length-map turned.stretch forgotten, length-map (between from to ts) forgotten, length-between ts from to (omega (arith, are.within)))
+      let same = length_permutation (map forgotten (between from to ts)) (map forgotten reorders.stretch) reorders.kept in
+      omega (arith, same, length-map reorders.stretch forgotten, length-map (between from to ts) forgotten, length-between ts from to (omega (arith, are.within)))
 
-  kept_tickets : IsPermutation (map ticket_of (between from to ts)) (map ticket_of turned.stretch)
-  kept_tickets = rw (tickets_bare (between from to ts), tickets_bare turned.stretch) (IsPermutation-map ticket_of (map forgotten (between from to ts)) (map forgotten turned.stretch) turned.kept)
+  kept_tickets : IsPermutation (map ticket_of (between from to ts)) (map ticket_of reorders.stretch)
+  kept_tickets = rw (tickets_bare (between from to ts), tickets_bare reorders.stretch) (IsPermutation-map ticket_of (map forgotten (between from to ts)) (map forgotten reorders.stretch) reorders.kept)
 
-  at : Replaced from to ts turned.stretch ts'
-  at = replaced from to ts turned.stretch ts' order (omega (arith, are.within)) stretch_long turned.are
+  pub standing : Replaced from to ts reorders.stretch ts'
+  standing = replaced from to ts reorders.stretch ts' order (omega (arith, are.within)) stretch_long reorders.are
 
-  tickets-Turns : IsPermutation (map ticket_of ts) (map ticket_of ts')
-  tickets-Turns =
-      let middle = IsPermutation-append_right (map ticket_of (take from ts)) _ _ (IsPermutation-append_left (map ticket_of (drop to ts)) (map ticket_of (between from to ts)) (map ticket_of turned.stretch) kept_tickets) in
+  tickets-Reorders : IsPermutation (map ticket_of ts) (map ticket_of ts')
+  tickets-Reorders =
+      let middle = IsPermutation-append_right (map ticket_of (take from ts)) _ _ (IsPermutation-append_left (map ticket_of (drop to ts)) (map ticket_of (between from to ts)) (map ticket_of reorders.stretch) kept_tickets) in
       let old : map ticket_of ts ≡ map ticket_of (take from ts) ++ (map ticket_of (between from to ts) ++ map ticket_of (drop to ts)) = ap (map ticket_of) (split_in_three ts from to order) ∙ map-append ticket_of (take from ts) (between from to ts ++ drop to ts) ∙ ap (λ ys. map ticket_of (take from ts) ++ ys) (map-append ticket_of (between from to ts) (drop to ts)) in
-      let new : map ticket_of ts' ≡ map ticket_of (take from ts) ++ (map ticket_of turned.stretch ++ map ticket_of (drop to ts)) = ap (map ticket_of) (turned.are ∙ append_assoc (take from ts) turned.stretch (drop to ts)) ∙ map-append ticket_of (take from ts) (turned.stretch ++ drop to ts) ∙ ap (λ ys. map ticket_of (take from ts) ++ ys) (map-append ticket_of turned.stretch (drop to ts)) in
+      let new : map ticket_of ts' ≡ map ticket_of (take from ts) ++ (map ticket_of reorders.stretch ++ map ticket_of (drop to ts)) = ap (map ticket_of) (reorders.are ∙ append_assoc (take from ts) reorders.stretch (drop to ts)) ∙ map-append ticket_of (take from ts) (reorders.stretch ++ drop to ts) ∙ ap (λ ys. map ticket_of (take from ts) ++ ys) (map-append ticket_of reorders.stretch (drop to ts)) in
       rw (old, new) middle
 
   tickets_drawn : All (λ n. n < length gs) (map ticket_of ts')
   tickets_drawn =
-      All-permutation (λ n. n < length gs) (map ticket_of ts) (map ticket_of ts') tickets-Turns (λ k d l.
+      All-permutation (λ n. n < length gs) (map ticket_of ts) (map ticket_of ts') tickets-Reorders (λ k d l.
       rw (get_or-map ticket_of ts k no_tag d (omega (arith, length-map ts ticket_of))) (are.drawn k no_tag (omega (arith, length-map ts ticket_of))))
 
-  pub AreDrawn-Turns : AreDrawn gs ts' len
-  AreDrawn-Turns = record {
-    beside = at.len ∙ are.beside;
-    within = omega (arith, at.len, are.within);
-    few = omega (arith, at.len, are.few);
+  pub AreDrawn-Reorders : AreDrawn gs ts' len
+  AreDrawn-Reorders = record {
+    beside = standing.len ∙ are.beside;
+    within = omega (arith, standing.len, are.within);
+    few = omega (arith, standing.len, are.few);
     drawn = λ k d l. rw (get_or-map ticket_of ts' k d 0 l) at (tickets_drawn k 0 (omega (arith, length-map ts' ticket_of)));
-    once = λ n. rw (times-IsPermutation n (map ticket_of ts) (map ticket_of ts') tickets-Turns) (are.once n);
+    once = λ n. rw (times-IsPermutation n (map ticket_of ts) (map ticket_of ts') tickets-Reorders) (are.once n);
   }
 
+  -- a list over the column's tags, whose middle is read off the stretch
+  module _ {X : Type 0} (f : Tag → X) (d : X) where
+    pub over_tags : map f (take len ts') ≡ take from (map f (take len ts)) ++ map f reorders.stretch ++ drop to (map f (take len ts))
+    over_tags =
+        let old = map f (take len ts) in
+        let new = take from old ++ map f reorders.stretch ++ drop to old in
+        let old_long : length old ≡ len = length-map (take len ts) f ∙ length-take-le len ts are.within in
+        let now_long : length (map f (take len ts')) ≡ len = length-map (take len ts') f ∙ length-take-le len ts' (omega (arith, standing.len, are.within)) in
+        let there = replaced from to old (map f reorders.stretch) new order (omega (arith, old_long)) (length-map reorders.stretch f ∙ stretch_long) refl in
+        let read_new : (k : ℕ) → k < len → get_or (map f (take len ts')) k d ≡ f (get_or ts' k no_tag) = λ k l. rw (get_or-map f (take len ts') k no_tag d (omega (arith, length-take-le len ts' (omega (arith, standing.len, are.within)))), get_or-take len ts' k no_tag l) refl in
+        let read_old : (k : ℕ) → k < len → get_or old k d ≡ f (get_or ts k no_tag) = λ k l. rw (get_or-map f (take len ts) k no_tag d (omega (arith, length-take-le len ts are.within)), get_or-take len ts k no_tag l) refl in
+        ext_get_or d (map f (take len ts')) new (omega (arith, there.len)) (λ k l.
+        let within : k < len = omega arith in
+        rw (read_new k within) (elim (cases_lt k from) [
+          | inl b ↦ rw (there.before k d b, read_old k within, standing.before k no_tag b) refl
+          | inr g ↦ elim (cases_lt k to) [
+            | inl m ↦ rw (there.inside k d g m, get_or-map f reorders.stretch (k - from) no_tag d (omega (arith, stretch_long)), standing.inside k no_tag g m) refl
+            | inr e ↦ rw (there.behind k d e, read_old k within, standing.behind k no_tag e) refl
+          ]
+        ]))
+
+  -- what stands behind the column stays
+  pub aside-Reorders : aside_in gs ts' len ≡ aside_in gs ts len
+  aside-Reorders =
+      ext_get_or no_aside (aside_in gs ts' len) (aside_in gs ts len) (omega (arith, length-aside gs ts' len, length-aside gs ts len, standing.len)) (λ k l.
+      let inside : len + k < length ts' = omega (arith, length-aside gs ts' len) in
+      rw (aside_at gs ts' len k no_aside inside, aside_at gs ts len k no_aside (omega (arith, standing.len)), standing.behind (len + k) no_tag (omega arith)) refl)
+
+  -- the rows that became known are unread no more
+  pub unread-Reorders : unread_in (take len ts') + learned ≡ unread_in (take len ts)
+  unread-Reorders =
+      let ks = map remembered_key (take len ts) in
+      let old_long : length ks ≡ len = length-map (take len ts) remembered_key ∙ length-take-le len ts are.within in
+      let cut : between from to ks ≡ map remembered_key (between from to ts) = stretch_of remembered_key 0 ts len from to are.within end in
+      let split : ks ≡ take from ks ++ (between from to ks ++ drop to ks) = split_in_three ks from to order in
+      let old : times unknown ks ≡ times unknown (take from ks) + (times unknown (map remembered_key (between from to ts)) + times unknown (drop to ks)) = ap (times unknown) split ∙ times-append unknown (take from ks) (between from to ks ++ drop to ks) ∙ ap (λ n. times unknown (take from ks) + n) (times-append unknown (between from to ks) (drop to ks)) ∙ ap (λ (ys : List ℕ). times unknown (take from ks) + (times unknown ys + times unknown (drop to ks))) cut in
+      let new : times unknown (map remembered_key (take len ts')) ≡ times unknown (take from ks ++ map remembered_key reorders.stretch) + times unknown (drop to ks) = ap (times unknown) (over_tags remembered_key 0) ∙ times-append unknown (take from ks ++ map remembered_key reorders.stretch) (drop to ks) in
+      omega (arith, old, new, times-append unknown (take from ks) (map remembered_key reorders.stretch), reorders.fewer)
+
+-- a stretch of the column was turned
+module _ (cells : List (Cell Row)) (gs : List ℕ) (bound from to : ℕ) (ts ts' : List Tag) (place learned len : ℕ) (are : AreDrawn gs ts len) (order : from ≤ to) (end : to ≤ len) (turned : Turns cells gs bound from to ts ts' place learned) where
+  abbrev reordered : Reorders from to ts ts' learned
+  reordered = record { stretch = turned.stretch; are = turned.are; kept = turned.kept; fewer = turned.fewer }
+
+  pub AreDrawn-Turns : AreDrawn gs ts' len
+  AreDrawn-Turns = AreDrawn-Reorders gs from to ts ts' learned len are order end reordered
+
   pub length-Turns : length ts' ≡ length ts
-  length-Turns = at.len
+  length-Turns = (standing gs from to ts ts' learned len are order end reordered).len
+
+  pub aside-Turns : aside_in gs ts' len ≡ aside_in gs ts len
+  aside-Turns = aside-Reorders gs from to ts ts' learned len are order end reordered
+
+  pub unread-Turns : unread_in (take len ts') + learned ≡ unread_in (take len ts)
+  unread-Turns = unread-Reorders gs from to ts ts' learned len are order end reordered
 
   -- a crack of the tags is one of the handles
   long_old : length (handles_in gs ts len) ≡ len
@@ -403,56 +462,17 @@ module _ (cells : List (Cell Row)) (gs : List ℕ) (bound from to : ℕ) (ts ts'
       let inside : k < length turned.stretch = omega (arith, length-map turned.stretch memory_of) in
       rw (get_or-map memory_of turned.stretch k no_tag nothing inside, get_or-map (memory_at cells) (map (tag_handle gs) turned.stretch) k no_handle nothing (omega (arith, length-map turned.stretch (tag_handle gs))), get_or-map (tag_handle gs) turned.stretch k no_tag no_handle inside) (turned.read k no_tag inside))
 
-  -- a list over the column's tags, whose middle is read off the stretch
-  module _ {X : Type 0} (f : Tag → X) (d : X) where
-    over_tags : map f (take len ts') ≡ take from (map f (take len ts)) ++ map f turned.stretch ++ drop to (map f (take len ts))
-    over_tags =
-        let old = map f (take len ts) in
-        let new = take from old ++ map f turned.stretch ++ drop to old in
-        let old_long : length old ≡ len = length-map (take len ts) f ∙ length-take-le len ts are.within in
-        let now_long : length (map f (take len ts')) ≡ len = length-map (take len ts') f ∙ length-take-le len ts' (omega (arith, at.len, are.within)) in
-        let there = replaced from to old (map f turned.stretch) new order (omega (arith, old_long)) (length-map turned.stretch f ∙ stretch_long) refl in
-        let read_new : (k : ℕ) → k < len → get_or (map f (take len ts')) k d ≡ f (get_or ts' k no_tag) = λ k l. rw (get_or-map f (take len ts') k no_tag d (omega (arith, length-take-le len ts' (omega (arith, at.len, are.within)))), get_or-take len ts' k no_tag l) refl in
-        let read_old : (k : ℕ) → k < len → get_or old k d ≡ f (get_or ts k no_tag) = λ k l. rw (get_or-map f (take len ts) k no_tag d (omega (arith, length-take-le len ts are.within)), get_or-take len ts k no_tag l) refl in
-        ext_get_or d (map f (take len ts')) new (omega (arith, there.len)) (λ k l.
-        let within : k < len = omega arith in
-        rw (read_new k within) (elim (cases_lt k from) [
-          | inl b ↦ rw (there.before k d b, read_old k within, at.before k no_tag b) refl
-          | inr g ↦ elim (cases_lt k to) [
-            | inl m ↦ rw (there.inside k d g m, get_or-map f turned.stretch (k - from) no_tag d (omega (arith, stretch_long)), at.inside k no_tag g m) refl
-            | inr e ↦ rw (there.behind k d e, read_old k within, at.behind k no_tag e) refl
-          ]
-        ]))
-
   pub Cracks-Turns : Cracks cells bound from to (handles_in gs ts len) (remembered_in ts len) (handles_in gs ts' len) (remembered_in ts' len) place
   Cracks-Turns = record {
     within = omega (arith, long_old);
     piece = map (tag_handle gs) turned.stretch;
-    kept = rw (stretch_of (tag_handle gs) no_handle ts len from to are.within end, handles_bare (between from to ts), handles_bare turned.stretch) (IsPermutation-map (tag_handle gs) (map forgotten (between from to ts)) (map forgotten turned.stretch) turned.kept);
-    handles_are = over_tags (tag_handle gs) no_handle;
-    remembered_are = rw (← rows_read) (over_tags memory_of nothing);
+    kept = rw (stretch_of (tag_handle gs) no_handle ts len from to are.within end, handles_bare gs (between from to ts), handles_bare gs turned.stretch) (IsPermutation-map (tag_handle gs) (map forgotten (between from to ts)) (map forgotten turned.stretch) turned.kept);
+    handles_are = over_tags gs from to ts ts' learned len are order end reordered (tag_handle gs) no_handle;
+    remembered_are = rw (← rows_read) (over_tags gs from to ts ts' learned len are order end reordered memory_of nothing);
     low = turned.low;
     high = turned.high;
     divided = rw (← keys_read) turned.divided;
   }
-
-  -- what stands behind the column stays
-  pub aside-Turns : aside_in gs ts' len ≡ aside_in gs ts len
-  aside-Turns =
-      ext_get_or no_aside (aside_in gs ts' len) (aside_in gs ts len) (omega (arith, length-aside gs ts' len, length-aside gs ts len, at.len)) (λ k l.
-      let inside : len + k < length ts' = omega (arith, length-aside gs ts' len) in
-      rw (aside_at gs ts' len k no_aside inside, aside_at gs ts len k no_aside (omega (arith, at.len)), at.behind (len + k) no_tag (omega arith)) refl)
-
-  -- the rows that became known are unread no more
-  pub unread-Turns : unread_in (take len ts') + learned ≡ unread_in (take len ts)
-  unread-Turns =
-      let ks = map remembered_key (take len ts) in
-      let old_long : length ks ≡ len = length-map (take len ts) remembered_key ∙ length-take-le len ts are.within in
-      let cut : between from to ks ≡ map remembered_key (between from to ts) = stretch_of remembered_key 0 ts len from to are.within end in
-      let split : ks ≡ take from ks ++ (between from to ks ++ drop to ks) = split_in_three ks from to order in
-      let old : times unknown ks ≡ times unknown (take from ks) + (times unknown (map remembered_key (between from to ts)) + times unknown (drop to ks)) = ap (times unknown) split ∙ times-append unknown (take from ks) (between from to ks ++ drop to ks) ∙ ap (λ n. times unknown (take from ks) + n) (times-append unknown (between from to ks) (drop to ks)) ∙ ap (λ (ys : List ℕ). times unknown (take from ks) + (times unknown ys + times unknown (drop to ks))) cut in
-      let new : times unknown (map remembered_key (take len ts')) ≡ times unknown (take from ks ++ map remembered_key turned.stretch) + times unknown (drop to ks) = ap (times unknown) (over_tags remembered_key 0) ∙ times-append unknown (take from ks ++ map remembered_key turned.stretch) (drop to ks) in
-      omega (arith, old, new, times-append unknown (take from ks) (map remembered_key turned.stretch), turned.fewer)
 
 -- what the column remembers, its tags know
 pub Knows-Remembers : (cells : List (Cell Row)) (gs : List ℕ) (ts : List Tag) (len from to : ℕ) → len ≤ length ts → to ≤ len → Remembers cells (handles_in gs ts len) (remembered_in ts len) → All (Knows cells gs) (between from to ts)

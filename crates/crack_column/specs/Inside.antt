@@ -1,5 +1,5 @@
 -- What private clauses alone cite.
-use Rattle.std.specs.Prelude.{◌≡◌, ℕ, ◌+◌, ◌-◌, ◌≤◌, List, ◌++◌, map, take, drop, All, slice_index, slice_index_or, slice_set}
+use Rattle.std.specs.Prelude.{◌≡◌, ℕ, ◌+◌, ◌-◌, ◌≤◌, List, ◌++◌, length, map, take, drop, All, slice_index, slice_index_or, slice_set}
 use Rattle.std.specs.List.{between}
 use Rattle.std.specs.List.Sorted.{IsPermutation}
 use Rattle.crack_arena.specs.Arena.{Cell, Handle}
@@ -10,6 +10,7 @@ use Rattle.crack_column.specs.declared.tag.Tag.{Tag}
 use Rattle.crack_column.specs.Column.{Memory, memory_at, Agrees, IsDividedAt}
 use Rattle.crack_column.specs.Tickets.{memory_of, tag_handle}
 use Rattle.crack_column.specs.Keeps.{remembered_key, unread_in}
+use Rattle.crack_column.specs.Sifts.{below_bound, queued, made_way}
 
 -- what the tag remembers is right of its handle's row
 abbrev pub Knows : List (Cell Row) → List ℕ → Tag → Type 0
@@ -67,3 +68,9 @@ label_of t = record { key = t.key; ticket = t.ticket; slot = t.slot }
 -- the handle of the label's slot, and of the generation under its ticket
 abbrev pub label_handle : List ℕ → Label → Handle
 label_handle generations l = record { slot = l.slot; generation = slice_index generations l.ticket }
+
+-- the tags from `from` up to `to` were sifted through those from `start` up to `from`: so many are below the bound, and so many made way
+pub record SiftsTags (bound start from to : ℕ) (tags tags' : List Tag) (below moved : ℕ) : Type 0 where
+  pub are : tags' ≡ take start tags ++ (below_bound remembered_key bound (between from to tags) ++ queued remembered_key bound (between from to tags) (between start from tags)) ++ drop to tags
+  pub below_is : below ≡ length (below_bound remembered_key bound (between from to tags))
+  pub moved_is : moved ≡ made_way remembered_key bound (between from to tags) (between start from tags)

@@ -4,3 +4,4 @@ pub mod Inside
 pub mod Labels
 pub mod Tickets
 pub mod Keeps
+pub mod Sifts

@@ -6,6 +6,7 @@ ghost use Rattle.crack_arena.specs.Rows.{amount_at, key_at};
 ghost use Rattle.crack_row.specs.Rows.{total_by, farthest_amount};
 ghost use Rattle.crack_column.specs.Column.{nothing, Remembers, StillRemembers, StillRemembersWith, Cracks, Agrees, first_aside, with_aside, exchanged_aside, appended_aside, popped_aside};
 ghost use Rattle.crack_column.specs.Keeps.{AreDrawn, unread_in};
+ghost use Rattle.crack_column.specs.Sifts.{AreRead, Sifts};
 ghost use Rattle.crack_column.specs.Tickets.{handles_in, room_in, aside_in};
 ghost use Rattle.crack_column.specs.Inside.{Knows, Turns, Kept, tag_for};
 
@@ -414,6 +415,30 @@ impl CrackerColumn {
             .crack_between_three(from, to, self.unread, &self.generations, low, high, arena);
         self.unread -= learned;
         places
+    }
+
+    /// Sifts the rows from the place `from` up to and without `to`, one after the other, through the piece before them, which begins at the
+    /// place `start`: one below the bound changes places with the first of the piece, and the others stay behind its last. Those below
+    /// the bound stand first then. How many they are, and how many rows of the piece made way. The rows that are sifted are known.
+    /// In place, without memory. O(to - from); reads no other row, and the arena not at all.
+    pub fn sift(
+        &mut self,
+        start: usize,
+        from: usize,
+        to: usize,
+        bound: InnerBound,
+    ) -> (usize, usize)
+        requires order { start ≤ from }
+        requires behind { from ≤ to }
+        requires within { to ≤ length self.old.handles }
+        ensures sifts { (cells : List (Cell Row)) → AreRead cells from to self.old → Sifts cells bound.0 start from to self.old self.new result.0 result.1 }
+        ensures few { result.0 ≤ to - from }
+        ensures length { length self.new.handles ≡ length self.old.handles }
+        ensures room { self.new.room ≡ self.old.room }
+        ensures aside { self.new.aside ≡ self.old.aside }
+        ensures remembered { StillRemembers self.old self.new }
+    {
+        self.tags.sift_between(start, from, to, bound.number())
     }
 }
 

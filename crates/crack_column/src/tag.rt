@@ -1,6 +1,6 @@
 //! The tags of a cracker column, one at each place: what a crack and a sum read, and what a crack exchanges.
 //! A tag is kept as its label and its payload, side by side in two lists, so that a sum of known rows reads payloads alone.
-ghost use Rattle.std.specs.Prelude.{◌≡◌, ◌+◌, ◌<◌, ◌≤◌, ◌^◌, All, [], ◌∷◌, MatchOption, length, map, cond, pos, neg_ℤ, ◌≤ℤ◌, ◌*◌};
+ghost use Rattle.std.specs.Prelude.{◌≡◌, ◌+◌, ◌<◌, ◌≤◌, ◌^◌, All, [], ◌∷◌, MatchOption, length, map, take, drop, ◌++◌, cond, pos, neg_ℤ, ◌≤ℤ◌, ◌*◌};
 ghost use Rattle.std.specs.List.Sorted.{IsPermutation};
 ghost use Rattle.crack_arena.specs.Arena.{times, IsAbsent, IsFirstAt};
 ghost use Rattle.crack_arena.specs.Rows.{amount_at, key_at, unknown};
@@ -10,6 +10,7 @@ ghost use Rattle.crack_column.specs.Column.{IsDividedAt};
 ghost use Rattle.crack_column.specs.Keeps.{remembered_key, unread_in};
 ghost use Rattle.crack_column.specs.Tickets.{memory_of, tag_handle};
 ghost use Rattle.crack_column.specs.Labels.{tag_of, tags_of};
+ghost use Rattle.crack_column.specs.Sifts.{below_bound, queued, made_way};
 ghost use Rattle.crack_column.specs.Inside.{tag_for, label_of, label_handle, forgotten, shifted, turned, Knows, Read};
 
 use crate::remembered::{Remembered, UNKNOWN};
@@ -229,6 +230,33 @@ fn divide(labels: &mut [Label], payloads: &mut [Payload], bound: KeyNumber) -> u
     }
     shift(labels, payloads, last, low, first, first_payload);
     low + (first.key < bound) as usize
+}
+
+/// Sifts the tags from the place `from` on through those before it: each below the bound changes places with the first that isn't, as long as
+/// one is left. How many are below the bound, which stand first then, and how many made way. O(tags from there on).
+pub(crate) fn sift(
+    labels: &mut [Label],
+    payloads: &mut [Payload],
+    from: usize,
+    bound: KeyNumber,
+) -> (usize, usize)
+    requires beside { length payloads.old ≡ length labels.old }
+    requires within { from ≤ length labels.old }
+    ensures tags { tags_of labels.new payloads.new ≡ below_bound remembered_key bound (drop from (tags_of labels.old payloads.old))
+        ++ queued remembered_key bound (drop from (tags_of labels.old payloads.old)) (take from (tags_of labels.old payloads.old)) }
+    ensures below { result.0 ≡ length (below_bound remembered_key bound (drop from (tags_of labels.old payloads.old))) }
+    ensures moved { result.1 ≡ made_way remembered_key bound (drop from (tags_of labels.old payloads.old)) (take from (tags_of labels.old payloads.old)) }
+{
+    let (mut low, mut moved) = (0, 0);
+    'tags: for gap in from..labels.len() {
+        if labels[gap].key < bound {
+            let (label, payload) = (labels[gap], payloads[gap]);
+            shift(labels, payloads, gap, low, label, payload);
+            moved += (low < gap) as usize;
+            low += 1;
+        }
+    }
+    (low, moved)
 }
 
 /// Fills the gap from the place `low`, and puts the tag of this label and this payload there.

@@ -7,11 +7,11 @@ ghost use Rattle.crack_row.specs.Rows.{total_by, farthest_amount};
 ghost use Rattle.crack_column.specs.declared.TheConstants.{MOST_PLACES};
 ghost use Rattle.crack_column.specs.Keeps.{unread_in};
 ghost use Rattle.crack_column.specs.Tickets.{tag_handle};
-ghost use Rattle.crack_column.specs.Inside.{no_tag, label_of, Knows, Turns};
+ghost use Rattle.crack_column.specs.Inside.{no_tag, label_of, Knows, Turns, SiftsTags};
 
 use crate::tag::{self, Label, Tag};
 use crack_arena::{Arena, Handle};
-use crack_row::{InnerBound, Payload, Refusal, Row};
+use crack_row::{InnerBound, KeyNumber, Payload, Refusal, Row};
 use std::alloc::Global;
 use std::marker::Model;
 
@@ -173,6 +173,29 @@ impl Tags {
             arena,
         );
         ((from + middle, from + upper), learned)
+    }
+
+    /// Sifts the tags from the place `from` up to and without `to` through those before them from the place `start` on.
+    /// How many are below the bound, and how many made way.
+    pub(crate) fn sift_between(
+        &mut self,
+        start: usize,
+        from: usize,
+        to: usize,
+        bound: KeyNumber,
+    ) -> (usize, usize)
+        requires order { start ≤ from }
+        requires behind { from ≤ to }
+        requires within { to ≤ length self.old.items }
+        ensures sifts { SiftsTags bound start from to self.old.items self.new.items result.0 result.1 }
+        ensures capacity { self.new.capacity ≡ self.old.capacity }
+    {
+        tag::sift(
+            &mut self.labels[start..to],
+            &mut self.payloads[start..to],
+            from - start,
+            bound,
+        )
     }
 
     /// The sum of the payloads of the rows from the place `from` up to and without `to`, of which at most so many are unread.

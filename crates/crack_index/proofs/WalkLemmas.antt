@@ -66,18 +66,18 @@ All-unreverse P xs all = subst (λ (ys : List Mark). All P ys) (reverse-reverse 
 -- Order
 
 -- pairs in order from the front are in order from the back
-AllPairs-reverse : (R : Mark → Mark → Type 0) (xs : List Mark) → AllPairs R xs → AllPairs (λ m n. R n m) (reverse xs)
+pub AllPairs-reverse : (R : Mark → Mark → Type 0) (xs : List Mark) → AllPairs R xs → AllPairs (λ m n. R n m) (reverse xs)
 AllPairs-reverse R xs pairs = λ i j d h k.
     let long = length-reverse xs in
     rw (get_or-reverse xs i d (omega arith), get_or-reverse xs j d (omega arith)) (pairs (length xs - 1 - j) (length xs - 1 - i) d (omega arith) (omega arith))
 
-AllPairs-cons : (R : Mark → Mark → Type 0) (m : Mark) (ms : List Mark) → All (R m) ms → AllPairs R ms → AllPairs R (m ∷ ms)
+pub AllPairs-cons : (R : Mark → Mark → Type 0) (m : Mark) (ms : List Mark) → All (R m) ms → AllPairs R ms → AllPairs R (m ∷ ms)
 AllPairs-cons R m ms first rest zero zero d h k = absurd (omega arith)
 AllPairs-cons R m ms first rest zero (suc j) d h k = first j d (omega arith)
 AllPairs-cons R m ms first rest (suc i) zero d h k = absurd (omega arith)
 AllPairs-cons R m ms first rest (suc i) (suc j) d h k = rest i j d (omega arith) (omega arith)
 
-AllPairs-tail : (R : Mark → Mark → Type 0) (m : Mark) (ms : List Mark) → AllPairs R (m ∷ ms) → AllPairs R ms
+pub AllPairs-tail : (R : Mark → Mark → Type 0) (m : Mark) (ms : List Mark) → AllPairs R (m ∷ ms) → AllPairs R ms
 AllPairs-tail R m ms pairs = λ i j d h k. pairs (suc i) (suc j) d (omega arith) (omega arith)
 
 -- steps that keep two neighbours in order keep all

@@ -1,12 +1,13 @@
 //! The cracker index: the bounds that divide a cracked column, each with its place.
-ghost use Rattle.std.specs.Prelude.{◌≡◌, ℕ, ◌+◌, ◌-◌, ◌<◌, ◌≤◌, ◌==◌, ◌↔◌, [], map, length, All, Contains, sum_by, IsOk, IsSome, IfSome, IfOk, IfErr, OnOk, IsTrue};
+ghost use Rattle.std.specs.Prelude.{◌≡◌, ℕ, ◌+◌, ◌-◌, ◌<◌, ◌≤◌, ◌==◌, ◌↔◌, [], map, length, reverse, All, Contains, sum_by, IsOk, IsSome, IfSome, IfOk, IfErr, OnOk, IsTrue};
 ghost use Rattle.crack_row.specs.Layouts.{AreJoined};
 ghost use Rattle.crack_index.specs.Heights.{least, most};
 ghost use Rattle.crack_index.specs.Walks.{Climbs, Descends};
+ghost use Rattle.crack_index.specs.Raises.{Raises};
 ghost use Rattle.crack_index.specs.Marks.{Rising, Fits, HasBound, position_of, next_mark, last_mark, first_behind, last_before, added, raised, lowered, lowered_at, piece_at, pieces_from};
 
 use crate::tree::{self, Link, Node};
-use crate::{Mark, Visitor, walk};
+use crate::{Mark, Raiser, Visitor, raising, walk};
 use crack_row::{InnerBound, Key, KeyRange, PieceSize, Refusal};
 use std::alloc::Global;
 use std::marker::Model;
@@ -288,5 +289,19 @@ impl CrackerIndex {
         ensures rising { Rising self.new.marks }
     {
         walk::descend(&mut self.root, key.number(), visitor)
+    }
+
+    /// Walks over the bounds from the highest down: the visitor is told each, and says how far it rises. No bound rises further than the
+    /// one above it, and none further than `most`; where one doesn't rise, none below it is looked at. How far the lowest rose.
+    /// O(bounds that rise + log bounds). Takes no memory.
+    pub fn raise_each<V: Raiser>(&mut self, most: usize, visitor: &mut V) -> usize
+        requires small { All (λ m. m.position + most ≤ usize.MAX) self.old.marks }
+        requires ready { V.is_ready visitor.old }
+        ensures raises { Raises V.rises most (reverse self.old.marks) visitor.old (reverse self.new.marks) visitor.new result }
+        ensures ready { V.is_ready visitor.new }
+        ensures room { self.new.room ≡ self.old.room }
+        ensures rising { Rising self.new.marks }
+    {
+        raising::raise_down(&mut self.root, most, visitor)
     }
 }

@@ -4,10 +4,11 @@
 
 pub mod index;
 pub mod mark;
+mod raising;
 mod tree;
 pub mod visitor;
 mod walk;
 
 pub use index::{CrackerIndex, Piece};
 pub use mark::Mark;
-pub use visitor::Visitor;
+pub use visitor::{Raiser, Visitor};

@@ -1,5 +1,8 @@
 //! Who is told the places of a walk.
 ghost use Rattle.std.specs.Prelude.{ℕ, Bool};
+ghost use Rattle.crack_index.specs.declared.mark.Mark.{Mark};
+
+use crate::Mark;
 
 /// What goes along on a walk over the bounds of an index. At each place where bounds stand it does what a step does there, and says
 /// whether the walk goes on. It has no part of the index, and so calls none.
@@ -15,5 +18,21 @@ pub trait Visitor {
     fn visit(&mut self, place: usize) -> bool
         requires { is_ready self.old }
         ensures visits { visits self.old place result self.new }
+        ensures ready { is_ready self.new };
+}
+
+/// What goes along on a walk over the bounds of an index from the highest down, and says how far each of them rises. It has no part of the
+/// index, and so calls none.
+pub trait Raiser {
+    /// When it may be told a bound.
+    ghost is_ready: { Self → Type 0 };
+
+    /// What it leaves that is told a bound: from the first state, at this mark, with this rise, the second.
+    ghost rises: { Self → Mark → ℕ → Self → Type 0 };
+
+    /// Does what is to be done at the bound, and says how many places further up it goes.
+    fn rise(&mut self, mark: Mark) -> usize
+        requires { is_ready self.old }
+        ensures rises { rises self.old mark result self.new }
         ensures ready { is_ready self.new };
 }

@@ -1,12 +1,16 @@
 -- Where no bound stands, all pending insertions at once: what carry after carry leaves.
 use Rattle.std.proofs.Common.{◌≡◌, ℕ, ◌+◌, ◌<◌, ◌≤◌, List, [], ◌∷◌, length, get_or, Option, None, Some, refl, sym, ap, ◌∙◌, arith}
+use Rattle.std.specs.List.{All}
 use Rattle.std.proofs.lemmas.List.{get_or-map, length-map}
+use Rattle.std.proofs.lemmas.List.Elements.{All-head, All-tail}
 use Rattle.crack_row.specs.Ranges.{Range, IsIn}
 use Rattle.crack_row.specs.declared.command.Policy.TheVariants.{Complete}
 use Rattle.crack_arena.specs.Arena.{Handle, no_handle}
 use Rattle.crack_arena.specs.Rows.{key_at, keys_at}
 use Rattle.crack_pending.specs.Pending.{Finds}
-use Rattle.crack_state.specs.State.{State, IsIntact}
+use Rattle.crack_pending.proofs.Searches.{is_in-true}
+use Rattle.crack_state.specs.State.{State, Reads, IsIntact}
+use Rattle.crack_state.specs.Merge.{outside_of}
 use Rattle.crack_state.specs.Steps.{lifted, all_appended, hand_key, IsBelow, SameButRoom}
 use Rattle.crack_state.proofs.AppendLaws.{first_appended, all-first, all-none, lifted-lasting, IsIntact-first}
 use Rattle.crack_state.proofs.CrackLaws.{key_within}
@@ -34,26 +38,39 @@ below (Some bound) r key high less = omega (arith, high, less)
 abbrev pub next_of : ℕ → ℕ → State → State
 next_of column_room in_room t = first_appended (record t { column_room = column_room + 1; in_room = in_room })
 
+-- where a range has all keys of a store, it has those of its pending insertions
+key_inside : (t : State) → IsIntact t [] → 0 < length t.pending_in → IsIn t.keys (key_at t.cells (get_or t.pending_in 0 no_handle))
+key_inside t intact some = key_within t.keys t.cells (get_or t.pending_in 0 no_handle) intact.within (intact.owned.pending_reads 0 no_handle some)
+
+pub first_found : (r : Range) (t : State) → r.low ≤ t.keys.low → t.keys.high ≤ r.high → IsIntact t [] → 0 < length t.pending_in → Finds r (keys_at t.cells t.pending_in) 0 (Some 0)
+first_found r t low high intact some =
+    let inside = key_inside t intact some in
+    record {
+      after = omega arith;
+      within = omega (arith, some, length-map t.pending_in (key_at t.cells));
+      holds = rw (get_or-map (key_at t.cells) t.pending_in 0 no_handle 0 some) (omega (arith, inside.0, low), omega (arith, inside.1, high));
+      before = λ k from_on up_to. absurd (omega (arith, up_to));
+    }
+
+pub none_outside : (r : Range) (t : State) → r.low ≤ t.keys.low → t.keys.high ≤ r.high → IsIntact t [] → outside_of t.cells r t.pending_in ≡ []
+none_outside r t low high intact = each t.pending_in intact.owned.pending_reads
+  where
+    each : (hs : List Handle) → All (Reads t.cells) hs → outside_of t.cells r hs ≡ []
+    each [] reads = refl
+    each (h ∷ hs) reads =
+        let inside = key_within t.keys t.cells h intact.within (All-head (Reads t.cells) h hs reads) in
+        let is = is_in-true r (key_at t.cells h) (omega (arith, inside.0, low), omega (arith, inside.1, high)) in
+        rw is (each hs (All-tail (Reads t.cells) h hs reads))
+
 module _ (ceiling : Option ℕ) (r : Range) (column_room in_room : ℕ) (t : State) (has : HasAll ceiling r t) (some : 0 < length t.pending_in) where
-  key_inside : IsIn t.keys (key_at t.cells (get_or t.pending_in 0 no_handle))
-  key_inside = key_within t.keys t.cells (get_or t.pending_in 0 no_handle) has.intact.within (has.intact.owned.pending_reads 0 no_handle some)
-
-  first_found : Finds r (keys_at t.cells t.pending_in) 0 (Some 0)
-  first_found = record {
-    after = omega arith;
-    within = omega (arith, some, length-map t.pending_in (key_at t.cells));
-    holds = rw (get_or-map (key_at t.cells) t.pending_in 0 no_handle 0 some) (omega (arith, key_inside.0, has.low), omega (arith, key_inside.1, has.high));
-    before = λ k from_on up_to. absurd (omega (arith, up_to));
-  }
-
   carried : Carries ceiling (lifted 0 (record t { column_room = column_room + 1; in_room = in_room })) (next_of column_room in_room t)
   carried =
       let u = record t { column_room = column_room + 1; in_room = in_room } in
       let lasting = lifted-lasting t some has.intact in
-      ends (lifted 0 u) (λ doomed. omega (arith, doomed, lasting)) (below ceiling r (hand_key (lifted 0 u)) has.high_end (omega (arith, key_inside.1, has.high))) (rw has.uncracked refl)
+      ends (lifted 0 u) (λ doomed. omega (arith, doomed, lasting)) (below ceiling r (hand_key (lifted 0 u)) has.high_end (omega (arith, (key_inside t has.intact some).1, has.high))) (rw has.uncracked refl)
 
   pub carries_first : (s : State) → CarriesIn ceiling r s 0 t → CarriesIn ceiling r s 0 (next_of column_room in_room t)
-  carries_first s before = carries 0 0 t (record t { column_room = column_room + 1; in_room = in_room }) (next_of column_room in_room t) before first_found (record { same = refl }) carried
+  carries_first s before = carries 0 0 t (record t { column_room = column_room + 1; in_room = in_room }) (next_of column_room in_room t) before (first_found r t has.low has.high has.intact some) (record { same = refl }) carried
 
   pub HasAll-next : HasAll ceiling r (next_of column_room in_room t)
   HasAll-next =
@@ -99,8 +116,5 @@ put_on s from t intact (carries before place v u w rest finds room carrying) =
     let one = PutsAt-Carries v u w place room (omega (arith, finds.within, length-map v.pending_in (key_at v.cells))) was.1 carrying in
     (PutsIn-trans Complete s v w was.0 (one.puts Complete), one.intact)
 
-pub PutsIn-at_once : (s u : State) → IsIntact s [] → 0 < length s.pending_in → s.marks ≡ [] → SameButRoom (all_appended s) u → PutsIn Complete s u
-PutsIn-at_once s u intact some uncracked room =
-    let has : HasAll None s.keys s = record { high_end = tt; low = omega arith; high = omega arith; uncracked = uncracked; intact = intact } in
-    let all = CarriesAll-at_once None s.keys s u 0 has (first_found None s.keys 0 0 s has some) room in
-    (put_on s all.from u intact all.carries).0
+pub PutsIn-all : (s u : State) → IsIntact s [] → CarriesAll None s.keys s u → PutsIn Complete s u
+PutsIn-all s u intact all = (put_on s all.from u intact all.carries).0

@@ -1,8 +1,9 @@
 //! The carry, and the carries of a range.
-ghost use Rattle.std.specs.Prelude.{◌≡◌, ◌<◌, ◌≤◌, ℕ, Option, Some, [], length, IsTrue, IsFalse, IfSome, IfNone, IfOk, IfErr};
+ghost use Rattle.std.specs.Prelude.{◌≡◌, ◌<◌, ◌≤◌, Some, [], length, IsTrue, IsFalse, IfSome, IfNone, IfOk, IfErr};
 ghost use Rattle.crack_arena.specs.Rows.{keys_at};
 ghost use Rattle.crack_pending.specs.Pending.{Finds};
 ghost use Rattle.crack_state.specs.State.{IsIntact};
+ghost use Rattle.crack_state.specs.Merge.{outside_of};
 ghost use Rattle.crack_state.specs.Steps.{hand_key, lifted, ceiling_of, all_appended, SameButRoom};
 ghost use Rattle.crack_merge.specs.Merges.{Carries, CarriesAll, CarriesSome, IsCeiling};
 ghost use Rattle.crack_merge.specs.Loops.{MayEnd, EvictsOver, ended};
@@ -13,7 +14,8 @@ use crack_store::{CarryEnd, Carrying, Store};
 /// Carries the pending insertions of a range, each as far as to the ceiling, in the order of arrival; passes over the others once. The ceiling
 /// lies at or above the range's high end, so no row that is evicted is one of these again.
 /// O(1) for each pending row that it passes, and O(log bounds) and the pieces on its way for each that it carries. Where no bound stands and
-/// the range has all keys, it is one loop, with room made once for all.
+/// the range has all keys, it is one loop, with room made once for all; where there is no ceiling and no row is doomed, the rows are carried
+/// in bulk, which goes once through the pieces for all of them.
 /// Refused with 8 where it finds no memory; the rows that it had carried stay where they are.
 pub fn carry_range(
     mut store: Store,
@@ -25,7 +27,7 @@ pub fn carry_range(
     ensures stops { IfErr result (λ e. CarriesSome (ceiling_of ceiling) range store e.0) }
     ensures err { IfErr result (λ e. e.1 ≡ Refusal.OutOfMemory) }
 {
-    let Some(first) = first_to_carry(&mut store, range) else {
+    let Some(first) = first_to_carry(&mut store, range, ceiling) else {
         return Ok(store);
     };
     if let Err(refusal) = store.make_room() {
@@ -49,36 +51,65 @@ pub fn carry_range(
 
 /// The first pending insertion of a range, with which carries of one after the other begin; none where all are carried: since there was none, or
 /// all were carried at once. O(pending insertions).
-fn first_to_carry(store: &mut Store, range: KeyRange) -> Option<usize>
-    ensures carried { IfNone result ((ceiling : Option ℕ) → IsCeiling ceiling range → CarriesAll ceiling range store.old store.new) }
+fn first_to_carry(store: &mut Store, range: KeyRange, ceiling: Option<Bound>) -> Option<usize>
+    requires { IsCeiling (ceiling_of ceiling) range }
+    ensures carried { IfNone result (CarriesAll (ceiling_of ceiling) range store.old store.new) }
     ensures first { IfSome result (λ first. Finds range (keys_at store.old.cells store.old.pending_in) 0 (Some first)) }
     ensures same { IfSome result (λ _. SameButRoom store.old store.new) }
 {
     let Some(first) = store.next_in(range, 0) else {
         return None;
     };
-    if carry_at_once(store, range) {
+    if carry_at_once(store, range, first, ceiling) {
         return None;
     }
     Some(first)
 }
 
-/// Carries all pending insertions at once, where no bound stands and the range has all keys; whether it did so. Where it finds no memory for
-/// all of them, it carries none. O(pending insertions).
-pub(crate) fn carry_at_once(store: &mut Store, range: KeyRange) -> bool
-    ensures intact { IsIntact store.old [] }
-    ensures uncracked { IsTrue result → store.old.marks ≡ [] }
-    ensures low { IsTrue result → range.low ≤ store.old.keys.low }
-    ensures high { IsTrue result → store.old.keys.high ≤ range.high }
-    ensures all { IsTrue result → SameButRoom (all_appended store.old) store.new }
+/// Carries all pending insertions of a range at once, of which `first` is the first; whether it did so. Where no bound stands and the range has
+/// all keys they are put behind the column's last row, and elsewhere they are carried in bulk, but under a ceiling, which may be in the
+/// way, one after the other. Where it finds no memory for all of them, it carries none. O(pending insertions), and O(pieces) for each
+/// that is carried.
+pub(crate) fn carry_at_once(
+    store: &mut Store,
+    range: KeyRange,
+    first: usize,
+    ceiling: Option<Bound>,
+) -> bool
+    requires ceiling { IsCeiling (ceiling_of ceiling) range }
+    requires first { Finds range (keys_at store.old.cells store.old.pending_in) 0 (Some first) }
+    ensures all { IsTrue result → CarriesAll (ceiling_of ceiling) range store.old store.new }
+    ensures left { IsTrue result → store.new.pending_in ≡ outside_of store.old.cells range store.old.pending_in }
     ensures same { IsFalse result → SameButRoom store.old store.new }
+{
+    if is_appendable(store, range) {
+        return append_at_once(store);
+    }
+    match ceiling {
+        Some(_) => false,
+        None => store.carry_in_bulk(range, first),
+    }
+}
+
+/// Whether no bound stands and the range has all keys. O(1).
+fn is_appendable(store: &Store, range: KeyRange) -> bool
+    ensures intact { IsIntact store.now [] }
+    ensures uncracked { IsTrue result → store.now.marks ≡ [] }
+    ensures low { IsTrue result → range.low ≤ store.now.keys.low }
+    ensures high { IsTrue result → store.now.keys.high ≤ range.high }
 {
     store.facts();
     let keys = store.keys();
     let has_all = range.low() <= keys.low() && keys.high() <= range.high();
-    if !has_all || !store.is_uncracked() {
-        return false;
-    }
+    has_all && store.is_uncracked()
+}
+
+/// Puts all pending insertions behind the column's last row; whether it found memory for them.
+fn append_at_once(store: &mut Store) -> bool
+    requires { store.old.marks ≡ [] }
+    ensures all { IsTrue result → SameButRoom (all_appended store.old) store.new }
+    ensures same { IsFalse result → SameButRoom store.old store.new }
+{
     store.append_all().is_ok()
 }
 

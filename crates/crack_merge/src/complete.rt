@@ -91,18 +91,20 @@ fn put_in_all(mut store: Store) -> Result<Store, (Store, Refusal)>
     Ok(end(carrying, rule))
 }
 
-/// Puts in every pending insertion at once, where no bound stands and memory is found for all; whether none is left. O(pending insertions).
+/// Puts in every pending insertion at once, where that is done and memory is found for all; whether none is left.
+/// O(pending insertions), and O(pieces) for each.
 fn put_in_at_once(store: &mut Store) -> bool
     ensures puts { IsTrue result → PutsIn Complete store.old store.new }
     ensures all { IsTrue result → store.new.pending_in ≡ [] }
     ensures some { IsFalse result → 0 < length store.old.pending_in }
     ensures same { IsFalse result → SameButRoom store.old store.new }
 {
+    store.facts();
     if store.pending_in() == 0 {
         return true;
     }
     let keys = store.keys();
-    carry_at_once(store, keys)
+    carry_at_once(store, keys, 0, None)
 }
 
 /// Takes out every pending deletion, in the order of arrival, each by the column's last row.

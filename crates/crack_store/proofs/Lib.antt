@@ -7,4 +7,6 @@ mod LiveLemmas
 mod RememberLemmas
 mod PointLemmas
 mod WayLemmas
+mod TakeLemmas
+mod SiftLemmas
 pub mod Crosses

@@ -17,6 +17,7 @@ pub mod ranges;
 pub mod reads;
 mod search;
 pub mod serial_hash;
+pub mod sifting;
 mod steps;
 pub mod store;
 pub mod ways;

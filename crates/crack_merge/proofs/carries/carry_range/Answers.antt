@@ -9,7 +9,7 @@ use Rattle.crack_merge.proofs.carries.carry_range.Goals as goal
 use Rattle.crack_merge.proofs.carries.carry_range.Goals.{After-facts, After-make_room, After-make_room-in-insertions}
 
 pub returns-in_default-clause-ok : goal.returns-in_default-clause-ok
-returns-in_default-clause-ok c = c.in_default.ensures.carried (ceiling_of c.args.ceiling) c.requires
+returns-in_default-clause-ok c = c.in_default.ensures.carried
 
 -- room was made for the first
 made : (c : After-make_room) → SameButRoom c.args.store c.make_room.new.self

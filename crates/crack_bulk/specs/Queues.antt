@@ -1,7 +1,7 @@
 -- What a row that comes in does to the pieces of a column: to one piece, rows that come in are a queue.
 use Rattle.std.specs.Prelude.{ℕ, suc, Bool, true, cond, nat_lt, List, [], ◌∷◌, ◌++◌}
 use Rattle.crack_row.specs.declared.InnerBound.{InnerBound}
-use Rattle.crack_bulk.proofs.Pieces.{Pieces, last, below}
+use Rattle.crack_bulk.specs.Pieces.{Pieces, last, below}
 
 -- how far a carry has come when it reaches a piece
 pub data Event (X : Type 0) : Type 0 where

@@ -1,0 +1,54 @@
+//! A walk over the marks of a tree from the highest down, on which each rises as far as a visitor says.
+ghost use Rattle.std.specs.Prelude.{◌≡◌, ◌+◌, ◌≤◌, ◌∷◌, [], reverse, length, All};
+ghost use Rattle.crack_index.specs.Marks.{Rising};
+ghost use Rattle.crack_index.specs.Keeps.{height_of};
+ghost use Rattle.crack_index.specs.Raises.{Raises};
+ghost use Rattle.crack_index.specs.Trees.{marks_of};
+
+use crate::tree::{Link, Node};
+use crate::{Mark, Raiser};
+
+/// Raises the marks of a tree from the highest down, each as far as the visitor says, but no further than the one above it and `most`.
+/// How far the next below them may rise. O(marks that rise + log marks).
+pub(crate) fn raise_down<V: Raiser>(link: &mut Link, most: usize, visitor: &mut V) -> usize
+    requires small { All (λ m. m.position + most ≤ usize.MAX) (marks_of link.old) }
+    requires ready { V.is_ready visitor.old }
+    ensures raises { Raises V.rises most (reverse (marks_of link.old)) visitor.old (reverse (marks_of link.new)) visitor.new result }
+    ensures rising { Rising (marks_of link.old) → Rising (marks_of link.new) }
+    ensures length { length (marks_of link.new) ≡ length (marks_of link.old) }
+    ensures height { height_of link.new ≡ height_of link.old }
+    ensures ready { V.is_ready visitor.new }
+    ensures most { result ≤ most }
+{
+    if most == 0 {
+        return 0;
+    }
+    let Some(node) = link else {
+        return most;
+    };
+    let Node {
+        mark,
+        left,
+        right,
+        ..
+    } = &mut **node;
+    let above = raise_down(right, most, visitor);
+    let here = raise_mark(mark, above, visitor);
+    raise_down(left, here, visitor)
+}
+
+/// Raises one mark as far as the visitor says, but no further than `most`. How far it rose.
+fn raise_mark<V: Raiser>(mark: &mut Mark, most: usize, visitor: &mut V) -> usize
+    requires small { mark.old.position + most ≤ usize.MAX }
+    requires ready { V.is_ready visitor.old }
+    ensures raises { Raises V.rises most (mark.old ∷ []) visitor.old (mark.new ∷ []) visitor.new result }
+    ensures ready { V.is_ready visitor.new }
+    ensures most { result ≤ most }
+{
+    if most == 0 {
+        return 0;
+    }
+    let rise = visitor.rise(*mark).min(most);
+    mark.position += rise;
+    rise
+}

@@ -1,0 +1,197 @@
+//! All pending insertions of a range carried in bulk: their rows are put behind the column's last one, and sifted through its pieces from the
+//! highest down.
+ghost use Rattle.std.specs.Prelude.{◌≡◌, ◌≤◌, ◌^◌, ◌++◌, [], None, Some, length, All, IsTrue, IsFalse};
+ghost use Rattle.crack_arena.specs.Rows.{RemembersKeys, keys_at};
+ghost use Rattle.crack_bulk.specs.Carried.{carried_in_bulk, inside_of};
+ghost use Rattle.crack_column.specs.Column.{Remembers};
+ghost use Rattle.crack_column.specs.Sifts.{AreRead};
+ghost use Rattle.crack_pending.specs.Pending.{Finds};
+ghost use Rattle.crack_state.specs.Merge.{outside_of};
+ghost use Rattle.crack_state.specs.State.{Reads, live_rows};
+ghost use Rattle.crack_state.specs.Steps.{SameButRoom};
+ghost use Rattle.crack_store.specs.Inside.{lists_of};
+ghost use Rattle.crack_store.specs.Keeps.{KeepsIntact};
+ghost use Rattle.crack_store.specs.Sieves.{AreClear, IsClear};
+
+use crate::Store;
+use crate::inside::Inside;
+use crate::points::row_at;
+use crack_arena::{Arena, Handle, key_of};
+use crack_column::{CrackerColumn, Remembered};
+use crack_index::{Mark, Piece, Raiser};
+use crack_pending::PendingIn;
+use crack_row::{KeyRange, Row};
+
+/// The fewest rows that are carried in bulk: for one row the walk over all bounds isn't worth it.
+const FEWEST: usize = 2;
+
+/// The most doomed rows that are looked for: of more one is likely to be in the way.
+const MOST_DOOMED: usize = 64;
+
+impl Store {
+    /// Carries all pending insertions of a range in bulk, of which `first` is the first, and leaves what the carry of one after the other
+    /// leaves; whether it did so. It doesn't for a single row, nor where a doomed row may be in the way, nor where it finds no memory for
+    /// all of them: all is then as it was. Room is made for all of them at once.
+    /// O(pending insertions), and for each that it carries O(pieces) without a wait for memory; O(bounds); for each of a few doomed rows
+    /// O(rows that it carries + log bounds).
+    pub fn carry_in_bulk(&mut self, range: KeyRange, first: usize) -> bool
+        requires { Finds range (keys_at self.old.cells self.old.pending_in) 0 (Some first) }
+        ensures carried { IsTrue result → SameButRoom (carried_in_bulk None range self.old) self.new }
+        ensures left { IsTrue result → self.new.pending_in ≡ outside_of self.old.cells range self.old.pending_in }
+        ensures live { live_rows self.new ≡ live_rows self.old }
+        ensures same { IsFalse result → SameButRoom self.old self.new }
+    {
+        let count = count_in(&self.inside.pending_in, range, first, &self.inside.arena);
+        if count < FEWEST || !is_clear(&self.inside, count) {
+            return false;
+        }
+        if self.inside.column.reserve(count).is_err() {
+            return false;
+        }
+        carry_rows(&mut self.inside, range, first, count);
+        true
+    }
+}
+
+/// How many rows of a list have their key in the range, of which `first` is the first.
+fn count_in(rows: &PendingIn, range: KeyRange, first: usize, arena: &Arena<Row>) -> usize
+    requires few { length rows.now.handles ≤ 2 ^ 32 }
+    requires keys { RemembersKeys arena.now.cells rows.now.handles rows.now.keys }
+    requires first { Finds range (keys_at arena.now.cells rows.now.handles) 0 (Some first) }
+    ensures { result ≡ length (inside_of arena.now.cells range rows.now.handles) }
+{
+    let (mut count, mut from) = (0, first);
+    'rows: while let Some(place) = rows.next_in(range, from, arena) {
+        count += 1;
+        from = place + 1;
+    }
+    count
+}
+
+/// Whether no doomed row stands where carries of so many rows could meet it: among as many first rows of its piece. Where many rows are doomed,
+/// it says no.
+fn is_clear(inside: &Inside, count: usize) -> bool
+    requires intact { KeepsIntact inside.now [] }
+    requires few { count ≤ 2 ^ 32 }
+    ensures { IsTrue result → AreClear count (lists_of inside.now) }
+{
+    if MOST_DOOMED < inside.pending_out.len() {
+        return false;
+    }
+    'doomed: for place in 0..inside.pending_out.len() {
+        let handle = inside.pending_out.at(place);
+        if is_in_way(inside, handle, count) {
+            return false;
+        }
+    }
+    true
+}
+
+/// Whether a row stands among the first rows of its piece, so many. O(count + log bounds).
+fn is_in_way(inside: &Inside, handle: Handle<Row>, count: usize) -> bool
+    requires intact { KeepsIntact inside.now [] }
+    requires few { count ≤ 2 ^ 32 }
+    ensures { IsFalse result → IsClear count (lists_of inside.now) handle }
+{
+    let key = key_of(&inside.arena, handle);
+    let Piece { from, to, .. } = inside.index.piece_of(key, inside.column.len());
+    let met = to.min(from + count);
+    inside.column.place_between(from, met, handle).is_some()
+}
+
+/// Carries as many pending insertions of a range, the first of which is `first`, where no doomed row is in the way and there is room for them.
+fn carry_rows(inside: &mut Inside, range: KeyRange, first: usize, count: usize)
+    requires intact { KeepsIntact inside.old [] }
+    requires clear { AreClear count (lists_of inside.old) }
+    requires first { Finds range (keys_at inside.old.arena.cells inside.old.pending_in.handles) 0 (Some first) }
+    requires count { count ≡ length (inside_of inside.old.arena.cells range inside.old.pending_in.handles) }
+    requires room { count ≤ inside.old.column.room }
+    ensures carried { SameButRoom (carried_in_bulk None range (lists_of inside.old)) (lists_of inside.new) }
+    ensures left { inside.new.pending_in.handles ≡ outside_of inside.old.arena.cells range inside.old.pending_in.handles }
+    ensures live { live_rows (lists_of inside.new) ≡ live_rows (lists_of inside.old) }
+    ensures intact { KeepsIntact inside.new [] }
+{
+    let from = inside.column.len();
+    take_rows(
+        &mut inside.pending_in,
+        &mut inside.column,
+        range,
+        first,
+        &inside.arena,
+    );
+    inside.pending_in.shrink_if_empty(inside.in_room);
+    let mut sieve = Sieve {
+        column: inside.column.take(),
+        from,
+        to: from + count,
+        moved: inside.tally.moved,
+    };
+    inside.index.raise_each(count, &mut sieve);
+    let Sieve { column, moved, .. } = sieve;
+    inside.column = column;
+    inside.tally.moved = moved;
+    inside.tally.put_in = inside.tally.put_in.saturating_add(count as u64);
+}
+
+/// Takes the rows of a range out of a list, the first of which is `first`, and puts them behind the column's last one, in their order, each
+/// with what is to be remembered of it.
+fn take_rows(
+    rows: &mut PendingIn,
+    column: &mut CrackerColumn,
+    range: KeyRange,
+    first: usize,
+    arena: &Arena<Row>,
+)
+    requires room { length (inside_of arena.now.cells range rows.old.handles) ≤ column.old.room }
+    requires reads { All (Reads arena.now.cells) rows.old.handles }
+    requires keys { RemembersKeys arena.now.cells rows.old.handles rows.old.keys }
+    requires first { Finds range (keys_at arena.now.cells rows.old.handles) 0 (Some first) }
+    requires remembered { Remembers arena.now.cells column.old.handles column.old.remembered }
+    ensures handles { column.new.handles ≡ column.old.handles ++ inside_of arena.now.cells range rows.old.handles }
+    ensures remembered { Remembers arena.now.cells column.new.handles column.new.remembered }
+    ensures read { AreRead arena.now.cells (length column.old.handles) (length column.new.handles) column.new }
+    ensures left { rows.new.handles ≡ outside_of arena.now.cells range rows.old.handles }
+    ensures keys { RemembersKeys arena.now.cells rows.new.handles rows.new.keys }
+    ensures room { rows.old.room ≤ rows.new.room }
+    ensures covered { rows.new.covered ≡ rows.old.covered }
+{
+    let mut from = first;
+    'rows: while let Some(place) = rows.seek_in(range, from, arena) {
+        let handle = rows.take(place);
+        let row = row_at(arena, handle);
+        column.append_remembered(handle, Remembered::of(row));
+        from = place;
+    }
+}
+
+/// A column on a walk over its bounds from the highest down: the rows from the place `from` up to and without `to` came in, and are of pieces
+/// below the bounds that were passed.
+#[derive(Drop)]
+pub(crate) struct Sieve {
+    column: CrackerColumn,
+    from: usize,
+    to: usize,
+    /// How many rows made way, as the store counts them.
+    moved: u64,
+}
+
+impl Raiser for Sieve {
+    ghost use Rattle.crack_store.specs.Sieves.{IsReady, Rises};
+
+    ghost is_ready = { IsReady };
+
+    ghost rises = { Rises };
+
+    /// Sifts the rows that came in through the piece above the bound, which rises by as many as are below it.
+    fn rise(&mut self, mark: Mark) -> usize {
+        let Mark { bound, position } = mark;
+        if self.from < position {
+            return 0;
+        }
+        let (below, moved) = self.column.sift(position, self.from, self.to, bound);
+        self.from = position;
+        self.to = position + below;
+        self.moved = self.moved.saturating_add(moved as u64);
+        below
+    }
+}
