@@ -12,7 +12,7 @@ import definitions
 import functions
 import sources
 
-# the members of a model that are read with its type: the others say that values can be told from one another, and which fields make a value. What a
+# the members of a model that are read with its type: the others say that values can be distinguished, and which fields make a value. What a
 # type keeps of its own fields, its invariant, is a private clause: no value breaks it, and where a promise rests on it a call says so by a clause.
 READ = ("Value", "view")
 CLAUSE = re.compile(r"^\s*(requires|ensures)\*?\s+(\w*)")

@@ -1,7 +1,7 @@
 """The definitions of specs/ as items, with what each of them cites, and the names that a text cites.
 
 What the crates say is read into items: definitions here, and types, ghost members and calls in contracts.py. Each has a name:
-`crack_part.Parts.IsSound` is a definition, `crack_part::partition::Partition` a type. Names are told apart by the file's own definitions and its `use`
+`crack_part.Parts.IsSound` is a definition, `crack_part::partition::Partition` a type. Names are distinguished by the file's own definitions and its `use`
 lines; what a text binds itself, and fields after a full stop, are none. What is of no crate of the repository is no item.
 """
 

@@ -126,7 +126,7 @@ def batches(edits, size):
 
 
 def kept_stamp(crate):
-    """The file that tells of which text a crate's last check without edits was."""
+    """The file that says of which text a crate's last check without edits was."""
     return crate.out / "proved" / "kept-stamp"
 
 
@@ -178,7 +178,7 @@ class Check:
         return self.is_refused and any(it == "not proved" or it.startswith("no proof: expected answers") for it in named)
 
     def reason(self, edit):
-        """The first error that tells of the function, as far as that can be told."""
+        """The first error about the function, as far as that can be seen."""
         errors = [found for it in self.lines if (found := ERROR.match(it))]
         parts = [*edit.function.module, edit.function.owner, edit.function.name] if edit.function else []
         own = [it for it in errors if all(part in it[1].split("/") for part in parts if part)]

@@ -15,7 +15,7 @@ def processors():
 
 
 def memory():
-    """How much memory is free, in bytes; where the system doesn't tell, as much as there is a need for."""
+    """How much memory is free, in bytes; where the system doesn't say, as much as there is a need for."""
     try:
         found = re.search(r"MemAvailable:\s+(\d+)", pathlib.Path("/proc/meminfo").read_text())
     except OSError:

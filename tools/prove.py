@@ -17,7 +17,7 @@ import crates
 import lanes
 import rooms
 
-# What these lines of a check tell is of no use to whoever has to mend the crate.
+# What these lines of a check say is of no use to whoever has to mend the crate.
 NOISE = ("checked ", "so far: ", "statements ", "by-macro: ", "logic ", "rt: chose ")
 
 

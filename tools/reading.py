@@ -1,6 +1,6 @@
 """What has to be read to know what a promise says: the clauses of the calls that docs/PROOFS.md names for it, and what these cite, in turn.
 
-A table there whose last column is headed `Its calls` names calls in it by their paths, row by row; in brackets behind one stand the names of
+A table there whose last column is headed `Its calls` names calls in it by their paths, row by row; in brackets after one stand the names of
 those of its clauses that carry the promise, where not all do. What callers have to see to is read in any case. A type is read with the value and the
 view of its model, and with the types of the fields that these read; a trait's ghost members with those that each type has of it.
 """
@@ -58,7 +58,7 @@ class Reading:
         return self.rank[item.crate], item.path.as_posix(), item.first
 
     def ordered(self, items):
-        """These items crate by crate, the lowest first, each behind those that it cites, and a model's members right behind its type."""
+        """These items crate by crate, the lowest first, each after those that it cites, and a model's members right after its type."""
         chosen = {it.name: it for it in items}
         met, found = set(), []
 

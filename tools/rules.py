@@ -1,7 +1,7 @@
 #!/usr/bin/env python3
 """Lists the rules of docs/SPECIFICATION.md that no case shows: rules.py
 
-A word behind a § marks the rule that it follows, and stands in the name of a case of acceptance/cases, or of a test of acceptance/ or of the crates of
+A word after a § marks the rule that it follows, and stands in the name of a case of acceptance/cases, or of a test of acceptance/ or of the crates of
 tests, there with underscores. Each item of a list and each row of a table of rules has to have one. The status is 1 where a rule lacks its mark, or a mark its
 case.
 """

@@ -40,7 +40,7 @@ fn put_all(
     Ok(handles)
 }
 
-/// Puts a handle behind all others, with its key or without.
+/// Puts a handle after all others, with its key or without.
 fn push<Kind>(
     rt: &impl Abort,
     arena: &Arena<Row>,
@@ -140,7 +140,7 @@ fn assert_found<Kind>(
     Ok(())
 }
 
-/// Takes the handle at the place, whose key the list of keys tells.
+/// Takes the handle at the place, whose key the list of keys has.
 fn take<Kind>(
     rt: &impl Abort,
     arena: &Arena<Row>,

@@ -1,5 +1,5 @@
-//! What a help says behind the options: an example, the statements or the form of a record, and the refusals. No line has more than
-//! 80 columns.
+//! What a help says after the options: an example, the statements or the form of a record, and the refusals. No line
+//! has more than 80 columns.
 
 use crack_row::{GREATEST_KEY, GREATEST_PAYLOAD, LEAST_PAYLOAD};
 
@@ -11,7 +11,7 @@ const _: () = prove!(
     LEAST_PAYLOAD == -9223372036854775808 && GREATEST_PAYLOAD == 9223372036854775807
 );
 
-/// The refusals by their numbers, behind what a help says before them.
+/// The refusals by their numbers, after what a help says before them.
 macro_rules! with_refusals {
     ($($before:expr),+) => {
         concat!(
@@ -30,7 +30,7 @@ macro_rules! with_refusals {
     };
 }
 
-/// The statements and the refusals, behind an example.
+/// The statements and the refusals, after an example.
 macro_rules! with_statements {
     ($($example:expr),+) => {
         with_refusals!(

@@ -41,7 +41,7 @@ pub struct Opening {
     pub policy: Policy,
 }
 
-/// What a table is opened with that has workers. Their number is tested at the opening, too.
+/// What a table is opened with that has workers. Their number is tested at the opening as well.
 #[derive(Drop)]
 pub struct Staffed {
     pub opening: Opening,
@@ -68,8 +68,8 @@ static POLICIES: [&str; 4] = ["complete", "gradual", "ripple", "auto"];
 /// Why a command line makes no request. Its text is what standard error gets.
 #[derive(Drop, Debug, Error)]
 pub enum ArgumentsError {
-    /// An unknown word or option, an option that is missing or stands twice, a value that is no number of 64 bits, or an
-    /// unknown policy.
+    /// An unknown word or option, an option that is missing or stands twice, a value that is no number of 64 bits, or
+    /// an unknown policy.
     #[error("bad arguments")]
     Bad,
     /// The same, with the parser's own text.
@@ -403,7 +403,8 @@ pub fn asks_for_words(words: &[String]) -> bool {
     words.iter().any(|word| word.as_str() == WORDS)
 }
 
-/// What the parser says where it gives no matches: the help or the version that was asked for, or why there is no request.
+/// What the parser says where it gives no matches: the help or the version that was asked for, or why there is no
+/// request.
 fn unmatched(
     alloc: Global,
     error: &clap::Error,

@@ -103,7 +103,7 @@ pub fn put_row(arena: &mut Arena<Row>, serial: u32) -> Result<(), Refusal> {
     Ok(())
 }
 
-/// Puts as many rows, one behind the other.
+/// Puts as many rows, one after the other.
 pub fn put_rows(arena: &mut Arena<Row>, rows: u32) -> Result<(), Refusal> {
     'rows: for serial in 0..rows {
         put_row(arena, serial)?;

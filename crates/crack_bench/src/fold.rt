@@ -1,4 +1,4 @@
-//! Checkpoints of a partition whose rows are partly pending, and commands before and behind one.
+//! Checkpoints of a partition whose rows are partly pending, and commands before and after one.
 
 use crate::numbers::{Numbers, mixed};
 use crate::partition::{Measured, serials};
@@ -6,10 +6,11 @@ use crate::report;
 use crack_row::Row;
 use std::time::Instant;
 
-/// How many commands of one kind are measured before a checkpoint, and behind it.
+/// How many commands of one kind are measured before a checkpoint, and after it.
 const NEXT: u32 = 1000;
 
-/// A checkpoint of inserts, of which some are pending, and one where as many deletes and inserts put rows into freed cells, with nothing pending.
+/// A checkpoint of inserts, of which some are pending, and one where as many deletes and inserts put rows into freed
+/// cells, with nothing pending.
 pub fn measure(
     rt: &HostRuntime,
     table: &mut Measured,

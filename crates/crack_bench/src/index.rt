@@ -64,7 +64,7 @@ pub fn look_up(index: &CrackerIndex, bounds: u32) -> u64 {
     sum
 }
 
-/// Looks for the next bound behind each of so many keys. A checksum of their places.
+/// Looks for the next bound after each of so many keys. A checksum of their places.
 pub fn look_above(index: &CrackerIndex, keys: u32) -> u64 {
     let mut numbers = Numbers::new(SEED + 1);
     let mut sum = 0;
@@ -76,7 +76,7 @@ pub fn look_above(index: &CrackerIndex, keys: u32) -> u64 {
     sum
 }
 
-/// Goes along to the end of a walk, and adds up the places that it is told.
+/// Goes along to the end of a walk, and adds up the places that it is given.
 #[derive(Clone, Copy)]
 pub struct Told {
     pub sum: u64,

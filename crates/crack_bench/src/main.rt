@@ -1,11 +1,13 @@
-//! Measures the arena, the cracker column and a partition that merges by a policy: `crack_bench arena STEPS ROWS`, `crack_bench cells ROWS GETS`,
-//! `crack_bench column ROWS`, `crack_bench index BOUNDS`, `crack_bench counts POLICY ROWS RANGES`, `crack_bench sums POLICY ROWS RANGES`, `crack_bench each POLICY ROWS RANGES`,
-//! `crack_bench cold POLICY ROWS RANGES`, `crack_bench pass POLICY ROWS RANGES`, `crack_bench updates POLICY ROWS BATCHES SIZE`,
-//! `crack_bench merge POLICY ROWS PIECES PENDING`, `crack_bench pulls POLICY ROWS PIECES DELETES`, `crack_bench fold POLICY ROWS CHANGES`, or
-//! `crack_bench all STEPS ROWS RANGES`.
+//! Measures the arena, the cracker column and a partition that merges by a policy: `crack_bench arena STEPS ROWS`,
+//! `crack_bench cells ROWS GETS`, `crack_bench column ROWS`, `crack_bench index BOUNDS`, `crack_bench counts POLICY
+//! ROWS RANGES`, `crack_bench sums POLICY ROWS RANGES`, `crack_bench each POLICY ROWS RANGES`, `crack_bench cold
+//! POLICY ROWS RANGES`, `crack_bench pass POLICY ROWS RANGES`, `crack_bench updates POLICY ROWS BATCHES SIZE`,
+//! `crack_bench merge POLICY ROWS PIECES PENDING`, `crack_bench pulls POLICY ROWS PIECES DELETES`, `crack_bench fold
+//! POLICY ROWS CHANGES`, or `crack_bench all STEPS ROWS RANGES`.
 //!
-//! What a run computes goes to standard output: it depends on the words alone. Times go to standard error, in nanoseconds, a line
-//! `NAME NUMBER` each, and for `cold`, `updates`, `merge` and `pulls` what the merges did, likewise.
+//! What a run computes goes to standard output: it depends on the words alone. Times go to standard error, in
+//! nanoseconds, a line `NAME NUMBER` each, and for `cold`, `updates`, `merge` and `pulls` what the merges did,
+//! likewise.
 #![tactic(auto)]
 
 ghost use Rattle.std.specs.Prelude.{◌<◌, All};
@@ -425,7 +427,7 @@ fn run_all(rt: &HostRuntime, steps: u64, rows: u32, ranges: u64) -> anyhow::Resu
     run_partition(rt, Policy::Gradual, rows, fold)
 }
 
-/// What the name of a partition's work and the numbers behind it ask for.
+/// What the name of a partition's work and the numbers after it ask for.
 fn work_of(name: &str, numbers: &[&str]) -> anyhow::Result<Work> {
     match (name, numbers) {
         ("cold", [ranges]) => Ok(Work::Cold {

@@ -127,8 +127,8 @@ impl Measured {
         Ok(())
     }
 
-    /// As many deletes of random rows, a count of everything, which frees their cells, as many inserts, which take these, and counts that
-    /// leave nothing pending and the column cracked.
+    /// As many deletes of random rows, a count of everything, which frees their cells, as many inserts, which take
+    /// these, and counts that leave nothing pending and the column cracked.
     pub fn mix(
         &mut self,
         changes: u32,
@@ -150,7 +150,7 @@ impl Measured {
         Ok(())
     }
 
-    /// Batches of as many updates, each with the sum of a random range behind it. A checksum of these.
+    /// Batches of as many updates, each with the sum of a random range after it. A checksum of these.
     pub fn updates(
         &mut self,
         batches: u64,

@@ -3,8 +3,8 @@
 //! `crack_bench_workers gathered|folded|loaded WORKERS ROWS`, or `crack_bench_workers all WORKERS ROWS STEPS`.
 //! ROWS are those of each partition, of which there are two for each worker; a step has four statements.
 //!
-//! What a run computes goes to standard output: it depends on the words alone. Times go to standard error, in nanoseconds, a line
-//! `NAME NUMBER` each.
+//! What a run computes goes to standard output: it depends on the words alone. Times go to standard error, in
+//! nanoseconds, a line `NAME NUMBER` each.
 #![tactic(auto)]
 
 mod mix;
@@ -20,7 +20,7 @@ use std::sync::Wait;
 use std::thread::Threads;
 use std::time::Instant;
 
-/// What a run is handed: to start threads and wait for them, and to tell what it computed and how long that took.
+/// What a run is handed: to start threads and wait for them, and to print what it computed and how long that took.
 trait Host: Alloc<A = Global> + Print + Eprint + Clock + Threads + Wait + Sync {}
 
 impl<R: Alloc<A = Global> + Print + Eprint + Clock + Threads + Wait + Sync> Host for R {}
@@ -77,7 +77,7 @@ fn measure_pool<R: Host>(
     }
 }
 
-/// What the sums of workers that share partitions tell depends on who comes first, so it isn't written.
+/// What the sums of workers that share partitions come to depends on who comes first, so it isn't written.
 fn measure_threads<R: Host>(rt: &R, pool: &mut Pool, plan: Plan, steps: u32) -> anyhow::Result<()> {
     let everything = pool.count_all(rt)?;
     println!(rt; "rows {everything}")?;

@@ -144,7 +144,7 @@ pub fn count_all<A: Asks>(asked: &mut A, parts: u32) -> Result<u64, Refusal> {
     Ok(total)
 }
 
-/// The number that a reply tells; 0 where it tells none.
+/// The number that a reply has; 0 where it has none.
 fn number_of(reply: &Reply) -> u64 {
     match reply {
         Reply::Placed(serial) => serial.0,

@@ -61,7 +61,7 @@ impl Plan {
 struct Hand {
     worker: Worker,
     mix: Mix,
-    /// What its steps told.
+    /// What its steps returned.
     told: Result<u64, Refusal>,
 }
 
@@ -178,7 +178,7 @@ impl Pool {
         }
     }
 
-    /// The sum of all that the workers' steps told.
+    /// The sum of all that the workers' steps returned.
     pub fn told(&self) -> Result<u64, Refusal> {
         let mut total = 0u64;
         'hands: for hand in self.hands.iter() {

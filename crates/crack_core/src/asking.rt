@@ -1,5 +1,6 @@
 //! Commands before which a full history is folded, and ranges over all partitions.
-ghost use Rattle.std.specs.Prelude.{◌≡◌, ◌⊎◌, ℕ, ℤ, ◌<◌, ◌≤◌, ◌≤ℤ◌, ◌^◌, neg_ℤ, pos, [], All, length, vec_capacity, sum_by, Ok, Err, IfOk, IfErr};
+ghost use Rattle.std.specs.Prelude.{◌≡◌, ◌⊎◌, ℕ, ℤ, ◌<◌, ◌≤◌, ◌≤ℤ◌, ◌^◌, neg_ℤ, pos, [], All, length, vec_capacity};
+ghost use Rattle.std.specs.Prelude.{sum_by, Ok, Err, IfOk, IfErr};
 ghost use Rattle.crack_row.specs.Rows.{total_by};
 ghost use Rattle.crack_row.specs.declared.Key.{Key};
 ghost use Rattle.crack_row.specs.declared.Payload.{Payload};
@@ -7,7 +8,8 @@ ghost use Rattle.crack_row.specs.declared.Serial.{Serial};
 ghost use Rattle.crack_row.specs.declared.command.Command.TheVariants.{Insert, Delete, Update};
 ghost use Rattle.crack_plain.specs.Plain.{PlainState, IsSmall, reply_to};
 ghost use Rattle.crack_core.specs.Steps.{tables_of};
-ghost use Rattle.crack_core.specs.Asking.{Asks, lasting, is_full, Inserts, Deletes, Updates, Counts, Sums, asking, AsksInTurn, counted, summed, gone_reply, changed_reply};
+ghost use Rattle.crack_core.specs.Asking.{Asks, lasting, is_full, Inserts, Deletes, Updates, Counts, Sums, asking};
+ghost use Rattle.crack_core.specs.Asking.{AsksInTurn, counted, summed, gone_reply, changed_reply};
 
 use crate::{Core, Step};
 use crack_row::{Command, Key, KeyRange, Payload, Policy, Refusal, Reply, Row, RowNo, Serial};
@@ -38,10 +40,12 @@ impl Query {
 }
 
 impl Core {
-    /// Asks one partition as `step` does, but where its history is full, that is folded first, by `checkpoint`. So it is never refused with 6.
-    /// Refused, in this order: with 5, 4, 10, 9 and 8 as `step` is; with 8, before 10, where a fold finds no memory. Takes what these two take.
+    /// Asks one partition as `step` does, but where its history is full, that is folded first, by `checkpoint`. So it
+    /// is never refused with 6. Refused, in this order: with 5, 4, 10, 9 and 8 as `step` is; with 8, before 10, where
+    /// a fold finds no memory. Takes what these two take.
     pub fn ask(&mut self, step: &Step) -> Result<Reply, Refusal>
-        ensures asks { Asks self.old.limits self.old.splits step.now.part step.now.command result (lasting (tables_of self.old.parts)) (lasting (tables_of self.new.parts)) }
+        ensures asks { Asks self.old.limits self.old.splits step.now.part step.now.command result
+            (lasting (tables_of self.old.parts)) (lasting (tables_of self.new.parts)) }
         ensures small { IfOk result IsSmall }
         ensures opened { (self.new.splits ≡ self.old.splits) × (self.new.limits ≡ self.old.limits) }
     {
@@ -59,7 +63,8 @@ impl Core {
 
     /// Places a row in the partition of its key. Refused as `ask` is, with 10, 9 and 8.
     pub fn insert(&mut self, key: Key, payload: Payload) -> Result<RowNo, Refusal>
-        ensures inserts { Inserts self.old.limits self.old.splits key payload result (lasting (tables_of self.old.parts)) (lasting (tables_of self.new.parts)) }
+        ensures inserts { Inserts self.old.limits self.old.splits key payload result
+            (lasting (tables_of self.old.parts)) (lasting (tables_of self.new.parts)) }
         ensures opened { (self.new.splits ≡ self.old.splits) × (self.new.limits ≡ self.old.limits) }
     {
         let part = self.route(key);
@@ -81,7 +86,8 @@ impl Core {
 
     /// Takes a row out, and returns it as it was; `None` where it isn't there. Refused as `ask` is, with 5, 10 and 8.
     pub fn delete(&mut self, row: RowNo) -> Result<Option<Row>, Refusal>
-        ensures deletes { Deletes self.old.limits self.old.splits row result (lasting (tables_of self.old.parts)) (lasting (tables_of self.new.parts)) }
+        ensures deletes { Deletes self.old.limits self.old.splits row result (lasting (tables_of self.old.parts))
+            (lasting (tables_of self.new.parts)) }
         ensures opened { (self.new.splits ≡ self.old.splits) × (self.new.limits ≡ self.old.limits) }
     {
         let command = Command::Delete { serial: row.serial };
@@ -97,9 +103,11 @@ impl Core {
         }
     }
 
-    /// Replaces the key and the payload of a row, which keeps its number; returns whether it is there. Refused as `ask` is.
+    /// Replaces the key and the payload of a row, which keeps its number; returns whether it is there. Refused as
+    /// `ask` is.
     pub fn update(&mut self, row: RowNo, key: Key, payload: Payload) -> Result<bool, Refusal>
-        ensures updates { Updates self.old.limits self.old.splits row key payload result (lasting (tables_of self.old.parts)) (lasting (tables_of self.new.parts)) }
+        ensures updates { Updates self.old.limits self.old.splits row key payload result
+            (lasting (tables_of self.old.parts)) (lasting (tables_of self.new.parts)) }
         ensures opened { (self.new.splits ≡ self.old.splits) × (self.new.limits ≡ self.old.limits) }
     {
         let command = Command::Update {
@@ -119,10 +127,12 @@ impl Core {
         }
     }
 
-    /// Counts the rows of a range, over all partitions: each that holds a part of it is asked. Refused with 10 and 8 as `ask` is; the partitions
-    /// before the one that refused have then answered. Takes memory for one reply of each partition that it meets.
+    /// Counts the rows of a range, over all partitions: each that holds a part of it is asked. Refused with 10 and 8
+    /// as `ask` is; the partitions before the one that refused have then answered. Takes memory for one reply of each
+    /// partition that it meets.
     pub fn count(&mut self, range: KeyRange, policy: Policy) -> Result<u64, Refusal>
-        ensures counts { Counts self.old.limits self.old.splits range result (lasting (tables_of self.old.parts)) (lasting (tables_of self.new.parts)) }
+        ensures counts { Counts self.old.limits self.old.splits range result (lasting (tables_of self.old.parts))
+            (lasting (tables_of self.new.parts)) }
         ensures opened { (self.new.splits ≡ self.old.splits) × (self.new.limits ≡ self.old.limits) }
     {
         self.facts();
@@ -142,7 +152,8 @@ impl Core {
 
     /// Adds up the payloads of the rows of a range, over all partitions, as `count` counts them. Refused as `count` is.
     pub fn sum(&mut self, range: KeyRange, policy: Policy) -> Result<i128, Refusal>
-        ensures sums { Sums self.old.limits self.old.splits range result (lasting (tables_of self.old.parts)) (lasting (tables_of self.new.parts)) }
+        ensures sums { Sums self.old.limits self.old.splits range result (lasting (tables_of self.old.parts))
+            (lasting (tables_of self.new.parts)) }
         ensures small { IfOk result (λ sum. (neg_ℤ (pos (2 ^ 102)) ≤ℤ sum) × (sum ≤ℤ pos (2 ^ 102))) }
         ensures opened { (self.new.splits ≡ self.old.splits) × (self.new.limits ≡ self.old.limits) }
     {
@@ -170,8 +181,12 @@ impl Core {
         alloc: Global,
     ) -> Result<Vec<Reply>, Refusal>
         requires few { length parts.now ≤ 64 }
-        ensures ok { IfOk result (λ replies. AsksInTurn self.old.limits self.old.splits query (lasting (tables_of self.old.parts)) parts.now (Ok replies.items) (lasting (tables_of self.new.parts))) }
-        ensures err { IfErr result (λ e. AsksInTurn self.old.limits self.old.splits query (lasting (tables_of self.old.parts)) parts.now (Err e) (lasting (tables_of self.new.parts)) ⊎ ((e ≡ Refusal.OutOfMemory) × (self.new ≡ self.old))) }
+        ensures ok { IfOk result (λ replies.
+            AsksInTurn self.old.limits self.old.splits query (lasting (tables_of self.old.parts)) parts.now
+            (Ok replies.items) (lasting (tables_of self.new.parts))) }
+        ensures err { IfErr result (λ e.
+            AsksInTurn self.old.limits self.old.splits query (lasting (tables_of self.old.parts)) parts.now (Err e)
+            (lasting (tables_of self.new.parts)) ⊎ ((e ≡ Refusal.OutOfMemory) × (self.new ≡ self.old))) }
         ensures small { IfOk result (λ replies. All IsSmall replies.items × (length replies.items ≤ 64)) }
         ensures few { IfOk result (λ replies. length replies.items ≤ length parts.now) }
         ensures opened { (self.new.splits ≡ self.old.splits) × (self.new.limits ≡ self.old.limits) }
@@ -195,8 +210,12 @@ impl Core {
     ) -> Result<(), Refusal>
         requires none { replies.old.items ≡ [] }
         requires room { length parts.now ≤ vec_capacity replies.old }
-        ensures ok { IfOk result (λ _. AsksInTurn self.old.limits self.old.splits query (lasting (tables_of self.old.parts)) parts.now (Ok replies.new.items) (lasting (tables_of self.new.parts))) }
-        ensures err { IfErr result (λ e. AsksInTurn self.old.limits self.old.splits query (lasting (tables_of self.old.parts)) parts.now (Err e) (lasting (tables_of self.new.parts))) }
+        ensures ok { IfOk result (λ _.
+            AsksInTurn self.old.limits self.old.splits query (lasting (tables_of self.old.parts)) parts.now
+            (Ok replies.new.items) (lasting (tables_of self.new.parts))) }
+        ensures err { IfErr result (λ e.
+            AsksInTurn self.old.limits self.old.splits query (lasting (tables_of self.old.parts)) parts.now (Err e)
+            (lasting (tables_of self.new.parts))) }
         ensures small { All IsSmall replies.new.items }
         ensures few { length replies.new.items ≤ length parts.now }
         ensures opened { (self.new.splits ≡ self.old.splits) × (self.new.limits ≡ self.old.limits) }
@@ -226,7 +245,8 @@ fn is_full(answered: &Result<Reply, Refusal>) -> bool
 
 /// The serial that a reply to an insertion gives.
 fn serial_in(reply: &Reply) -> Serial
-    ensures { (s : PlainState) (key : Key) (payload : Payload) → reply.now ≡ reply_to s (Insert key payload) → reply.now ≡ Reply.Placed result }
+    ensures { (s : PlainState) (key : Key) (payload : Payload) → reply.now ≡ reply_to s (Insert key payload) →
+        reply.now ≡ Reply.Placed result }
 {
     match reply {
         Reply::Placed(serial) => *serial,
@@ -236,7 +256,8 @@ fn serial_in(reply: &Reply) -> Serial
 
 /// The row that a reply to a deletion gives.
 fn gone_in(reply: &Reply) -> Option<Row>
-    ensures { (s : PlainState) (serial : Serial) → reply.now ≡ reply_to s (Delete serial) → reply.now ≡ gone_reply result }
+    ensures { (s : PlainState) (serial : Serial) → reply.now ≡ reply_to s (Delete serial) →
+        reply.now ≡ gone_reply result }
 {
     match reply {
         Reply::Gone(row) => Some(*row),
@@ -246,7 +267,8 @@ fn gone_in(reply: &Reply) -> Option<Row>
 
 /// Whether a reply to an update says that the row was there.
 fn is_changed(reply: &Reply) -> bool
-    ensures { (s : PlainState) (serial : Serial) (key : Key) (payload : Payload) → reply.now ≡ reply_to s (Update serial key payload) → reply.now ≡ changed_reply result }
+    ensures { (s : PlainState) (serial : Serial) (key : Key) (payload : Payload) →
+        reply.now ≡ reply_to s (Update serial key payload) → reply.now ≡ changed_reply result }
 {
     matches!(reply, Reply::Changed)
 }

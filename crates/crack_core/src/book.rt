@@ -31,7 +31,11 @@ impl Model for Book {
 
     ghost Value = { BookState };
 
-    ghost view = { λ b. record { worker = b.worker; receipts = b.receipts.items; room = vec_capacity b.receipts - vec_len b.receipts } };
+    ghost view = { λ b. record {
+      worker = b.worker;
+      receipts = b.receipts.items;
+      room = vec_capacity b.receipts - vec_len b.receipts;
+    } };
 
     ghost invariant = { λ b. AreShares b.receipts.items b.accepted b.inserted b.deleted };
 }
@@ -97,8 +101,9 @@ impl Book {
         self.deleted
     }
 
-    /// Asks a partition for the worker, and adds the receipt of the entry that was kept; `part` is the partition's number.
-    /// Refused as `Partition::apply` is, and the book is then as it was. Besides what `apply` takes it is O(1) and takes no memory.
+    /// Asks a partition for the worker, and adds the receipt of the entry that was kept; `part` is the partition's
+    /// number. Refused as `Partition::apply` is, and the book is then as it was. Besides what `apply` takes it is O(1)
+    /// and takes no memory.
     pub fn ask(
         &mut self,
         part: u32,
@@ -107,19 +112,31 @@ impl Book {
         policy: Policy,
     ) -> Result<Reply, Refusal>
         requires room { 0 < self.old.room }
-        ensures receipt { IfOk result (λ reply. self.new.receipts ≡ self.old.receipts ++ record { part = part; position = accepted_in partition.old.past; worker = self.old.worker; command = command; reply = reply } ∷ []) }
+        ensures receipt { IfOk result (λ reply.
+            self.new.receipts ≡ self.old.receipts ++ record {
+              part = part;
+              position = accepted_in partition.old.past;
+              worker = self.old.worker;
+              command = command;
+              reply = reply;
+            } ∷ []) }
         ensures worker { self.new.worker ≡ self.old.worker }
 
         ensures reply { IfOk result (λ reply. reply ≡ reply_to (state_of partition.old) command) }
         ensures small { IfOk result IsSmall }
-        ensures kept { IfOk result (λ reply. partition.new.past ≡ with_entry (upkept partition.old.limits partition.old.past) (record { worker = self.old.worker; command = command; reply = reply })) }
+        ensures kept { IfOk result (λ reply.
+            partition.new.past ≡ with_entry (upkept partition.old.limits partition.old.past)
+            (record { worker = self.old.worker; command = command; reply = reply })) }
         ensures state { OnOk result (state_of partition.new ≡ after (state_of partition.old) command) }
         ensures store { OnOk result (Serves policy partition.old.keys partition.old.next command partition.old.store partition.new.store) }
         ensures opened { (partition.new.keys ≡ partition.old.keys) × (partition.new.limits ≡ partition.old.limits) }
 
-        ensures err { OnErr result ((self.new.receipts ≡ self.old.receipts) × (partition.new.past ≡ partition.old.past)) }
-        ensures spared { OnErr result (Spares policy partition.old.keys (range_of command) partition.old.store partition.new.store) }
-        ensures refused { IfSome (refusal_of partition.old command) (λ e. (result ≡ Err e) × (partition.new ≡ partition.old)) }
+        ensures err { OnErr result ((self.new.receipts ≡ self.old.receipts) ×
+            (partition.new.past ≡ partition.old.past)) }
+        ensures spared { OnErr result
+            (Spares policy partition.old.keys (range_of command) partition.old.store partition.new.store) }
+        ensures refused { IfSome (refusal_of partition.old command) (λ e. (result ≡ Err e) ×
+            (partition.new ≡ partition.old)) }
         ensures memory { refusal_of partition.old command ≡ None → IfErr result (λ e. e ≡ Refusal.OutOfMemory) }
     {
         let position = partition.accepted();

@@ -2,7 +2,8 @@
 ghost use Rattle.std.specs.Prelude.{◌≡◌, ◌<◌, ◌≤◌, ◌≤ℤ◌, ◌^◌, neg_ℤ, pos, length, IfOk};
 ghost use Rattle.crack_core.specs.Steps.{tables_of};
 ghost use Rattle.crack_core.specs.Asking.{lasting};
-ghost use Rattle.crack_core.specs.Bulk.{Went, InsertsAt, DeletesAt, UpdatesAt, CountsAt, SumsAt, CountsKeys, SumsKeys, joined, flag};
+ghost use Rattle.crack_core.specs.Bulk.{Went, InsertsAt, DeletesAt, UpdatesAt, CountsAt, SumsAt, CountsKeys, SumsKeys};
+ghost use Rattle.crack_core.specs.Bulk.{joined, flag};
 
 use crate::Core;
 use crack_row::{
@@ -49,15 +50,16 @@ const FARTHEST: i128 = 5070602400912917605986812821504;
 const FARTHEST_HIGH: i64 = 274877906944;
 
 impl Core {
-    /// Counts the rows whose keys are `first` to `last`, both included, as `count` does. Refused as `count` is, and with 2 where `first` is above
-    /// `last` by more than 1.
+    /// Counts the rows whose keys are `first` to `last`, both included, as `count` does. Refused as `count` is, and
+    /// with 2 where `first` is above `last` by more than 1.
     pub fn count_keys(
         &mut self,
         first: KeyNumber,
         last: KeyNumber,
         policy: Policy,
     ) -> Result<u64, Refusal>
-        ensures counts { CountsKeys self.old.limits self.old.splits first last result (lasting (tables_of self.old.parts)) (lasting (tables_of self.new.parts)) }
+        ensures counts { CountsKeys self.old.limits self.old.splits first last result
+            (lasting (tables_of self.old.parts)) (lasting (tables_of self.new.parts)) }
         ensures opened { (self.new.splits ≡ self.old.splits) × (self.new.limits ≡ self.old.limits) }
     {
         match KeyRange::new(first as BoundNumber, last as BoundNumber + 1) {
@@ -66,14 +68,16 @@ impl Core {
         }
     }
 
-    /// Adds up the payloads of the rows whose keys are `first` to `last`, both included, as `sum` does. Refused as `count_keys` is.
+    /// Adds up the payloads of the rows whose keys are `first` to `last`, both included, as `sum` does. Refused as
+    /// `count_keys` is.
     pub fn sum_keys(
         &mut self,
         first: KeyNumber,
         last: KeyNumber,
         policy: Policy,
     ) -> Result<i128, Refusal>
-        ensures sums { SumsKeys self.old.limits self.old.splits first last result (lasting (tables_of self.old.parts)) (lasting (tables_of self.new.parts)) }
+        ensures sums { SumsKeys self.old.limits self.old.splits first last result
+            (lasting (tables_of self.old.parts)) (lasting (tables_of self.new.parts)) }
         ensures small { IfOk result (λ sum. (neg_ℤ (pos (2 ^ 102)) ≤ℤ sum) × (sum ≤ℤ pos (2 ^ 102))) }
         ensures opened { (self.new.splits ≡ self.old.splits) × (self.new.limits ≡ self.old.limits) }
     {
@@ -83,8 +87,8 @@ impl Core {
         }
     }
 
-    /// Places a row for each key and payload, in order, as `insert` does, and writes its number: partition and serial. Goes on up to the first that
-    /// is refused. Takes what `insert` takes.
+    /// Places a row for each key and payload, in order, as `insert` does, and writes its number: partition and serial.
+    /// Goes on up to the first that is refused. Takes what `insert` takes.
     pub fn insert_many(
         &mut self,
         keys: &[KeyNumber],
@@ -112,12 +116,13 @@ impl Core {
         Progress::whole(keys.len())
     }
 
-    /// Takes rows out, in order, as `delete` does, and writes 1 for each that was there and 0 for each that wasn't. Goes on up to the first that is
-    /// refused. Takes what `delete` takes.
+    /// Takes rows out, in order, as `delete` does, and writes 1 for each that was there and 0 for each that wasn't.
+    /// Goes on up to the first that is refused. Takes what `delete` takes.
     pub fn delete_many(&mut self, parts: &[u32], serials: &[u64], gone: &mut [u8]) -> Progress
         requires serials { length serials.now ≡ length parts.now }
         requires gone { length gone.old ≡ length parts.now }
-        ensures deletes { Went (DeletesAt self.old.limits self.old.splits parts.now serials.now gone.new) (length parts.now) (lasting (tables_of self.old.parts)) result (lasting (tables_of self.new.parts)) }
+        ensures deletes { Went (DeletesAt self.old.limits self.old.splits parts.now serials.now gone.new)
+            (length parts.now) (lasting (tables_of self.old.parts)) result (lasting (tables_of self.new.parts)) }
         ensures opened { (self.new.splits ≡ self.old.splits) × (self.new.limits ≡ self.old.limits) }
     {
         'rows: for i in 0..parts.len() {
@@ -130,8 +135,8 @@ impl Core {
         Progress::whole(parts.len())
     }
 
-    /// Replaces keys and payloads of rows, in order, as `update` does, and writes 1 for each row that is there and 0 for each that isn't. Goes on up
-    /// to the first that is refused. Takes what `update` takes.
+    /// Replaces keys and payloads of rows, in order, as `update` does, and writes 1 for each row that is there and 0
+    /// for each that isn't. Goes on up to the first that is refused. Takes what `update` takes.
     pub fn update_many(
         &mut self,
         parts: &[u32],
@@ -159,8 +164,8 @@ impl Core {
         Progress::whole(parts.len())
     }
 
-    /// Counts the rows of each range, from its first key to its last, in order, as `count_keys` does. Goes on up to the first that is refused. Takes
-    /// what `count` takes.
+    /// Counts the rows of each range, from its first key to its last, in order, as `count_keys` does. Goes on up to
+    /// the first that is refused. Takes what `count` takes.
     pub fn count_many(
         &mut self,
         firsts: &[KeyNumber],
@@ -170,7 +175,8 @@ impl Core {
     ) -> Progress
         requires lasts { length lasts.now ≡ length firsts.now }
         requires counts { length counts.old ≡ length firsts.now }
-        ensures counts { Went (CountsAt self.old.limits self.old.splits firsts.now lasts.now counts.new) (length firsts.now) (lasting (tables_of self.old.parts)) result (lasting (tables_of self.new.parts)) }
+        ensures counts { Went (CountsAt self.old.limits self.old.splits firsts.now lasts.now counts.new)
+            (length firsts.now) (lasting (tables_of self.old.parts)) result (lasting (tables_of self.new.parts)) }
         ensures opened { (self.new.splits ≡ self.old.splits) × (self.new.limits ≡ self.old.limits) }
     {
         'each: for i in 0..firsts.len() {
@@ -182,8 +188,9 @@ impl Core {
         Progress::whole(firsts.len())
     }
 
-    /// Adds up the payloads of each range, from its first key to its last, in order, as `sum_keys` does, and writes the low 64 bits of each sum and
-    /// those above them. Goes on up to the first that is refused. Takes what `sum` takes.
+    /// Adds up the payloads of each range, from its first key to its last, in order, as `sum_keys` does, and writes
+    /// the low 64 bits of each sum and those above them. Goes on up to the first that is refused. Takes what `sum`
+    /// takes.
     pub fn sum_many(
         &mut self,
         firsts: &[KeyNumber],
@@ -195,7 +202,8 @@ impl Core {
         requires lasts { length lasts.now ≡ length firsts.now }
         requires lows { length lows.old ≡ length firsts.now }
         requires highs { length highs.old ≡ length firsts.now }
-        ensures sums { Went (SumsAt self.old.limits self.old.splits firsts.now lasts.now lows.new highs.new) (length firsts.now) (lasting (tables_of self.old.parts)) result (lasting (tables_of self.new.parts)) }
+        ensures sums { Went (SumsAt self.old.limits self.old.splits firsts.now lasts.now lows.new highs.new)
+            (length firsts.now) (lasting (tables_of self.old.parts)) result (lasting (tables_of self.new.parts)) }
         ensures opened { (self.new.splits ≡ self.old.splits) × (self.new.limits ≡ self.old.limits) }
     {
         'each: for i in 0..firsts.len() {

@@ -1,5 +1,6 @@
 //! Partitions that one thread asks.
-ghost use Rattle.std.specs.Prelude.{◌≡◌, ◌≢◌, ℕ, ◌+◌, ◌≤◌, vec_capacity, List, [], ◌∷◌, length, map, All, is_ok, IsOk, None, Some, IfOk, IfErr, OnErr, OnOk, Ok, Err, slice_get, if◌then◌else◌};
+ghost use Rattle.std.specs.Prelude.{◌≡◌, ◌≢◌, ℕ, ◌+◌, ◌≤◌, vec_capacity, List, [], ◌∷◌, length, map, All, is_ok, IsOk};
+ghost use Rattle.std.specs.Prelude.{None, Some, IfOk, IfErr, OnErr, OnOk, Ok, Err, slice_get, if◌then◌else◌};
 ghost use Rattle.crack_row.specs.Commands.{range_of};
 ghost use Rattle.crack_row.specs.Limits.{of_history};
 ghost use Rattle.crack_row.specs.declared.Bound.{Bound};
@@ -9,10 +10,12 @@ ghost use Rattle.crack_plain.specs.Plain.{PlainView, IsNumbered, IsSmall};
 ghost use Rattle.crack_part.specs.Parts.{Part, Serves, Spares};
 ghost use Rattle.crack_core.specs.Routes.{AreSplits, keys_of_part, route, parts_of};
 ghost use Rattle.crack_core.specs.Opening.{opening_fault, MayFault, AreParts};
-ghost use Rattle.crack_core.specs.Steps.{bounds_of, IsOutcomeAt, IsLayoutOutcome, IsFoldOutcome, tables_of, tables_after, tables_folded, pasts_of, accepted_by};
+ghost use Rattle.crack_core.specs.Steps.{bounds_of, IsOutcomeAt, IsLayoutOutcome, IsFoldOutcome, tables_of};
+ghost use Rattle.crack_core.specs.Steps.{tables_after, tables_folded, pasts_of, accepted_by};
 ghost use Rattle.crack_store.specs.Inside.{no_cells, IsLayoutOf};
 ghost use Rattle.crack_core.specs.Cores.{IsCore};
-ghost use Rattle.crack_core.specs.Jobs.{performed, folding, KeepsJobs, AtPart, AreExpectedOutcomes, IsJobOutcome, part_of, FoldsAt, Does, DoesAll};
+ghost use Rattle.crack_core.specs.Jobs.{performed, folding, KeepsJobs, AtPart, AreExpectedOutcomes, IsJobOutcome};
+ghost use Rattle.crack_core.specs.Jobs.{part_of, FoldsAt, Does, DoesAll};
 
 use crate::opening::{limits_fault, open_partitions, splits_fault};
 use crate::routes;
@@ -38,16 +41,22 @@ impl Model for Core {
 
     ghost view = { λ c. record { splits = c.splits.items; limits = c.limits; parts = c.partitions.items } };
 
-    ghost invariant = { λ c. let core : CoreState = record { splits = c.splits.items; limits = c.limits; parts = c.partitions.items } in IsCore core };
+    ghost invariant = { λ c. let core : CoreState = record {
+      splits = c.splits.items;
+      limits = c.limits;
+      parts = c.partitions.items;
+    } in IsCore core };
 }
 
 impl Core {
-    /// Partitions without rows, one more than splits, each with a history of at most `limit` entries, and with the greatest of the other
-    /// limits. Refused as `open_with` is.
+    /// Partitions without rows, one more than splits, each with a history of at most `limit` entries, and with the
+    /// greatest of the other limits. Refused as `open_with` is.
     pub fn open(alloc: Global, splits: &[Bound], limit: u64) -> Result<Core, Refusal>
         ensures opened { IfOk result (λ core. (core.splits ≡ splits.now) × (core.limits ≡ of_history limit)) }
         ensures fresh { IfOk result (λ core. All (λ (part : Part). part.past ≡ no_past) core.parts) }
-        ensures empty { IfOk result (λ core. All (λ (part : Part). part.store ≡ no_cells part.keys part.store.column_room part.store.in_room) core.parts) }
+        ensures empty { IfOk result (λ core.
+            All (λ (part : Part). part.store ≡
+            no_cells part.keys part.store.column_room part.store.in_room) core.parts) }
         ensures none { OnOk result (opening_fault splits.now (of_history limit) ≡ None) }
         ensures fault { IfErr result (λ e. MayFault splits.now (of_history limit) e) }
     {
@@ -55,12 +64,14 @@ impl Core {
     }
 
     /// Partitions without rows, one more than splits, each with these limits. Refused, in this order: with 11 where
-    /// the splits don't rise strictly or one isn't 1 to `GREATEST_KEY`, with 12 where they are more than `MOST_SPLITS`, with 14 where
-    /// a limit isn't 1 to the greatest of its kind, and with 8 where no memory is found.
+    /// the splits don't rise strictly or one isn't 1 to `GREATEST_KEY`, with 12 where they are more than
+    /// `MOST_SPLITS`, with 14 where a limit isn't 1 to the greatest of its kind, and with 8 where no memory is found.
     pub fn open_with(alloc: Global, splits: &[Bound], limits: Limits) -> Result<Core, Refusal>
         ensures opened { IfOk result (λ core. (core.splits ≡ splits.now) × (core.limits ≡ limits)) }
         ensures fresh { IfOk result (λ core. All (λ (part : Part). part.past ≡ no_past) core.parts) }
-        ensures empty { IfOk result (λ core. All (λ (part : Part). part.store ≡ no_cells part.keys part.store.column_room part.store.in_room) core.parts) }
+        ensures empty { IfOk result (λ core.
+            All (λ (part : Part). part.store ≡
+            no_cells part.keys part.store.column_room part.store.in_room) core.parts) }
         ensures none { OnOk result (opening_fault splits.now limits ≡ None) }
         ensures fault { IfErr result (λ e. MayFault splits.now limits e) }
     {
@@ -103,7 +114,8 @@ impl Core {
         routes::route(&self.splits, key)
     }
 
-    /// The partitions that a range meets, as `parts_of` gives them for its splits. Up to 8 take no memory; refused with 8 where more find none.
+    /// The partitions that a range meets, as `parts_of` gives them for its splits. Up to 8 take no memory; refused
+    /// with 8 where more find none.
     pub fn parts_of(&self, range: KeyRange) -> Result<SmallVec<(u32, KeyRange), 8>, Refusal>
         ensures ok { IfOk result (λ parts. parts.items ≡ parts_of self.now.splits range) }
         ensures few { IfOk result (λ parts. length parts.items ≤ length self.now.splits + 1) }
@@ -113,11 +125,13 @@ impl Core {
         routes::parts_of(*self.splits.allocator(), &self.splits, range)
     }
 
-    /// What stands where in one partition. It cracks and merges nothing, and isn't kept. Refused with 5 where there is no such
-    /// partition, and with 8 where it finds no memory. O(pieces).
+    /// What stands where in one partition. It cracks and merges nothing, and isn't kept. Refused with 5 where there is
+    /// no such partition, and with 8 where it finds no memory. O(pieces).
     pub fn layout(&self, part: u32) -> Result<Layout, Refusal>
-        ensures outcome { IsLayoutOutcome (keys_of_part self.now.splits part) (slice_get (tables_of self.now.parts) part) result }
-        ensures store { IfOk result (λ layout. (p : Part) → slice_get self.now.parts part ≡ Some p → IsLayoutOf p.store layout) }
+        ensures outcome { IsLayoutOutcome (keys_of_part self.now.splits part)
+            (slice_get (tables_of self.now.parts) part) result }
+        ensures store { IfOk result (λ layout. (p : Part) → slice_get self.now.parts part ≡ Some p →
+            IsLayoutOf p.store layout) }
     {
         match self.partitions.get(part as usize) {
             Some(partition) => partition.layout(),
@@ -125,36 +139,51 @@ impl Core {
         }
     }
 
-    /// Asks one partition, by one `Partition::apply`. Refused, in this order: with 5 where there is no such partition, with 4 where the
-    /// command brings a key that isn't the partition's, with 6 where its history is full and upkeep is on request,
-    /// with 10 where it has accepted as many commands as it may in all, with 9 where no cell is free for a row and it has as many as it may
-    /// have, and with 8 where no memory is found. Nothing has changed then, but after 8, which leaves what `Partition::apply` says.
+    /// Asks one partition, by one `Partition::apply`. Refused, in this order: with 5 where there is no such partition,
+    /// with 4 where the command brings a key that isn't the partition's, with 6 where its history is full and upkeep
+    /// is on request, with 10 where it has accepted as many commands as it may in all, with 9 where no cell is free
+    /// for a row and it has as many as it may have, and with 8 where no memory is found. Nothing has changed then, but
+    /// after 8, which leaves what `Partition::apply` says.
     #[inline(always)]
     pub fn step(&mut self, step: Step) -> Result<Reply, Refusal>
-        // It is the reply of the partition's plain rows, or the refusal that they call for; in place of a reply it may be 8, or 9.
-        ensures outcome { IsOutcomeAt (bounds_of self.old.limits) self.old.splits (tables_of self.old.parts) step.part step.command result }
+        // It is the reply of the partition's plain rows, or the refusal that they call for; in place of a reply it may
+        // be 8, or 9.
+        ensures outcome { IsOutcomeAt (bounds_of self.old.limits) self.old.splits
+            (tables_of self.old.parts) step.part step.command result }
         // The plain rows change as the reply says, and a refusal leaves them.
-        ensures after { tables_of self.new.parts ≡ tables_after (bounds_of self.old.limits) (tables_of self.old.parts) step.part step.command result }
-        ensures kept { KeepsJobs self.old.limits (pasts_of self.old.parts) (Job.Perform step ∷ []) (performed result ∷ []) (pasts_of self.new.parts) }
-        ensures accepted { accepted_by self.new.parts ≡ (if is_ok result then accepted_by self.old.parts + 1 else accepted_by self.old.parts) }
+        ensures after { tables_of self.new.parts ≡
+            tables_after (bounds_of self.old.limits) (tables_of self.old.parts) step.part step.command result }
+        ensures kept { KeepsJobs self.old.limits (pasts_of self.old.parts) (Job.Perform step ∷ [])
+            (performed result ∷ []) (pasts_of self.new.parts) }
+        ensures accepted { accepted_by self.new.parts ≡
+            (if is_ok result then accepted_by self.old.parts + 1 else accepted_by self.old.parts) }
         ensures small { IfOk result IsSmall }
         ensures opened { (self.new.splits ≡ self.old.splits) × (self.new.limits ≡ self.old.limits) }
 
         ensures others { (k : ℕ) → k ≢ step.part → slice_get self.new.parts k ≡ slice_get self.old.parts k }
-        ensures store { OnOk result (AtPart step.part (λ (p q : Part). Serves step.policy p.keys p.next step.command p.store q.store) self.old.parts self.new.parts) }
-        ensures spared { OnErr result (AtPart step.part (λ (p q : Part). Spares step.policy p.keys (range_of step.command) p.store q.store) self.old.parts self.new.parts) }
+        ensures store { OnOk result (AtPart step.part (λ (p q : Part).
+            Serves step.policy p.keys p.next step.command p.store q.store) self.old.parts self.new.parts) }
+        ensures spared { OnErr result (AtPart step.part (λ (p q : Part).
+            Spares step.policy p.keys (range_of step.command) p.store q.store) self.old.parts self.new.parts) }
         ensures same { IfErr result (λ e. e ≢ Refusal.OutOfMemory → self.new ≡ self.old) }
     {
         ask_at(&mut self.partitions, step)
     }
 
-    /// Makes these steps one after the other, and answers what comes out of each. A step that is refused leaves what `step` says, and the
-    /// next one is made. Refused with 8, before the first step, where the list of the answers finds no memory.
+    /// Makes these steps one after the other, and answers what comes out of each. A step that is refused leaves what
+    /// `step` says, and the next one is made. Refused with 8, before the first step, where the list of the answers
+    /// finds no memory.
     pub fn run_steps(&mut self, steps: &[Step]) -> Result<Vec<Result<Reply, Refusal>>, Refusal>
-        ensures replies { IfOk result (λ results. AreExpectedOutcomes self.old.limits self.old.splits (pasts_of self.old.parts) (map Job.Perform steps.now) (map performed results.items)) }
-        ensures kept { IfOk result (λ results. KeepsJobs self.old.limits (pasts_of self.old.parts) (map Job.Perform steps.now) (map performed results.items) (pasts_of self.new.parts)) }
+        ensures replies { IfOk result (λ results.
+            AreExpectedOutcomes self.old.limits self.old.splits (pasts_of self.old.parts) (map Job.Perform steps.now)
+            (map performed results.items)) }
+        ensures kept { IfOk result (λ results.
+            KeepsJobs self.old.limits (pasts_of self.old.parts) (map Job.Perform steps.now)
+            (map performed results.items) (pasts_of self.new.parts)) }
         // Each store is served by the policy of its own steps, in their order, and by nothing else.
-        ensures stores { IfOk result (λ results. DoesAll self.old.splits self.old.limits (map Job.Perform steps.now) (map performed results.items) self.old.parts self.new.parts) }
+        ensures stores { IfOk result (λ results.
+            DoesAll self.old.splits self.old.limits (map Job.Perform steps.now)
+            (map performed results.items) self.old.parts self.new.parts) }
         ensures opened { (self.new.splits ≡ self.old.splits) × (self.new.limits ≡ self.old.limits) }
         ensures same { OnErr result (self.new ≡ self.old) }
         ensures err { IfErr result (λ e. e ≡ Refusal.OutOfMemory) }
@@ -164,10 +193,10 @@ impl Core {
         Ok(results)
     }
 
-    /// Folds the history of one partition into its base, and tells how many entries went: the partition's rows are kept as they are now, its
-    /// commands no more, and its history begins anew. It cracks and merges nothing, and no later reply depends on it. Refused with 5 where
-    /// there is no such partition, and with 8 where no memory is found; nothing has changed then. Its costs are those of
-    /// `Partition::checkpoint`.
+    /// Folds the history of one partition into its base, and tells how many entries went: the partition's rows are
+    /// kept as they are now, its commands no more, and its history begins anew. It cracks and merges nothing, and no
+    /// later reply depends on it. Refused with 5 where there is no such partition, and with 8 where no memory is
+    /// found; nothing has changed then. Its costs are those of `Partition::checkpoint`.
     pub fn checkpoint(&mut self, part: u32) -> Result<u64, Refusal>
         ensures outcome { IsFoldOutcome (slice_get (tables_of self.old.parts) part) result }
         ensures after { tables_of self.new.parts ≡ tables_folded (tables_of self.old.parts) part result }
@@ -179,13 +208,18 @@ impl Core {
         fold_at(&mut self.partitions, part)
     }
 
-    /// Does these jobs one after the other, and answers what comes out of each. A job that is refused leaves what `step` and `checkpoint` say,
-    /// and the next one is done. Refused with 8, before the first job, where the list of the answers finds no memory.
+    /// Does these jobs one after the other, and answers what comes out of each. A job that is refused leaves what
+    /// `step` and `checkpoint` say, and the next one is done. Refused with 8, before the first job, where the list of
+    /// the answers finds no memory.
     pub fn run_jobs(&mut self, jobs: &[Job]) -> Result<Vec<Result<Done, Refusal>>, Refusal>
-        ensures replies { IfOk result (λ results. AreExpectedOutcomes self.old.limits self.old.splits (pasts_of self.old.parts) jobs.now results.items) }
-        ensures kept { IfOk result (λ results. KeepsJobs self.old.limits (pasts_of self.old.parts) jobs.now results.items (pasts_of self.new.parts)) }
-        // Each store is served by the policy of its own steps, in their order, and by nothing else; a checkpoint leaves it as it is.
-        ensures stores { IfOk result (λ results. DoesAll self.old.splits self.old.limits jobs.now results.items self.old.parts self.new.parts) }
+        ensures replies { IfOk result (λ results.
+            AreExpectedOutcomes self.old.limits self.old.splits (pasts_of self.old.parts) jobs.now results.items) }
+        ensures kept { IfOk result (λ results.
+            KeepsJobs self.old.limits (pasts_of self.old.parts) jobs.now results.items (pasts_of self.new.parts)) }
+        // Each store is served by the policy of its own steps, in their order, and by nothing else; a checkpoint
+        // leaves it as it is.
+        ensures stores { IfOk result (λ results.
+            DoesAll self.old.splits self.old.limits jobs.now results.items self.old.parts self.new.parts) }
         ensures opened { (self.new.splits ≡ self.old.splits) × (self.new.limits ≡ self.old.limits) }
         ensures same { OnErr result (self.new ≡ self.old) }
         ensures err { IfErr result (λ e. e ≡ Refusal.OutOfMemory) }
@@ -211,15 +245,24 @@ impl Core {
 /// Asks the partition of a step, if there is one, and lets the receipt go.
 #[inline(always)]
 fn ask_at(partitions: &mut [Partition], step: Step) -> Result<Reply, Refusal>
-    ensures outcome { (splits : List Bound) (limits : Limits) → AreParts splits limits partitions.old → IsOutcomeAt (bounds_of limits) splits (tables_of partitions.old) step.part step.command result }
-    ensures after { (splits : List Bound) (limits : Limits) → AreParts splits limits partitions.old → tables_of partitions.new ≡ tables_after (bounds_of limits) (tables_of partitions.old) step.part step.command result }
-    ensures kept { (splits : List Bound) (limits : Limits) → AreParts splits limits partitions.old → KeepsJobs limits (pasts_of partitions.old) (Job.Perform step ∷ []) (performed result ∷ []) (pasts_of partitions.new) }
-    ensures accepted { accepted_by partitions.new ≡ (if is_ok result then accepted_by partitions.old + 1 else accepted_by partitions.old) }
-    ensures parts { (splits : List Bound) (limits : Limits) → AreParts splits limits partitions.old → AreParts splits limits partitions.new }
+    ensures outcome { (splits : List Bound) (limits : Limits) → AreParts splits limits partitions.old →
+        IsOutcomeAt (bounds_of limits) splits (tables_of partitions.old) step.part step.command result }
+    ensures after { (splits : List Bound) (limits : Limits) → AreParts splits limits partitions.old →
+        tables_of partitions.new ≡ tables_after (bounds_of limits)
+        (tables_of partitions.old) step.part step.command result }
+    ensures kept { (splits : List Bound) (limits : Limits) → AreParts splits limits partitions.old →
+        KeepsJobs limits (pasts_of partitions.old) (Job.Perform step ∷ []) (performed result ∷ [])
+        (pasts_of partitions.new) }
+    ensures accepted { accepted_by partitions.new ≡
+        (if is_ok result then accepted_by partitions.old + 1 else accepted_by partitions.old) }
+    ensures parts { (splits : List Bound) (limits : Limits) → AreParts splits limits partitions.old →
+        AreParts splits limits partitions.new }
     ensures small { IfOk result IsSmall }
     ensures others { (k : ℕ) → k ≢ step.part → slice_get partitions.new k ≡ slice_get partitions.old k }
-    ensures store { OnOk result (AtPart step.part (λ (p q : Part). Serves step.policy p.keys p.next step.command p.store q.store) partitions.old partitions.new) }
-    ensures spared { OnErr result (AtPart step.part (λ (p q : Part). Spares step.policy p.keys (range_of step.command) p.store q.store) partitions.old partitions.new) }
+    ensures store { OnOk result (AtPart step.part (λ (p q : Part).
+        Serves step.policy p.keys p.next step.command p.store q.store) partitions.old partitions.new) }
+    ensures spared { OnErr result (AtPart step.part (λ (p q : Part).
+        Spares step.policy p.keys (range_of step.command) p.store q.store) partitions.old partitions.new) }
     ensures same { IfErr result (λ e. e ≢ Refusal.OutOfMemory → partitions.new ≡ partitions.old) }
 {
     let part = step.part as usize;
@@ -248,10 +291,17 @@ fn without_receipt(answered: Result<(Reply, Reply), Refusal>) -> Result<Reply, R
 fn run_all(partitions: &mut [Partition], steps: &[Step], results: &mut Vec<Result<Reply, Refusal>>)
     requires empty { results.old.items ≡ [] }
     requires room { length steps.now ≤ vec_capacity results.old }
-    ensures replies { (splits : List Bound) (limits : Limits) → AreParts splits limits partitions.old → AreExpectedOutcomes limits splits (pasts_of partitions.old) (map Job.Perform steps.now) (map performed results.new.items) }
-    ensures kept { (splits : List Bound) (limits : Limits) → AreParts splits limits partitions.old → KeepsJobs limits (pasts_of partitions.old) (map Job.Perform steps.now) (map performed results.new.items) (pasts_of partitions.new) }
-    ensures stores { (splits : List Bound) (limits : Limits) → AreParts splits limits partitions.old → DoesAll splits limits (map Job.Perform steps.now) (map performed results.new.items) partitions.old partitions.new }
-    ensures parts { (splits : List Bound) (limits : Limits) → AreParts splits limits partitions.old → AreParts splits limits partitions.new }
+    ensures replies { (splits : List Bound) (limits : Limits) → AreParts splits limits partitions.old →
+        AreExpectedOutcomes limits splits (pasts_of partitions.old) (map Job.Perform steps.now)
+        (map performed results.new.items) }
+    ensures kept { (splits : List Bound) (limits : Limits) → AreParts splits limits partitions.old →
+        KeepsJobs limits (pasts_of partitions.old) (map Job.Perform steps.now) (map performed results.new.items)
+        (pasts_of partitions.new) }
+    ensures stores { (splits : List Bound) (limits : Limits) → AreParts splits limits partitions.old →
+        DoesAll splits limits (map Job.Perform steps.now)
+        (map performed results.new.items) partitions.old partitions.new }
+    ensures parts { (splits : List Bound) (limits : Limits) → AreParts splits limits partitions.old →
+        AreParts splits limits partitions.new }
 {
     'steps: for step in steps {
         let result = ask_at(partitions, *step);
@@ -264,9 +314,12 @@ fn fold_at(partitions: &mut [Partition], part: u32) -> Result<u64, Refusal>
     ensures outcome { IsFoldOutcome (slice_get (tables_of partitions.old) part) result }
     ensures after { tables_of partitions.new ≡ tables_folded (tables_of partitions.old) part result }
     ensures folds { OnOk result (FoldsAt part partitions.old partitions.new) }
-    ensures kept { (limits : Limits) → KeepsJobs limits (pasts_of partitions.old) (Job.Fold part ∷ []) (folding result ∷ []) (pasts_of partitions.new) }
+    ensures kept { (limits : Limits) →
+        KeepsJobs limits (pasts_of partitions.old) (Job.Fold part ∷ []) (folding result ∷ [])
+        (pasts_of partitions.new) }
     ensures accepted { accepted_by partitions.new ≡ accepted_by partitions.old }
-    ensures parts { (splits : List Bound) (limits : Limits) → AreParts splits limits partitions.old → AreParts splits limits partitions.new }
+    ensures parts { (splits : List Bound) (limits : Limits) → AreParts splits limits partitions.old →
+        AreParts splits limits partitions.new }
     ensures same { OnErr result (partitions.new ≡ partitions.old) }
 {
     let number = part as usize;
@@ -281,10 +334,14 @@ fn fold_at(partitions: &mut [Partition], part: u32) -> Result<u64, Refusal>
 
 /// Does one job.
 fn do_job(partitions: &mut [Partition], job: Job) -> Result<Done, Refusal>
-    ensures outcome { (splits : List Bound) (limits : Limits) → AreParts splits limits partitions.old → IsJobOutcome (bounds_of limits) splits (slice_get (tables_of partitions.old) (part_of job)) job result }
-    ensures kept { (splits : List Bound) (limits : Limits) → AreParts splits limits partitions.old → KeepsJobs limits (pasts_of partitions.old) (job ∷ []) (result ∷ []) (pasts_of partitions.new) }
-    ensures does { (splits : List Bound) (limits : Limits) → AreParts splits limits partitions.old → Does splits limits job result partitions.old partitions.new }
-    ensures parts { (splits : List Bound) (limits : Limits) → AreParts splits limits partitions.old → AreParts splits limits partitions.new }
+    ensures outcome { (splits : List Bound) (limits : Limits) → AreParts splits limits partitions.old →
+        IsJobOutcome (bounds_of limits) splits (slice_get (tables_of partitions.old) (part_of job)) job result }
+    ensures kept { (splits : List Bound) (limits : Limits) → AreParts splits limits partitions.old →
+        KeepsJobs limits (pasts_of partitions.old) (job ∷ []) (result ∷ []) (pasts_of partitions.new) }
+    ensures does { (splits : List Bound) (limits : Limits) → AreParts splits limits partitions.old →
+        Does splits limits job result partitions.old partitions.new }
+    ensures parts { (splits : List Bound) (limits : Limits) → AreParts splits limits partitions.old →
+        AreParts splits limits partitions.new }
 {
     match job {
         Job::Perform(step) => performed(ask_at(partitions, step)),
@@ -316,10 +373,14 @@ fn folding(folded: Result<u64, Refusal>) -> Result<Done, Refusal>
 fn do_all(partitions: &mut [Partition], jobs: &[Job], results: &mut Vec<Result<Done, Refusal>>)
     requires empty { results.old.items ≡ [] }
     requires room { length jobs.now ≤ vec_capacity results.old }
-    ensures replies { (splits : List Bound) (limits : Limits) → AreParts splits limits partitions.old → AreExpectedOutcomes limits splits (pasts_of partitions.old) jobs.now results.new.items }
-    ensures kept { (splits : List Bound) (limits : Limits) → AreParts splits limits partitions.old → KeepsJobs limits (pasts_of partitions.old) jobs.now results.new.items (pasts_of partitions.new) }
-    ensures stores { (splits : List Bound) (limits : Limits) → AreParts splits limits partitions.old → DoesAll splits limits jobs.now results.new.items partitions.old partitions.new }
-    ensures parts { (splits : List Bound) (limits : Limits) → AreParts splits limits partitions.old → AreParts splits limits partitions.new }
+    ensures replies { (splits : List Bound) (limits : Limits) → AreParts splits limits partitions.old →
+        AreExpectedOutcomes limits splits (pasts_of partitions.old) jobs.now results.new.items }
+    ensures kept { (splits : List Bound) (limits : Limits) → AreParts splits limits partitions.old →
+        KeepsJobs limits (pasts_of partitions.old) jobs.now results.new.items (pasts_of partitions.new) }
+    ensures stores { (splits : List Bound) (limits : Limits) → AreParts splits limits partitions.old →
+        DoesAll splits limits jobs.now results.new.items partitions.old partitions.new }
+    ensures parts { (splits : List Bound) (limits : Limits) → AreParts splits limits partitions.old →
+        AreParts splits limits partitions.new }
 {
     'jobs: for job in jobs {
         let result = do_job(partitions, *job);

@@ -10,9 +10,9 @@ use crate::{Core, Query};
 use crack_row::{BoundNumber, KeyNumber, KeyRange, PayloadNumber, Policy, Refusal, Reply, Row};
 
 impl Core {
-    /// Lists the rows whose keys are `first` to `last`, both included, by partition and then in rising serial, as far as the lists have room: of
-    /// each its partition, serial, key and payload. Returns how many there are. Refused as `count_keys` is; the lists are then as they were. Takes
-    /// memory for the replies of the partitions that it meets.
+    /// Lists the rows whose keys are `first` to `last`, both included, by partition and then in rising serial, as far
+    /// as the lists have room: of each its partition, serial, key and payload. Returns how many there are. Refused as
+    /// `count_keys` is; the lists are then as they were. Takes memory for the replies of the partitions that it meets.
     pub fn select_keys(
         &mut self,
         first: KeyNumber,
@@ -27,7 +27,8 @@ impl Core {
         requires keys { length keys.old ≡ length parts.old }
         requires payloads { length payloads.old ≡ length parts.old }
         ensures selects { SelectsKeys self.old.limits self.old.splits parts.new serials.new keys.new payloads.new first last result (lasting (tables_of self.old.parts)) (lasting (tables_of self.new.parts)) }
-        ensures unwritten { OnErr result ((parts.new ≡ parts.old) × (serials.new ≡ serials.old) × (keys.new ≡ keys.old) × (payloads.new ≡ payloads.old)) }
+        ensures unwritten { OnErr result ((parts.new ≡ parts.old) × (serials.new ≡ serials.old) ×
+            (keys.new ≡ keys.old) × (payloads.new ≡ payloads.old)) }
         ensures opened { (self.new.splits ≡ self.old.splits) × (self.new.limits ≡ self.old.limits) }
     {
         match KeyRange::new(first as BoundNumber, last as BoundNumber + 1) {
@@ -50,7 +51,8 @@ impl Core {
         requires keys { length keys.old ≡ length parts.old }
         requires payloads { length payloads.old ≡ length parts.old }
         ensures selects { Selects self.old.limits self.old.splits parts.new serials.new keys.new payloads.new range result (lasting (tables_of self.old.parts)) (lasting (tables_of self.new.parts)) }
-        ensures unwritten { OnErr result ((parts.new ≡ parts.old) × (serials.new ≡ serials.old) × (keys.new ≡ keys.old) × (payloads.new ≡ payloads.old)) }
+        ensures unwritten { OnErr result ((parts.new ≡ parts.old) × (serials.new ≡ serials.old) ×
+            (keys.new ≡ keys.old) × (payloads.new ≡ payloads.old)) }
         ensures opened { (self.new.splits ≡ self.old.splits) × (self.new.limits ≡ self.old.limits) }
     {
         self.facts();
@@ -127,7 +129,9 @@ fn list_rows(
     requires serials { length serials.old ≡ length parts.old }
     requires keys { length keys.old ≡ length parts.old }
     requires payloads { length payloads.old ≡ length parts.old }
-    ensures { (before : List (ℕ × Row)) → length before ≡ from → StandIn before parts.old serials.old keys.old payloads.old → StandIn (before ++ of_part part rows.now) parts.new serials.new keys.new payloads.new }
+    ensures { (before : List (ℕ × Row)) → length before ≡ from →
+        StandIn before parts.old serials.old keys.old payloads.old →
+        StandIn (before ++ of_part part rows.now) parts.new serials.new keys.new payloads.new }
 {
     'rows: for i in 0..rows.len() {
         let at = from + i;

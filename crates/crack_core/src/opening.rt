@@ -13,8 +13,8 @@ use crack_part::Partition;
 use crack_row::{Bound, KeyRange, Limits, Refusal};
 use std::alloc::Global;
 
-/// What is wrong with splits, if anything: 11 where they don't rise strictly or one isn't 1 to `GREATEST_KEY`, else 12 where there are
-/// more than `MOST_SPLITS`. Takes no memory. O(splits).
+/// What is wrong with splits, if anything: 11 where they don't rise strictly or one isn't 1 to `GREATEST_KEY`, else 12
+/// where there are more than `MOST_SPLITS`. Takes no memory. O(splits).
 pub fn splits_fault(splits: &[Bound]) -> Option<Refusal>
     ensures value { result ≡ splits_fault splits.now }
     ensures good { result ≡ None → AreSplits splits.now }
@@ -39,7 +39,8 @@ pub fn limits_fault(limits: Limits) -> Option<Refusal>
     Some(Refusal::BadLimit)
 }
 
-/// The partitions of these splits, without rows, each with the same limits. Refused with 8 where they find no memory. O(splits).
+/// The partitions of these splits, without rows, each with the same limits. Refused with 8 where they find no memory.
+/// O(splits).
 pub fn open_partitions(
     alloc: Global,
     splits: &[Bound],
@@ -49,7 +50,8 @@ pub fn open_partitions(
     requires limited { AreLimits limits }
     ensures parts { IfOk result (λ parts. AreParts splits.now limits parts.items) }
     ensures fresh { IfOk result (λ parts. All (λ (part : Part). part.past ≡ no_past) parts.items) }
-    ensures empty { IfOk result (λ parts. All (λ (part : Part). part.store ≡ no_cells part.keys part.store.column_room part.store.in_room) parts.items) }
+    ensures empty { IfOk result (λ parts.
+        All (λ (part : Part). part.store ≡ no_cells part.keys part.store.column_room part.store.in_room) parts.items) }
     ensures err { IfErr result (λ e. e ≡ Refusal.OutOfMemory) }
 {
     let mut parts = Vec::with_capacity(alloc, splits.len() + 1)?;

@@ -2,7 +2,8 @@
 
 use crack_row::{Command, Reply};
 
-/// What a worker was replied to a command, and where its entry stands: in which partition, and how many commands that had accepted before.
+/// What a worker was replied to a command, and where its entry stands: in which partition, and how many commands that
+/// had accepted before.
 #[derive(Drop, Debug)]
 pub struct Receipt {
     pub part: u32,

@@ -9,8 +9,8 @@ use crack_row::{Bound, Key, KeyRange, Refusal};
 use smallvec::SmallVec;
 use std::alloc::Global;
 
-/// The partition in which a key falls: partition 0 has the keys below the first split, and each later one those from its split on.
-/// O(log splits).
+/// The partition in which a key falls: partition 0 has the keys below the first split, and each later one those from
+/// its split on. O(log splits).
 pub fn route(splits: &[Bound], key: Key) -> u32
     requires { AreSplits splits.now }
     ensures value { result ≡ route splits.now key.0 }
@@ -20,9 +20,9 @@ pub fn route(splits: &[Bound], key: Key) -> u32
     splits_up_to(splits, key.bound()) as u32
 }
 
-/// The partitions that a range meets, in rising order, each with its part of the range; an empty range goes as it is to the partition in
-/// which its low end falls, the last one where that is the greatest bound. O(log splits + partitions met). Up to 8 partitions take no
-/// memory; refused with 8 where more find none.
+/// The partitions that a range meets, in rising order, each with its part of the range; an empty range goes as it is
+/// to the partition in which its low end falls, the last one where that is the greatest bound. O(log splits +
+/// partitions met). Up to 8 partitions take no memory; refused with 8 where more find none.
 pub fn parts_of(
     alloc: Global,
     splits: &[Bound],
@@ -46,8 +46,8 @@ pub fn parts_of(
     Ok(parts)
 }
 
-/// The partition that alone has keys of a range, or in which an empty range falls; `None` where several have. Takes no memory.
-/// O(log splits).
+/// The partition that alone has keys of a range, or in which an empty range falls; `None` where several have. Takes no
+/// memory. O(log splits).
 pub fn only_part(splits: &[Bound], range: KeyRange) -> Option<u32>
     requires { AreSplits splits.now }
     ensures one { IfSome result (λ part. parts_of splits.now range ≡ (part, range) ∷ []) }

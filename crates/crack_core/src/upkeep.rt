@@ -8,10 +8,12 @@ ghost use Rattle.crack_core.specs.declared.step.Done.{Done};
 
 use crate::Core;
 
-/// A command whose history is full leaves what a checkpoint and then the command leave: under automatic upkeep, any jobs leave a partition what
-/// they leave on request, where each checkpoint that upkeep makes is asked for as a job before its step. Does nothing.
+/// A command whose history is full leaves what a checkpoint and then the command leave: under automatic upkeep, any
+/// jobs leave a partition what they leave on request, where each checkpoint that upkeep makes is asked for as a job
+/// before its step. Does nothing.
 pub fn upkeep_is_checkpoints(core: &Core)
-    ensures { (part : ℕ) (jobs : List Job) (results : List (Result Done Refusal)) (past : Past) → IsKeptUp core.now.limits part jobs results past }
+    ensures { (part : ℕ) (jobs : List Job) (results : List (Result Done Refusal)) (past : Past) →
+        IsKeptUp core.now.limits part jobs results past }
 {
     core.facts();
 }

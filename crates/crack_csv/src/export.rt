@@ -20,10 +20,10 @@ use std::io::Write;
 /// The records of so many rows stand in memory at once.
 const BATCH_ROWS: usize = 256;
 
-/// Writes the header `key,payload` and then a record for each row, and says how many rows there were; records end with a
-/// line feed. Each partition is asked for a list of all its rows, which its history keeps. What is written is handed on at the end.
-/// The first refusal ends the export: 6, 7, 8 or 10 of a partition, 8 for the text of a batch of rows, or 18. The list of one
-/// partition's rows stands in memory, and the text of a batch of them.
+/// Writes the header `key,payload` and then a record for each row, and says how many rows there were; records end with
+/// a line feed. Each partition is asked for a list of all its rows, which its history keeps. What is written is handed
+/// on at the end. The first refusal ends the export: 6, 7, 8 or 10 of a partition, 8 for the text of a batch of rows,
+/// or 18. The list of one partition's rows stands in memory, and the text of a batch of them.
 pub fn export_csv<D: Desk, W: Write>(
     alloc: Global,
     desk: &mut D,
@@ -32,7 +32,8 @@ pub fn export_csv<D: Desk, W: Write>(
 ) -> Result<u64, Refusal>
     ensures exported { IfOk result (λ count. (tables : List PlainView) → D.tables desk.old ≡ Some tables →
         IsExported (D.bounds desk.old) (D.splits desk.old) tables count (D.tables desk.new) (W.contents (device writer.old)) (W.contents (device writer.new))) }
-    // On a refusal the first partitions are asked, and no row is changed. Their records are written up to what the cause says.
+    // On a refusal the first partitions are asked, and no row is changed. Their records are written up to what the
+    // cause says.
     ensures cut { IfErr result (λ e. (tables : List PlainView) → D.tables desk.old ≡ Some tables →
         IsExportCut (D.bounds desk.old) (D.splits desk.old) tables e (D.receipts desk.old) (D.receipts desk.new)
         (has_failed writer.old) (has_failed writer.new) (D.tables desk.new) (W.contents (device writer.old)) (W.contents (device writer.new))) }
@@ -60,7 +61,8 @@ pub fn export_csv<D: Desk, W: Write>(
 
 /// The keys of a core's rows are those of their partitions: an export of it leaves no row out. Does nothing.
 pub fn leaves_no_row_out(core: &Core)
-    ensures { rows_from core.now.splits 0 (tables_of core.now.parts) ≡ flat_map (λ (table : PlainView). table.state.rows) (tables_of core.now.parts) }
+    ensures { rows_from core.now.splits 0 (tables_of core.now.parts) ≡
+        flat_map (λ (table : PlainView). table.state.rows) (tables_of core.now.parts) }
 {
     core.facts();
 }
@@ -112,7 +114,9 @@ fn listed(reply: &Reply) -> &[Row]
 fn write_header<W: Write>(alloc: Global, writer: &mut Watched<W>) -> Result<(), Refusal>
     ensures text { OnOk result (Appends (W.contents (device writer.old)) (W.contents (device writer.new)) header_text) }
     ensures unfailed { OnOk result (has_failed writer.new ≡ has_failed writer.old) }
-    ensures cut { IfErr result (λ e. IsUnsent header_text e (has_failed writer.old) (has_failed writer.new) (W.contents (device writer.old)) (W.contents (device writer.new))) }
+    ensures cut { IfErr result (λ e.
+        IsUnsent header_text e (has_failed writer.old) (has_failed writer.new) (W.contents (device writer.old))
+        (W.contents (device writer.new))) }
 {
     match header_text(alloc) {
         Ok(text) => send(writer, text.as_slice()),
@@ -122,9 +126,12 @@ fn write_header<W: Write>(alloc: Global, writer: &mut Watched<W>) -> Result<(), 
 
 /// Writes a record for each of the rows, the text of a batch of them at a time.
 fn write_rows<W: Write>(alloc: Global, rows: &[Row], writer: &mut Watched<W>) -> Result<(), Refusal>
-    ensures text { OnOk result (Appends (W.contents (device writer.old)) (W.contents (device writer.new)) (flat_map record_text rows.now)) }
+    ensures text { OnOk result (Appends (W.contents (device writer.old)) (W.contents (device writer.new))
+        (flat_map record_text rows.now)) }
     ensures unfailed { OnOk result (has_failed writer.new ≡ has_failed writer.old) }
-    ensures cut { IfErr result (λ e. AreUnsent (map record_text rows.now) e (has_failed writer.old) (has_failed writer.new) (W.contents (device writer.old)) (W.contents (device writer.new))) }
+    ensures cut { IfErr result (λ e.
+        AreUnsent (map record_text rows.now) e (has_failed writer.old) (has_failed writer.new)
+        (W.contents (device writer.old)) (W.contents (device writer.new))) }
 {
     let mut done = 0;
     'batches: while done < rows.len() {
@@ -143,9 +150,12 @@ fn write_batch<W: Write>(
     rows: &[Row],
     writer: &mut Watched<W>,
 ) -> Result<(), Refusal>
-    ensures text { OnOk result (Appends (W.contents (device writer.old)) (W.contents (device writer.new)) (flat_map record_text rows.now)) }
+    ensures text { OnOk result (Appends (W.contents (device writer.old)) (W.contents (device writer.new))
+        (flat_map record_text rows.now)) }
     ensures unfailed { OnOk result (has_failed writer.new ≡ has_failed writer.old) }
-    ensures cut { IfErr result (λ e. IsUnsent (flat_map record_text rows.now) e (has_failed writer.old) (has_failed writer.new) (W.contents (device writer.old)) (W.contents (device writer.new))) }
+    ensures cut { IfErr result (λ e.
+        IsUnsent (flat_map record_text rows.now) e (has_failed writer.old) (has_failed writer.new)
+        (W.contents (device writer.old)) (W.contents (device writer.new))) }
 {
     match rows_text(alloc, rows) {
         Ok(text) => send(writer, text.as_slice()),

@@ -15,7 +15,8 @@ use crack_row::{Command, Policy, Refusal};
 use crack_session::Desk;
 use csv::ByteRecord;
 
-/// Inserts the row of the record of this number. Refused with 19 where it brings none, and else as the partition of its key refuses.
+/// Inserts the row of the record of this number. Refused with 19 where it brings none, and else as the partition of
+/// its key refuses.
 pub fn insert_record<D: Desk>(
     desk: &mut D,
     policy: Policy,
@@ -24,7 +25,8 @@ pub fn insert_record<D: Desk>(
 ) -> Result<(), Refusal>
     ensures inserted { OnOk result ((tables : List PlainView) → D.tables desk.old ≡ Some tables →
         BringsRow (D.bounds desk.old) (D.splits desk.old) tables (fields_of fields.now) (D.tables desk.new)) }
-    ensures kept { IfErr result (λ _. (tables : List PlainView) → D.tables desk.old ≡ Some tables → D.tables desk.new ≡ Some tables) }
+    ensures kept { IfErr result (λ _. (tables : List PlainView) → D.tables desk.old ≡ Some tables →
+        D.tables desk.new ≡ Some tables) }
     ensures refused { IfErr result (λ e. (tables : List PlainView) → D.tables desk.old ≡ Some tables →
         Refuses (D.bounds desk.old) (D.splits desk.old) tables number (new_row_of (fields_of fields.now)) e) }
     ensures splits { D.splits desk.new ≡ D.splits desk.old }
@@ -41,7 +43,8 @@ pub fn insert_record<D: Desk>(
 fn insert_row<D: Desk>(desk: &mut D, policy: Policy, row: NewRow) -> Result<(), Refusal>
     ensures inserted { OnOk result ((tables : List PlainView) → D.tables desk.old ≡ Some tables →
         D.tables desk.new ≡ Some (with_row (D.bounds desk.old) (D.splits desk.old) tables row)) }
-    ensures kept { IfErr result (λ _. (tables : List PlainView) → D.tables desk.old ≡ Some tables → D.tables desk.new ≡ Some tables) }
+    ensures kept { IfErr result (λ _. (tables : List PlainView) → D.tables desk.old ≡ Some tables →
+        D.tables desk.new ≡ Some tables) }
     ensures refused { IfErr result (λ e. (tables : List PlainView) → D.tables desk.old ≡ Some tables →
         IsOutcomeAt (D.bounds desk.old) (D.splits desk.old) tables (route (D.splits desk.old) row.key.0) (Insert row.key row.payload) (Err e)) }
     ensures splits { D.splits desk.new ≡ D.splits desk.old }

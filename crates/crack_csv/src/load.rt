@@ -21,11 +21,11 @@ pub struct LoadFault {
     pub loaded: u64,
 }
 
-/// Inserts the row of each record that a reader's bytes are read as, in order, each into the partition of its key, and says how many.
-/// A first record of the fields `key` and `payload` is a header, which is skipped. Records are read with commas and double
-/// quotes; a record of other than two fields, or with a field that isn't a number of 1 to 20 digits in range, a payload's with a
-/// minus sign or without, is refused with 19.
-/// A reader that fails is refused with 17, and so is one record more than `MOST_RECORDS`. One record at a time stands in memory.
+/// Inserts the row of each record that a reader's bytes are read as, in order, each into the partition of its key, and
+/// says how many. A first record of the fields `key` and `payload` is a header, which is skipped. Records are read
+/// with commas and double quotes; a record of other than two fields, or with a field that isn't a number of 1 to 20
+/// digits in range, a payload's with a minus sign or without, is refused with 19. A reader that fails is refused with
+/// 17, and so is one record more than `MOST_RECORDS`. One record at a time stands in memory.
 pub fn load_csv<D: Desk, R: Read + Drop>(
     alloc: Global,
     desk: &mut D,

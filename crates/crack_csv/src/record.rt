@@ -1,5 +1,6 @@
 //! Records of CSV: what they say, and how they are read.
-ghost use Rattle.std.specs.Prelude.{◌≡◌, ◌≢◌, ◌⊎◌, ◌++◌, ◌∷◌, ◌==◌, ◌&&◌, [], ℕ, List, true, false, length, Ok, Err, IfOk, IfErr, IfSome, IfNone};
+ghost use Rattle.std.specs.Prelude.{◌≡◌, ◌≢◌, ◌⊎◌, ◌++◌, ◌∷◌, ◌==◌, ◌&&◌, [], ℕ, List, true, false, length, Ok, Err};
+ghost use Rattle.std.specs.Prelude.{IfOk, IfErr, IfSome, IfNone};
 ghost use Rattle.csv.specs.Reading.{AreRecords, default_config, error_kind};
 ghost use Rattle.csv.specs.Records.{fields_of};
 ghost use Rattle.csv.specs.declared.parser.State.TheVariants as st;
@@ -63,12 +64,14 @@ fn two_fields(fields: &ByteRecord) -> Option<(&[u8], &[u8])>
     }
 }
 
-/// Reads the next record, if there is one. Refused with 17 where the reader failed, and with 8 where no memory was found.
+/// Reads the next record, if there is one. Refused with 17 where the reader failed, and with 8 where no memory was
+/// found.
 pub fn read_next<R: Read>(reader: &mut Reader<R>, fields: &mut ByteRecord) -> Result<bool, Refusal>
     requires { IsReady reader.old }
     ensures ready { IfOk result (λ found. found ≡ true → IsReady reader.new) }
     ensures more { IfOk result (λ found. found ≡ true → (text : List ℕ) (records : List Fields) →
-        IsBehind R.remaining reader.old text records → IsBehind R.remaining reader.new text (records ++ fields_of fields.new ∷ [])) }
+        IsBehind R.remaining reader.old text records →
+        IsBehind R.remaining reader.new text (records ++ fields_of fields.new ∷ [])) }
     ensures end { IfOk result (λ found. found ≡ false → (text : List ℕ) (records : List Fields) →
         IsBehind R.remaining reader.old text records → AreRecords default_config st.StartRecord text records) }
     ensures err { IfErr result (λ e. (e ≡ Refusal.ReadFault) ⊎ (e ≡ Refusal.OutOfMemory)) }
@@ -87,7 +90,7 @@ fn found_or_refused(read: Result<bool, Error>) -> Result<bool, Refusal>
     }
 }
 
-/// The refusal that tells why a record isn't read: 8 where no memory was found, else 17.
+/// The refusal that says why a record isn't read: 8 where no memory was found, else 17.
 fn unread_by(kind: &ErrorKind) -> Refusal
     ensures { result ≡ unread_by kind.now }
 {

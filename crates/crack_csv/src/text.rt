@@ -37,7 +37,8 @@ pub fn rows_text(alloc: Global, rows: &[Row]) -> Result<Vec<u8>, Refusal>
 fn write_row(writer: &mut Writer<Vec<u8>>, row: &Row) -> Result<(), Refusal>
     requires { IsFresh writer.old }
     ensures fresh { OnOk result (IsFresh writer.new) }
-    ensures text { OnOk result (Appends (text_written ⟦<Vec<u8> as Write>⟧.contents writer.old) (text_written ⟦<Vec<u8> as Write>⟧.contents writer.new) (record_text row.now)) }
+    ensures text { OnOk result (Appends (text_written ⟦<Vec<u8> as Write>⟧.contents writer.old)
+        (text_written ⟦<Vec<u8> as Write>⟧.contents writer.new) (record_text row.now)) }
     ensures err { IfErr result (λ e. e ≡ Refusal.OutOfMemory) }
 {
     let mut key = itoa::Buffer::new();
@@ -53,7 +54,9 @@ fn write_row(writer: &mut Writer<Vec<u8>>, row: &Row) -> Result<(), Refusal>
 fn write_record(writer: &mut Writer<Vec<u8>>, first: &[u8], second: &[u8]) -> Result<(), Refusal>
     requires { IsFresh writer.old }
     ensures fresh { OnOk result (IsFresh writer.new) }
-    ensures text { OnOk result (Appends (text_written ⟦<Vec<u8> as Write>⟧.contents writer.old) (text_written ⟦<Vec<u8> as Write>⟧.contents writer.new) (row_text default_writer (first.now ∷ second.now ∷ []))) }
+    ensures text { OnOk result (Appends (text_written ⟦<Vec<u8> as Write>⟧.contents writer.old)
+        (text_written ⟦<Vec<u8> as Write>⟧.contents writer.new)
+        (row_text default_writer (first.now ∷ second.now ∷ []))) }
     ensures err { IfErr result (λ e. e ≡ Refusal.OutOfMemory) }
 {
     match writer.write_fields(&[first, second]) {

@@ -45,7 +45,7 @@ fn assert_load(
     Ok(())
 }
 
-/// A load that is to be refused for the record of this number, behind so many rows.
+/// A load that is to be refused for the record of this number, after so many rows.
 fn assert_bad(
     rt: &impl Abort,
     alloc: Global,

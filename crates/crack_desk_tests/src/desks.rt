@@ -39,7 +39,8 @@ piece 0 10 0\npiece 10 11 1\npiece 11 50 0\npiece 50 60 0\npiece 60 100 2\nbye\n
 /// The one partition of all keys.
 static UNDIVIDED: [Bound; 0] = [];
 
-/// A row of the range 10 to 20 pends, and one outside it, over bounds that stand at one place: by the complete merge both are put in.
+/// A row of the range 10 to 20 pends, and one outside it, over bounds that stand at one place: by the complete merge
+/// both are put in.
 static COMPLETE: &[u8] =
     b"policy complete\ninsert 10 1\ninsert 40 4\ncount 0 18446744073709551616\ncount 20 30\n\
 insert 15 5\ninsert 50 6\ncount 10 20\nlayout 0\n";

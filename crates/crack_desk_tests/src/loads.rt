@@ -12,7 +12,8 @@ use std::test::Fail;
 /// A header and two records.
 static RECORDS: &[u8] = b"key,payload\n150,6\n50,5\n";
 
-/// How the load of so many of these bytes is to end: the number of a bad record, or 0 where there is none, and how many rows are loaded.
+/// How the load of so many of these bytes is to end: the number of a bad record, or 0 where there is none, and how
+/// many rows are loaded.
 static ENDS: [(u64, u64); 24] = [
     (0, 0),
     (1, 0),

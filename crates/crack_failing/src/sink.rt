@@ -16,7 +16,7 @@ pub struct Sink {
 }
 
 impl Sink {
-    /// A writer that takes all that it is given, behind the bytes that are there, and never fails but where it finds no
+    /// A writer that takes all that it is given, after the bytes that are there, and never fails but where it finds no
     /// memory for them.
     pub fn new(bytes: Vec<u8>) -> Sink
         ensures bytes { result.bytes ≡ bytes }
@@ -38,7 +38,7 @@ impl Sink {
         Sink { most, ..self }
     }
 
-    /// The same writer, whose k-th call, from 1, fails, as does each behind it. A failed call takes no bytes.
+    /// The same writer, whose k-th call, from 1, fails, as does each after it. A failed call takes no bytes.
     pub fn failing_at(self, k: u64) -> Sink
         ensures { result ≡ record self { fails_at = k } }
     {
@@ -48,14 +48,14 @@ impl Sink {
         }
     }
 
-    /// The bytes that it took, behind those that were there.
+    /// The bytes that it took, after those that were there.
     pub fn bytes(&self) -> &[u8]
         ensures { result.now ≡ self.now.bytes.items }
     {
         self.bytes.as_slice()
     }
 
-    /// The bytes that it took, behind those that were there.
+    /// The bytes that it took, after those that were there.
     pub fn into_bytes(self) -> Vec<u8>
         ensures { result ≡ self.bytes }
     {

@@ -44,7 +44,7 @@ impl<'a> Source<'a> {
         Source { sizes, ..self }
     }
 
-    /// The same reader, whose k-th read, from 1, fails, as does each behind it. A failed read takes no bytes.
+    /// The same reader, whose k-th read, from 1, fails, as does each after it. A failed read takes no bytes.
     pub fn failing_at(self, k: u64) -> Source<'a>
         ensures fails { result.fails_at ≡ k }
         ensures bytes { result.bytes.now ≡ self.entry.bytes.now }
@@ -85,7 +85,8 @@ impl Read for Source<'_> {
         ensures fails { is_ok result ≡ nat_lt self.new.reads self.old.fails_at }
         ensures reads { self.new.reads ≡ min (self.old.reads + 1) (2 ^ 64 - 1) }
         ensures kept { (self.new.fails_at ≡ self.old.fails_at) × (self.new.sizes.now ≡ self.old.sizes.now) }
-        ensures gives { IfOk result (λ n. n ≡ min (min (length buf.old) (most_at self.old.sizes.now self.old.reads)) (length self.old.bytes.now)) }
+        ensures gives { IfOk result (λ n.
+            n ≡ min (min (length buf.old) (most_at self.old.sizes.now self.old.reads)) (length self.old.bytes.now)) }
         ensures rest { IfOk result (λ n. self.new.bytes.now ≡ drop n self.old.bytes.now) }
     {
         let most = self.most();

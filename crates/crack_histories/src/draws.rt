@@ -69,11 +69,11 @@ pub struct Question {
     pub asked: Asked,
 }
 
-/// The questions of one worker: they depend on its seed, and on the serials that it was told.
+/// The questions of one worker: they depend on its seed, and on the serials that it was answered.
 #[derive(Drop)]
 pub struct Draws {
     numbers: Numbers,
-    /// The serial of the last row that it was told of, in each partition.
+    /// The serial of the last row that it was answered, in each partition.
     last: [u64; PARTS],
 }
 
@@ -91,7 +91,8 @@ impl Draws {
         }
     }
 
-    /// The next question. One of 64 asks a partition that isn't there, and one of 32 that bring a key may bring one of another partition.
+    /// The next question. One of 64 asks a partition that isn't there, and one of 32 that bring a key may bring one of
+    /// another partition.
     pub fn next(&mut self) -> Question {
         let part = match self.numbers.below(64) {
             0 => PARTS as u32,

@@ -1,12 +1,13 @@
 //! Workers on threads of their own ask a table of three partitions seeded random commands, and are gathered:
-//! `crack_histories SEED WORKERS STATEMENTS POLICY LIMIT CELLS LIFE`. STATEMENTS are those of each worker, LIMIT is that of each history, CELLS and LIFE are
-//! the other limits of each partition.
+//! `crack_histories SEED WORKERS STATEMENTS POLICY LIMIT CELLS LIFE`. STATEMENTS are those of each worker, LIMIT is
+//! that of each history, CELLS and LIFE are the other limits of each partition.
 //!
-//! It writes for each worker, behind `worker W`, what it asked and what it was answered, and behind `receipts W` its receipts; then for each
-//! partition, behind `partition P`, the entries of its history, where it was folded `partition P folded N inserted I deleted D rows R` and R lines
-//! `P.S K V` before them; and the totals. What is asked is written as a session's statement, with the
-//! partition's number before it, in a receipt the position and the worker besides, and in an entry the worker alone; the lines of the reply follow.
-//! A gathering that is refused ends the run with its refusal, in place of the histories.
+//! It writes for each worker, after `worker W`, what it asked and what it was answered, and after `receipts W` its
+//! receipts; then for each partition, after `partition P`, the entries of its history, where it was folded `partition
+//! P folded N inserted I deleted D rows R` and R lines `P.S K V` before them; and the totals. What is asked is written
+//! as a session's statement, with the partition's number before it, in a receipt the position and the worker besides,
+//! and in an entry the worker alone; the lines of the reply follow. A gathering that is refused ends the run with its
+//! refusal, in place of the histories.
 #![tactic(auto)]
 
 mod draws;

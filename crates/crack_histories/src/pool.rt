@@ -77,7 +77,7 @@ impl Hand {
         self.cut = write_checkpoint(part, &told, &mut text).is_err() || self.cut;
     }
 
-    /// The same worker behind its commands.
+    /// The same worker after its commands.
     fn worked<R: Wait>(mut self, rt: &R, table: &Table, gate: &Restless, plan: Plan) -> Hand {
         gate.begin_together(plan.workers);
         'statements: for _ in 0..plan.statements {
@@ -136,7 +136,7 @@ impl Pool {
         Ok(())
     }
 
-    /// Writes what the workers asked and were answered, a worker behind the other.
+    /// Writes what the workers asked and were answered, one worker after the other.
     pub fn write<W: Write>(&self, writer: &mut Watched<W>) -> Result<(), Refusal> {
         'hands: for hand in self.hands.iter() {
             hand.write(writer)?;
@@ -177,7 +177,7 @@ fn workers_of(alloc: Global, hands: Vec<Hand>) -> Result<Vec<Worker>, AllocError
     Ok(workers)
 }
 
-/// Writes the histories, a partition behind the other, and the totals.
+/// Writes the histories, one partition after the other, and the totals.
 pub fn write_closed<W: Write>(closed: &Closed, writer: &mut Watched<W>) -> Result<(), Refusal> {
     let mut part = 0u32;
     'parts: for partition in closed.parts.iter() {

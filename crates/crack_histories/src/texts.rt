@@ -1,4 +1,5 @@
-//! Questions and answers as lines: a statement, and behind it the lines of its reply. Refused with 18 where the writer fails.
+//! Questions and answers as lines: a statement, and after it the lines of its reply. Refused with 18 where the writer
+//! fails.
 
 use crack_commands::{write_folded, write_refusal, write_reply, write_row};
 use crack_core::Receipt;
@@ -85,7 +86,7 @@ pub fn write_answer<W: Write>(
     }
 }
 
-/// Writes that a partition was asked for a checkpoint, and what it told.
+/// Writes that a partition was asked for a checkpoint, and what that reported.
 pub fn write_checkpoint<W: Write>(
     part: u32,
     told: &Result<u64, Refusal>,
@@ -98,7 +99,8 @@ pub fn write_checkpoint<W: Write>(
     }
 }
 
-/// Writes a partition's number, and its base where something was folded: how many entries went, how many of them placed a row and took one out, and the rows.
+/// Writes a partition's number, and its base where something was folded: how many entries went, how many of them
+/// placed a row and took one out, and the rows.
 pub fn write_base<W: Write>(
     part: u32,
     partition: &Partition,

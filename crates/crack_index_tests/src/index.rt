@@ -234,7 +234,7 @@ fn a_step_down_goes_to_the_place_before(rt: HostRuntime) {
     drop(index);
 }
 
-/// Keeps the sum of the places that it is told, and goes on as long as it was told fewer than so many.
+/// Keeps the sum of the places that it is given, and goes on as long as it was given fewer than so many.
 #[derive(Clone, Copy)]
 struct Sums {
     told: u32,

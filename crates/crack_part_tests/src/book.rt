@@ -27,7 +27,7 @@ fn assert_receipt(rt: &impl Abort, receipt: &Receipt) {
     assert!(rt; matches!(receipt.reply, Reply::Placed(Serial(0))));
 }
 
-/// Asks for an insert, which the receipt tells.
+/// Asks for an insert, which the receipt shows.
 fn insert_first(
     rt: &impl Abort,
     book: &mut Book,

@@ -46,7 +46,7 @@ fn assert_opened(rt: &impl Abort, partition: &Partition) {
     assert!(rt; partition.history().is_empty());
 }
 
-/// Inserts key 7 as the first row, which the reply and its receipt tell.
+/// Inserts key 7 as the first row, which the reply and its receipt show.
 fn insert_first(rt: &impl Abort, partition: &mut Partition) -> Result<(), Refusal> {
     let (reply, receipt) = ask(partition, insert(7))?;
     assert!(rt; matches!(reply, Reply::Placed(Serial(0))));
@@ -54,7 +54,7 @@ fn insert_first(rt: &impl Abort, partition: &mut Partition) -> Result<(), Refusa
     Ok(())
 }
 
-/// Counts the only row, which the reply and its receipt tell.
+/// Counts the only row, which the reply and its receipt show.
 fn count_first(rt: &impl Abort, partition: &mut Partition) -> Result<(), Refusal> {
     let (reply, receipt) = ask(partition, Command::Count(KeyRange::all()))?;
     assert!(rt; matches!(reply, Reply::Counted(1)));

@@ -148,7 +148,7 @@ fn plain_table_adds_up_below_0(rt: HostRuntime) -> Result<(), Refusal> {
     told
 }
 
-/// A checkpoint tells what came since the last one, and changes no row.
+/// A checkpoint reports what came since the last one, and changes no row.
 #[test]
 fn plain_table_counts_since_its_checkpoint(rt: HostRuntime) -> Result<(), Refusal> {
     let mut table = PlainTable::new(rt.alloc());

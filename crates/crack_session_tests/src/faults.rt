@@ -8,7 +8,7 @@ use std::alloc::Global;
 use std::process::Abort;
 use std::test::Fail;
 
-/// Statements, one of them behind a blank line.
+/// Statements, one of them after a blank line.
 static LINES: [&[u8]; 10] = [
     b"insert 7 70\n",
     b"\r\n  insert   009   90  \r\n",
@@ -22,7 +22,7 @@ static LINES: [&[u8]; 10] = [
     b"sum 0 10\n",
 ];
 
-/// What they are told.
+/// What they are answered.
 static REPLIES: [&[u8]; 10] = [
     b"row 0.0\n",
     b"row 0.1\n",
@@ -36,7 +36,7 @@ static REPLIES: [&[u8]; 10] = [
     b"sum 90\n",
 ];
 
-/// All parts, one behind the other.
+/// All parts, one after the other.
 pub fn joined(alloc: Global, parts: &[&[u8]]) -> Result<Vec<u8>, Fail> {
     let mut all = Vec::new(alloc);
     for part in parts {
@@ -102,8 +102,8 @@ fn assert_whole(rt: &impl Abort, seen: &Seen, replies: &[u8]) {
     assert_eq!(rt; seen.result, Ok(ends(How::InputEnded, 10)));
 }
 
-/// Asserts that as many statements are done as are answered whole, and that what is written is a front of all replies; says how many bytes
-/// the whole ones are.
+/// Asserts that as many statements are done as are answered whole, and that what is written is a front of all replies;
+/// says how many bytes the whole ones are.
 fn assert_cut_off(rt: &impl Abort, seen: &Seen, refusal: Refusal, replies: &[u8]) -> usize {
     let written = seen.text.len();
     assert!(rt; replies.starts_with(seen.text.as_slice()));
@@ -216,14 +216,14 @@ fn a_writer_fails_at_each_call(rt: HostRuntime) -> Result<(), Fail> {
     }
     Ok(())
 }
-/// Asserts that a device failed, and that the session was cut short so, behind this text.
+/// Asserts that a device failed, and that the session was cut short so, after this text.
 fn assert_fault(rt: &impl Abort, seen: &Seen, text: &[u8], fault: Fault) {
     assert!(rt; seen.failed);
     assert_eq!(rt; seen.text.as_slice(), text);
     assert_eq!(rt; seen.result, Err(fault));
 }
 
-/// The third reply is the writer's fourth call, behind a flush.
+/// The third reply is the writer's fourth call, after a flush.
 #[test]
 fn writer_fails_in_the_third_reply(rt: HostRuntime) {
     let source = Source::new(b"insert 1 1\ninsert 2 2\nfoo\nquit\n");

@@ -8,7 +8,7 @@ use std::alloc::Global;
 use std::process::Abort;
 use std::test::Fail;
 
-/// A line that is to be told this, by reads of these sizes.
+/// A line that is to be answered so, by reads of these sizes.
 fn assert_line(
     rt: &impl Abort,
     alloc: Global,
@@ -23,7 +23,7 @@ fn assert_line(
     assert_told(rt, alloc, core, reader, text, end)
 }
 
-/// Lines that are to be told this each.
+/// Lines that are to be answered so each.
 fn assert_each(rt: &impl Abort, alloc: Global, lines: &[&[u8]], text: &[u8]) -> Result<(), Fail> {
     for line in lines {
         assert_line(rt, alloc, line, text, &[])?;
@@ -115,7 +115,7 @@ fn payloads_have_a_sign(rt: HostRuntime) -> Result<(), Fail> {
     assert_each(&rt, rt.alloc(), &updates, b"none\n")
 }
 
-/// A line of `insert 1 1`, filled with spaces to the greatest length, and so much more behind it.
+/// A line of `insert 1 1`, filled with spaces to the greatest length, and so much more after it.
 fn filled(alloc: Global, more: &[u8]) -> Result<Vec<u8>, Fail> {
     let mut line = Vec::from_slice(alloc, b"insert 1 1")?;
     line.resize(LINE_BYTES, b' ')?;

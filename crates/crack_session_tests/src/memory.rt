@@ -1,6 +1,7 @@
 //! Sessions that find no memory for a statement: what was refused changed nothing.
 //!
-//! The tests `sweep_..` hold whichever one of their allocations is refused, so they may be run with each of them refused in turn.
+//! The tests `sweep_..` hold whichever one of their allocations is refused, so they may be run with each of them
+//! refused in turn.
 use crate::desks::{Refusing, Starved};
 use crate::faults::joined;
 use crate::session::{assert_run, session};
@@ -86,7 +87,8 @@ fn a_want_of_memory_stops_nothing(rt: HostRuntime) -> Result<(), Fail> {
     Ok(())
 }
 
-/// What a desk is told to one line by a policy, and whether that is a want of room. Room for the text is found at the second time.
+/// What a desk is answered to one line by a policy, and whether that is a want of room. Room for the text is found at
+/// the second time.
 fn told<D: Desk>(
     rt: &impl Abort,
     alloc: Global,
@@ -105,8 +107,8 @@ fn told<D: Desk>(
     }
 }
 
-/// Asserts that each cell stands in one place, that the rows are those of the column less the doomed ones and more the pending ones, and that
-/// the pieces are all of the column.
+/// Asserts that each cell stands in one place, that the rows are those of the column less the doomed ones and more the
+/// pending ones, and that the pieces are all of the column.
 fn assert_layout(rt: &impl Abort, layout: &Layout) {
     let whole = layout.pieces.as_slice().iter().map(|piece| piece.size);
     assert_eq!(rt;

@@ -299,7 +299,8 @@ const ROWS_TOLD: &str =
     "row 0.0\nrow 0.1\nrow 0.2\nrow 0.3\nrow 0.4\nrow 0.5\nrow 0.6\nrow 0.7\nrow 0.8\nrow 0.9\nrow 0.10\n\
 row 0.11\nrow 0.12\nrow 0.13\nrow 0.14\nrow 0.15\nrow 0.16\nrow 0.17\nrow 0.18\nrow 0.19\nrow 0.20\nrow 0.21\ncount 1\n";
 
-/// One pending insertion beside 22 rows in three pieces is few: room for it is made near the range. Two are many: all are merged.
+/// One pending insertion beside 22 rows in three pieces is few: room for it is made near the range. Two are many: all
+/// are merged.
 #[test]
 fn auto_makes_room_where_few_rows_are_pending(rt: HostRuntime) -> Result<(), Fail> {
     let more =

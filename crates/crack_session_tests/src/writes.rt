@@ -21,7 +21,7 @@ fn insert_often(alloc: Global) -> Result<Vec<u8>, Fail> {
 }
 
 /// Asserts that there are several writes, no more of them than reads and one, a flush before each read and at the end,
-/// and nothing behind the last flush.
+/// and nothing after the last flush.
 fn assert_few_writes(rt: &impl Abort, log: &Log) {
     let most = log.reads.get().saturating_add(1);
     let writes = log.writes.get();
@@ -29,7 +29,8 @@ fn assert_few_writes(rt: &impl Abort, log: &Log) {
     assert_eq!(rt; [log.flushes.get(), log.left.get() as u64], [most, 0]);
 }
 
-/// Asserts that each read asked for 4,096 bytes, and once each whole line was answered; each line of so many is in the end.
+/// Asserts that each read asked for 4,096 bytes, and once each whole line was answered; each line of so many is in the
+/// end.
 fn assert_orderly(rt: &impl Abort, log: &Log, lines: usize) {
     assert!(rt; log.is_orderly.get());
     assert_eq!(rt; log.answered.get(), lines);
@@ -107,7 +108,8 @@ fn quit_it(rt: &impl Abort, alloc: Global, log: &Log) {
     assert!(rt; !reader.failed());
 }
 
-/// Behind `quit` nothing is read, and what is written is handed on: there is one read, with a flush before it and one at the end.
+/// Behind `quit` nothing is read, and what is written is handed on: there is one read, with a flush before it and one
+/// at the end.
 #[test]
 fn quit_reads_no_more_and_hands_on(rt: HostRuntime) {
     let log = Log::new();

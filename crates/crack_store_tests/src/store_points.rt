@@ -41,7 +41,7 @@ fn doom(rt: &impl Abort, store: &mut Store, gone: Row) {
     assert_eq!(rt; store.pending_out(), doomed + 1);
 }
 
-/// Removes a row by its serial, and tells what came back.
+/// Removes a row by its serial, and returns what came back.
 fn remove(rt: &impl Abort, store: &mut Store, serial: u64) -> Option<Row> {
     let freed = store.freed();
     let doomed = store.pending_out();
@@ -50,7 +50,7 @@ fn remove(rt: &impl Abort, store: &mut Store, serial: u64) -> Option<Row> {
     store.remove(Serial(serial)).expect(rt, "memory")
 }
 
-/// Puts a row in the place of the one of its serial in a store of all keys, and tells the row as it was.
+/// Puts a row in the place of the one of its serial in a store of all keys, and returns the row as it was.
 fn replace(rt: &impl Abort, store: &mut Store, new: Row) -> Option<Row>
     requires low { store.old.keys.low ≡ 0 }
     requires high { store.old.keys.high ≡ GREATEST_BOUND }

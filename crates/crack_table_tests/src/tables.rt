@@ -43,7 +43,8 @@ fn four() -> [Bound; 3] {
     ]
 }
 
-/// Whether a worker that asks each of four partitions for a count is refused 7 by the one at which the gate says no, and answered by the others.
+/// Whether a worker that asks each of four partitions for a count is refused 7 by the one at which the gate says no,
+/// and answered by the others.
 fn is_kept_out_there<R: Wait>(rt: &R, worker: &mut Worker, table: &Table, shut: u32) -> bool {
     let gate = ShutAt { part: shut };
     let mut fine = true;
@@ -75,7 +76,7 @@ fn a_gate_shut_at_one_partition_refuses_it_alone(rt: HostRuntime) -> Result<(), 
     Ok(())
 }
 
-/// How many rows a layout tells of.
+/// How many rows a layout reports.
 fn rows_of(layout: Result<Layout, Refusal>) -> Option<u64> {
     match layout {
         Ok(layout) => Some(layout.rows),
@@ -237,7 +238,8 @@ fn insert_rows<R: Wait>(rt: &R, worker: &mut Worker, table: &Table, part: u32) -
     fine
 }
 
-/// A checkpoint folds the partition that it names, and no other: each still counts its own entries, in whatever order they are folded.
+/// A checkpoint folds the partition that it names, and no other: each still counts its own entries, in whatever order
+/// they are folded.
 #[test]
 fn a_checkpoint_folds_its_own_partition_alone(rt: HostRuntime) -> Result<(), Fail> {
     let alloc: Global = rt.alloc();

@@ -8,7 +8,7 @@ use std::sync::Wait;
 use std::test::Fail;
 use std::thread;
 
-/// Inserts a key behind the gate, and tells whether it was placed first.
+/// Inserts a key behind the gate, and returns whether it was placed first.
 fn meet<R: Wait>(
     rt: &R,
     mut worker: Worker,
@@ -22,7 +22,8 @@ fn meet<R: Wait>(
     (worker, placed)
 }
 
-/// A table whose partitions are asked one after the other, or under one lock, never lets both threads inside: they are refused 7.
+/// A table whose partitions are asked one after the other, or under one lock, never lets both threads inside: they are
+/// refused 7.
 #[test]
 fn two_partitions_at_once(rt: HostRuntime) -> Result<(), Fail> {
     let alloc: Global = rt.alloc();
@@ -42,7 +43,7 @@ fn two_partitions_at_once(rt: HostRuntime) -> Result<(), Fail> {
     Ok(())
 }
 
-/// Inserts a key into partition 0 behind the gate, and tells whether it was placed.
+/// Inserts a key into partition 0 behind the gate, and returns whether it was placed.
 fn enter<R: Wait>(
     rt: &R,
     mut worker: Worker,
@@ -75,8 +76,8 @@ fn one_partition_lets_one_inside(rt: HostRuntime) -> Result<(), Fail> {
     Ok(())
 }
 
-/// Inserts 1000 rows into partition 0 behind a gate that notes the worker, and finds for each row whether the note at its place in the
-/// history, which is its serial, is the worker's.
+/// Inserts 1000 rows into partition 0 behind a gate that notes the worker, and finds for each row whether the note at
+/// its place in the history, which is its serial, is the worker's.
 fn enter_noted<R: Wait>(
     rt: &R,
     mut worker: Worker,
@@ -94,8 +95,8 @@ fn enter_noted<R: Wait>(
     (worker, fine)
 }
 
-/// Were the lock let go between the gate's yes and the command, another worker's note would stand at some row's place; were the gate asked
-/// twice for a command, there would be more notes than rows.
+/// Were the lock let go between the gate's yes and the command, another worker's note would stand at some row's place;
+/// were the gate asked twice for a command, there would be more notes than rows.
 #[test]
 fn each_command_is_let_in_once_and_follows_at_once(rt: HostRuntime) -> Result<(), Fail> {
     let alloc: Global = rt.alloc();
@@ -153,7 +154,8 @@ fn four_workers_fill_one_history(rt: HostRuntime) -> Result<(), Fail> {
     Ok(())
 }
 
-/// Inserts the worker's key of this number, into the partitions in turn; of each fourth row it is the last that is deleted again.
+/// Inserts the worker's key of this number, into the partitions in turn; of each fourth row it is the last that is
+/// deleted again.
 fn insert_one<R: Wait>(rt: &R, worker: &mut Worker, table: &Table, own: u16, number: u16) -> bool {
     let part = u32::from(number % 2);
     let key = part * 1000000 + u32::from(own) + u32::from(number);
@@ -180,7 +182,8 @@ fn shows_own_rows(layout: &Layout) -> bool {
     }
 }
 
-/// Whether the worker sees its own rows in partition 0, by a layout and by a count of a key that it alone inserted, once.
+/// Whether the worker sees its own rows in partition 0, by a layout and by a count of a key that it alone inserted,
+/// once.
 fn sees_own_rows<R: Wait>(rt: &R, worker: &mut Worker, table: &Table, own: u16) -> bool {
     let shown = match worker.layout(rt, table, 0) {
         Ok(layout) => shows_own_rows(&layout),
@@ -210,7 +213,7 @@ fn work<R: Wait>(rt: &R, mut worker: Worker, table: &Table) -> (Worker, bool) {
     (worker, placed && seen)
 }
 
-/// Whether a worker that folds both partitions is told that they were.
+/// Whether a worker that folds both partitions is answered that they were.
 fn folds_both<R: Wait>(rt: &R, worker: &Worker, table: &Table) -> bool {
     worker.checkpoint(rt, table, 0).is_ok() && worker.checkpoint(rt, table, 1).is_ok()
 }
