@@ -1,10 +1,15 @@
--- A store may go to another thread.
+-- A store, commands, replies and a partition may go to another thread: level by level, since one search through all of them runs out of steps.
 use denote.Param.Send.{IsSend, struct_send, sendable}
 use denote.Struct.Declared.{shape}
 use Rattle.std.proofs.Crossing.{crosses}
+use Rattle.crack_row.specs.contracts.command.Command as Command
+use Rattle.crack_row.specs.contracts.command.Entry as Entry
+use Rattle.crack_row.specs.contracts.command.Reply as Reply
 use Rattle.crack_store.proofs.Crosses.{index-send}
 use Rattle.crack_store.specs.contracts.inside.Inside as Inside
 use Rattle.crack_store.specs.contracts.store.Store as Store
+use Rattle.crack_part.specs.contracts.partition.Partition as Partition
+use Rattle.crack_part.specs.contracts.partition.Partition.TheInside as part
 
 -- keys, arena, column, index, pending_in, pending_out, in_room, notes, serials, tally
 inside-send : IsSend Inside.the_field.row
@@ -30,3 +35,22 @@ inside-send = struct_send (shape Inside.the_type) (
 
 pub store-send : IsSend Store.the_row
 store-send = let i = inside-send in search (sendable, crosses) depth 20
+
+pub command-send : IsSend Command.the_field.row
+command-send = search (sendable, crosses) depth 30
+
+pub reply-send : IsSend Reply.the_field.row
+reply-send = search (sendable, crosses) depth 30
+
+-- worker, command, reply
+entry-send : IsSend Entry.the_field.row
+entry-send = struct_send (shape Entry.the_type) (search sendable depth 30, (command-send, (reply-send, tt)))
+
+-- alloc, keys, limits, next, store, base, history
+part-send : IsSend part.the_field.row
+part-send =
+    let e = entry-send in
+    struct_send (shape part.the_type) (search (sendable, crosses) depth 30, (search (sendable, crosses) depth 30, (search (sendable, crosses) depth 30, (search (sendable, crosses) depth 30, (store-send, (search (sendable, crosses) depth 30, (search (sendable, crosses) depth 30, tt)))))))
+
+pub partition-send : IsSend Partition.the_row
+partition-send = let p = part-send in search (sendable, crosses) depth 30

@@ -5,5 +5,6 @@ mod history;
 pub mod partition;
 mod reads;
 mod replies;
+pub mod totals;
 
 pub use partition::Partition;

@@ -61,8 +61,8 @@ pub struct Partition {
     alloc: Global,
     keys: KeyRange,
     limits: Limits,
-    next: u64,
-    store: Store,
+    pub(crate) next: u64,
+    pub(crate) store: Store,
     base: Base,
     history: Vec<Entry>,
 }

@@ -6,8 +6,8 @@ mod Opens
 mod Lates
 mod Conclusions
 mod Counting
-mod Totals
-mod Missing
+pub mod Totals
+pub mod Missing
 mod Refusing
 mod Others
 mod RepeatLaws

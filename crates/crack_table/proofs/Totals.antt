@@ -92,14 +92,14 @@ pub held_are : (placed gone left : ℕ) → left + gone ≡ placed → pos left 
 held_are placed gone left e = sym (ap (λ (n : ℕ). pos n -ℤ pos gone) (sym e) ∙ +ℤ-neg_ℤ_cancel (pos left) (pos gone))
 
 -- bounds
-accepted-bound : (parts : List Part) → All IsSound parts → sum_by (λ (p : Part). accepted_in p.past) parts ≤ length parts * 1099511627776
+pub accepted-bound : (parts : List Part) → All IsSound parts → sum_by (λ (p : Part). accepted_in p.past) parts ≤ length parts * 1099511627776
 accepted-bound [] all = omega arith
 accepted-bound (p ∷ ps) all =
     let here = accepted-le-life p (All-head IsSound p ps all) in
     let rest = accepted-bound ps (All-tail IsSound p ps all) in
     omega (arith, here, rest, sum_by-cons (λ (p : Part). accepted_in p.past) p ps)
 
-inserted-bound : (parts : List Part) → All IsSound parts → sum_by (λ (p : Part). inserted_in p.past) parts ≤ sum_by (λ (p : Part). accepted_in p.past) parts
+pub inserted-bound : (parts : List Part) → All IsSound parts → sum_by (λ (p : Part). inserted_in p.past) parts ≤ sum_by (λ (p : Part). accepted_in p.past) parts
 inserted-bound [] all = omega arith
 inserted-bound (p ∷ ps) all =
     let here = inserted_in-le-accepted p.past (All-head IsSound p ps all).legal.base in

@@ -81,7 +81,7 @@ fn first_other(splits: &[Bound], limits: Limits, parts: &Vec<Partition>) -> Opti
 }
 
 /// Whether a partition has the keys of its number and these limits.
-fn is_tables(splits: &[Bound], limits: Limits, part: usize, partition: &Partition) -> bool
+pub fn is_tables(splits: &[Bound], limits: Limits, part: usize, partition: &Partition) -> bool
     requires rising { AreSplits splits.now }
     requires there { part ≤ length splits.now }
     ensures { IsTrue result ↔ IsTables splits.now limits part partition.now }

@@ -30,7 +30,7 @@ impl Gate for OpenGate {
 }
 
 /// Asks a gate until it says yes. Refused with 7 where it says no at each turn.
-pub(crate) fn pass<G: Gate>(gate: &G, part: u32) -> Result<(), Refusal>
+pub fn pass<G: Gate>(gate: &G, part: u32) -> Result<(), Refusal>
     ensures cause { IfErr result (λ e. e ≡ Refusal.GateGaveUp) }
     ensures turns { IfErr result (λ _. (turn : ℕ) → turn < GATE_TURNS → G.may_refuse gate.now part turn) }
 {

@@ -159,7 +159,7 @@ fn missing_workers(workers: &Vec<Worker>, count: u64) -> u64
 }
 
 /// The bit, unless the worker is there.
-fn bit_unless(is_there: bool, bit: u64) -> u64
+pub fn bit_unless(is_there: bool, bit: u64) -> u64
     ensures is { result ≡ (if is_there then 0 else bit) }
     ensures small { result ≤ bit }
 {

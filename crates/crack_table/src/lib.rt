@@ -1,7 +1,7 @@
 //! A table of partitions, each under a lock of its own; the workers that ask it, each with its receipts; and whether these cover what the partitions lived through.
 #![tactic(auto)]
 
-mod account;
+pub mod account;
 mod asking;
 pub mod covering;
 mod gaps;

@@ -106,7 +106,7 @@ impl Table {
 }
 
 /// The first fault of an opening.
-fn fault(splits: &[Bound], limits: Limits, workers: u64) -> Option<Refusal>
+pub fn fault(splits: &[Bound], limits: Limits, workers: u64) -> Option<Refusal>
     ensures value { result ≡ table_fault splits.now limits workers }
     ensures good { result ≡ None → AreSplits splits.now × AreLimits limits × (workers ≤ 64) }
 {

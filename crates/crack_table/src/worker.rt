@@ -95,7 +95,7 @@ impl Worker {
 }
 
 /// What came of asking, with the table's limit where it tells of a full history: a lock tells nothing of its partition's own.
-fn with_table_limit(answered: Result<Reply, Refusal>, limit: u64) -> Result<Reply, Refusal>
+pub fn with_table_limit(answered: Result<Reply, Refusal>, limit: u64) -> Result<Reply, Refusal>
     ensures { MatchResult answered (λ reply. result ≡ Ok reply) (λ e. result ≡ Err (with_limit limit e)) }
 {
     match answered {

@@ -1,5 +1,5 @@
 -- The history of each owner in the events of a book, and what a partition keeps of it.
-use Rattle.std.specs.Prelude.{◌≡◌, ◌≢◌, ℕ, ◌==◌, ◌<◌, List, [], ◌∷◌, ◌++◌, Option, Some, None, filter, if◌then◌else◌}
+use Rattle.std.specs.Prelude.{◌≡◌, ◌≢◌, ℕ, ◌==◌, ◌<◌, List, [], ◌∷◌, ◌++◌, All, Option, Some, None, filter, if◌then◌else◌}
 use Rattle.crack_row.specs.declared.command.Entry.{Entry}
 use Rattle.crack_plain.specs.Plain.{AreReplies, no_rows}
 use Rattle.crack_plain.specs.Past.{Past, no_base, base_after}
@@ -30,6 +30,10 @@ AreEmpty log = (owner : ℕ) → history_of owner log ≡ []
 -- the entries of one worker, in order
 abbrev pub calls_by : ℕ → List Entry → List Entry
 calls_by worker es = filter (λ (e : Entry). e.worker == worker) es
+
+-- each entry is of a worker whose number is below this
+abbrev pub AreOfWorkers : ℕ → List Entry → Type 0
+AreOfWorkers workers es = All (λ (e : Entry). e.worker < workers) es
 
 -- the entries of one worker in the history of a partition, as far as these events have it
 abbrev pub calls_at : (ℕ → ℕ) → ℕ → ℕ → List Event → List Entry

@@ -7,7 +7,7 @@ ghost use Rattle.crack_plain.specs.Plain.{IsSmall, reply_to};
 ghost use Rattle.crack_part.specs.Parts.{IsSound, state_of, folded_part, Serves, Spares};
 ghost use Rattle.crack_part.specs.Refusals.{refusal_of};
 ghost use Rattle.crack_part.specs.Upkeep.{upkept};
-ghost use Rattle.crack_witness.specs.Histories.{history_of, calls_by, AreHistories, IsPastOf};
+ghost use Rattle.crack_witness.specs.Histories.{history_of, calls_by, AreHistories, AreOfWorkers, IsPastOf};
 ghost use Rattle.crack_witness.specs.Witnesses.{IsNewAt, IsInStep, MayRefuseIt};
 ghost use Rattle.crack_witness.specs.Keeps.{IsOwnerAt};
 
@@ -29,7 +29,7 @@ pub struct Witnessed<J: Naming> {
 
 impl<J: Naming> Model for Witnessed<J> {
     ghost use Rattle.std.specs.Prelude.{length};
-    ghost use Rattle.crack_witness.specs.Histories.{history_of, IsPastOf};
+    ghost use Rattle.crack_witness.specs.Histories.{history_of, AreOfWorkers, IsPastOf};
     ghost use Rattle.crack_witness.specs.Witnesses.{WitnessedState};
     ghost use Rattle.crack_witness.specs.Keeps.{AreCounts};
 
@@ -37,7 +37,7 @@ impl<J: Naming> Model for Witnessed<J> {
 
     ghost view = { λ w. record { part = w.scribe.part; log = w.scribe.log; held = w.partition; workers = length w.answered.items } };
 
-    ghost invariant = { λ w. IsPastOf (history_of (J.owner w.scribe.part) w.scribe.log) w.partition.past × AreCounts w.answered.items (history_of (J.owner w.scribe.part) w.scribe.log) };
+    ghost invariant = { λ w. IsPastOf (history_of (J.owner w.scribe.part) w.scribe.log) w.partition.past × AreCounts w.answered.items (history_of (J.owner w.scribe.part) w.scribe.log) × AreOfWorkers (length w.answered.items) (history_of (J.owner w.scribe.part) w.scribe.log) };
 }
 
 impl<J: Naming> Witnessed<J> {
@@ -75,10 +75,19 @@ impl<J: Naming> Witnessed<J> {
         &self.partition
     }
 
-    /// States what is true of each, and does nothing: its history is one, and what the partition keeps is all of it.
+    /// How many workers it counts the entries of.
+    pub fn workers(&self) -> usize
+        ensures { result ≡ self.now.workers }
+    {
+        self.answered.len()
+    }
+
+    /// States what is true of each, and does nothing: its history is one, what the partition keeps is all of it, and each entry is one of its
+    /// workers'.
     pub fn facts(&self)
         ensures legal { AreHistories self.now.log }
         ensures kept { IsPastOf (history_of (J.owner self.now.part) self.now.log) self.now.held.past }
+        ensures known { AreOfWorkers self.now.workers (history_of (J.owner self.now.part) self.now.log) }
         ensures sound { IsSound self.now.held }
     {
         let _part = self.scribe.part();

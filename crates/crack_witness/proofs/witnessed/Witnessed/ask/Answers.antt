@@ -1,4 +1,6 @@
 use Rattle.std.proofs.Common.{rules, Err, inr, ◌≡◌, ◌<◌, ◌+◌, ◌∙◌, ap, sym, subst, ℕ, List, [], ◌∷◌, ◌++◌, length, arith, slice_set, slice_index_or}
+use Rattle.std.proofs.lemmas.List.{length-set}
+use Rattle.std.proofs.lemmas.List.Elements.{All-push}
 use Rattle.crack_row.specs.declared.command.Entry.{Entry}
 use Rattle.crack_plain.specs.Plain.{PlainState, no_rows, replay_from, reply_to}
 use Rattle.crack_plain.proofs.Laws.{AreReplies-push}
@@ -9,7 +11,7 @@ use Rattle.crack_part.proofs.RefusalLaws.{if_refused}
 use Rattle.crack_row.specs.declared.refusal.Refusal.{Refusal}
 use Rattle.crack_witness.specs.Witnesses.{MayRefuseIt}
 use Rattle.crack_witness.proofs.Keeping.{refused-for}
-use Rattle.crack_witness.specs.Histories.{history_of, calls_by, IsPastOf}
+use Rattle.crack_witness.specs.Histories.{history_of, calls_by, AreOfWorkers, IsPastOf}
 use Rattle.crack_witness.specs.Witnesses.{WitnessedState}
 use Rattle.crack_witness.specs.Keeps.{AreCounts}
 use Rattle.crack_witness.proofs.Keeping.{state_after-whole, IsPastOf-push, IsPastOf-upkept, calls-le-accepted}
@@ -47,7 +49,9 @@ invariant_of-self-2 g c =
     let counts : AreCounts (slice_set c.self.inside.answered.items c.args.worker (c.args.count + 1)) (h ++ e ∷ []) = counts_set c.self.inside.answered.items h e (c.args.count + 1) c.self.invariant.1 (omega (arith, is)) less in
     let new : history_of (own c.write.new.self.part) c.write.new.self.log ≡ h ++ e ∷ [] = ap (λ (p : ℕ). history_of (own p) c.write.new.self.log) c.write.ensures.part ∙ c.write.ensures.history in
     let past : IsPastOf (h ++ e ∷ []) c.apply.new.self.past = subst (IsPastOf (h ++ e ∷ [])) (sym c.in_ok-reply.ensures.kept) (IsPastOf-push h (upkept c.self.inside.partition.limits c.self.inside.partition.past) e (IsPastOf-upkept h c.self.inside.partition.limits c.self.inside.partition.past c.self.invariant.0)) in
-    (subst (λ (l : List Entry). IsPastOf l c.apply.new.self.past) (sym new) past, subst (AreCounts (slice_set c.self.inside.answered.items c.args.worker (c.args.count + 1))) (sym new) counts)
+    let all = All-push (λ (x : Entry). x.worker < length c.self.inside.answered.items) h e c.self.invariant.2 less in
+    let own_all : AreOfWorkers (length (slice_set c.self.inside.answered.items c.args.worker (c.args.count + 1))) (h ++ e ∷ []) = subst (λ (n : ℕ). AreOfWorkers n (h ++ e ∷ [])) (sym (length-set c.self.inside.answered.items c.args.worker (c.args.count + 1))) all in
+    (subst (λ (l : List Entry). IsPastOf l c.apply.new.self.past) (sym new) past, subst (AreCounts (slice_set c.self.inside.answered.items c.args.worker (c.args.count + 1))) (sym new) counts, subst (AreOfWorkers (length (slice_set c.self.inside.answered.items c.args.worker (c.args.count + 1)))) (sym new) own_all)
 
 pub returns-clause-few : goal.returns-clause-few
 returns-clause-few g c =

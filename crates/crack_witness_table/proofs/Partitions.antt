@@ -1,0 +1,111 @@
+-- Witnessed partitions that are the table's, and what they come to.
+use Rattle.std.proofs.Common.{◌≡◌, ◌<◌, ◌≤◌, ◌+◌, add-one, ◌*◌, ◌^◌, ◌⊎◌, ℕ, List, [], ◌∷◌, Bool, length, get_or, map, Some, refl, ap, sym, ◌∙◌, arith, ⊎_elim}
+use Rattle.std.specs.Prelude.{All, sum_by, if◌then◌else◌, ◌==◌}
+use Rattle.std.specs.List.{slice_get, list_any}
+use Rattle.std.proofs.lemmas.List.{length-map, get_or-map, get_or_default}
+use Rattle.std.proofs.lemmas.List.Elements.{All-map}
+use Rattle.std.proofs.lemmas.List.Sums.{sum_by-cons}
+use Rattle.std.proofs.lemmas.Option.{slice_get_read, slice_get_within}
+use Rattle.crack_row.specs.declared.Bound.{Bound}
+use Rattle.crack_row.specs.declared.limit.Limits.{Limits}
+use Rattle.crack_plain.specs.Past.{accepted_in, inserted_in, deleted_in}
+use Rattle.crack_state.specs.State.{live_rows}
+use Rattle.crack_part.specs.Parts.{Part, IsSound}
+use Rattle.crack_core.specs.Opening.{AreParts}
+use Rattle.crack_witness.specs.Witnesses.{WitnessedState, AskerState}
+use Rattle.crack_table.specs.Gather.{IsTables, AreTotals}
+use Rattle.crack_table.proofs.Totals.{held_difference, held_are, accepted-bound, inserted-bound}
+use Rattle.crack_witness_table.specs.Gather.{held_by, AreNumbered, IsTablesAt, IsFirstStrange, missing_askers}
+
+-- a sum over partitions is one over what is held
+pub held_sum : (f : Part → ℕ) (ws : List WitnessedState) → sum_by (λ (w : WitnessedState). f w.held) ws ≡ sum_by f (held_by ws)
+held_sum f [] = refl
+held_sum f (w ∷ ws) = sum_by-cons (λ (v : WitnessedState). f v.held) w ws ∙ (ap (λ (n : ℕ). f w.held + n) (held_sum f ws) ∙ sym (sum_by-cons f w.held (held_by ws)))
+
+-- and so is what holds of each
+pub held_sound : (ws : List WitnessedState) → All (λ (w : WitnessedState). IsSound w.held) ws → All IsSound (held_by ws)
+held_sound ws all = All-map IsSound (λ (w : WitnessedState). w.held) ws all
+
+below_or : (q p : ℕ) → q < p + 1 → (q < p) ⊎ (q ≡ p)
+below_or q p below = grind arith
+
+-- the first so many partitions are the table's
+abbrev pub AreUpTo : List Bound → Limits → ℕ → List WitnessedState → ℕ → Type 0
+AreUpTo splits limits workers parts place = (q : ℕ) (w : WitnessedState) → q < place → slice_get parts q ≡ Some w → IsTablesAt splits limits workers q w
+
+pub one_more : (splits : List Bound) (limits : Limits) (workers : ℕ) (parts : List WitnessedState) (place : ℕ) (w : WitnessedState) → place < length parts → w ≡ get_or parts place w → IsTablesAt splits limits workers place w → AreUpTo splits limits workers parts place → AreUpTo splits limits workers parts (place + 1)
+one_more splits limits workers parts place w lt read tables before q other below is =
+    let here : slice_get parts place ≡ Some w = slice_get_read parts (length parts) place w refl lt read in
+    ⊎_elim
+    (λ (less : q < place). before q other less is)
+    (λ (same : q ≡ place).
+    let one : other ≡ w = (let e : slice_get parts place ≡ Some other = rw same at is in cc) in
+    rw (same, one) tables)
+    (below_or q place below)
+
+at : (splits : List Bound) (limits : Limits) (workers : ℕ) (parts : List WitnessedState) (n : ℕ) → length parts ≤ n → AreUpTo splits limits workers parts n → (k : ℕ) (w : WitnessedState) → k < length parts → IsTablesAt splits limits workers k (get_or parts k w)
+at splits limits workers parts n long all k w lt =
+    let read = get_or_default parts k w (get_or parts k w) lt in
+    all k (get_or parts k w) (omega (arith, lt, long)) (slice_get_read parts (length parts) k (get_or parts k w) refl lt read)
+
+first_of : (parts : List WitnessedState) (k : ℕ) → k < length parts → WitnessedState
+first_of [] k lt = absurd (omega (arith, lt))
+first_of (w ∷ ws) k lt = w
+
+held_tables : (splits : List Bound) (limits : Limits) (workers : ℕ) (parts : List WitnessedState) (n : ℕ) → length parts ≤ n → AreUpTo splits limits workers parts n → (k : ℕ) (d : Part) → k < length (held_by parts) → IsTables splits limits k (get_or (held_by parts) k d)
+held_tables splits limits workers parts n long all k d lt =
+    let less : k < length parts = omega (arith, lt, length-map parts (λ (w : WitnessedState). w.held)) in
+    let w = first_of parts k less in
+    rw (get_or-map (λ (v : WitnessedState). v.held) parts k w d less) (at splits limits workers parts n long all k w less).tables
+
+-- witnessed partitions that all are the table's
+pub are_parts : (splits : List Bound) (limits : Limits) (workers : ℕ) (parts : List WitnessedState) (n : ℕ) → length parts ≡ length splits + 1 → All (λ (w : WitnessedState). IsSound w.held) parts → length parts ≤ n → AreUpTo splits limits workers parts n → AreParts splits limits (held_by parts)
+are_parts splits limits workers parts n count sound long all = record {
+  count = length-map parts (λ (w : WitnessedState). w.held) ∙ count;
+  keys = λ k d lt. (held_tables splits limits workers parts n long all k d lt).0;
+  alike = λ k d lt. (held_tables splits limits workers parts n long all k d lt).1;
+  sound = held_sound parts sound;
+}
+
+pub are_numbered : (splits : List Bound) (limits : Limits) (workers : ℕ) (parts : List WitnessedState) (n : ℕ) → length parts ≤ n → AreUpTo splits limits workers parts n → AreNumbered workers parts
+are_numbered splits limits workers parts n long all k w is = let there = all k w (omega (arith, long, slice_get_within parts k w is)) is in (there.number, there.counts)
+
+pub first_strange : (splits : List Bound) (limits : Limits) (workers : ℕ) (parts : List WitnessedState) (place : ℕ) (w : WitnessedState) → place < length parts → w ≡ get_or parts place w → ¬ IsTablesAt splits limits workers place w → AreUpTo splits limits workers parts place → IsFirstStrange splits limits workers parts place
+first_strange splits limits workers parts place w lt read other before = (w, slice_get_read parts (length parts) place w refl lt read, other, before)
+
+-- what sound partitions lived through fits into a word
+pub record AreSmall (parts : List Part) : Type 0 where
+  pub accepted_fits : sum_by (λ (p : Part). accepted_in p.past) parts < 2 ^ 64
+  pub inserted_fits : sum_by (λ (p : Part). inserted_in p.past) parts < 2 ^ 64
+  pub rows_fit : sum_by (λ (p : Part). length (live_rows p.store)) parts < 2 ^ 64
+  pub enough : sum_by (λ (p : Part). length (live_rows p.store)) parts ≤ sum_by (λ (p : Part). inserted_in p.past) parts
+
+pub are_small : (parts : List Part) → All IsSound parts → length parts ≤ 64 → AreSmall parts
+are_small parts sound few =
+    let most = accepted-bound parts sound in
+    let placed = inserted-bound parts sound in
+    let left = held_difference parts sound in record {
+      accepted_fits = omega (arith, most, few);
+      inserted_fits = omega (arith, most, placed, few);
+      rows_fit = omega (arith, most, placed, left, few);
+      enough = omega (arith, left);
+    }
+
+-- the same of what witnessed partitions hold
+pub witnessed_small : (ws : List WitnessedState) → All (λ (w : WitnessedState). IsSound w.held) ws → length ws ≤ 64 → AreSmall (held_by ws)
+witnessed_small ws sound few = are_small (held_by ws) (held_sound ws sound) (omega (arith, few, length-map ws (λ (w : WitnessedState). w.held)))
+
+-- and their totals are these
+pub are_totals : (parts : List Part) (answers placed left gone : ℕ) → All IsSound parts → answers ≡ sum_by (λ (p : Part). accepted_in p.past) parts → placed ≡ sum_by (λ (p : Part). inserted_in p.past) parts → left ≡ sum_by (λ (p : Part). length (live_rows p.store)) parts → gone + left ≡ placed → AreTotals parts answers placed gone left
+are_totals parts answers placed left gone sound answers_are placed_are left_are gone_is =
+    let all = held_difference parts sound in record {
+      accepted_is = answers_are;
+      inserted_is = placed_are;
+      deleted_is = omega (arith, all, placed_are, left_are, gone_is);
+      rows_are = left_are;
+      held_is = held_are placed gone left (omega (arith, gone_is));
+    }
+
+-- one bit more
+pub missing_more : (askers : List AskerState) (n missing bit add : ℕ) (has : Bool) → missing ≡ missing_askers askers n → bit ≡ 2 ^ n → has ≡ list_any (λ (a : AskerState). a.worker == n) askers → add ≡ (if has then 0 else bit) → missing + add ≡ missing_askers askers (n + 1)
+missing_more askers n missing bit add has m_is b_is h_is a_is = rw (add-one, a_is, m_is, b_is, h_is) refl

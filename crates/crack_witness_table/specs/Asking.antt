@@ -1,0 +1,35 @@
+-- What a worker is replied by a table that witnesses its replies.
+use Rattle.std.specs.Prelude.{◌≡◌, ℕ, ◌+◌, ◌<◌, ◌≤◌, ◌⊎◌, List, [], ◌∷◌, ◌++◌, length, Result, Err, IfOk, IfErr, OnOk, OnErr, slice_index_or, slice_set}
+use mathlib.Core.List.{IsPrefix}
+use Rattle.crack_row.specs.declared.command.Command.{Command}
+use Rattle.crack_row.specs.declared.command.Reply.{Reply}
+use Rattle.crack_row.specs.declared.refusal.Refusal.{Refusal}
+use Rattle.crack_row.specs.declared.refusal.Refusal.TheVariants.{NoSuchPartition, StrangeReceipt}
+use Rattle.crack_plain.specs.Plain.{IsSmall}
+use Rattle.crack_witness.specs.Histories.{calls_at, AreHistories}
+use Rattle.crack_witness.specs.Witnesses.{AskerState, IsGiven, replies_at, replies_to}
+use Rattle.crack_table.specs.Tables.{TableState, MayRefuse}
+
+-- why a table may refuse a worker: as `MayRefuse` says; 16 with the partition and the number of its replies there, or 5 where the worker knows
+-- of no such partition, both of them to workers of other tables alone
+abbrev pub MayRefuseAsker : TableState → (ℕ → Type 0) → ℕ → Command → AskerState → Refusal → Type 0
+MayRefuseAsker table may_refuse part command asker e =
+    MayRefuse table may_refuse part command e
+    ⊎ ((e ≡ StrangeReceipt part (replies_at asker part)) ⊎ ((e ≡ NoSuchPartition) × (length asker.fronts ≤ part)))
+
+-- A worker asks one partition: where it is answered, its entry ends the history of that partition, as far as the worker now sees it; all that it
+-- had seen before comes ahead of that, every history is legal, and the worker's entries there are those of its replies. Where it is refused,
+-- it is for a cause, and the worker has seen nothing new.
+pub record AsksWitnessed (owner : ℕ → ℕ) (table : TableState) (may_refuse : ℕ → Type 0) (part : ℕ) (command : Command) (result : Result Reply Refusal) (old new : AskerState) : Type 0 where
+  pub given : IfOk result (λ reply. IsGiven owner part (record { worker = old.worker; command = command; reply = reply }) old.seen new.seen)
+  pub mine : IfOk result (λ reply. calls_at owner part old.worker new.seen ≡ calls_at owner part old.worker (slice_index_or old.fronts part []) ++ record { worker = old.worker; command = command; reply = reply } ∷ [])
+  pub fronts : OnOk result (new.fronts ≡ slice_set old.fronts part new.seen)
+  pub legal : OnOk result (AreHistories new.seen)
+  pub small : IfOk result IsSmall
+  pub there : OnOk result (part ≤ length table.splits)
+  pub seen : IsPrefix old.seen new.seen
+  pub replies : OnOk result (replies_to new ≡ replies_to old + 1)
+  pub worker : new.worker ≡ old.worker
+  pub err : OnErr result (new ≡ old)
+  pub causes : IfErr result (MayRefuseAsker table may_refuse part command old)
+  pub nowhere : length table.splits < part → (result ≡ Err NoSuchPartition) × (new ≡ old)

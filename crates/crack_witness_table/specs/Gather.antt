@@ -1,0 +1,62 @@
+-- What a table that witnesses its replies comes to when its workers are gathered.
+use Rattle.std.specs.Prelude.{◌≡◌, ◌≢◌, ℕ, zero, suc, ◌+◌, ◌^◌, ◌<◌, ◌⊎◌, ◌==◌, List, length, map, All, Some, slice_get, if◌then◌else◌}
+use Rattle.std.specs.List.{list_any}
+use Rattle.crack_row.specs.declared.Bound.{Bound}
+use Rattle.crack_row.specs.declared.limit.Limits.{Limits}
+use Rattle.crack_row.specs.declared.refusal.Refusal.{Refusal}
+use Rattle.crack_row.specs.declared.refusal.Refusal.TheVariants.{OutOfMemory, StrangeReceipt, WorkersMissing}
+use Rattle.crack_part.specs.Parts.{Part}
+use Rattle.crack_witness.specs.Histories.{history_of, AreHistories, AreOfWorkers, IsPastOf}
+use Rattle.crack_witness.specs.Witnesses.{AskerState, WitnessedState, IsSettledFor, MayDiffer}
+use Rattle.crack_table.specs.Tables.{TableState}
+use Rattle.crack_table.specs.Gather.{IsTables}
+
+-- the partitions themselves
+abbrev pub held_by : List WitnessedState → List Part
+held_by parts = map (λ (w : WitnessedState). w.held) parts
+
+-- each stands at its number, and counts the entries of so many workers
+abbrev pub AreNumbered : ℕ → List WitnessedState → Type 0
+AreNumbered workers parts = (place : ℕ) (w : WitnessedState) → slice_get parts place ≡ Some w → (w.part ≡ place) × (w.workers ≡ workers)
+
+-- what a partition keeps is all of its history, each reply in that is the plain rows', and each entry is one of the workers that it counts
+pub record IsWhole (owner : ℕ → ℕ) (w : WitnessedState) : Type 0 where
+  pub legal : AreHistories w.log
+  pub kept : IsPastOf (history_of (owner w.part) w.log) w.held.past
+  pub known : AreOfWorkers w.workers (history_of (owner w.part) w.log)
+
+-- what each worker has seen of each partition's history is a beginning of it, and of its entries that history has just those that it was
+-- given replies for
+abbrev pub AreSettled : (ℕ → ℕ) → List AskerState → List WitnessedState → Type 0
+AreSettled owner askers parts = All (λ (w : WitnessedState). All (λ (a : AskerState). IsSettledFor owner a w) askers) parts
+
+-- one bit for each number below the count that no worker has
+abbrev pub missing_askers : List AskerState → ℕ → ℕ
+missing_askers askers zero = 0
+missing_askers askers (suc number) = missing_askers askers number + (if list_any (λ (a : AskerState). a.worker == number) askers then 0 else 2 ^ number)
+
+-- a partition that has the number of its place, counts the table's workers, and has the table's keys and limits there
+pub record IsTablesAt (splits : List Bound) (limits : Limits) (workers place : ℕ) (w : WitnessedState) : Type 0 where
+  pub number : w.part ≡ place
+  pub counts : w.workers ≡ workers
+  pub tables : IsTables splits limits place w.held
+
+-- the first place at which stands a partition that isn't the table's
+abbrev pub IsFirstStrange : List Bound → Limits → ℕ → List WitnessedState → ℕ → Type 0
+IsFirstStrange splits limits workers parts place =
+    (w : WitnessedState) × (slice_get parts place ≡ Some w) × (IsTablesAt splits limits workers place w → ⊥)
+    × ((earlier : ℕ) (v : WitnessedState) → earlier < place → slice_get parts earlier ≡ Some v → IsTablesAt splits limits workers earlier v)
+
+-- why workers and the partitions of so many locks may not come together: 8; 16 at the first partition that isn't the table's; where there is
+-- none, 16 where one differs from a worker
+abbrev pub MayNotMatch : (ℕ → ℕ) → List Bound → Limits → ℕ → List AskerState → Refusal → Type 0
+MayNotMatch owner splits limits workers askers e =
+    (e ≡ OutOfMemory)
+    ⊎ ((parts : List WitnessedState) × (length parts ≡ length splits + 1)
+      × (((place : ℕ) × (e ≡ StrangeReceipt place 0) × IsFirstStrange splits limits workers parts place) ⊎ MayDiffer owner askers parts e))
+
+-- why workers may not be gathered: 15 where some are missing, with their bits; where none is, they and the partitions don't come together
+abbrev pub MayNotGather : (ℕ → ℕ) → TableState → List AskerState → Refusal → Type 0
+MayNotGather owner table askers e =
+    ((missing_askers askers table.workers ≢ 0) × (e ≡ WorkersMissing (missing_askers askers table.workers)))
+    ⊎ ((missing_askers askers table.workers ≡ 0) × MayNotMatch owner table.splits table.limits table.workers askers e)

@@ -1,0 +1,4 @@
+pub mod Opening
+pub mod Asking
+pub mod Gather
+pub mod Keeps

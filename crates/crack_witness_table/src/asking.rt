@@ -1,0 +1,50 @@
+//! A command behind its gate, under a lock that is held.
+ghost use Rattle.std.specs.Prelude.{◌≡◌, ◌⊎◌, ℕ, ◌+◌, ◌<◌, ◌≤◌, [], ◌∷◌, ◌++◌, length, Some, IfOk, IfErr, OnErr, OnOk, slice_index_or, slice_set};
+ghost use mathlib.Core.List.{IsPrefix};
+ghost use Rattle.crack_plain.specs.Past.{with_entry};
+ghost use Rattle.crack_plain.specs.Plain.{IsSmall, reply_to};
+ghost use Rattle.crack_part.specs.Parts.{state_of};
+ghost use Rattle.crack_part.specs.Refusals.{refusal_of};
+ghost use Rattle.crack_part.specs.Upkeep.{upkept};
+ghost use Rattle.crack_witness.specs.Histories.{calls_at, AreHistories};
+ghost use Rattle.crack_witness.specs.Witnesses.{IsGiven, replies_at, replies_to};
+
+use crack_row::{Command, Policy, Refusal, Reply};
+use crack_table::Gate;
+use crack_table::gate::pass;
+use crack_witness::{Asker, Naming, Witnessed};
+
+/// Asks the gate until it says yes, and then the partition, which is to have number `part`, for the worker. The partition stays borrowed from the
+/// gate's first turn to the reply, so its lock can't be let go in between. What comes of asking the partition, which may be a refusal, comes
+/// as the value. Refused with 7 where the gate says no at each turn: worker and partition are then as they were.
+pub(crate) fn ask_behind<J: Naming, G: Gate>(
+    gate: &G,
+    asker: &mut Asker<J>,
+    part: u32,
+    witnessed: &mut Witnessed<J>,
+    command: Command,
+    policy: Policy,
+) -> Result<Result<Reply, Refusal>, Refusal>
+    ensures cause { IfErr result (λ e. e ≡ Refusal.GateGaveUp) }
+    ensures turns { OnErr result ((turn : ℕ) → turn < 1000 → G.may_refuse gate.now part turn) }
+    ensures kept_out { OnErr result ((asker.new ≡ asker.old) × (witnessed.new ≡ witnessed.old)) }
+
+    ensures reply { IfOk result (λ answered. IfOk answered (λ reply. reply ≡ reply_to (state_of witnessed.old.held) command)) }
+    ensures small { IfOk result (λ answered. IfOk answered IsSmall) }
+    ensures given { IfOk result (λ answered. IfOk answered (λ reply. IsGiven J.owner part (record { worker = asker.old.worker; command = command; reply = reply }) asker.old.seen asker.new.seen)) }
+    ensures mine { IfOk result (λ answered. IfOk answered (λ reply. calls_at J.owner part asker.old.worker asker.new.seen ≡ calls_at J.owner part asker.old.worker (slice_index_or asker.old.fronts part []) ++ record { worker = asker.old.worker; command = command; reply = reply } ∷ [])) }
+    ensures replies { IfOk result (λ answered. OnOk answered (replies_to asker.new ≡ replies_to asker.old + 1)) }
+    ensures fronts { IfOk result (λ answered. OnOk answered (asker.new.fronts ≡ slice_set asker.old.fronts part asker.new.seen)) }
+    ensures legal { IfOk result (λ answered. OnOk answered (AreHistories asker.new.seen)) }
+    ensures whole { IfOk result (λ answered. OnOk answered ((witnessed.old.part ≡ part) × (asker.new.seen ≡ witnessed.new.log))) }
+    ensures kept { IfOk result (λ answered. IfOk answered (λ reply. witnessed.new.held.past ≡ with_entry (upkept witnessed.old.held.limits witnessed.old.held.past) (record { worker = asker.old.worker; command = command; reply = reply }))) }
+    ensures opened { (witnessed.new.held.keys ≡ witnessed.old.held.keys) × (witnessed.new.held.limits ≡ witnessed.old.held.limits) × (witnessed.new.part ≡ witnessed.old.part) }
+    ensures seen { IsPrefix asker.old.seen asker.new.seen × IsPrefix witnessed.old.log witnessed.new.log }
+    ensures worker { asker.new.worker ≡ asker.old.worker }
+
+    ensures causes { IfOk result (λ answered. IfErr answered (λ e. ((e ≡ Refusal.NoSuchPartition) × (length asker.old.fronts ≤ part)) ⊎ ((e ≡ Refusal.StrangeReceipt part (replies_at asker.old part)) ⊎ ((e ≡ Refusal.OutOfMemory) ⊎ (refusal_of witnessed.old.held command ≡ Some e))))) }
+    ensures err { IfOk result (λ answered. OnErr answered ((asker.new ≡ asker.old) × (witnessed.new.log ≡ witnessed.old.log) × (witnessed.new.held.past ≡ witnessed.old.held.past))) }
+{
+    pass(gate, part)?;
+    Ok(asker.ask(witnessed, part, command, policy))
+}

@@ -1,0 +1,220 @@
+//! The end of a table that witnesses its replies: its workers come together, by counts.
+ghost use Rattle.std.specs.Prelude.{◌≡◌, ◌+◌, ◌≤◌, ◌==◌, length, All, IfOk, IfErr, IfNone, IfSome, IsTrue, OnOk, OnErr, ◌↔◌, vec_len};
+ghost use Rattle.std.specs.List.{list_any};
+ghost use Rattle.crack_part.specs.Parts.{IsSound};
+ghost use Rattle.crack_core.specs.Opening.{AreParts};
+ghost use Rattle.crack_core.specs.Routes.{AreSplits};
+ghost use Rattle.crack_witness.specs.Witnesses.{AskerState, WitnessedState};
+ghost use Rattle.crack_table.specs.Gather.{AreTotals};
+ghost use Rattle.crack_witness_table.specs.Gather.{held_by, AreNumbered, IsWhole, AreSettled, missing_askers, IsTablesAt, IsFirstStrange, MayNotMatch, MayNotGather};
+
+use crate::locks::{lock, unlock};
+use crate::table::WitnessedTable;
+use crate::totals::{Sums, sums_of};
+use crack_row::{Bound, Limits, Refusal};
+use crack_table::account::is_tables;
+use crack_table::gathering::bit_unless;
+use crack_witness::{Asker, Naming, Witnessed, settle};
+use std::alloc::Global;
+use std::sync::Mutex;
+
+/// What all workers did, and the partitions with their whole histories.
+#[derive(Drop)]
+pub struct Gathered<J: Naming> {
+    /// How many commands were answered.
+    pub accepted: u64,
+    /// How many rows were placed.
+    pub inserted: u64,
+    /// How many rows were taken out.
+    pub deleted: u64,
+    /// How many rows are left.
+    pub held: u64,
+    /// The partitions, by their numbers.
+    pub parts: Vec<Witnessed<J>>,
+}
+
+/// Why workers weren't gathered, with the table and the workers as they were.
+#[derive(Drop)]
+pub struct GatherRefused<J: Naming> {
+    pub refusal: Refusal,
+    pub table: WitnessedTable<J>,
+    pub askers: Vec<Asker<J>>,
+}
+
+/// Ends a table whose workers all come back: each partition's history since its opening is the one whose beginnings all workers saw, and of each
+/// worker it has just the entries that it was given replies for, as many as both have counted.
+/// Refused with 15, one bit for each missing number, where a worker of the table isn't there; then with 8 where it finds no memory; then with
+/// 16 at the first partition that isn't the table's, and then as `settle` of crack_witness is. The table and the workers are then handed back.
+/// O(partitions × workers), however many entries there are.
+pub fn gather<J: Naming>(
+    alloc: Global,
+    table: WitnessedTable<J>,
+    askers: Vec<Asker<J>>,
+) -> Result<Gathered<J>, GatherRefused<J>>
+    ensures all { OnOk result (missing_askers askers.items table.workers ≡ 0) }
+    ensures parts { IfOk result (λ s. AreParts table.splits table.limits (held_by s.parts.items) × AreNumbered table.workers s.parts.items) }
+    ensures whole { IfOk result (λ s. All (λ (w : WitnessedState). IsWhole J.owner w) s.parts.items) }
+    ensures settled { IfOk result (λ s. AreSettled J.owner askers.items s.parts.items) }
+    ensures totals { IfOk result (λ s. AreTotals (held_by s.parts.items) s.accepted s.inserted s.deleted s.held) }
+
+    ensures table { IfErr result (λ e. e.table ≡ table) }
+    ensures askers { IfErr result (λ e. e.askers.items ≡ askers.items) }
+    ensures causes { IfErr result (λ e. MayNotGather J.owner table askers.items e.refusal) }
+{
+    let missing = missing_askers(&askers, table.workers());
+    if missing != 0 {
+        return Err(GatherRefused {
+            refusal: Refusal::WorkersMissing { missing },
+            table,
+            askers,
+        });
+    }
+    let WitnessedTable {
+        mut locks,
+        splits,
+        limits,
+        workers,
+    } = table;
+    match close(alloc, &mut locks, &splits, limits, workers, &askers) {
+        Ok(settled) => Ok(settled),
+        Err(refusal) => Err(GatherRefused {
+            refusal,
+            table: WitnessedTable {
+                locks,
+                splits,
+                limits,
+                workers,
+            },
+            askers,
+        }),
+    }
+}
+
+/// Takes the partitions out of their locks, and finds whether they and the workers come together; else they go behind the locks again.
+fn close<J: Naming>(
+    alloc: Global,
+    locks: &mut Vec<Mutex<Witnessed<J>>>,
+    splits: &[Bound],
+    limits: Limits,
+    workers: u64,
+    askers: &Vec<Asker<J>>,
+) -> Result<Gathered<J>, Refusal>
+    requires all { vec_len locks.old ≡ length splits.now + 1 }
+    requires rising { AreSplits splits.now }
+    ensures parts { IfOk result (λ s. AreParts splits.now limits (held_by s.parts.items) × AreNumbered workers s.parts.items) }
+    ensures whole { IfOk result (λ s. All (λ (w : WitnessedState). IsWhole J.owner w) s.parts.items) }
+    ensures settled { IfOk result (λ s. AreSettled J.owner askers.now.items s.parts.items) }
+    ensures totals { IfOk result (λ s. AreTotals (held_by s.parts.items) s.accepted s.inserted s.deleted s.held) }
+    ensures locked { OnErr result (vec_len locks.new ≡ vec_len locks.old) }
+    ensures causes { IfErr result (MayNotMatch J.owner splits.now limits workers askers.now.items) }
+{
+    let mut parts = Vec::with_capacity(alloc, locks.len())?;
+    unlock(locks, &mut parts);
+    match match_all(splits, limits, workers, &mut parts, askers) {
+        Ok(sums) => Ok(Gathered {
+            accepted: sums.accepted,
+            inserted: sums.inserted,
+            deleted: sums.deleted,
+            held: sums.held,
+            parts,
+        }),
+        Err(refusal) => {
+            lock(&mut parts, locks);
+            Err(refusal)
+        }
+    }
+}
+
+/// Finds whether partitions are the table's, and whether they and the workers come together, and what they come to.
+fn match_all<J: Naming>(
+    splits: &[Bound],
+    limits: Limits,
+    workers: u64,
+    parts: &mut Vec<Witnessed<J>>,
+    askers: &Vec<Asker<J>>,
+) -> Result<Sums, Refusal>
+    requires count { length parts.old.items ≡ length splits.now + 1 }
+    requires rising { AreSplits splits.now }
+    ensures same { parts.new.items ≡ parts.old.items }
+    ensures parts { OnOk result (AreParts splits.now limits (held_by parts.old.items) × AreNumbered workers parts.old.items) }
+    ensures whole { OnOk result (All (λ (w : WitnessedState). IsWhole J.owner w) parts.old.items) }
+    ensures settled { OnOk result (AreSettled J.owner askers.now.items parts.old.items) }
+    ensures totals { IfOk result (λ s. AreTotals (held_by parts.old.items) s.accepted s.inserted s.deleted s.held) }
+    ensures causes { IfErr result (MayNotMatch J.owner splits.now limits workers askers.now.items) }
+{
+    facts(parts);
+    if let Some(part) = first_strange(splits, limits, workers, parts) {
+        return Err(Refusal::StrangeReceipt { part, position: 0 });
+    }
+    settle(askers, parts)?;
+    Ok(sums_of(parts))
+}
+
+/// States what is true of every partition, and does nothing: O(partitions).
+fn facts<J: Naming>(parts: &Vec<Witnessed<J>>)
+    ensures whole { All (λ (w : WitnessedState). IsWhole J.owner w) parts.now.items }
+    ensures sound { All (λ (w : WitnessedState). IsSound w.held) parts.now.items }
+{
+    'parts: for part in parts {
+        part.facts();
+    }
+}
+
+/// The first place at which stands a partition that isn't the table's.
+fn first_strange<J: Naming>(
+    splits: &[Bound],
+    limits: Limits,
+    workers: u64,
+    parts: &Vec<Witnessed<J>>,
+) -> Option<u32>
+    requires count { length parts.now.items ≡ length splits.now + 1 }
+    requires rising { AreSplits splits.now }
+    requires sound { All (λ (w : WitnessedState). IsSound w.held) parts.now.items }
+    ensures none { IfNone result (AreParts splits.now limits (held_by parts.now.items) × AreNumbered workers parts.now.items) }
+    ensures some { IfSome result (IsFirstStrange splits.now limits workers parts.now.items) }
+{
+    'parts: for (place, part) in parts.iter().enumerate() {
+        if !is_tables_at(splits, limits, workers, place, part) {
+            return Some(place as u32);
+        }
+    }
+    None
+}
+
+/// Whether a partition has the number of its place, counts the table's workers, and has the table's keys and limits there.
+fn is_tables_at<J: Naming>(
+    splits: &[Bound],
+    limits: Limits,
+    workers: u64,
+    place: usize,
+    part: &Witnessed<J>,
+) -> bool
+    requires rising { AreSplits splits.now }
+    requires there { place ≤ length splits.now }
+    ensures { IsTrue result ↔ IsTablesAt splits.now limits workers place part.now }
+{
+    part.part() as usize == place
+        && part.workers() as u64 == workers
+        && is_tables(splits, limits, place, part.partition())
+}
+
+/// One bit for each of so many workers that isn't there.
+fn missing_askers<J: Naming>(askers: &Vec<Asker<J>>, count: u64) -> u64
+    requires { count ≤ 64 }
+    ensures { result ≡ missing_askers askers.now.items count }
+{
+    let mut missing = 0u64;
+    let mut bit = 1u128;
+    'numbers: for number in 0..count {
+        missing += bit_unless(has_asker(askers, number), bit as u64);
+        bit *= 2;
+    }
+    missing
+}
+
+/// Whether one of the workers has this number.
+fn has_asker<J: Naming>(askers: &Vec<Asker<J>>, number: u64) -> bool
+    ensures { result ≡ list_any (λ (a : AskerState). a.worker == number) askers.now.items }
+{
+    askers.iter().any(|asker| u64::from(asker.number()) == number)
+}

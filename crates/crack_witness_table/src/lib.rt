@@ -1,0 +1,13 @@
+//! Tables whose replies are proved as they are given: a witnessed partition under each lock, and workers that keep no receipts.
+#![tactic(auto)]
+
+mod asking;
+pub mod gathering;
+mod locks;
+pub mod opening;
+pub mod table;
+mod totals;
+
+pub use gathering::{GatherRefused, Gathered, gather};
+pub use opening::UnnamedTable;
+pub use table::WitnessedTable;

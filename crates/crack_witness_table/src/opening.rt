@@ -1,0 +1,117 @@
+//! The opening of a table in two steps: its book, and once that has its name, its partitions and its workers.
+ghost use Rattle.std.specs.Prelude.{◌≡◌, ◌+◌, ◌≤◌, length, IfOk, IfErr, OnOk, None};
+ghost use Rattle.crack_witness.specs.Histories.{AreEmpty};
+ghost use Rattle.crack_witness.specs.Witnesses.{AreNames, AreApart, AreDistinct};
+ghost use Rattle.crack_table.specs.Opening.{table_fault, MayNotOpen};
+ghost use Rattle.crack_witness_table.specs.Opening.{AreNewAskers};
+
+use crate::locks::lock;
+use crate::table::WitnessedTable;
+use crack_core::open_partitions;
+use crack_row::{Bound, Limits, Refusal};
+use crack_table::table::fault;
+use crack_witness::{Asker, Front, Naming, Opened};
+use std::alloc::{AllocError, Global};
+use std::marker::Model;
+
+/// A table that is to be opened, and the book of its replies, which has no name yet. Contracts see with what it is to be opened, and the
+/// book, with an owner for each partition.
+#[derive(Drop)]
+pub struct UnnamedTable {
+    opened: Opened,
+    splits: Vec<Bound>,
+    limits: Limits,
+    workers: u64,
+}
+
+impl Model for UnnamedTable {
+    ghost use Rattle.crack_witness_table.specs.Keeps.{IsUnnamed};
+    ghost use Rattle.crack_witness_table.specs.Opening.{UnnamedState};
+
+    ghost Value = { UnnamedState };
+
+    ghost view = { λ t. record { opened = t.opened; splits = t.splits.items; limits = t.limits; workers = t.workers } };
+
+    ghost invariant = { λ t. IsUnnamed t.opened.ids t.splits.items t.limits t.workers };
+}
+
+impl UnnamedTable {
+    /// The first step: what a table is to be opened with, and its book. Refused as `Table::open_with` of crack_table is, in the same order.
+    /// O(partitions).
+    pub fn open(
+        alloc: Global,
+        splits: &[Bound],
+        limits: Limits,
+        workers: u64,
+    ) -> Result<UnnamedTable, Refusal>
+        ensures splits { IfOk result (λ t. t.splits ≡ splits.now) }
+        ensures limits { IfOk result (λ t. (t.limits ≡ limits) × (t.workers ≡ workers)) }
+        ensures owners { IfOk result (λ t. length t.opened.ids ≡ length splits.now + 1) }
+        ensures distinct { IfOk result (λ t. AreDistinct t.opened.ids) }
+        ensures none { OnOk result (table_fault splits.now limits workers ≡ None) }
+        ensures fault { IfErr result (MayNotOpen splits.now limits workers) }
+    {
+        if let Some(refusal) = fault(splits, limits, workers) {
+            return Err(refusal);
+        }
+        let opened = Opened::new(alloc, splits.len() as u32 + 1)?;
+        let splits = Vec::from_slice(alloc, splits)?;
+        Ok(UnnamedTable {
+            opened,
+            splits,
+            limits,
+            workers,
+        })
+    }
+
+    /// The second step, once its book has its name: the table, without rows, and its workers, numbered from 0. Refused with 8 where it finds
+    /// no memory. O(partitions × workers).
+    pub fn named<J: Naming>(
+        self,
+        alloc: Global,
+    ) -> Result<(WitnessedTable<J>, Vec<Asker<J>>), Refusal>
+        requires names { AreNames J.book J.owner self.opened }
+        ensures table { IfOk result (λ r. r.0 ≡ record { splits = self.splits; limits = self.limits; workers = self.workers; locks = length self.splits + 1 }) }
+        ensures askers { IfOk result (λ r. AreNewAskers self.workers (length self.splits + 1) r.1.items) }
+        ensures apart { OnOk result (AreApart J.owner (length self.splits + 1)) }
+        ensures err { IfErr result (λ e. e ≡ Refusal.OutOfMemory) }
+    {
+        let UnnamedTable {
+            opened,
+            splits,
+            limits,
+            workers,
+        } = self;
+        let parts = open_partitions(alloc, &splits, limits)?;
+        let (front, mut witnessed) = opened.witness::<J>(alloc, parts, workers as u32)?;
+        let mut locks = Vec::with_capacity(alloc, witnessed.len())?;
+        let askers = hire(alloc, &front, workers, witnessed.len())?;
+        lock(&mut witnessed, &mut locks);
+        let table = WitnessedTable {
+            locks,
+            splits,
+            limits,
+            workers,
+        };
+        Ok((table, askers))
+    }
+}
+
+/// Workers numbered from 0, so many, at so many partitions.
+fn hire<J: Naming>(
+    alloc: Global,
+    front: &Front<J>,
+    count: u64,
+    parts: usize,
+) -> Result<Vec<Asker<J>>, AllocError>
+    requires empty { AreEmpty front.now }
+    requires few { count ≤ 64 }
+    requires parts { parts ≤ 64 }
+    ensures { IfOk result (λ askers. AreNewAskers count parts askers.items) }
+{
+    let mut askers = Vec::new(alloc);
+    'numbers: for number in 0..count {
+        askers.push(Asker::new(alloc, number as u32, front.again(), parts)?)?;
+    }
+    Ok(askers)
+}

@@ -1,0 +1,116 @@
+//! Tables whose replies are proved as they are given, and whose workers keep no receipts.
+ghost use Rattle.std.specs.Prelude.{◌≡◌, ◌+◌, ◌≤◌, length};
+ghost use Rattle.crack_row.specs.Limits.{AreLimits};
+ghost use Rattle.crack_core.specs.Routes.{AreSplits};
+ghost use Rattle.crack_table.specs.Tables.{FoldsAt, LooksAt};
+ghost use Rattle.crack_witness.specs.Witnesses.{AreApart};
+ghost use Rattle.crack_witness_table.specs.Asking.{AsksWitnessed};
+
+use crate::asking::ask_behind;
+use crack_row::{Bound, Command, Layout, Limits, Policy, Refusal, Reply};
+use crack_table::Gate;
+use crack_table::worker::with_table_limit;
+use crack_witness::{Asker, Naming, Witnessed};
+use std::marker::Model;
+use std::sync::{Mutex, Wait};
+
+/// Partitions with the scribes of their histories, each under a lock of its own. Many threads may share it. Contracts see with what it was
+/// opened; what its workers have seen of the histories, their own sides say.
+#[derive(Drop)]
+pub struct WitnessedTable<J: Naming> {
+    pub(crate) locks: Vec<Mutex<Witnessed<J>>>,
+    pub(crate) splits: Vec<Bound>,
+    pub(crate) limits: Limits,
+    pub(crate) workers: u64,
+}
+
+impl<J: Naming> Model for WitnessedTable<J> {
+    ghost use Rattle.std.specs.Prelude.{vec_len};
+    ghost use Rattle.crack_witness_table.specs.Keeps.{IsWitnessedTable};
+    ghost use Rattle.crack_table.specs.Tables.{TableState};
+
+    ghost Value = { TableState };
+
+    ghost view = { λ t. record { splits = t.splits.items; limits = t.limits; workers = t.workers; locks = vec_len t.locks } };
+
+    ghost invariant = { λ t. IsWitnessedTable J.owner t.splits.items t.limits t.workers (vec_len t.locks) };
+}
+
+impl<J: Naming> WitnessedTable<J> {
+    /// States what is true of every table, and does nothing: it has a lock for each partition of its splits, and no two of its partitions
+    /// have one history.
+    pub fn facts(&self)
+        ensures locks { self.now.locks ≡ length self.now.splits + 1 }
+        ensures rising { AreSplits self.now.splits }
+        ensures limited { AreLimits self.now.limits }
+        ensures few { self.now.workers ≤ 64 }
+        ensures apart { AreApart J.owner self.now.locks }
+    {
+        let _ = &self.locks;
+    }
+
+    /// Where one partition ends and the next begins. Takes no lock and no memory.
+    pub fn splits(&self) -> &[Bound]
+        ensures value { result.now ≡ self.now.splits }
+        ensures rising { AreSplits result.now }
+    {
+        self.splits.as_slice()
+    }
+
+    /// How many workers it was opened with. Takes no lock.
+    pub(crate) fn workers(&self) -> u64
+        ensures value { result ≡ self.now.workers }
+        ensures few { result ≤ 64 }
+    {
+        self.workers
+    }
+
+    /// Asks partition `part` for a worker, under its lock, which it may wait for.
+    /// Refused, in this order: with 5 where there is no such partition; under the lock with 7 where the gate says no at each turn; with 16,
+    /// with the partition and the number of its replies there, where the worker is another table's; then as `Partition::apply` is, with 4,
+    /// 6, 10, 9 and 8. After each refusal nothing was seen or written. Besides what `Partition::apply` takes it is O(1), takes no memory,
+    /// and the gate's turns.
+    pub fn ask<R: Wait, G: Gate>(
+        &self,
+        rt: &R,
+        gate: &G,
+        asker: &mut Asker<J>,
+        part: u32,
+        command: Command,
+        policy: Policy,
+    ) -> Result<Reply, Refusal>
+        ensures { AsksWitnessed J.owner self.now (G.may_refuse gate.now part) part command result asker.old asker.new }
+    {
+        let Some(lock) = self.locks.get(part as usize) else {
+            return Err(Refusal::NoSuchPartition);
+        };
+        let mut witnessed = lock.lock(rt);
+        let answered = ask_behind(gate, asker, part, &mut witnessed, command, policy)?;
+        with_table_limit(answered, self.limits.history)
+    }
+
+    /// Folds what partition `part` keeps into its base, under its lock, which it may wait for, and reports how many entries went. For all workers
+    /// its rows and its history stay whole. Refused with 5 where there is no such partition, and with 8 where it finds no memory; nothing
+    /// has changed then. It holds this one lock, for the time that `Partition::checkpoint` takes.
+    pub fn checkpoint<R: Wait>(&self, rt: &R, part: u32) -> Result<u64, Refusal>
+        ensures { FoldsAt self.now part result }
+    {
+        let Some(lock) = self.locks.get(part as usize) else {
+            return Err(Refusal::NoSuchPartition);
+        };
+        let mut witnessed = lock.lock(rt);
+        witnessed.checkpoint()
+    }
+
+    /// What stands where in partition `part`, read under its lock, which it may wait for. It cracks and merges nothing, and isn't kept.
+    /// Refused with 5 where there is no such partition, and with 8 where it finds no memory. O(pieces).
+    pub fn layout<R: Wait>(&self, rt: &R, part: u32) -> Result<Layout, Refusal>
+        ensures { LooksAt self.now part result }
+    {
+        let Some(lock) = self.locks.get(part as usize) else {
+            return Err(Refusal::NoSuchPartition);
+        };
+        let witnessed = lock.lock(rt);
+        witnessed.partition().layout()
+    }
+}

@@ -1,0 +1,59 @@
+//! What witnessed partitions come to.
+ghost use Rattle.std.specs.Prelude.{◌≡◌, ◌<◌, ◌≤◌, ◌^◌, length, sum_by, All};
+ghost use Rattle.crack_plain.specs.Past.{accepted_in, inserted_in};
+ghost use Rattle.crack_state.specs.State.{live_rows};
+ghost use Rattle.crack_part.specs.Parts.{IsSound};
+ghost use Rattle.crack_table.specs.Gather.{AreTotals};
+ghost use Rattle.crack_witness.specs.Witnesses.{WitnessedState};
+ghost use Rattle.crack_witness_table.specs.Gather.{held_by};
+
+use crack_witness::{Naming, Witnessed};
+
+/// How many commands were accepted, rows placed, taken out, and left.
+#[derive(Clone, Copy, Drop)]
+pub(crate) struct Sums {
+    pub(crate) accepted: u64,
+    pub(crate) inserted: u64,
+    pub(crate) deleted: u64,
+    pub(crate) held: u64,
+}
+
+/// What partitions lived through, in all: O(partitions).
+pub(crate) fn sums_of<J: Naming>(parts: &Vec<Witnessed<J>>) -> Sums
+    requires sound { All (λ (w : WitnessedState). IsSound w.held) parts.now.items }
+    requires few { length parts.now.items ≤ 64 }
+    ensures { AreTotals (held_by parts.now.items) result.accepted result.inserted result.deleted result.held }
+{
+    let inserted = inserted_in(parts);
+    let held = rows_in(parts);
+    Sums {
+        accepted: accepted_in(parts),
+        inserted,
+        deleted: inserted - held,
+        held,
+    }
+}
+
+/// How many commands partitions accepted.
+fn accepted_in<J: Naming>(parts: &Vec<Witnessed<J>>) -> u64
+    requires { sum_by (λ (w : WitnessedState). accepted_in w.held.past) parts.now.items < 2 ^ 64 }
+    ensures { result ≡ sum_by (λ (w : WitnessedState). accepted_in w.held.past) parts.now.items }
+{
+    parts.iter().map(|part| part.partition().accepted()).sum()
+}
+
+/// How many rows were placed in partitions.
+fn inserted_in<J: Naming>(parts: &Vec<Witnessed<J>>) -> u64
+    requires { sum_by (λ (w : WitnessedState). inserted_in w.held.past) parts.now.items < 2 ^ 64 }
+    ensures { result ≡ sum_by (λ (w : WitnessedState). inserted_in w.held.past) parts.now.items }
+{
+    parts.iter().map(|part| part.partition().inserted()).sum()
+}
+
+/// How many rows partitions have.
+fn rows_in<J: Naming>(parts: &Vec<Witnessed<J>>) -> u64
+    requires { sum_by (λ (w : WitnessedState). length (live_rows w.held.store)) parts.now.items < 2 ^ 64 }
+    ensures { result ≡ sum_by (λ (w : WitnessedState). length (live_rows w.held.store)) parts.now.items }
+{
+    parts.iter().map(|part| part.partition().rows()).sum()
+}
