@@ -10,7 +10,7 @@ use std::alloc::Global;
 use std::process::Abort;
 
 /// Puts a row of this key among the pending insertions of a store of all keys.
-fn insert(rt: &impl Abort, store: &mut Store, key: KeyNumber)
+pub(crate) fn insert(rt: &impl Abort, store: &mut Store, key: KeyNumber)
     requires low { store.old.keys.low ≡ 0 }
     requires high { store.old.keys.high ≡ GREATEST_BOUND }
     ensures low { store.new.keys.low ≡ 0 }
@@ -47,7 +47,7 @@ fn doom(rt: &impl Abort, store: &mut Store, serial: u64)
 }
 
 /// Cracks at the ends of a range.
-fn crack_between(rt: &impl Abort, store: &mut Store, range: KeyRange)
+pub(crate) fn crack_between(rt: &impl Abort, store: &mut Store, range: KeyRange)
     ensures keys { store.new.keys ≡ store.old.keys }
     ensures cracked { IsCracked store.new range }
 {
@@ -56,7 +56,7 @@ fn crack_between(rt: &impl Abort, store: &mut Store, range: KeyRange)
 }
 
 /// Cracks at the ends of a range and merges at it, complete.
-fn complete_at(rt: &impl Abort, store: Store, range: KeyRange) -> (Store, MergeReport)
+pub(crate) fn complete_at(rt: &impl Abort, store: Store, range: KeyRange) -> (Store, MergeReport)
     requires some { range.low < range.high }
     requires low { store.keys.low ≡ 0 }
     requires high { store.keys.high ≡ GREATEST_BOUND }
@@ -74,7 +74,7 @@ fn complete_at(rt: &impl Abort, store: Store, range: KeyRange) -> (Store, MergeR
 }
 
 /// Cracks at the ends of a range and merges at it, gradual.
-fn gradual_at(rt: &impl Abort, store: Store, range: KeyRange) -> (Store, MergeReport)
+pub(crate) fn gradual_at(rt: &impl Abort, store: Store, range: KeyRange) -> (Store, MergeReport)
     requires some { range.low < range.high }
     requires low { store.keys.low ≡ 0 }
     requires high { store.keys.high ≡ GREATEST_BOUND }

@@ -1,0 +1,156 @@
+//! Carries in bulk leave what one row after the other leaves, over stores that look random.
+ghost use Rattle.std.specs.Prelude.{◌≡◌, ◌+◌, ◌<◌, ◌≤◌};
+
+use crate::merge::{complete_at, crack_between, gradual_at, insert};
+use crack_row::{GREATEST_BOUND, KeyRange};
+use crack_store::{MergeReport, Store};
+use std::alloc::Global;
+use std::process::Abort;
+
+/// Numbers that look random.
+#[derive(Drop)]
+struct Numbers(u64);
+
+impl Numbers {
+    /// The next, which is below this one.
+    fn below(&mut self, end: u64) -> u64
+        requires { 0 < end }
+        ensures { result < end }
+    {
+        self.0 = self
+            .0
+            .wrapping_mul(6_364_136_223_846_793_005)
+            .wrapping_add(1_442_695_040_888_963_407);
+        (self.0 >> 33) % end
+    }
+}
+
+/// What a store contains: the serials of its column from the last place down, of its pending insertions in their order, and the sizes of its
+/// pieces.
+#[derive(Drop, PartialEq, Debug)]
+struct Contents {
+    column: Vec<u64>,
+    pending: Vec<u64>,
+    sizes: Vec<u64>,
+}
+
+/// A store of all keys with up to 40 rows in its column, of keys below `keys`, cracked up to six times.
+fn some_store(rt: &impl Abort, alloc: Global, numbers: &mut Numbers, keys: u64) -> Store
+    requires some { 0 < keys }
+    requires few { keys ≤ 1000 }
+    ensures low { result.keys.low ≡ 0 }
+    ensures high { result.keys.high ≡ GREATEST_BOUND }
+{
+    let mut store = Store::new(alloc, KeyRange::all());
+    let rows = numbers.below(40);
+    'rows: for _ in 0..rows {
+        let key = numbers.below(keys);
+        insert(rt, &mut store, key);
+    }
+    let (mut store, _) = complete_at(rt, store, KeyRange::all());
+    let cracks = numbers.below(6);
+    'cracks: for _ in 0..cracks {
+        let low = numbers.below(keys);
+        let more = numbers.below(keys);
+        let range = KeyRange::new(low as u128, (low + more + 1) as u128).expect(rt, "a range");
+        crack_between(rt, &mut store, range);
+    }
+    store
+}
+
+/// Takes the last row of the column out, and puts it behind the pending insertions, or frees it where it is doomed; its serial.
+fn take_last(rt: &impl Abort, store: Store) -> (Store, u64) {
+    let mut store = store;
+    let len = store.column_len();
+    assert!(rt; len > 0);
+    if let Err(_) = store.make_room() {
+        panic!(rt; "no memory");
+    }
+    let carrying = store.lift_last();
+    let (_, row) = carrying.hand();
+    let serial = row.serial.0;
+    if carrying.is_doomed() {
+        (carrying.bury(), serial)
+    } else {
+        (carrying.put_back(), serial)
+    }
+}
+
+/// Takes the first pending insertion out, and puts it behind the others; its serial.
+fn take_first(rt: &impl Abort, store: Store) -> (Store, u64) {
+    let mut store = store;
+    let len = store.pending_in();
+    assert!(rt; len > 0);
+    if let Err(_) = store.make_room() {
+        panic!(rt; "no memory");
+    }
+    let carrying = store.lift(0);
+    let (_, row) = carrying.hand();
+    let serial = row.serial.0;
+    let doomed = carrying.is_doomed();
+    assert!(rt; !doomed);
+    (carrying.put_back(), serial)
+}
+
+/// What the store contains.
+fn contents_of(rt: &impl Abort, alloc: Global, store: Store) -> Contents {
+    let mut store = store;
+    let mut contents = Contents {
+        column: Vec::new(alloc),
+        pending: Vec::new(alloc),
+        sizes: Vec::new(alloc),
+    };
+    let layout = store.layout().expect(rt, "a layout");
+    let pieces = layout.pieces.as_slice();
+    for i in 0..pieces.len() {
+        contents.sizes.push(pieces[i].size).expect(rt, "memory");
+    }
+    for _ in 0..store.pending_in() {
+        let (next, serial) = take_first(rt, store);
+        contents.pending.push(serial).expect(rt, "memory");
+        store = next;
+    }
+    for _ in 0..store.column_len() {
+        let (next, serial) = take_last(rt, store);
+        contents.column.push(serial).expect(rt, "memory");
+        store = next;
+    }
+    drop(store);
+    contents
+}
+
+/// Merges up to twelve rows of random keys into a store of random rows: all at once, or one after the other. What it contains then, and what was
+/// counted.
+fn merged(rt: &impl Abort, alloc: Global, seed: u64, at_once: bool) -> (Contents, MergeReport) {
+    let mut numbers = Numbers(seed);
+    let keys = numbers.below(60) + 1;
+    let mut store = some_store(rt, alloc, &mut numbers, keys);
+    let low = numbers.below(keys);
+    let more = numbers.below(keys);
+    let range = KeyRange::new(low as u128, (low + more + 1) as u128).expect(rt, "a range");
+    let whole = numbers.below(2) == 0;
+    let rows = numbers.below(12);
+    'rows: for i in 0..rows {
+        let key = numbers.below(keys);
+        insert(rt, &mut store, key);
+        if !at_once || i + 1 == rows {
+            store = if whole {
+                complete_at(rt, store, KeyRange::all()).0
+            } else {
+                gradual_at(rt, store, range).0
+            };
+        }
+    }
+    let tally = store.tally();
+    (contents_of(rt, alloc, store), tally)
+}
+
+#[test]
+fn carries_in_bulk_leave_what_one_after_the_other_leaves(rt: HostRuntime) {
+    for seed in 0..2000u64 {
+        let (contents, counted) = merged(&rt, rt.alloc(), seed, true);
+        let (expected, tally) = merged(&rt, rt.alloc(), seed, false);
+        assert_eq!(rt; counted, tally, "{}", seed);
+        assert_eq!(rt; contents, expected, "{}", seed);
+    }
+}
