@@ -1,3 +1,4 @@
+pub mod Codes
 pub mod Inside
 pub mod Pending
 pub mod Spots

@@ -3,6 +3,8 @@
 
 mod bits;
 mod closing;
+mod code_pass;
+mod codes;
 pub mod list;
 mod noting;
 mod pass;

@@ -288,7 +288,17 @@ impl<Kind> PendingList<Kind> {
         ensures finds { Finds range (keys_at arena.now.cells self.old.handles) from result }
         ensures same { self.new ≡ self.old }
     {
+        self.list.code_keys();
         self.list.seek_in(range, from, arena)
+    }
+
+    /// Codes the keys that have no code yet, where these are many, so that the next passes read 16 bits for each. Amortised O(1) for each
+    /// push. It can't fail: without memory for codes, passes read keys. Contracts see no change.
+    #[inline]
+    pub fn code_keys(&mut self)
+        ensures { self.new ≡ self.old }
+    {
+        self.list.code_keys();
     }
 
     /// The first place where the handle stands; none where it stands nowhere. O(1) where there are no holes, else O(len).

@@ -2,8 +2,11 @@
 ghost use Rattle.std.specs.Prelude.{◌≡◌, ◌≢◌, ◌+◌, ◌<◌, ◌≤◌, ◌⊎◌, ℕ, length, slice_index, MatchOption, IsTrue, IsFalse};
 ghost use Rattle.std.specs.Bool.{OnFalse};
 ghost use Rattle.crack_arena.specs.Rows.{key_at, unknown};
+ghost use Rattle.crack_pending.specs.Codes.{AreCoded};
 ghost use Rattle.crack_pending.specs.Inside.{Lies, AreKnown, IsMissed, IsHit, KnowKeys};
 
+use crate::code_pass::{Window, hit_in_codes};
+use crate::codes::Codes;
 use crate::spots::{StoredKey, UNKNOWN};
 use crack_arena::{Arena, Handle, key_of};
 use crack_row::{Key, KeyRange, Row};
@@ -14,9 +17,9 @@ const BLOCK: usize = 16;
 /// What a pass looks for: a key between the two; and whether it has to ask for keys that aren't known.
 #[derive(Clone, Copy)]
 pub(crate) struct Wanted {
-    low: StoredKey,
-    last: StoredKey,
-    some_unknown: bool,
+    pub(crate) low: StoredKey,
+    pub(crate) last: StoredKey,
+    pub(crate) some_unknown: bool,
 }
 
 /// Whether one of a block's keys lies between the two. Found out by one comparison for each key, without a branch.
@@ -59,7 +62,7 @@ fn may_hit(keys: &[StoredKey], wanted: Wanted) -> bool
 }
 
 /// The key of the handle's row, which stands beside it where it is known.
-fn key_beside(key: StoredKey, handle: Handle<Row>, arena: &Arena<Row>) -> Key
+pub(crate) fn key_beside(key: StoredKey, handle: Handle<Row>, arena: &Arena<Row>) -> Key
     requires { (key ≡ unknown) ⊎ (key ≡ key_at arena.now.cells handle) }
     ensures { result.0 ≡ key_at arena.now.cells handle }
 {
@@ -158,10 +161,12 @@ fn hit_in_blocks(
 }
 
 /// The first spot at or after `from` whose row has its key in the range; whether a key isn't known is asked only where some aren't.
+/// Reads the codes of the spots that have one, and the keys at the others.
 pub(crate) fn first_hit(
     handles: &[Handle<Row>],
     keys: &[StoredKey],
     stands: &[bool],
+    codes: &Codes,
     from: usize,
     range: KeyRange,
     arena: &Arena<Row>,
@@ -170,6 +175,7 @@ pub(crate) fn first_hit(
     requires keys { length keys.now ≡ length handles.now }
     requires stands { length stands.now ≡ length handles.now }
     requires within { from ≤ length handles.now }
+    requires coded { AreCoded keys.now stands.now codes.now }
     requires known { KnowKeys arena.now.cells handles.now keys.now stands.now }
     requires all_known { IsFalse some_unknown → AreKnown keys.now stands.now }
     ensures { MatchOption result
@@ -184,5 +190,13 @@ pub(crate) fn first_hit(
         last: last.number(),
         some_unknown,
     };
-    hit_in_blocks(handles, keys, stands, from, range, wanted, arena)
+    let coded = codes.len();
+    if coded <= from {
+        return hit_in_blocks(handles, keys, stands, from, range, wanted, arena);
+    }
+    let window = Window::of(wanted, codes, range);
+    match hit_in_codes(handles, keys, stands, codes, from, range, window, arena) {
+        Some(hit) => Some(hit),
+        None => hit_in_blocks(handles, keys, stands, coded, range, wanted, arena),
+    }
 }

@@ -8,6 +8,7 @@ ghost use Rattle.crack_pending.specs.Keeps.{place_at, HasRow, Has};
 
 use crate::bits::BitSet;
 use crate::closing::close_up;
+use crate::codes::Codes;
 use crate::noting::{spot_noted, spot_sought};
 use crate::pass::first_hit;
 use crate::rows::{rows_between, spot_before, spot_of};
@@ -32,12 +33,16 @@ const FIRST_SPOTS: usize = 8192;
 /// For how many cells more there is place at least, each time that it grows.
 const MORE_PLACES: usize = 2048;
 
+/// At how many spots a pass reads keys, since making codes for so few gains nothing.
+const MOST_UNCODED: usize = 64;
+
 /// Handles in the order of their arrival, each at a spot of its own, and holes where rows went. A hole keeps its handle and
 /// its key, which nobody reads; a mark beside tells it from a row.
 #[derive(Drop)]
 pub(crate) struct SpotList {
     handles: Vec<Handle<Row>>,
     keys: Vec<StoredKey>,
+    codes: Codes,
     /// Whether a row stands at the spot.
     stands: Vec<bool>,
     /// How many rows stand.
@@ -58,6 +63,7 @@ impl Model for SpotList {
     ghost use Rattle.crack_arena.specs.Arena.{times};
     ghost use Rattle.crack_arena.specs.Rows.{unknown};
     ghost use Rattle.crack_pending.specs.Pending.{Pending};
+    ghost use Rattle.crack_pending.specs.Codes.{AreCoded};
     ghost use Rattle.crack_pending.specs.Keeps.{AreKept};
     ghost use Rattle.crack_pending.specs.Spots.{kept, spot_room};
 
@@ -72,7 +78,8 @@ impl Model for SpotList {
 
     ghost invariant = { λ l.
         AreKept l.handles.items l.keys.items l.stands.items l.spots.items l.rows l.noted l.hint_place l.hint_spot
-        × (l.unknowns ≡ times unknown (kept l.stands.items l.keys.items)) };
+        × (l.unknowns ≡ times unknown (kept l.stands.items l.keys.items))
+        × AreCoded l.keys.items l.stands.items l.codes };
 }
 
 impl SpotList {
@@ -82,6 +89,7 @@ impl SpotList {
         SpotList {
             handles: Vec::new(alloc),
             keys: Vec::new(alloc),
+            codes: Codes::new(alloc),
             stands: Vec::new(alloc),
             rows: 0,
             unknowns: 0,
@@ -153,6 +161,7 @@ impl SpotList {
             &mut self.stands,
             self.rows,
         );
+        self.codes.clear();
         self.noted = 0;
         self.hint_place = 0;
         self.hint_spot = 0;
@@ -174,6 +183,7 @@ impl SpotList {
             &mut self.stands,
             self.rows,
         );
+        self.codes.give_back();
         self.noted = 0;
         self.hint_place = 0;
         self.hint_spot = 0;
@@ -270,6 +280,7 @@ impl SpotList {
         );
         let handle = self.handles[spot];
         self.stands[spot] = false;
+        self.codes.leave_hole(spot);
         self.rows -= 1;
         self.unknowns = unknowns_without(&self.keys, self.unknowns, spot);
         self.hint_place = place;
@@ -297,6 +308,7 @@ impl SpotList {
         };
         self.hint_place = hint_without(&self.stands, self.hint_place, self.hint_spot, spot);
         self.stands[spot] = false;
+        self.codes.leave_hole(spot);
         self.rows -= 1;
         self.unknowns = unknowns_without(&self.keys, self.unknowns, spot);
         self.close_up_if_sparse();
@@ -327,6 +339,7 @@ impl SpotList {
             &mut self.stands,
             self.rows,
         );
+        self.codes.clear();
         self.noted = 0;
         self.hint_place = 0;
         self.hint_spot = 0;
@@ -341,6 +354,7 @@ impl SpotList {
     {
         self.handles.clear();
         self.keys.clear();
+        self.codes.clear();
         self.stands.clear();
         self.rows = 0;
         self.unknowns = 0;
@@ -364,6 +378,7 @@ impl SpotList {
             self.unknowns = unknowns_without(&self.keys, self.unknowns, spot)
                 + (key == UNKNOWN) as usize;
             self.keys[spot] = key;
+            self.codes.recode(spot, key);
         }
     }
 
@@ -406,6 +421,7 @@ impl SpotList {
             &self.handles,
             &self.keys,
             &self.stands,
+            &self.codes,
             start,
             range,
             arena,
@@ -414,6 +430,16 @@ impl SpotList {
             Some(spot) => Some(from + rows_between(&self.stands, start, spot)),
             None => None,
         }
+    }
+
+    /// Codes the rows at the spots that have no code yet, where these are many.
+    pub(crate) fn code_keys(&mut self)
+        ensures { self.new ≡ self.old }
+    {
+        if self.keys.len() - self.codes.len() <= MOST_UNCODED {
+            return;
+        }
+        self.codes.catch_up(&self.keys, &self.stands);
     }
 
     /// As `next_in`; the next look for a place goes on from the one that is found.
@@ -442,6 +468,7 @@ impl SpotList {
             &self.handles,
             &self.keys,
             &self.stands,
+            &self.codes,
             start,
             range,
             arena,

@@ -1,4 +1,5 @@
 use Rattle.std.proofs.Common.{refl, arith}
+use Rattle.crack_pending.proofs.Coded.{coded_none}
 use Rattle.crack_pending.proofs.Views.{IsClosed, same_view, closed-kept, closed-handles, closed-keys, closed-fewer}
 use Rattle.crack_pending.proofs.spots.SpotList.close_up.Goals as goal
 
@@ -13,6 +14,7 @@ invariant_of-self c =
     } in (
       closed-kept i.handles.items i.keys.items i.stands.items i.spots.items i.rows i.noted i.hint_place i.hint_spot c.self.invariant.0 _ _ _ closed,
       rw (closed-keys i.handles.items i.keys.items i.stands.items i.spots.items i.rows i.noted i.hint_place i.hint_spot c.self.invariant.0 _ _ _ closed) c.self.invariant.1,
+      coded_none _ _ c.clear.new.self c.clear.ensures,
     )
 
 pub returns-clause-same : goal.returns-clause-same

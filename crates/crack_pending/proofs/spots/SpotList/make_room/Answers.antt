@@ -1,5 +1,6 @@
 use Rattle.std.proofs.Common.{◌≡◌, ◌≤◌, length, vec_len, vec_capacity, refl, ap, ◌∙◌, arith}
 use Rattle.crack_pending.proofs.Kept.{length-kept}
+use Rattle.crack_pending.proofs.Coded.{coded_none}
 use Rattle.crack_pending.proofs.Views.{IsClosed, same_view, closed-kept, closed-handles, closed-keys, closed-fewer, closed-rows, room-more, room-enough, OnOk_three}
 use Rattle.crack_pending.proofs.spots.SpotList.make_room.Goals as goal
 
@@ -16,6 +17,7 @@ invariant_of-self c =
     rw (c.grow.ensures.handles, c.grow.ensures.keys, c.grow.ensures.stands) (
       closed-kept i.handles.items i.keys.items i.stands.items i.spots.items i.rows i.noted i.hint_place i.hint_spot a _ _ _ closed,
       rw (closed-keys i.handles.items i.keys.items i.stands.items i.spots.items i.rows i.noted i.hint_place i.hint_spot a _ _ _ closed) c.self.invariant.1,
+      coded_none _ _ c.clear.new.self c.clear.ensures,
     )
 
 pub returns-clause-same : goal.returns-clause-same

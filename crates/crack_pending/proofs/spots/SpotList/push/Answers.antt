@@ -3,6 +3,7 @@ use Rattle.crack_arena.proofs.Remembering.{RemembersKeys-append}
 use Rattle.crack_arena.specs.Rows.{unknown}
 use Rattle.crack_pending.specs.Spots.{kept, spot_room}
 use Rattle.crack_pending.proofs.Kept.{kept-push, place_at-few}
+use Rattle.crack_pending.proofs.Coded.{coded_push}
 use Rattle.crack_pending.proofs.Views.{kept_more, view_after, room-less, room-some}
 use Rattle.crack_pending.proofs.Unknown.{counted_one, counted_push, counted_few, byte_few}
 use Rattle.crack_pending.proofs.spots.SpotList.push.Goals as goal
@@ -28,6 +29,7 @@ invariant_of-self c =
     rw (c.push_reserved.ensures.items, c.push_reserved-2.ensures.items, c.push_reserved-3.ensures.items) (
       kept_more i.handles.items i.keys.items i.stands.items i.spots.items i.rows i.noted i.hint_place i.hint_spot a c.args.handle c.args.key (room-some _ _ _ _ room).0 covered absent,
       omega (arith, c.self.invariant.1, counted_one c.args.key, counted_push i.keys.items i.stands.items (omega (arith, a.stands_beside, a.keys_beside)) c.args.key),
+      coded_push i.keys.items i.stands.items i.codes c.self.invariant.2 c.args.key (omega (arith, a.stands_beside, a.keys_beside)),
     )
 
 pub returns-clause-after : goal.returns-clause-after

@@ -1,5 +1,6 @@
 use Rattle.std.proofs.Common.{length, refl, nat_eq, arith}
 use Rattle.crack_arena.specs.Rows.{unknown}
+use Rattle.crack_pending.proofs.Coded.{coded_key}
 use Rattle.crack_pending.proofs.Views.{other_key, anew, same_view, nowhere-times, kept_key, kept_noted}
 use Rattle.crack_pending.proofs.Unknown.{counted_one, counted_set, counted_some, counted_few, byte_few}
 use Rattle.crack_pending.proofs.spots.SpotList.remember.Goals as goal
@@ -30,6 +31,7 @@ invariant_of-self c =
     rw all (
       kept_key i.handles.items i.keys.items i.stands.items c.spot_noted.new.spots.items i.rows (length i.handles.items) i.hint_place i.hint_spot noted c.in-Some.spot c.args.key,
       omega (arith, c.self.invariant.1, less, counted_one c.args.key, counted_set i.keys.items i.stands.items (omega (arith, a.stands_beside, a.keys_beside)) c.in-Some.spot c.args.key with.stands_there),
+      rw (c.recode.ensures) (coded_key i.keys.items i.stands.items i.codes c.self.invariant.2 c.in-Some.spot c.args.key with.stands_there),
     )
 
 pub returns-in-Some-clause-after : goal.returns-in-Some-clause-after

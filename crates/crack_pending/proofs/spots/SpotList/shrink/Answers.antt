@@ -1,5 +1,6 @@
 use Rattle.std.proofs.Common.{◌≡◌, ◌≤◌, length, refl, ap, ◌∙◌, arith}
 use Rattle.crack_pending.proofs.Kept.{place_at-few}
+use Rattle.crack_pending.proofs.Coded.{coded_none}
 use Rattle.crack_pending.proofs.Views.{IsClosed, same_view, closed-kept, closed-handles, closed-keys, closed-fewer, closed-rows, room-sure}
 use Rattle.crack_pending.proofs.spots.SpotList.shrink.Goals as goal
 
@@ -22,6 +23,7 @@ invariant_of-self c =
     rw (c.shrink_to.ensures.items, c.shrink_to-2.ensures.items, c.shrink_to-3.ensures.items) (
       closed-kept i.handles.items i.keys.items i.stands.items i.spots.items i.rows i.noted i.hint_place i.hint_spot a _ _ _ closed,
       rw (closed-keys i.handles.items i.keys.items i.stands.items i.spots.items i.rows i.noted i.hint_place i.hint_spot a _ _ _ closed) c.self.invariant.1,
+      coded_none _ _ c.give_back.new.self c.give_back.ensures,
     )
 
 pub returns-clause-same : goal.returns-clause-same

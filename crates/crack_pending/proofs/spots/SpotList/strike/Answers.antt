@@ -6,6 +6,7 @@ use Rattle.crack_arena.proofs.Remembering.{RemembersKeys-remove}
 use Rattle.crack_pending.specs.Pending.{Pending}
 use Rattle.crack_pending.specs.Spots.{kept}
 use Rattle.crack_pending.proofs.Kept.{place_at-before, Stands-within}
+use Rattle.crack_pending.proofs.Coded.{coded_hole}
 use Rattle.crack_pending.proofs.Views.{kept_hole, kept_noted, struck, nowhere-times, spot-times}
 use Rattle.crack_pending.proofs.Unknown.{counted_hole, counted_some}
 use Rattle.crack_pending.proofs.spots.SpotList.strike.Goals as goal
@@ -47,6 +48,7 @@ invariant_of-self c =
     rw all (
       kept_noted i.handles.items i.keys.items i.stands.items i.spots.items i.rows i.noted i.hint_place i.hint_spot a c.spot_noted.new.spots.items (omega (arith, c.spot_noted.ensures.covered)) led,
       c.self.invariant.1,
+      c.self.invariant.2,
     )
 
 pub invariant_of-self-2 : goal.invariant_of-self-2
@@ -62,6 +64,7 @@ invariant_of-self-2 c =
     rw all (
       kept_hole i.handles.items i.keys.items i.stands.items c.spot_noted.new.spots.items i.rows (length i.handles.items) i.hint_place i.hint_spot noted c.in-Some.spot c.hint_without-self-inside.result i.hint_spot with.stands_there a.near hint,
       omega (arith, c.self.invariant.1, less, counted_hole i.keys.items i.stands.items (omega (arith, a.stands_beside, a.keys_beside)) c.in-Some.spot with.stands_there),
+      rw (c.leave_hole.ensures) (coded_hole i.keys.items i.stands.items i.codes c.self.invariant.2 c.in-Some.spot with.stands_there),
     )
 
 pub returns-clause-handles : goal.returns-clause-handles

@@ -4,6 +4,7 @@ use Rattle.crack_arena.proofs.Remembering.{RemembersKeys-remove}
 use Rattle.crack_pending.specs.Pending.{Pending}
 use Rattle.crack_pending.specs.Spots.{kept}
 use Rattle.crack_pending.proofs.Kept.{place_at-hole_behind, Stands-within, kept-hole, length-kept}
+use Rattle.crack_pending.proofs.Coded.{coded_hole}
 use Rattle.crack_pending.proofs.Views.{kept_hole, place-StandsAt}
 use Rattle.crack_pending.proofs.Unknown.{counted_hole, counted_some}
 use Rattle.crack_pending.proofs.spots.SpotList.take.Goals as goal
@@ -37,6 +38,7 @@ invariant_of-self c =
     let less = rw (c.deref-2.ensures.value) at c.unknowns_without-self-inside.ensures in (
       kept_hole i.handles.items i.keys.items i.stands.items i.spots.items i.rows i.noted i.hint_place i.hint_spot a spot c.args.place spot stands (omega (arith, Stands-within i.stands.items spot stands, a.stands_beside)) (sym place ∙ sym (place_at-hole_behind i.stands.items spot spot (omega arith))),
       omega (arith, c.self.invariant.1, less, counted_hole i.keys.items i.stands.items (omega (arith, a.stands_beside, a.keys_beside)) spot stands),
+      rw (c.leave_hole.ensures) (coded_hole i.keys.items i.stands.items i.codes c.self.invariant.2 spot stands),
     )
 
 pub returns-clause-value : goal.returns-clause-value

@@ -1,0 +1,13 @@
+use Rattle.std.proofs.Common.{◌-◌, ◌≤◌, length}
+use Rattle.crack_pending.specs.Inside.{IsMissed}
+use Rattle.crack_pending.proofs.code_pass.hit_in_codes.Given as goal
+
+abbrev pub invariant-far : goal.invariant-far
+invariant-far l = record {
+  after : l.from ≤ l.spot;
+  within : l.spot ≤ length l.codes.codes;
+  missed : IsMissed l.range l.arena.cells l.handles l.stands l.from l.spot;
+}
+
+abbrev pub decreases-far : goal.decreases-far
+decreases-far l = length l.codes.codes - l.spot

@@ -1,0 +1,10 @@
+use Rattle.std.proofs.Common.{◌≡◌, ◌≤◌, length, vec_capacity}
+use Rattle.crack_pending.specs.Codes.{AreCoded}
+use Rattle.crack_pending.proofs.codes.append_codes.Given as goal
+
+abbrev pub invariant-spots : goal.invariant-spots
+invariant-spots l = record {
+  long : length l.codes.items ≡ l.spot;
+  capacity : vec_capacity l.codes ≡ vec_capacity l.initial.codes;
+  coded : AreCoded l.keys l.stands (record { codes = l.codes.items; base = l.scale.base; shift = l.scale.shift });
+}

@@ -1,0 +1,238 @@
+//! The pass over the codes of pending rows.
+ghost use Rattle.std.specs.Prelude.{◌≡◌, ◌+◌, ◌-◌, ◌<◌, ◌≤◌, ◌↔◌, ℕ, length, slice_index, slice_index_or, MatchOption, IsTrue, IsFalse};
+ghost use Rattle.std.specs.Bool.{OnFalse};
+ghost use Rattle.crack_row.specs.Ranges.{IsIn};
+ghost use Rattle.crack_arena.specs.Arena.{no_handle};
+ghost use Rattle.crack_arena.specs.Rows.{key_at};
+ghost use Rattle.crack_pending.specs.Keeps.{HasRow};
+ghost use Rattle.crack_pending.specs.Codes.{AreCoded, IsWindow};
+ghost use Rattle.crack_pending.specs.Inside.{Lies, AreKnown, IsMissed, IsHit, KnowKeys};
+
+use crate::codes::Codes;
+use crate::pass::{Wanted, key_beside};
+use crate::spots::{StoredKey, UNKNOWN};
+use crack_arena::{Arena, Handle};
+use crack_row::{KeyRange, Row};
+
+/// Read at once, without a branch for each.
+const BLOCK: usize = 32;
+
+/// The codes of a pass's ends, and of a key that isn't known.
+#[derive(Clone, Copy)]
+pub(crate) struct Window {
+    first: u16,
+    last: u16,
+    beyond: u16,
+    some_unknown: bool,
+}
+
+impl Window {
+    /// What a pass looks for, by codes.
+    pub(crate) fn of(wanted: Wanted, codes: &Codes, range: KeyRange) -> Window
+        requires low { range.low ≡ wanted.low }
+        requires last { range.high ≡ wanted.last + 1 }
+        requires order { wanted.low ≤ wanted.last }
+        ensures window { IsWindow codes.now.base codes.now.shift range result.first result.last result.beyond }
+        ensures unknown { result.some_unknown ≡ wanted.some_unknown }
+    {
+        Window {
+            first: codes.code(wanted.low),
+            last: codes.code(wanted.last),
+            beyond: codes.code(UNKNOWN),
+            some_unknown: wanted.some_unknown,
+        }
+    }
+
+    /// Whether a row of this code may have its key in the range.
+    fn may_hold(self, code: u16) -> bool
+        requires order { self.first ≤ self.last }
+        requires last { self.last < 65535 }
+        requires beyond { self.beyond < 65535 }
+        ensures lies { IsFalse result → ¬ Lies self.first self.last code }
+        ensures none_unknown { IsFalse result → IsTrue self.some_unknown → ¬ Lies self.beyond self.beyond code }
+        ensures coded { IsTrue result → code < 65535 }
+    {
+        code.wrapping_sub(self.first) <= self.last - self.first
+            || (self.some_unknown && code == self.beyond)
+    }
+
+    /// Whether each row of this code has its key in the range.
+    fn is_inside(self, code: u16) -> bool
+        ensures { IsTrue result ↔ ((self.first < code) × (code < self.last)) }
+    {
+        self.first < code && code < self.last
+    }
+}
+
+/// Whether one of a block's codes lies between the two. Found out by one comparison for each code, without a branch.
+fn any_lies(codes: &[u16], low: u16, last: u16) -> bool
+    requires block { length codes.now ≡ 32 }
+    requires order { low ≤ last }
+    ensures { OnFalse result ((k : ℕ) → k < 32 → ¬ Lies low last (slice_index codes.now k)) }
+{
+    let width = last - low;
+    let mut any = 0u16;
+    'codes: for i in 0..BLOCK {
+        any |= (codes[i].wrapping_sub(low) <= width) as u16;
+    }
+    any != 0
+}
+
+/// Whether a row of a block may have its key in the range, by the codes alone.
+fn may_hit(codes: &[u16], window: Window) -> bool
+    requires block { length codes.now ≡ 32 }
+    requires order { window.first ≤ window.last }
+    ensures lies { OnFalse result ((k : ℕ) → k < 32 → ¬ Lies window.first window.last (slice_index codes.now k)) }
+    ensures none_unknown { OnFalse result (IsTrue window.some_unknown → (k : ℕ) → k < 32 → ¬ Lies window.beyond window.beyond (slice_index codes.now k)) }
+{
+    if any_lies(codes, window.first, window.last) {
+        return true;
+    }
+    window.some_unknown && any_lies(codes, window.beyond, window.beyond)
+}
+
+/// Whether a row stands at the spot and has its key in the range. Reads its key only where the code is that of one of the range's ends, or of
+/// keys that aren't known.
+#[inline(always)]
+fn is_hit(
+    handles: &[Handle<Row>],
+    keys: &[StoredKey],
+    stands: &[bool],
+    codes: &Codes,
+    spot: usize,
+    range: KeyRange,
+    window: Window,
+    arena: &Arena<Row>,
+) -> bool
+    requires keys { length keys.now ≡ length handles.now }
+    requires stands { length stands.now ≡ length handles.now }
+    requires within { spot < length codes.now.codes }
+    requires coded { AreCoded keys.now stands.now codes.now }
+    requires window { IsWindow codes.now.base codes.now.shift range window.first window.last window.beyond }
+    requires known { KnowKeys arena.now.cells handles.now keys.now stands.now }
+    requires all_known { IsFalse window.some_unknown → AreKnown keys.now stands.now }
+    ensures stands { IsTrue result → HasRow stands.now spot }
+    ensures holds { IsTrue result → IsIn range (key_at arena.now.cells (slice_index_or handles.now spot no_handle)) }
+    ensures missed { IsFalse result → HasRow stands.now spot → ¬ IsIn range (key_at arena.now.cells (slice_index_or handles.now spot no_handle)) }
+{
+    let code = codes.list()[spot];
+    if !window.may_hold(code) {
+        return false;
+    }
+    if window.is_inside(code) {
+        return true;
+    }
+    range.contains(key_beside(keys[spot], handles[spot], arena))
+}
+
+/// The first spot, of those from one up to another, whose row has its key in the range. Looks at the code of each.
+fn hit_between(
+    handles: &[Handle<Row>],
+    keys: &[StoredKey],
+    stands: &[bool],
+    codes: &Codes,
+    from: usize,
+    to: usize,
+    range: KeyRange,
+    window: Window,
+    arena: &Arena<Row>,
+) -> Option<usize>
+    requires keys { length keys.now ≡ length handles.now }
+    requires stands { length stands.now ≡ length handles.now }
+    requires within { to ≤ length codes.now.codes }
+    requires coded { AreCoded keys.now stands.now codes.now }
+    requires window { IsWindow codes.now.base codes.now.shift range window.first window.last window.beyond }
+    requires known { KnowKeys arena.now.cells handles.now keys.now stands.now }
+    requires all_known { IsFalse window.some_unknown → AreKnown keys.now stands.now }
+    ensures { MatchOption result
+        (IsMissed range arena.now.cells handles.now stands.now from to)
+        (λ spot. IsHit range arena.now.cells handles.now stands.now from to spot) }
+{
+    'spots: for spot in from..to {
+        if is_hit(handles, keys, stands, codes, spot, range, window, arena) {
+            return Some(spot);
+        }
+    }
+    None
+}
+
+/// The first spot of a block, from the one that is given on, whose row has its key in the range.
+/// Looks at each only where one may have it, by the codes alone.
+fn hit_in_block(
+    handles: &[Handle<Row>],
+    keys: &[StoredKey],
+    stands: &[bool],
+    codes: &Codes,
+    from: usize,
+    range: KeyRange,
+    window: Window,
+    arena: &Arena<Row>,
+) -> Option<usize>
+    requires keys { length keys.now ≡ length handles.now }
+    requires stands { length stands.now ≡ length handles.now }
+    requires within { from + 32 ≤ length codes.now.codes }
+    requires coded { AreCoded keys.now stands.now codes.now }
+    requires window { IsWindow codes.now.base codes.now.shift range window.first window.last window.beyond }
+    requires known { KnowKeys arena.now.cells handles.now keys.now stands.now }
+    requires all_known { IsFalse window.some_unknown → AreKnown keys.now stands.now }
+    ensures { MatchOption result
+        (IsMissed range arena.now.cells handles.now stands.now from (from + 32))
+        (λ spot. IsHit range arena.now.cells handles.now stands.now from (from + 32) spot) }
+{
+    if !may_hit(&codes.list()[from..from + BLOCK], window) {
+        return None;
+    }
+    hit_between(
+        handles,
+        keys,
+        stands,
+        codes,
+        from,
+        from + BLOCK,
+        range,
+        window,
+        arena,
+    )
+}
+
+/// The first spot at or after `from`, of those that have a code, whose row has its key in a range that isn't empty.
+pub(crate) fn hit_in_codes(
+    handles: &[Handle<Row>],
+    keys: &[StoredKey],
+    stands: &[bool],
+    codes: &Codes,
+    from: usize,
+    range: KeyRange,
+    window: Window,
+    arena: &Arena<Row>,
+) -> Option<usize>
+    requires keys { length keys.now ≡ length handles.now }
+    requires stands { length stands.now ≡ length handles.now }
+    requires within { from ≤ length codes.now.codes }
+    requires coded { AreCoded keys.now stands.now codes.now }
+    requires window { IsWindow codes.now.base codes.now.shift range window.first window.last window.beyond }
+    requires known { KnowKeys arena.now.cells handles.now keys.now stands.now }
+    requires all_known { IsFalse window.some_unknown → AreKnown keys.now stands.now }
+    ensures { MatchOption result
+        (IsMissed range arena.now.cells handles.now stands.now from (length codes.now.codes))
+        (λ spot. IsHit range arena.now.cells handles.now stands.now from (length codes.now.codes) spot) }
+{
+    let mut spot = from;
+    'far: while BLOCK <= codes.len() - spot {
+        if let Some(hit) = hit_in_block(handles, keys, stands, codes, spot, range, window, arena) {
+            return Some(hit);
+        }
+        spot += BLOCK;
+    }
+    hit_between(
+        handles,
+        keys,
+        stands,
+        codes,
+        spot,
+        codes.len(),
+        range,
+        window,
+        arena,
+    )
+}

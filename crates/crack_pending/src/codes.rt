@@ -1,0 +1,176 @@
+//! A code of 16 bits for each key: a pass reads codes, a quarter of what it would read of keys.
+ghost use Rattle.std.specs.Prelude.{◌≡◌, ◌+◌, ◌<◌, ◌≤◌, [], length, vec_capacity, slice_set};
+ghost use Rattle.crack_pending.specs.Codes.{AreCoded, code_of};
+
+use crate::spots::{StoredKey, UNKNOWN};
+use std::alloc::Global;
+use std::marker::Model;
+
+/// Stands where no row does. It is above all codes.
+const HOLE: u16 = 65535;
+
+/// The code of all keys that are too high for one of their own.
+const GREATEST_CODE: u64 = 65534;
+
+/// How many bits a code has.
+const CODE_BITS: u32 = 16;
+
+/// How a key is coded: by so many bits fewer of what it is above the base.
+#[derive(Clone, Copy)]
+struct Scale {
+    base: StoredKey,
+    shift: u32,
+}
+
+impl Scale {
+    /// The code of a key.
+    fn code(self, key: StoredKey) -> u16
+        requires { self.shift < 64 }
+        ensures { result ≡ code_of self.base self.shift key }
+    {
+        (key.saturating_sub(self.base) >> self.shift).min(GREATEST_CODE) as u16
+    }
+}
+
+/// The codes of the rows at the first spots. Whatever the scale is, they rise with the keys. It is chosen by the keys that are there when the
+/// first of them is coded.
+#[derive(Drop)]
+pub(crate) struct Codes {
+    codes: Vec<u16>,
+    scale: Scale,
+}
+
+impl Model for Codes {
+    ghost use Rattle.std.specs.Prelude.{◌<◌};
+    ghost use Rattle.crack_pending.specs.Codes.{Coding};
+
+    ghost Value = { Coding };
+
+    ghost view = { λ c. record { codes = c.codes.items; base = c.scale.base; shift = c.scale.shift } };
+
+    ghost invariant = { λ c. c.scale.shift < 64 };
+}
+
+impl Codes {
+    /// No codes. It takes no memory.
+    pub(crate) fn new(alloc: Global) -> Codes
+        ensures { result.codes ≡ [] }
+    {
+        Codes {
+            codes: Vec::new(alloc),
+            scale: Scale { base: 0, shift: 0 },
+        }
+    }
+
+    /// How many spots have a code.
+    pub(crate) fn len(&self) -> usize
+        ensures { result ≡ length self.now.codes }
+    {
+        self.codes.len()
+    }
+
+    /// The codes, in the order of the spots.
+    pub(crate) fn list(&self) -> &[u16]
+        ensures { result.now ≡ self.now.codes }
+    {
+        &self.codes
+    }
+
+    /// The code of a key.
+    pub(crate) fn code(&self, key: StoredKey) -> u16
+        ensures { result ≡ code_of self.now.base self.now.shift key }
+    {
+        self.scale.code(key)
+    }
+
+    /// Lets all codes go, and keeps their memory.
+    pub(crate) fn clear(&mut self)
+        ensures { self.new.codes ≡ [] }
+    {
+        self.codes.clear();
+    }
+
+    /// Lets all codes and their memory go.
+    pub(crate) fn give_back(&mut self)
+        ensures { self.new.codes ≡ [] }
+    {
+        self.codes.clear();
+        self.codes.shrink_to(0);
+    }
+
+    /// Says that the row at the spot went.
+    pub(crate) fn leave_hole(&mut self, spot: usize)
+        ensures { self.new ≡ record self.old { codes = slice_set self.old.codes spot 65535 } }
+    {
+        if spot < self.codes.len() {
+            self.codes[spot] = HOLE;
+        }
+    }
+
+    /// Says that the row at the spot has another key.
+    pub(crate) fn recode(&mut self, spot: usize, key: StoredKey)
+        ensures { self.new ≡ record self.old { codes = slice_set self.old.codes spot (code_of self.old.base self.old.shift key) } }
+    {
+        if spot < self.codes.len() {
+            self.codes[spot] = self.code(key);
+        }
+    }
+
+    /// Codes the rows at all spots that have no code yet. O(1) for each of them. Where it finds no memory it codes none.
+    #[inline(never)]
+    pub(crate) fn catch_up(&mut self, keys: &[StoredKey], stands: &[bool])
+        requires beside { length stands.now ≡ length keys.now }
+        requires coded { AreCoded keys.now stands.now self.old }
+        ensures { AreCoded keys.now stands.now self.new }
+    {
+        if self.codes.reserve(keys.len() - self.codes.len()).is_err() {
+            return;
+        }
+        if self.codes.is_empty() {
+            self.scale = scale_of(keys);
+        }
+        append_codes(&mut self.codes, self.scale, keys, stands);
+    }
+}
+
+/// Codes the rows at all spots that have no code yet, after room was made for them.
+fn append_codes(codes: &mut Vec<u16>, scale: Scale, keys: &[StoredKey], stands: &[bool])
+    requires beside { length stands.now ≡ length keys.now }
+    requires room { length keys.now ≤ vec_capacity codes.old }
+    requires small { scale.shift < 64 }
+    requires coded { AreCoded keys.now stands.now (record { codes = codes.old.items; base = scale.base; shift = scale.shift }) }
+    ensures { AreCoded keys.now stands.now (record { codes = codes.new.items; base = scale.base; shift = scale.shift }) }
+{
+    'spots: for spot in codes.len()..keys.len() {
+        let code = if stands[spot] {
+            scale.code(keys[spot])
+        } else {
+            HOLE
+        };
+        codes.push_reserved(code);
+    }
+}
+
+/// How keys are coded, so that the highest of these has one of the highest codes.
+fn scale_of(keys: &[StoredKey]) -> Scale
+    ensures { result.shift < 64 }
+{
+    let (least, greatest) = least_and_greatest(keys);
+    let bits = 64 - greatest.saturating_sub(least).leading_zeros();
+    Scale {
+        base: least,
+        shift: bits.saturating_sub(CODE_BITS),
+    }
+}
+
+/// The least of some keys, and the greatest of those that are known.
+fn least_and_greatest(keys: &[StoredKey]) -> (StoredKey, StoredKey) {
+    let mut least = UNKNOWN;
+    let mut greatest = 0;
+    'keys: for i in 0..keys.len() {
+        let key = keys[i];
+        least = least.min(key);
+        greatest = greatest.max(if key == UNKNOWN { 0 } else { key });
+    }
+    (least, greatest)
+}
