@@ -75,6 +75,19 @@ fn end_of(piece: Piece, keys: KeyRange) -> Bound
     }
 }
 
+/// Codes the keys of pending rows that have no code yet, unless no range was read before, since the first read may merge all of them.
+/// Amortised O(1) for each pending row.
+#[inline]
+pub(crate) fn code_pending(inside: &mut Inside)
+    ensures { inside.new ≡ inside.old }
+{
+    if inside.index.is_empty() {
+        return;
+    }
+    inside.pending_in.code_keys();
+    inside.pending_out.code_keys();
+}
+
 /// Which ends of the range are missing. O(log bounds): each end is looked up once, and the high one not where it falls into the piece
 /// of the low one.
 pub(crate) fn missing_ends(inside: &Inside, range: KeyRange) -> Missing

@@ -12,7 +12,7 @@ ghost use Rattle.crack_state.specs.Points.{pending_by};
 ghost use Rattle.crack_store.specs.Inside.{no_cells, IsLayoutOf};
 
 use crate::Carrying;
-use crate::cracking::{crack_at_ends, missing_ends};
+use crate::cracking::{code_pending, crack_at_ends, missing_ends};
 use crate::inside::Inside;
 use crate::notes::Notes;
 use crate::serial_hash::SerialHashing;
@@ -131,6 +131,7 @@ impl Store {
         ensures spare { IsCracked self.old range → IsOk result }
         ensures err { IfErr result (λ e. e ≡ Refusal.OutOfMemory) }
     {
+        code_pending(&mut self.inside);
         let missing = missing_ends(&self.inside, range);
         self.inside.index.reserve(missing.bounds())?;
         crack_at_ends(&mut self.inside, range, missing);
