@@ -4,3 +4,4 @@ pub mod Moving
 pub mod Keeping
 pub mod Counting
 pub mod Opens
+pub mod Crosses

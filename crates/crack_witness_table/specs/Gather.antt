@@ -53,7 +53,7 @@ abbrev pub MayNotMatch : (ℕ → ℕ) → List Bound → Limits → ℕ → Lis
 MayNotMatch owner splits limits workers askers e =
     (e ≡ OutOfMemory)
     ⊎ ((parts : List WitnessedState) × (length parts ≡ length splits + 1)
-      × (((place : ℕ) × (e ≡ StrangeReceipt place 0) × IsFirstStrange splits limits workers parts place) ⊎ MayDiffer owner askers parts e))
+    × (((place : ℕ) × (e ≡ StrangeReceipt place 0) × IsFirstStrange splits limits workers parts place) ⊎ MayDiffer owner askers parts e))
 
 -- why workers may not be gathered: 15 where some are missing, with their bits; where none is, they and the partitions don't come together
 abbrev pub MayNotGather : (ℕ → ℕ) → TableState → List AskerState → Refusal → Type 0

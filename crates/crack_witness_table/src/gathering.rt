@@ -216,5 +216,7 @@ fn missing_askers<J: Naming>(askers: &Vec<Asker<J>>, count: u64) -> u64
 fn has_asker<J: Naming>(askers: &Vec<Asker<J>>, number: u64) -> bool
     ensures { result ≡ list_any (λ (a : AskerState). a.worker == number) askers.now.items }
 {
-    askers.iter().any(|asker| u64::from(asker.number()) == number)
+    askers
+        .iter()
+        .any(|asker| u64::from(asker.number()) == number)
 }

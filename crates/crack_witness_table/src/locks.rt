@@ -5,10 +5,7 @@ use crack_witness::{Naming, Witnessed};
 use std::sync::Mutex;
 
 /// Takes partitions out of their locks, in their order.
-pub(crate) fn unlock<J: Naming>(
-    locks: &mut Vec<Mutex<Witnessed<J>>>,
-    parts: &mut Vec<Witnessed<J>>,
-)
+pub(crate) fn unlock<J: Naming>(locks: &mut Vec<Mutex<Witnessed<J>>>, parts: &mut Vec<Witnessed<J>>)
     requires empty { vec_len parts.old ≡ 0 }
     requires room { vec_len locks.old ≤ vec_capacity parts.old }
     ensures parts { length parts.new.items ≡ vec_len locks.old }
