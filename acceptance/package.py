@@ -1,8 +1,9 @@
 #!/usr/bin/env python3
 """Runs the tests of the Python package, over a server of the program and in the process: package.py PROGRAM
 
-They run by an interpreter that has numpy, where there is one: this one, or that of the system. Prints what unittest
-does, and last 'package: N passed, M failed'; tests that are skipped, and why, are printed, and counted nowhere.
+They run by an interpreter that has numpy and Dask, or else numpy, where there is one: this one, or that of the system.
+Prints what unittest does, and last 'package: N passed, M failed'; tests that are skipped, and why, are printed, and
+counted nowhere.
 """
 
 import functools
@@ -15,7 +16,7 @@ import sys
 PACKAGE = pathlib.Path(__file__).resolve().parent.parent / "python"
 LIBRARY = PACKAGE / "crackd" / "libcrackd.so"
 INTERPRETERS = [sys.executable, "/usr/bin/python3"]
-WANTED = "import sys, numpy; sys.exit(sys.version_info < (3, 10))"
+MODULES = ["numpy, pandas, dask.dataframe, distributed", "numpy"]
 COUNTED = re.compile(r"^(\d+) passed, (\d+) failed, \d+ skipped$", re.MULTILINE)
 SKIPPED = re.compile(r"^(\w+) .*\.\.\. skipped (.*)$", re.MULTILINE)
 SECONDS = 1800
@@ -23,10 +24,12 @@ SECONDS = 1800
 
 @functools.cache
 def interpreter():
-    """The first interpreter that has numpy, or else this one."""
-    for it in filter(os.path.exists, INTERPRETERS):
-        if subprocess.run([it, "-c", WANTED], capture_output=True, check=False).returncode == 0:
-            return it
+    """The first interpreter that has numpy and Dask, or else numpy, or else this one."""
+    for modules in MODULES:
+        wanted = f"import sys, {modules}; sys.exit(sys.version_info < (3, 10))"
+        for it in filter(os.path.exists, INTERPRETERS):
+            if subprocess.run([it, "-c", wanted], capture_output=True, check=False).returncode == 0:
+                return it
     return sys.executable
 
 

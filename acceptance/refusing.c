@@ -3,7 +3,7 @@
    REFUSE_FROM, REFUSE_TO: the calls with these numbers, from 1, and all between are refused.
    REFUSE_ONE_IN, REFUSE_SEED: each call is refused by chance, once in so many; a seed always draws the same numbers.
    REFUSE_TELLS: a file of at least 16 bytes, where the number of calls and that of the refused ones stand, 8 bytes each, at any time.
-   REFUSE_SWITCHED: if given, calls are counted and refused only while `refuse_switch(1)` holds.
+   REFUSE_SWITCHED: if given, calls of a thread are counted and refused only while its `refuse_switch(1)` holds.
 
    Calls are those of malloc, realloc, calloc, aligned_alloc, posix_memalign and memalign, by the program or by the C library, once the program runs.
    Calls of several threads are numbered as they come. Nothing is refused where REFUSE_TELLS isn't given. */
@@ -21,7 +21,8 @@
 static uint64_t from, to, one_in, seed;
 static uint64_t *told; /* the calls, and the refused ones; null until the program runs */
 static __thread int looks_up;
-static int is_off;
+static int is_switched;
+static __thread int is_on;
 
 static uint64_t number_of(const char *name) {
     const char *text = getenv(name);
@@ -36,7 +37,7 @@ static __attribute__((constructor)) void begin(void) {
     to = number_of("REFUSE_TO");
     one_in = number_of("REFUSE_ONE_IN");
     seed = number_of("REFUSE_SEED");
-    is_off = getenv("REFUSE_SWITCHED") != NULL;
+    is_switched = getenv("REFUSE_SWITCHED") != NULL;
     int file = open(path, O_RDWR | O_CLOEXEC);
     if (file < 0)
         _exit(125);
@@ -47,8 +48,8 @@ static __attribute__((constructor)) void begin(void) {
     told = shared;
 }
 
-/* Has calls counted and refused from now on, or no more. */
-void refuse_switch(int is_on) { is_off = !is_on; }
+/* Has calls of this thread counted and refused from now on, or no more. */
+void refuse_switch(int on) { is_on = on; }
 
 /* Counts anew, and refuses the calls from one number to another; those by chance are as before. */
 void refuse_calls(uint64_t first, uint64_t last) {
@@ -71,7 +72,7 @@ static uint64_t drawn(uint64_t call) {
 
 /* Counts a call. Whether it is refused. */
 static int refused(void) {
-    if (!told || is_off)
+    if (!told || (is_switched && !is_on))
         return 0;
     uint64_t call = __atomic_add_fetch(&told[0], 1, __ATOMIC_SEQ_CST);
     if (!((from && from <= call && call <= to) || (one_in && drawn(call) % one_in == 0)))

@@ -1,175 +1,84 @@
-"""A table whose rows are spread over the workers of a Dask cluster, for more rows than one process holds.
+"""A table whose rows are spread over the workers of a Dask cluster, for more rows than one process can hold.
 
-Each shard is an actor on a worker, with a `crackd.Table` for its range of keys. A call costs a round trip of Dask, some milliseconds, so this is for loads in bulk
-and questions over many rows. It wants numpy and dask.distributed.
+Each shard is an actor on a worker: a `crackd.Table` for a range of keys. A call costs a round trip of Dask, some
+milliseconds, so this is for bulk loads and for queries over many rows. It needs numpy and dask.distributed.
 """
 
 from __future__ import annotations
 
-import asyncio
 import dataclasses
 import json
 import os
 import pathlib
 import uuid
-from typing import Any, Iterable, NamedTuple, Optional, Sequence
+from typing import Any, Callable, Iterator, Optional, Sequence
 
 from .arrays import TOP, np
 from .base import MOST_PARTS, POLICIES, SHIFT, AnyTable, parts_for
-from .errors import BadSplits, Closed, Error, NoSuchPartition, Refused, WrongPartition
+from .errors import BadSplits, Closed, Error, Refused, refused
 from .keys import Keys, kind_of, quantiles
 from .layout import PartLayout, keys_text
-from .table import Table as LocalTable
+from .shard import (
+    BadSave,
+    LoadFailed,
+    Place,
+    Shard,
+    ShardFailed,
+    blocks_of,
+    has_actor,
+    load_block,
+    load_file,
+    sample_of_block,
+    sample_of_file,
+    shard_of,
+    waited,
+)
+from .table import HISTORY, MOST_CELLS
 
-if np is None:
-    raise ImportError("crackd.cluster wants numpy")
-try:
-    from distributed import Actor, Client, Future
-except ImportError as error:
-    raise ImportError("crackd.cluster wants dask.distributed: pip install distributed") from error
+import dask
+from distributed import Client, Future
+
+__all__ = ["BadSave", "ShardFailed", "ShardLost", "Table"]
 
 # a row's number is its shard, its partition there in the 6 bits below, and its serial
 SHARD_SHIFT = SHIFT + 6
 MOST_SHARDS = 1 << (16 - 6)
-SAMPLED = 10_000
 MANIFEST = "manifest.json"
-SECONDS_OF_A_LOOK = 1
-FORM = 1
+# what a manifest says of the files' format
+FORM = 2
+# how many rows of a file are loaded by a task
+ROWS_A_TASK = 1_000_000
 
 
 class ShardLost(Error):
     """A shard's worker is gone, and its rows with it.
 
-    `shard` is its number, and `low` and `high` its range of keys; None stands for no end. Of an `insert_many`, `answers` has the numbers of the rows that were
-    placed in other shards.
+    `shard` is its number, and `low` and `high` are the ends of its keys, half open; None stands for no end. Of an
+    `insert_many`, `answers` has the numbers of the rows that were placed in other shards.
     """
 
     answers: Any = None
 
-    def __init__(self, shard: int, low: Any, high: Any, text: str, why: str):
-        super().__init__(f"shard {shard} (keys {text}) is lost: {why}")
-        self.shard, self.low, self.high, self.text, self.why = shard, low, high, text, why
+    def __init__(self, shard: int, low: Any, high: Any, keys: str, why: str):
+        super().__init__(f"shard {shard} ({keys}) is lost: {why}")
+        self.shard, self.low, self.high, self.keys, self.why = shard, low, high, keys, why
 
     def __reduce__(self) -> Any:
-        return type(self), (self.shard, self.low, self.high, self.text, self.why)
+        return type(self), (self.shard, self.low, self.high, self.keys, self.why), {"answers": self.answers}
 
-    def copied(self, answers: Any) -> "ShardLost":
-        """The same, of a call that has these answers all the same."""
-        found = ShardLost(self.shard, self.low, self.high, self.text, self.why)
+    def copied(self, answers: Any = None) -> "ShardLost":
+        """A new error with these answers, since each call raises its own."""
+        found = ShardLost(self.shard, self.low, self.high, self.keys, self.why)
         found.answers = answers
         return found
-
-
-class ShardFailed(Error):
-    """A shard couldn't do what it was asked, for another cause than a refusal."""
-
-
-class BadSave(Error, ValueError):
-    """What is restored isn't what was saved."""
-
-
-class Shard:
-    """One shard, on its worker. Keys are numbers here, and each answer comes with the token of the shard that it was made by."""
-
-    def __init__(self, cuts: Sequence[int], options: dict):
-        self.token = uuid.uuid4().hex
-        self.table = LocalTable(key_type="uint64", splits=cuts, **options)
-
-    def ask(self, name: str, words: tuple) -> tuple[str, Any]:
-        """The answer of a method of this shard, or else of its table."""
-        # (what came over the network lies anywhere in what was received)
-        words = tuple(np.array(it) if isinstance(it, np.ndarray) else it for it in words)
-        try:
-            return self.token, getattr(self if name in ("begin", "save") else self.table, name)(*words)
-        except Error:
-            raise
-        except Exception as error:
-            raise ShardFailed(f"{type(error).__name__}: {error}") from error
-
-    def begin(self) -> str:
-        return self.token
-
-    def save(self, path: str) -> tuple[int, int]:
-        """Writes all rows to a file. How many they are, and the sum of their payloads."""
-        got = self.table.select()
-        with open(path + ".part", "wb") as file:
-            np.savez(file, keys=got.keys, payloads=got.payloads)
-            file.flush()
-            os.fsync(file.fileno())
-        os.replace(path + ".part", path)
-        return len(got.keys), exact_sum(got.payloads)
-
-
-def exact_sum(payloads: Any) -> int:
-    """The sum of numbers of 64 bits, by halves."""
-    return (int((payloads >> 32).sum()) << 32) + int((payloads & 0xFFFFFFFF).sum())
-
-
-class Block(NamedTuple):
-    """Rows that go to one shard, and their places among those that were given."""
-
-    shard: int
-    places: Any
-
-
-def blocks_of(shards: Any) -> Iterable[Block]:
-    """Rows by shard, each with one pass: places in the order in which they were given."""
-    order = np.argsort(shards, kind="stable")
-    found, begins = np.unique(shards[order], return_index=True)
-    for shard, places in zip(found.tolist(), np.split(order, begins[1:])):
-        yield Block(shard, places)
-
-
-def insert_numbers(places: Sequence[tuple[str, str]], cuts: Any, keys: Any, payloads: Any) -> int:
-    """Places rows, from within a task on a worker, in shards that are told by their workers and keys. How many; an error where a shard refuses some."""
-    actors = [Actor(Shard, address, key) for address, key in places]
-    futures = [actors[it.shard].ask("_insert_many", (keys[it.places], payloads[it.places])) for it in blocks_of(shard_of(cuts, keys))]
-    for it in futures:
-        it.result()
-    return len(keys)
-
-
-def shard_of(cuts: Any, keys: Any) -> Any:
-    return np.searchsorted(cuts, keys, side="right")
-
-
-def insert_file(path: str, places: Sequence[tuple[str, str]], cuts: Any) -> int:
-    with np.load(path) as file:
-        return insert_numbers(places, cuts, file["keys"], file["payloads"])
-
-
-def sample_of_file(path: str) -> tuple[int, Any]:
-    with np.load(path) as file:
-        keys = file["keys"]
-    return len(keys), keys[:: max(1, len(keys) // SAMPLED)]
-
-
-def column_of(block: Any, place: Any) -> Any:
-    """A column of a block of a dataframe or of an array."""
-    if hasattr(block, "columns"):
-        return block[place].to_numpy()
-    return np.asarray(block)[:, place] if np.ndim(block) == 2 else np.asarray(block)
-
-
-def sample_of_block(block: Any, key: Any, kind: Keys) -> tuple[int, Any]:
-    keys = kind.many(column_of(block, key))
-    return len(keys), keys[:: max(1, len(keys) // SAMPLED)]
-
-
-def insert_block(block: Any, key: Any, payload: Any, begin: int, kind: Keys, places: Sequence[tuple[str, str]], cuts: Any) -> int:
-    """Places the rows of a block where it is. Without a column of payloads they are numbered from `begin` on."""
-    keys = kind.many(column_of(block, key))
-    payloads = np.arange(begin, begin + len(keys)) if payload is None else column_of(block, payload)
-    if payloads.dtype.kind not in "ui":
-        raise TypeError(f"payloads are whole numbers, not {payloads.dtype}")
-    return insert_numbers(places, cuts, keys, payloads.astype(np.int64))
 
 
 class Table(AnyTable):
     """A table over the workers of a cluster.
 
-    Methods, answers and errors are those of `crackd.Table`. Nothing is promised of a moment common to several shards, and nothing is kept but by `save`. Where a
-    worker goes, each question that meets its keys is a `ShardLost` from then on, never a partial answer; the other shards go on.
+    Methods, arguments, answers and errors are those of `crackd.Table`. There is no moment that is common to several
+    shards, and only `save` keeps rows. When a worker is lost, each call that meets its keys raises `ShardLost` from
+    then on, and never gives a partial answer; the other shards go on. `shards` is how many there are.
     """
 
     def __init__(
@@ -183,48 +92,61 @@ class Table(AnyTable):
         key_type: Any = None,
         **options: Any,
     ):
-        """An empty table for some `rows` rows whose keys look like those of `sample`, in as many shards as there are workers, or as `shards` says; `splits` cuts
-        the keys into shards in place of the sample's quantiles.
+        """An empty table for about `rows` rows whose keys look like those of `sample`.
 
-        `options` are those of a `crackd.Table`: policy, history and cells.
+        It has a shard for each worker of `client`, or `shards` of them; quantiles of the sample cut the keys, so where
+        the sample has few different keys there are fewer, and without a sample there is one. `splits` cuts the keys in
+        place of a sample. `key_type` and the options policy, history and cells are those of a `crackd.Table`.
         """
         kind = kind_of(sample) if key_type is None else Keys.named(key_type)
         numbers = np.sort(kind.many(sample)) if len(sample) else np.empty(0, np.uint64)
-        cuts = None if splits is None else kind.many(splits)
-        if cuts is not None and (np.any(cuts[1:] <= cuts[:-1]) or np.any(cuts == 0) or len(cuts) >= MOST_SHARDS):
-            raise BadSplits(11 if len(cuts) < MOST_SHARDS else 12)
-        self._open(client, kind, numbers, rows, shards, options, cuts)
+        cuts = None if splits is None else checked_splits(kind.many(splits))
+        self._open(client, kind, numbers, rows, shards, cuts, **options)
 
-    def _open(self, client: Client, kind: Keys, numbers: Any, rows: int, shards: Optional[int], options: dict, cuts: Any = None) -> None:
-        """Starts the shards, on the workers in turn. Cuts them by the quantiles of these numbers, where cuts aren't given."""
-        self._client, self._keys, self._options = client, kind, options
+    def _open(
+        self,
+        client: Client,
+        kind: Keys,
+        numbers: Any,
+        rows: int,
+        shards: Optional[int],
+        cuts: Any = None,
+        *,
+        policy: str = "ripple",
+        history: int = HISTORY,
+        cells: int = MOST_CELLS,
+    ) -> None:
+        """Starts the shards, on the workers in turn. Where `cuts` isn't given, quantiles of these numbers are."""
+        if policy not in POLICIES:
+            raise ValueError(f"a policy is one of {', '.join(POLICIES)}, not {policy}")
+        self._client, self._keys = client, kind
         self._lost: dict[int, ShardLost] = {}
-        self._futures: list[Future] = []
-        workers = sorted(client.scheduler_info()["workers"])
+        workers = sorted(client.nthreads())
         if not workers:
             raise ValueError("the cluster has no worker")
         count = len(workers) if shards is None else shards
-        if options.get("policy", POLICIES[0]) not in POLICIES:
-            raise ValueError(f"a policy is one of {', '.join(POLICIES)}, not {options['policy']}")
         if not 1 <= count <= MOST_SHARDS:
             raise ValueError(f"shards are 1 to {MOST_SHARDS}, not {count}")
         self._cuts = np.array(quantiles(numbers, count, max(1, len(numbers))) if cuts is None else cuts, np.uint64)
         self.shards = len(self._cuts) + 1
-        for shard in range(self.shards):
-            inner = self._inner_cuts(numbers, shard, parts_for(rows // self.shards))
-            where = {"workers": [workers[shard % len(workers)]], "allow_other_workers": False}
-            self._futures.append(client.submit(Shard, inner, options, actor=True, pure=False, **where))
+        inner = [self._inner_cuts(numbers, it, parts_for(rows // self.shards)) for it in range(self.shards)]
+        options = {"policy": policy, "history": history, "cells": cells}
+        self._futures = [self._begun(workers[at % len(workers)], it, options) for at, it in enumerate(inner)]
         try:
-            self._actors = [it.result() for it in self._futures]
+            self._actors = [self._actor(at, workers[at % len(workers)]) for at in range(self.shards)]
+            begun = [actor.ask("begin", ()) for actor in self._actors]
+            answers = [self._result(shard, it) for shard, it in enumerate(begun)]
         except BaseException:
             self._futures = []
             raise
-        self._tokens = [actor.ask("begin", ()) for actor in self._actors]
-        self._tokens = [it.result()[0] for it in self._tokens]
+        self._tokens = [token for token, _ in answers]
+        # (a shard that there isn't has no partition)
+        self._parts = np.array([*(parts for _, parts in answers), 0], np.uint64)
 
-    def _places(self) -> list[tuple[str, str]]:
-        """Where the shards are, for tasks, which an actor that is handed over would make wait for it."""
-        return [(actor._address, actor.key) for actor in self._actors]
+    def _begun(self, worker: str, cuts: list[int], options: dict) -> Future:
+        """Starts a shard on a worker."""
+        where = {"workers": [worker], "allow_other_workers": False}
+        return self._client.submit(Shard, self._keys, cuts, options, actor=True, pure=False, **where)
 
     def _inner_cuts(self, numbers: Any, shard: int, parts: int) -> list[int]:
         """Where a shard's own partitions are cut."""
@@ -246,9 +168,10 @@ class Table(AnyTable):
             raise Closed("the table is closed")
 
     def _lose(self, shard: int, why: str) -> ShardLost:
+        """Takes a shard for lost from now on."""
         low, high = self._ends_of(shard)
-        back = [None if it in (0, TOP) else self._keys.back_one(it) for it in (low, high)]
-        self._lost.setdefault(shard, ShardLost(shard, *back, keys_text(self._keys, low, high), why))
+        ends = [None if it in (0, TOP) else self._keys.back_one(it) for it in (low, high)]
+        self._lost.setdefault(shard, ShardLost(shard, *ends, ends_text(self._keys, low, high), why))
         return self._lost[shard]
 
     def _ask(self, words: dict[int, tuple], name: str) -> tuple[dict[int, Any], dict[int, Error]]:
@@ -268,19 +191,7 @@ class Table(AnyTable):
                     errors[shard] = self._lose(shard, "its worker was restarted")
             except Error as error:
                 errors[shard] = error
-            except Exception as error:
-                errors[shard] = self._lose(shard, str(error) or type(error).__name__)
         return answers, errors
-
-    def _result(self, shard: int, future: Any) -> tuple[str, Any]:
-        """Waits for a shard's answer, as long as its worker is there: Dask itself would wait for a shard that is gone to come back."""
-        while not future.done():
-            try:
-                return future.result(timeout=SECONDS_OF_A_LOOK)
-            except (TimeoutError, asyncio.TimeoutError):
-                if self._actors[shard]._address not in self._client.scheduler_info()["workers"]:
-                    raise ConnectionError("its worker is gone") from None
-        return future.result()
 
     def _start(self, shard: int, name: str, words: tuple, errors: dict[int, Error]) -> Any:
         try:
@@ -288,6 +199,23 @@ class Table(AnyTable):
         except Exception as error:
             errors[shard] = self._lose(shard, str(error) or type(error).__name__)
             return None
+
+    def _actor(self, shard: int, worker: str) -> Any:
+        """The actor of a shard that was begun on a worker. An opening that is refused raises its error."""
+        try:
+            return waited(self._futures[shard], lambda: worker in self._client.nthreads())
+        except ConnectionError as error:
+            raise self._lose(shard, str(error)) from error
+
+    def _result(self, shard: int, future: Any) -> tuple[str, Any]:
+        """Waits for a shard's answer. What is no error of this package means that the shard is lost."""
+        actor = self._actors[shard]
+        try:
+            return waited(future, lambda: has_actor(self._client, actor._address, actor.key))
+        except Error:
+            raise
+        except Exception as error:
+            raise self._lose(shard, str(error) or type(error).__name__) from error
 
     def _all(self, words: dict[int, tuple], name: str) -> dict[int, Any]:
         """The answers of shards, by their order; an error where one has none, a lost one first."""
@@ -306,64 +234,59 @@ class Table(AnyTable):
         return int(self._insert_many(np.array([key], np.uint64), np.array([payload], np.int64))[0])
 
     def _insert_many(self, keys: Any, payloads: Any) -> Any:
-        blocks = list(blocks_of(shard_of(self._cuts, keys)))
-        answers, errors = self._ask({it.shard: (keys[it.places], payloads[it.places]) for it in blocks}, "_insert_many")
+        shards = shard_of(self._cuts, keys)
+        blocks = list(blocks_of(shards))
+        words = {shard: (keys[places], payloads[places]) for shard, places in blocks}
+        answers, errors = self._ask(words, "_insert_many")
         rows, is_done = np.zeros(len(keys), np.uint64), np.zeros(len(keys), bool)
-        for it in blocks:
-            error = errors.get(it.shard)
-            placed = answers.get(it.shard, getattr(error, "answers", None) if isinstance(error, Refused) else None)
+        for shard, places in blocks:
+            error = errors.get(shard)
+            placed = answers.get(shard, error.answers if isinstance(error, Refused) else None)
             if placed is not None:
-                some = it.places[: len(placed)]
-                rows[some], is_done[some] = placed | np.uint64(it.shard << SHARD_SHIFT), True
+                some = places[: len(placed)]
+                rows[some], is_done[some] = placed | np.uint64(shard << SHARD_SHIFT), True
         if errors:
-            raise self._told(errors, is_done, rows[is_done])
+            raise error_of(errors, shards, is_done, rows[is_done])
         return rows
 
-    def _told(self, errors: dict[int, Error], is_done: Any, answers: Any = None) -> Error:
-        """The error of a call for many, with what was done all the same."""
-        error = errors[min(errors, key=lambda it: (not isinstance(errors[it], ShardLost), it))]
-        if isinstance(error, ShardLost):
-            error = self._lose(error.shard, error.why).copied(answers)
-        elif isinstance(error, Refused):
-            first = int(np.argmin(is_done))
-            error = type(error)(error.code, first, int(np.count_nonzero(is_done[first:])))
-            error.answers = answers
-        return error
+    def _faults(self, rows: Any, keys: Any = None) -> Any:
+        """Of each row number the code of its refusal, or 0: there is no such partition, or its new key is of another shard."""
+        shards = rows >> np.uint64(SHARD_SHIFT)
+        parts = rows >> np.uint64(SHIFT) & np.uint64(MOST_PARTS - 1)
+        is_nowhere = parts >= self._parts[np.minimum(shards, np.uint64(self.shards)).astype(np.int64)]
+        is_elsewhere = False if keys is None else shard_of(self._cuts, keys) != shards
+        return np.where(is_nowhere, 5, np.where(is_elsewhere, 4, 0))
 
-    def _by_row(self, rows: Any, *columns: Any) -> tuple[list[Block], dict[int, tuple]]:
-        """Row numbers and what comes with each, by shard."""
+    def _flags(self, name: str, rows: Any, *columns: Any) -> Any:
+        """The flag of each row, of a call for many. No row after one that is refused for its number or key is sent."""
+        faults = self._faults(rows, *columns[:1])
+        end = int(np.argmax(faults != 0)) if faults.any() else len(rows)
+        found = self._flags_of(name, rows[:end], *(it[:end] for it in columns))
+        if end < len(rows):
+            raise refused(int(faults[end]), end)
+        return found
+
+    def _flags_of(self, name: str, rows: Any, *columns: Any) -> Any:
         shards = (rows >> np.uint64(SHARD_SHIFT)).astype(np.int64)
-        if rows.size and shards.max() >= self.shards:
-            raise NoSuchPartition(5, 0)
-        local = rows & np.uint64((1 << SHARD_SHIFT) - 1)
+        words = rows & np.uint64((1 << SHARD_SHIFT) - 1), *columns
         blocks = list(blocks_of(shards))
-        return blocks, {it.shard: tuple(column[it.places] for column in (local, *columns)) for it in blocks}
-
-    def _flags(self, rows: Any, name: str, *columns: Any) -> Any:
-        """The flag of each row, of a call for many."""
-        blocks, words = self._by_row(rows, *columns)
-        answers, errors = self._ask(words, name)
+        answers, errors = self._ask({shard: tuple(it[places] for it in words) for shard, places in blocks}, name)
         found, is_done = np.zeros(len(rows), np.uint8), np.zeros(len(rows), bool)
-        for it in blocks:
-            error = errors.get(it.shard)
-            if it.shard in answers:
-                found[it.places], is_done[it.places] = answers[it.shard], True
+        for shard, places in blocks:
+            error = errors.get(shard)
+            if shard in answers:
+                found[places], is_done[places] = answers[shard], True
             elif isinstance(error, Refused):
-                is_done[it.places[: error.done]] = True
+                is_done[places[: error.done]] = True
         if errors:
-            raise self._told(errors, is_done)
+            raise error_of(errors, shards, is_done)
         return found
 
     def _delete_many(self, rows: Any) -> Any:
-        return self._flags(rows, "_delete_many")
+        return self._flags("_delete_many", rows)
 
     def _update_many(self, rows: Any, keys: Any, payloads: Any) -> Any:
-        is_other = shard_of(self._cuts, keys) != (rows >> np.uint64(SHARD_SHIFT))
-        if not is_other.any():
-            return self._flags(rows, "_update_many", keys, payloads)
-        first = int(np.argmax(is_other))
-        self._flags(rows[:first], "_update_many", keys[:first], payloads[:first])
-        raise WrongPartition(4, first)
+        return self._flags("_update_many", rows, keys, payloads)
 
     def _count(self, first: int, last: int) -> int:
         return sum(self._all({it: (first, last) for it in self._met(first, last)}, "_count").values())
@@ -378,27 +301,35 @@ class Table(AnyTable):
         found = {it: np.flatnonzero(is_whole & (begins <= it) & (it <= ends)) for it in range(self.shards)}
         return {it: places for it, places in found.items() if len(places)}
 
-    def _count_many(self, firsts: Any, lasts: Any) -> Any:
+    def _ask_ranges(self, name: str, firsts: Any, lasts: Any) -> Iterator[tuple[Any, Any]]:
+        """Asks each shard about the ranges that meet it. Yields their places, and the shard's answers."""
         places = self._ranges(firsts, lasts)
-        answers = self._all({it: (firsts[at], lasts[at]) for it, at in places.items()}, "_count_many")
-        counts = np.zeros(len(firsts), np.int64)
+        answers, errors = self._ask({it: (firsts[at], lasts[at]) for it, at in places.items()}, name)
+        for shard, error in errors.items():
+            if isinstance(error, Refused):
+                errors[shard] = refused(error.code, int(places[shard][error.done]))
+        raise_first(errors)
         for shard, each in answers.items():
-            counts[places[shard]] += each
+            yield places[shard], each
+
+    def _count_many(self, firsts: Any, lasts: Any) -> Any:
+        counts = np.zeros(len(firsts), np.int64)
+        for places, each in self._ask_ranges("_count_many", firsts, lasts):
+            counts[places] += each
         return counts
 
     def _sum_many(self, firsts: Any, lasts: Any) -> list[int]:
-        places = self._ranges(firsts, lasts)
         sums = [0] * len(firsts)
-        for shard, each in self._all({it: (firsts[at], lasts[at]) for it, at in places.items()}, "_sum_many").items():
-            for at, more in zip(places[shard].tolist(), each):
+        for places, each in self._ask_ranges("_sum_many", firsts, lasts):
+            for at, more in zip(places.tolist(), each):
                 sums[at] += more
         return sums
 
     def _select(self, first: int, last: int) -> tuple[Any, Any, Any]:
         answers = self._all({it: (first, last) for it in self._met(first, last)}, "_select")
-        lists = [(rows | np.uint64(shard << SHARD_SHIFT), keys, payloads) for shard, (rows, keys, payloads) in answers.items()]
-        rows, keys, payloads = (np.concatenate(it) for it in zip(*lists))
-        return rows, keys, payloads
+        rows = [it[0] | np.uint64(shard << SHARD_SHIFT) for shard, it in answers.items()]
+        keys, payloads = ([it[at] for it in answers.values()] for at in (1, 2))
+        return np.concatenate(rows), np.concatenate(keys), np.concatenate(payloads)
 
     def _every(self, *words: Any) -> dict[int, tuple]:
         return {it: words for it in range(self.shards)}
@@ -409,23 +340,24 @@ class Table(AnyTable):
     def _checkpoint(self) -> int:
         return sum(self._all(self._every(), "checkpoint").values())
 
-    def _layouts(self) -> Iterable[PartLayout]:
+    def _layouts(self) -> Iterator[PartLayout]:
         for shard, layout in self._all(self._every(), "layout").items():
             for part in layout.parts:
                 yield self._placed(shard, part)
 
     def _placed(self, shard: int, part: PartLayout) -> PartLayout:
-        """A partition's layout, as one of the whole table: its number with that of its shard, and no keys but the shard's own."""
+        """A partition's layout in the whole table: its number there, and no keys but those of its shard."""
         low, high = self._ends_of(shard)
         pieces = list(part.pieces)
         pieces[0] = dataclasses.replace(pieces[0], low=max(low, pieces[0].low))
         pieces[-1] = dataclasses.replace(pieces[-1], high=min(high, pieces[-1].high))
-        return dataclasses.replace(part, partition=shard * MOST_PARTS + part.partition, keys=self._keys, pieces=tuple(pieces))
+        number = shard * MOST_PARTS + part.partition
+        return dataclasses.replace(part, partition=number, keys=self._keys, pieces=tuple(pieces))
 
     @property
     def partitions(self) -> int:
         """How many partitions all shards have."""
-        return len(self.layout().parts)
+        return int(self._parts.sum())
 
     def close(self) -> None:
         """Gives back all that the shards took. A second call does nothing."""
@@ -433,95 +365,213 @@ class Table(AnyTable):
             self._ask(self._every(), "close")
             self._futures, self._actors = [], []
 
-    # Files, and what a cluster has already
+    # Files
 
     def save(self, folder: Any) -> dict:
-        """Writes the rows of each shard where it stands, to a folder that all workers reach; what was saved there before stays until all is written. The manifest."""
-        folder = pathlib.Path(folder)
+        """Writes the rows of each shard where it stands, to a folder that the client and all workers share.
+
+        What was saved there before stays until all is written. Each file is an array of numpy with the fields `key` and
+        `payload`. Returns the manifest.
+        """
+        folder = pathlib.Path(folder).resolve()
         folder.mkdir(parents=True, exist_ok=True)
         mark = uuid.uuid4().hex[:12]
-        files = [f"shard-{it:04}-{mark}.npz" for it in range(self.shards)]
-        saved = self._all({it: (str(folder.resolve() / name),) for it, name in enumerate(files)}, "save")
-        dtype = str(self._keys.dtype) if self._keys.kind == "M" else {"u": "uint64", "i": "int64", "f": "float64"}[self._keys.kind]
-        manifest = {"form": FORM, "keys": dtype, "splits": [int(it) for it in self._cuts], "files": files}
-        manifest |= {"counts": [it[0] for it in saved.values()], "sums": [it[1] for it in saved.values()]}
+        files = [f"shard-{it:04}-{mark}.npy" for it in range(self.shards)]
         part = folder / f"{MANIFEST}.{mark}"
-        part.write_text(json.dumps(manifest, indent=1), encoding="ascii")
+        try:
+            saved = self._all({it: (str(folder / name),) for it, name in enumerate(files)}, "save")
+            for name in files:
+                if not (folder / name).exists():
+                    raise BadSave(f"{folder} isn't shared: a worker wrote {name}, and it isn't there")
+            manifest = {"form": FORM, "keys": self._keys.name, "splits": self._cuts.tolist(), "files": files}
+            manifest |= {"counts": [it[0] for it in saved.values()], "sums": [it[1] for it in saved.values()]}
+            write_synced(part, json.dumps(manifest, indent=1) + "\n")
+        except BaseException:
+            for name in (*files, part.name):
+                (folder / name).unlink(missing_ok=True)
+            raise
         os.replace(part, folder / MANIFEST)
-        for old in folder.glob("shard-*.npz"):
+        sync_folder(folder)
+        for old in folder.glob("shard-*.np*"):
             if old.name not in files:
-                old.unlink()
+                old.unlink(missing_ok=True)
         return manifest
 
     @classmethod
     def restore(cls, client: Client, folder: Any, *, shards: Optional[int] = None, **options: Any) -> "Table":
-        """Reads a table that was saved, on as many workers as there are now, or in as many shards as are told. Rows get new numbers."""
+        """Reads a table that was saved, on the workers that there are now, or in as many shards as `shards` says.
+
+        Rows get new numbers. Counts and sums are compared with the manifest: what doesn't agree is a `BadSave`.
+        """
         folder = pathlib.Path(folder).resolve()
-        manifest = json.loads((folder / MANIFEST).read_text(encoding="ascii"))
-        if manifest.get("form") != FORM:
-            raise BadSave(f"{folder / MANIFEST} isn't of form {FORM}")
+        manifest = read_manifest(folder / MANIFEST)
+        kind, counts = Keys.named(manifest["keys"]), manifest["counts"]
         paths = [str(folder / it) for it in manifest["files"]]
-        samples = client.gather(client.map(sample_of_file, paths, pure=False))
-        table = cls._empty(client, Keys.named(manifest["keys"]), samples, shards, options)
-        try:
-            client.gather(client.map(insert_file, paths, places=table._places(), cuts=table._cuts, pure=False))
-            table._check_restored(manifest)
-            table.settle()
-        except BaseException:
-            table.close()
-            raise
-        return table
+        samples = client.gather(client.map(sample_of_file, paths, counts, [kind] * len(paths), pure=False))
+        table = cls._empty(client, kind, samples, shards, options)
+        pieces = [
+            (path, count, begin, min(begin + ROWS_A_TASK, count))
+            for path, count in zip(paths, counts)
+            for begin in range(0, count, ROWS_A_TASK)
+        ]
+
+        def loads(places: list[Place]) -> list[Future]:
+            words = {"kind": kind, "places": places, "cuts": table._cuts}
+            return [client.submit(load_file, at, *it, **words, pure=False) for at, it in enumerate(pieces)]
+
+        return table._loaded(loads, lambda: table._check_restored(manifest))
 
     def _check_restored(self, manifest: dict) -> None:
-        """Holds counts and sums of each saved shard's keys against the manifest."""
+        """Compares the counts and sums of each saved shard's keys with the manifest."""
         firsts = np.array([0, *manifest["splits"]], np.uint64)
         lasts = np.array([*(it - 1 for it in manifest["splits"]), TOP - 1], np.uint64)
-        counts, sums = self._count_many(firsts, lasts).tolist(), self._sum_many(firsts, lasts)
-        if (counts, sums) != (manifest["counts"], manifest["sums"]):
-            raise BadSave(f"the rows aren't those of the manifest: counts {counts}, sums {sums}")
+        found_of = {"counts": self._count_many(firsts, lasts).tolist(), "sums": self._sum_many(firsts, lasts)}
+        for name, found in found_of.items():
+            if found != manifest[name]:
+                raise BadSave(f"the {name} of the saved shards are {found}, and {manifest[name]} in the manifest")
 
     @classmethod
-    def _empty(cls, client: Client, kind: Keys, samples: Sequence[tuple[int, Any]], shards: Optional[int], options: dict) -> "Table":
-        """A table for rows of which some were drawn, block by block: how many each block has, and numbers of its keys."""
+    def _empty(
+        cls, client: Client, kind: Keys, samples: Sequence[tuple[int, Any]], shards: Optional[int], options: dict
+    ) -> "Table":
+        """A table for rows of which some were drawn, block by block: how many rows each has, and some of its keys."""
         rows = sum(it[0] for it in samples)
         numbers = np.sort(np.concatenate([np.empty(0, np.uint64), *(it[1] for it in samples)]))
         table = cls.__new__(cls)
-        table._open(client, kind, numbers, rows, shards, options)
+        table._open(client, kind, numbers, rows, shards, **options)
         return table
+
+    def _loaded(self, loads: Callable[[list[Place]], list[Future]], check: Callable[[], None]) -> "Table":
+        """This table, once the tasks that `loads` starts have placed all rows, all is merged, and the check passes."""
+        places = [Place(it._address, it.key, token) for it, token in zip(self._actors, self._tokens)]
+        try:
+            try:
+                self._client.gather(loads(places))
+            except LoadFailed as error:
+                raise self._lose(error.shard, error.why) from error
+            except Error:
+                raise
+            except Exception:
+                # (where a worker that was lost had a shard, that is the error)
+                self._all(self._every(), "begin")
+                raise
+            self.settle()
+            check()
+        except BaseException:
+            self.close()
+            raise
+        return self
+
+    # What a cluster has already
 
     @classmethod
-    def from_dask(cls, client: Client, frame: Any, key: Any = 0, payload: Any = None, *, shards: Optional[int] = None, **options: Any) -> "Table":
-        """A table of the rows of a Dask dataframe or array, each block of which is loaded where it is.
+    def from_dask(
+        cls,
+        client: Client,
+        frame: Any,
+        key: Any = 0,
+        payload: Any = None,
+        *,
+        shards: Optional[int] = None,
+        **options: Any,
+    ) -> "Table":
+        """A table of the rows of a Dask dataframe or array. Each block goes from its worker to the shards.
 
-        `key` and `payload` are columns, by name or number; without a column of payloads they are 0, 1, 2 ..
+        `key` and `payload` are columns, by name or number. Without a column of payloads these are 0, 1, 2 ..
         """
-        import dask
-
         is_frame = hasattr(frame, "columns")
         kind = Keys.of_dtype(frame[key].dtype if is_frame else frame.dtype)
-        wanted = [it for it in (key, payload) if it is not None]
         if is_frame:
-            frame = frame[list(dict.fromkeys(wanted))]
+            frame = frame[list(dict.fromkeys(it for it in (key, payload) if it is not None))]
         elif frame.ndim == 2:
             frame = frame.rechunk({1: -1})
-        held = client.persist(frame)
-        blocks = list(np.ravel(held.to_delayed()))
-        samples = list(client.gather(client.compute([dask.delayed(sample_of_block)(it, key, kind) for it in blocks])))
+        blocks = list(np.ravel(client.persist(frame).to_delayed()))
+        sampled = [dask.delayed(sample_of_block)(it, key, kind) for it in blocks]
+        samples = list(client.gather(client.compute(sampled)))
+        counts = [it[0] for it in samples]
+        begins = np.cumsum([0, *counts]).tolist()
         table = cls._empty(client, kind, samples, shards, options)
-        begins = np.cumsum([0, *(it[0] for it in samples)]).tolist()
-        words = (kind, table._places(), table._cuts)
-        try:
-            loads = [dask.delayed(insert_block)(it, key, payload, begin, *words) for it, begin in zip(blocks, begins)]
-            client.gather(client.compute(loads))
-            table.settle()
-        except BaseException:
-            table.close()
-            raise
-        return table
+
+        def loads(places: list[Place]) -> list[Future]:
+            words = kind, places, table._cuts
+            load = dask.delayed(load_block, pure=False)
+            given = zip(blocks, begins, counts)
+            return client.compute([load(at, it, key, payload, *more, *words) for at, (it, *more) in enumerate(given)])
+
+        def check() -> None:
+            if len(table) != begins[-1]:
+                raise ShardFailed(f"{begins[-1]} rows were sent, and {len(table)} were placed")
+
+        return table._loaded(loads, check)
+
+
+def checked_splits(cuts: Any) -> Any:
+    """Splits that rise and aren't too many."""
+    if len(cuts) >= MOST_SHARDS:
+        raise ValueError(f"splits are at most {MOST_SHARDS - 1}, not {len(cuts)}")
+    if np.any(cuts[1:] <= cuts[:-1]) or np.any(cuts == 0):
+        raise BadSplits(11)
+    return cuts
+
+
+def ends_text(keys: Keys, low: int, high: int) -> str:
+    """The keys from one number up to and without another, in words."""
+    if low == 0:
+        return f"keys below {keys.back_one(high)}" if high < TOP else "all keys"
+    if high == TOP:
+        return f"keys from {keys.back_one(low)}"
+    return f"keys {keys_text(keys, low, high)}"
+
+
+def error_of(errors: dict[int, Error], shards: Any, is_done: Any, answers: Any = None) -> Error:
+    """The error of a call for many: of a lost shard, or else of the first row that wasn't done.
+
+    It says how many were done before that row, and how many after it, in other shards.
+    """
+    lost = [errors[it] for it in sorted(errors) if isinstance(errors[it], ShardLost)]
+    if lost:
+        return lost[0].copied(answers)
+    first = int(np.argmin(is_done))
+    error = errors[int(shards[first])]
+    if isinstance(error, Refused):
+        error = refused(error.code, first, int(np.count_nonzero(is_done[first:])))
+    error.answers = answers
+    return error
 
 
 def raise_first(errors: dict[int, Error]) -> None:
-    """The error of a lost shard, or else the first."""
+    """Raises the error of the first lost shard, or else the one of the first item."""
     if errors:
-        error = errors[min(errors, key=lambda it: (not isinstance(errors[it], ShardLost), it))]
-        raise error.copied(None) if isinstance(error, ShardLost) else error
+        order = {it: (not isinstance(error, ShardLost), getattr(error, "done", 0), it) for it, error in errors.items()}
+        error = errors[min(errors, key=order.get)]
+        raise error.copied() if isinstance(error, ShardLost) else error
+
+
+def write_synced(path: pathlib.Path, text: str) -> None:
+    with open(path, "w", encoding="ascii") as file:
+        file.write(text)
+        file.flush()
+        os.fsync(file.fileno())
+
+
+def sync_folder(folder: pathlib.Path) -> None:
+    """Makes the names in a folder last."""
+    at = os.open(folder, os.O_RDONLY)
+    try:
+        os.fsync(at)
+    finally:
+        os.close(at)
+
+
+def read_manifest(path: pathlib.Path) -> dict:
+    """The manifest of a save. What is none is a `BadSave`."""
+    try:
+        manifest = json.loads(path.read_text(encoding="ascii"))
+        lists = [manifest[it] for it in ("files", "counts", "sums")]
+        Keys.named(manifest["keys"])
+        is_whole = manifest["form"] == FORM and {len(it) for it in lists} == {len(manifest["splits"]) + 1}
+    except (ValueError, KeyError, TypeError) as error:
+        raise BadSave(f"{path} is no manifest: {type(error).__name__}: {error}") from error
+    if not is_whole:
+        raise BadSave(f"{path} is no manifest of form {FORM}")
+    return manifest

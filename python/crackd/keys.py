@@ -77,7 +77,12 @@ class Keys:
         return hash((self.kind, str(self.dtype)))
 
     def __repr__(self) -> str:
-        return f"Keys({self.dtype or self.kind})"
+        return f"Keys({self.name})"
+
+    @property
+    def name(self) -> str:
+        """The name by which `named` gives this kind."""
+        return str(self.dtype) if self.kind == "M" else next(name for name, kind in BY_NAME.items() if kind == self.kind)
 
     def one(self, key: Any) -> int:
         """The number of one key."""
@@ -179,6 +184,8 @@ class Keys:
             return number if 0 <= number <= TOP else 0 if number < 0 else TOP
         if self.kind == "M":
             return self._date_bound(end)
+        # (numpy compares and rounds its whole numbers as floats)
+        end = _item(end)
         if isinstance(end, bool) or not isinstance(end, numbers.Real):
             raise TypeError(f"an end of {type(end).__name__} at a table whose keys are {NAMES[self.kind]}")
         if end != end:
@@ -188,7 +195,7 @@ class Keys:
     def _whole_bound(self, end: Any) -> int:
         if end in (math.inf, -math.inf):
             return TOP if end > 0 else 0
-        return self.bound(int(math.ceil(end)))
+        return self.bound(math.ceil(end))
 
     def _float_bound(self, end: Any) -> int:
         try:
@@ -255,8 +262,8 @@ class Keys:
             return None
 
     def _ends_one_by_one(self, lows: Any, highs: Any, count: int) -> tuple[Any, Any]:
-        firsts = [0] * count if lows is None else [0 if it is None else self.bound(_item(it)) for it in lows]
-        ends = [TOP] * count if highs is None else [TOP if it is None else self.bound(_item(it)) for it in highs]
+        firsts = [0] * count if lows is None else [0 if it is None else self.bound(it) for it in lows]
+        ends = [TOP] * count if highs is None else [TOP if it is None else self.bound(it) for it in highs]
         # (an empty range is written as the keys from 1 to 0)
         pairs = [(first, end - 1) if first < end else (1, 0) for first, end in zip(firsts, ends)]
         return from_ints("Q", [it[0] for it in pairs], "keys"), from_ints("Q", [it[1] for it in pairs], "keys")

@@ -1,39 +1,25 @@
-"""Tables on a Dask cluster of this machine, against plain lists, and what is lost with a worker."""
+"""Tables on a Dask cluster of this machine: the cases of a table, what is sent to which shard, and what is saved and restored."""
 
 import contextlib
+import json
 import os
 import pathlib
 import random
-import signal
+import subprocess
+import sys
 import tempfile
-import time
 import unittest
+from unittest import mock
 
+import clusters
+from clusters import cluster, local, on, wants_cluster, wants_pandas, worker_of
 from test_table import Cases, PlainTable, numbers
 from ways import crackd, np, wants_library
 
-try:
-    import dask
-    from distributed import Client, LocalCluster
-
-    from crackd import cluster
-except ImportError:
-    cluster = None
-
-wants_cluster = unittest.skipIf(cluster is None, "dask.distributed or numpy isn't installed")
-WORKERS, STEPS = 3, 600
+PAGE = pathlib.Path(crackd.__file__).resolve().parents[2] / "docs" / "CLUSTER.md"
+WORKERS, CALLS = 3, 2500
+LEAST, GREATEST = -(2**63), 2**63 - 1
 MODULE = {}
-
-
-@contextlib.contextmanager
-def local(workers):
-    """A client of a cluster with so many worker processes."""
-    config = {"distributed.comm.timeouts.connect": "3s", "distributed.comm.retry.count": 0, "distributed.logging": {"distributed": "critical"}}
-    os.environ["PYTHONPATH"] = os.pathsep.join([str(pathlib.Path(crackd.__file__).parent.parent), os.environ.get("PYTHONPATH", "")])
-    with dask.config.set(config):
-        started = LocalCluster(n_workers=workers, threads_per_worker=1, processes=True, dashboard_address=None, silence_logs=50)
-        with started, Client(started) as client:
-            yield client
 
 
 def setUpModule():
@@ -47,22 +33,27 @@ def tearDownModule():
         MODULE["stack"].close()
 
 
-@wants_library
-@wants_cluster
-class OnACluster(Cases, unittest.TestCase):
-    """The cases of a table."""
+class OnWorkers:
+    """Tables on the workers of the module's cluster."""
 
     @contextlib.contextmanager
     def table(self, sample=(), rows=0, partitions=None, **options):
         with cluster.Table(MODULE["client"], sample, rows, shards=partitions, **options) as table:
             yield table
 
+
+@wants_library
+@wants_cluster
+class OnACluster(OnWorkers, Cases, unittest.TestCase):
+    """The cases of a table."""
+
     def test_bad_openings(self):
-        for options, kind in [({"history": 0}, crackd.BadLimit), ({"splits": [5, 5]}, crackd.BadSplits), ({"policy": "none"}, ValueError)]:
+        wrong = [({"history": 0}, crackd.BadLimit), ({"cells": 2**21}, crackd.BadLimit), ({"splits": [5, 5]}, crackd.BadSplits)]
+        wrong += [({"policy": "none"}, ValueError), ({"partitions": 0}, ValueError), ({"partitions": 2000}, ValueError)]
+        wrong += [({"splits": range(1024)}, ValueError), ({"splits": [LEAST]}, crackd.BadSplits), ({"splits": [2**63]}, OverflowError)]
+        wrong += [({"key_type": it}, TypeError) for it in ("text", "complex128", complex)] + [({"limit": 5}, TypeError)]
+        for options, kind in wrong:
             with self.subTest(options), self.assertRaises(kind), self.table(**options):
-                pass
-        for options in ({"partitions": 0}, {"partitions": 2000}, {"key_type": "text"}):
-            with self.subTest(options), self.assertRaises((ValueError, TypeError)), self.table(**options):
                 pass
 
     def test_layouts_add_up(self):
@@ -75,166 +66,472 @@ class OnACluster(Cases, unittest.TestCase):
             self.assertEqual((ends[0][0], ends[-1][1], ends[0][1], ends[1][1]), (0, 2**64, ends[1][0], ends[2][0]))
 
     def test_policies_answer_the_same(self):
-        with self.table(range(100), policy="gradual") as table:
-            table.insert_many(range(100), [1] * 100)
-            self.assertEqual((table.sum(10, 90), table.shards), (80, WORKERS))
+        for policy in crackd.base.POLICIES:
+            with self.table(range(100), policy=policy) as table:
+                rows = table.insert_many(range(100), [1] * 100)
+                table.delete_many(rows[60:70])
+                self.assertEqual((table.sum(10, 90), table.count(60, 71), table.shards), (70, 1, WORKERS))
 
     def test_random_steps_agree_with_a_list(self):
-        rng, model = random.Random(5), PlainTable()
+        rng = random.Random(5)
         with self.table(range(1000), 40_000, history=100) as table:
-            self.assertGreater(table.partitions, table.shards)
-            for _ in range(STEPS // 100):
-                self.random_rows(table, model, rng)
-                self.random_questions(table, model, rng)
+            self.assertGreater(table.partitions, 2 * table.shards)
+            self.assertEqual(table.partitions, len(table.layout().parts))
+            steps = RandomSteps(self, table, rng)
+            for _ in range(CALLS):
+                steps.step()
 
-    def random_rows(self, table, model, rng):
-        for _ in range(30):
-            keys, payloads = zip(*[(rng.randrange(-10, 1010), rng.randrange(-(2**63), 2**63)) for _ in range(rng.randrange(1, 8))])
-            model.rows.update(zip(numbers(table.insert_many(keys, payloads)), zip(keys, payloads)))
-            rows = rng.sample(sorted(model.rows), min(5, len(model.rows)))
-            gone, kept = rows[:2], rows[2:]
-            self.assertEqual(list(table.delete_many(gone + gone[:1])), [True] * len(gone) + [False])
-            for row in gone:
-                del model.rows[row]
-            changed = {row: (model.rows[row][0], rng.randrange(100)) for row in kept}
-            self.assertTrue(all(table.update_many(kept, *zip(*changed.values()))) if kept else True)
-            model.rows.update(changed)
 
-    def random_questions(self, table, model, rng):
-        for _ in range(20):
-            low = rng.randrange(-20, 1020)
-            high = low + rng.randrange(0, 600)
-            self.assertEqual((table.count(low, high), table.sum(low, high)), (model.count(low, high), model.sum(low, high)))
-            lows, highs = [low, None, high, 3], [high, high, low, 4]
-            self.assertEqual(numbers(table.count_many(lows, highs)), [model.count(*it) for it in zip(lows, highs)])
-            self.assertEqual(table.sum_many(lows, highs), [model.sum(*it) for it in zip(lows, highs)])
-        got = table.select(low, high)
-        self.assertEqual(dict(zip(numbers(got.rows), zip(numbers(got.keys), numbers(got.payloads)))), model.inside(low, high))
+class RandomSteps:
+    """Random calls of a table and of a plain list."""
 
-    def test_shards_of_very_different_sizes(self):
-        keys = np.concatenate([np.zeros(50_000, np.int64), np.array([5, 9])])
-        with self.table([0, 5, 9], partitions=3) as table:
-            rows = table.insert_many(keys, np.ones(len(keys), np.int64))
-            self.assertEqual((table.shards, table.count(), table.sum(0, 6), len(set(numbers(rows)))), (3, 50_002, 50_001, 50_002))
-            self.assertEqual(table.count_many([0, 5, 9], [1, 6, 10]).tolist(), [50_000, 1, 1])
+    def __init__(self, test, table, rng):
+        self.test, self.table, self.rng, self.model, self.gone = test, table, rng, PlainTable(), []
+        changes = [self.insert_many, self.insert, self.delete_many, self.delete, self.update_many, self.update, self.far_update]
+        questions = [self.count, self.sum, self.many, self.select]
+        self.calls = changes * 2 + questions * 3 + [self.others]
+
+    def step(self):
+        self.rng.choice(self.calls)()
+
+    def key(self):
+        return self.rng.randrange(-10, 1010)
+
+    def payload(self):
+        return self.rng.randrange(LEAST, GREATEST + 1)
+
+    def range(self):
+        low = self.rng.randrange(-20, 1020)
+        return low, low + self.rng.randrange(-5, 600)
+
+    def rows(self, most):
+        """Rows that there are, in no order."""
+        return self.rng.sample(sorted(self.model.rows), min(most, len(self.model.rows)))
+
+    def insert_many(self):
+        keys, payloads = zip(*[(self.key(), self.payload()) for _ in range(self.rng.randrange(1, 12))])
+        self.model.rows.update(zip(numbers(self.table.insert_many(keys, payloads)), zip(keys, payloads)))
+
+    def insert(self):
+        row = self.key(), self.payload()
+        self.model.rows[self.table.insert(*row)] = row
+
+    def delete_many(self):
+        rows = self.rows(3)
+        given = rows + rows[:1] + self.gone[-2:]
+        self.test.assertEqual(list(self.table.delete_many(given)), [True] * len(rows) + [False] * (len(given) - len(rows)))
+        self.gone += rows
+        for row in rows:
+            del self.model.rows[row]
+
+    def delete(self):
+        for row in self.rows(1):
+            self.test.assertEqual((self.table.delete(row), self.table.delete(row)), (True, False))
+            self.gone.append(row)
+            del self.model.rows[row]
+
+    def near(self, row):
+        """A key and a payload that a row may get: a key next to its own, where that is of the same partition."""
+        key = self.model.rows[row][0]
+        return (self.rng.choice([key, key]), self.payload())
+
+    def update_many(self):
+        rows = self.rows(4)
+        given = rows + self.gone[-1:]
+        changed = [self.near(row) for row in rows] + [(self.model_key(row), 0) for row in given[len(rows) :]]
+        if given:
+            found = list(self.table.update_many(given, *zip(*changed)))
+            self.test.assertEqual(found, [True] * len(rows) + [False] * (len(given) - len(rows)))
+            self.model.rows.update(zip(rows, changed))
+
+    def model_key(self, row):
+        """A key of a row's partition."""
+        part = next(it for it in self.table.layout().parts if it.partition == row >> 48)
+        return part.keys.back_one(part.ends[0])
+
+    def update(self):
+        for row in self.rows(1):
+            self.model.rows[row] = self.near(row)
+            self.test.assertIs(self.table.update(row, *self.model.rows[row]), True)
+
+    def far_update(self):
+        """The rows before one that would change its shard get new payloads."""
+        rows = self.rows(5)
+        changed = {row: self.near(row) for row in rows[:-1]}
+        if rows:
+            far = 2000 if self.model.rows[rows[-1]][0] < 500 else -2000
+            with self.test.assertRaises(crackd.WrongPartition) as caught:
+                self.table.update_many(rows, *zip(*changed.values(), (far, 1)))
+            self.test.assertEqual((caught.exception.done, caught.exception.later), (len(changed), 0))
+            self.model.rows.update(changed)
+
+    def count(self):
+        ends = self.range()
+        self.test.assertEqual(self.table.count(*ends), self.model.count(*ends))
+
+    def sum(self):
+        ends = self.range()
+        self.test.assertEqual(self.table.sum(*ends), self.model.sum(*ends))
+
+    def many(self):
+        pairs = [self.range() for _ in range(3)] + [(None, 500), (500, None)]
+        self.test.assertEqual(numbers(self.table.count_many(*zip(*pairs))), [self.model.count(*it) for it in pairs])
+        self.test.assertEqual(self.table.sum_many(*zip(*pairs)), [self.model.sum(*it) for it in pairs])
+
+    def select(self):
+        ends = self.range()
+        got = self.table.select(*ends)
+        found = dict(zip(numbers(got.rows), zip(numbers(got.keys), numbers(got.payloads))))
+        self.test.assertEqual(found, self.model.inside(*ends))
+
+    def others(self):
+        self.rng.choice([self.table.settle, self.table.checkpoint])()
+        self.test.assertEqual((self.table.layout().rows, len(self.table)), (len(self.model.rows),) * 2)
+
+
+class Recorder:
+    """An actor that writes down what it is asked, and when its answers are waited for."""
+
+    def __init__(self, actor, shard, log):
+        self.actor, self.shard, self.log = actor, shard, log
+        self._address, self.key = actor._address, actor.key
+
+    def ask(self, name, words):
+        self.log.append((name, self.shard, len(words[0]) if words and np.ndim(words[0]) else 1))
+        self.waited = self.actor.ask(name, words)
+        return self
+
+    def done(self):
+        self.log.append("wait")
+        return self.waited.done()
+
+    def result(self, timeout=None):
+        return self.waited.result(timeout)
+
+
+@wants_library
+@wants_cluster
+class Messages(OnWorkers, unittest.TestCase):
+    """Which shards are asked, and how often."""
+
+    @contextlib.contextmanager
+    def recorded(self):
+        with self.table(splits=[100, 200]) as table:
+            log = []
+            table._actors = [Recorder(it, shard, log) for shard, it in enumerate(table._actors)]
+            yield table, log
+
+    def expect(self, log, wanted):
+        """All that is asked is asked before the first answer is waited for, once a shard."""
+        self.assertEqual(log[: len(wanted)], wanted)
+        self.assertEqual(set(log[len(wanted) :]), {"wait"} if wanted else set())
+        log.clear()
+
+    def test_rows_are_sent_once_to_their_shards(self):
+        with self.recorded() as (table, log):
+            rows = table.insert_many([250, 1, 150, 2, 260, 3], range(6))
+            self.expect(log, [("_insert_many", 0, 3), ("_insert_many", 1, 1), ("_insert_many", 2, 2)])
+            self.assertEqual([int(it) >> 54 for it in rows], [2, 0, 1, 0, 2, 0])
+            table.update_many(rows[[0, 1, 3]], [255, 1, 2], [7, 7, 7])
+            self.expect(log, [("_update_many", 0, 2), ("_update_many", 2, 1)])
+            table.delete_many(rows[[4, 0]])
+            self.expect(log, [("_delete_many", 2, 2)])
+            self.assertEqual((table.count(), table.sum()), (4, 21))
+
+    def test_only_shards_that_a_range_meets_are_asked(self):
+        with self.recorded() as (table, log):
+            for ends, shards in [((None, 100), [0]), ((99, 101), [0, 1]), ((100, 200), [1]), ((200, None), [2]), ((5, 5), [])]:
+                for call, name in [(table.count, "_count"), (table.sum, "_sum"), (table.select, "_select")]:
+                    call(*ends)
+                    self.expect(log, [(name, it, 1) for it in shards])
+            table.count_many([0, 50, 120, 7], [100, 150, 130, 7])
+            self.expect(log, [("_count_many", 0, 2), ("_count_many", 1, 2)])
+            table.sum_many([200, None], [300, None])
+            self.expect(log, [("_sum_many", 0, 1), ("_sum_many", 1, 1), ("_sum_many", 2, 2)])
+            table.settle()
+            self.expect(log, [("settle", it, 1) for it in range(3)])
+
+
+@wants_library
+@wants_cluster
+class Refusals(OnWorkers, unittest.TestCase):
+    """What one shard refuses."""
+
+    def expect(self, kind, wanted, call, *words):
+        with self.assertRaises(kind) as caught:
+            call(*words)
+        error = caught.exception
+        self.assertEqual((error.code, error.done, error.later), wanted)
+        return error
 
     def test_a_shard_that_is_full(self):
         with self.table(splits=[100], cells=2) as table:
-            with self.assertRaises(crackd.Full) as caught:
-                table.insert_many([1, 200, 2, 3, 201], [1, 2, 4, 8, 16])
-            error = caught.exception
-            self.assertEqual((error.code, error.done, error.later, len(error.answers)), (9, 3, 1, 4))
-            self.assertEqual((table.count(), table.sum()), (4, 23))
+            error = self.expect(crackd.Full, (9, 3, 1), table.insert_many, [1, 200, 2, 3, 201], [1, 2, 4, 8, 16])
+            self.assertEqual((len(error.answers), table.count(), table.sum()), (4, 4, 23))
             self.assertEqual(list(table.delete_many(error.answers)), [True] * 4)
 
-    def test_saved_and_restored(self):
-        rng = np.random.default_rng(8)
-        keys, payloads = rng.integers(-(2**63), 2**63, 20_000), rng.integers(-(2**63), 2**63, 20_000)
-        with tempfile.TemporaryDirectory() as folder:
-            with self.table(keys) as table:
-                table.insert_many(keys, payloads)
-                wanted = table.sum_many([None, 0], [0, None])
-                table.save(folder)
-                manifest = table.save(folder)
-            self.assertEqual(sorted(os.listdir(folder)), sorted(["manifest.json", *manifest["files"]]))
-            for shards in (None, 1, 5):
-                with cluster.Table.restore(MODULE["client"], folder, shards=shards) as table:
-                    self.assertEqual((table.shards, table.count(), table.sum_many([None, 0], [0, None])), (shards or WORKERS, 20_000, wanted))
-                    self.assertEqual(sorted(numbers(table.select().keys)), sorted(keys.tolist()))
-            path = pathlib.Path(folder) / "manifest.json"
-            path.write_text(path.read_text().replace('"counts": [\n  ', '"counts": [\n  1'))
-            self.assertRaises(cluster.BadSave, cluster.Table.restore, MODULE["client"], folder)
+    def test_the_first_refused_row_says_why(self):
+        with self.table(splits=[100], cells=2) as table:
+            rows = table.insert_many([1, 150], [1, 2])
+            far, nowhere = int(rows[1]) | 1 << 60, int(rows[0]) | 5 << 48
+            for row in (far, nowhere):
+                self.expect(crackd.NoSuchPartition, (5, 1, 0), table.delete_many, [int(rows[0]) + 1, row, rows[1]])
+                self.expect(crackd.NoSuchPartition, (5, 1, 0), table.update_many, [rows[0], row, rows[1]], [1, 150, 1], [1, 2, 3])
+            self.expect(crackd.WrongPartition, (4, 1, 0), table.update_many, [rows[1], rows[0], far], [150, 100, 1], [3, 4, 5])
+            self.expect(crackd.WrongPartition, (4, 0, 0), table.update_many, [int(rows[0]) + 9], [100], [4])
+            self.assertEqual((table.count(), table.sum()), (2, 4))
 
-    def test_blocks_of_dask(self):
-        import dask.array
+    def test_partitions_of_a_shard_refuse_as_those_of_a_table(self):
+        with self.table(range(1000), 40_000) as table:
+            self.assertGreater(table.partitions, WORKERS)
+            rows = table.insert_many([0, 300], [1, 2])
+            self.assertEqual(int(rows[0]) >> 54, int(rows[1]) >> 54)
+            self.expect(crackd.WrongPartition, (4, 1, 0), table.update_many, rows[::-1], [300, 300], [7, 7])
+            self.assertEqual((table.sum(), table.count(300, 301)), (8, 1))
+
+    def test_shards_of_very_different_sizes(self):
+        keys = np.concatenate([np.zeros(200_000, np.int64), np.array([5, 9])])
+        np.random.default_rng(2).shuffle(keys)
+        with self.table([0, 5, 9], partitions=3) as table:
+            rows = table.insert_many(keys, np.ones(len(keys), np.int64))
+            self.assertEqual((table.shards, table.count(), table.sum(0, 6), len(np.unique(rows))), (3, 200_002, 200_001, 200_002))
+            self.assertEqual(table.count_many([0, 5, 9], [1, 6, 10]).tolist(), [200_000, 1, 1])
+            got = table.select()
+            self.assertEqual((np.sort(got.rows) == np.sort(rows)).all(), True)
+            self.assertEqual(int(table.delete_many(rows).sum()), 200_002)
+        with self.table() as table:
+            self.assertEqual((table.shards, table.partitions, table.insert(5, 7), table.sum()), (1, 1, 0, 7))
+
+
+@wants_library
+@wants_cluster
+class Saves(OnWorkers, unittest.TestCase):
+    """What is saved and restored."""
+
+    def setUp(self):
+        room = tempfile.TemporaryDirectory()
+        self.addCleanup(room.cleanup)
+        self.folder = pathlib.Path(room.name) / "saved"
+
+    def saved(self, keys=range(300), splits=(100, 200), **options):
+        """The manifest of a save of these keys; payloads are 1, 2, 3 .."""
+        with self.table(splits=splits, **options) as table:
+            table.insert_many(keys, np.arange(1, len(keys) + 1))
+            return table.save(self.folder)
+
+    def restore(self, **options):
+        return cluster.Table.restore(MODULE["client"], self.folder, **options)
+
+    def test_on_another_number_of_shards(self):
+        rng = np.random.default_rng(8)
+        keys, payloads = rng.integers(LEAST, 2**63, 20_000), rng.integers(LEAST, 2**63, 20_000)
+        with self.table(keys, 500_000) as table:
+            table.insert_many(keys, payloads)
+            wanted = table.sum_many([None, 0], [0, None])
+            table.save(self.folder)
+            manifest = table.save(self.folder)
+        self.assertEqual(sorted(os.listdir(self.folder)), sorted(["manifest.json", *manifest["files"]]))
+        for shards in (None, 1, 5):
+            with self.restore(shards=shards, policy="gradual") as table:
+                found = table.shards, table.count(), table.sum_many([None, 0], [0, None])
+                self.assertEqual(found, (shards or WORKERS, 20_000, wanted))
+                got = table.select()
+                order, first = np.lexsort((got.payloads, got.keys)), np.lexsort((payloads, keys))
+                self.assertTrue((got.keys[order] == keys[first]).all() and (got.payloads[order] == payloads[first]).all())
+                self.assertEqual(sum(it.pending_in for it in table.layout().parts), 0)
+
+    def test_on_another_cluster(self):
+        self.saved()
+        with local(2) as client, cluster.Table.restore(client, self.folder) as table:
+            self.assertEqual((table.shards, table.count(), table.sum(0, 10)), (2, 300, 55))
+
+    def test_the_files_are_arrays_and_the_manifest_says_what_they_have(self):
+        manifest = self.saved(range(-150, 150), [-50, 50])
+        self.assertEqual(manifest, json.loads((self.folder / "manifest.json").read_text()))
+        self.assertEqual((manifest["keys"], manifest["splits"]), ("int64", [2**63 - 50, 2**63 + 50]))
+        self.assertEqual((manifest["counts"], manifest["sums"]), ([100] * 3, [5050, 15050, 25050]))
+        shards = [np.load(self.folder / it) for it in manifest["files"]]
+        self.assertEqual([sorted(it["key"].tolist()) for it in shards], [[*range(it, it + 100)] for it in (-150, -50, 50)])
+        self.assertEqual([int(it["payload"].sum()) for it in shards], manifest["sums"])
+
+    def test_kinds_of_keys(self):
+        days = np.array("2020-01-01", dtype="datetime64[D]") + np.arange(300)
+        for keys in (days, np.arange(300) / 4 - 20, np.arange(300, dtype=np.uint64) + np.uint64(2**63)):
+            with self.subTest(keys.dtype):
+                self.saved(keys, keys[[100, 200]], key_type=keys.dtype)
+                with self.restore() as table:
+                    got = table.select(keys[50], keys[53])
+                    self.assertEqual((got.keys.dtype, sorted(got.payloads.tolist())), (keys.dtype, [51, 52, 53]))
+                    self.assertEqual(sorted(got.keys.tolist()), keys[50:53].tolist())
+
+    def test_no_rows(self):
+        with self.table(key_type="float64") as table:
+            self.assertEqual(table.save(self.folder)["counts"], [0])
+        with self.restore() as table:
+            self.assertEqual((table.count(), table.insert(0.5, 7), table.sum(0.5)), (0, 0, 7))
+
+    def expect_bad(self, *words):
+        with self.assertRaises(cluster.BadSave) as caught:
+            self.restore()
+        for word in words:
+            self.assertIn(word, str(caught.exception))
+
+    def test_what_is_no_longer_as_it_was_saved(self):
+        manifest = self.saved()
+        path, first = self.folder / "manifest.json", self.folder / manifest["files"][0]
+        whole, content = path.read_text(), first.read_bytes()
+        for text in ("", "[]", "{", whole.replace('"form": 2', '"form": 1'), whole.replace('"sums"', '"sum"'), whole.replace("int64", "text")):
+            path.write_text(text)
+            self.expect_bad("manifest.json is no manifest")
+        for name, text in [("counts", whole.replace("100,\n", "101,\n", 1)), ("sums", whole.replace("5050,\n", "5051,\n", 1))]:
+            self.assertNotEqual(text, whole)
+            path.write_text(text)
+            self.expect_bad("101" if name == "counts" else "the sums of the saved shards are")
+        path.write_text(whole)
+        first.write_bytes(content[:-1])
+        self.expect_bad(first.name, "can't be read")
+        first.write_bytes(content[:-8] + bytes(8))
+        self.expect_bad("the sums of the saved shards are")
+        first.unlink()
+        self.expect_bad(first.name, "can't be read")
+        path.unlink()
+        self.assertRaises(FileNotFoundError, self.restore)
+
+    def test_rows_of_another_shard_are_found_out(self):
+        manifest = self.saved()
+        paths = [self.folder / it for it in manifest["files"][:2]]
+        contents = [np.load(it) for it in paths]
+        for content in contents:
+            content["key"] = (content["key"] + 100) % 200
+        for path, content in zip(paths, contents):
+            np.save(path, content)
+        self.expect_bad("the sums of the saved shards are")
+
+    def test_a_save_that_fails_leaves_the_one_before(self):
+        client, before = MODULE["client"], self.saved()
+        with self.table(splits=[100, 200]) as table:
+            table.insert_many(range(300), [7] * 300)
+            on(client, worker_of(table, 1), clusters.limit_files, 500)
+            try:
+                with self.assertRaises(cluster.ShardFailed) as caught:
+                    table.save(self.folder)
+            finally:
+                on(client, worker_of(table, 1), clusters.limit_files, -1)
+            self.assertIn("File too large", str(caught.exception))
+            self.assertEqual(sorted(os.listdir(self.folder)), sorted(["manifest.json", *before["files"]]))
+            with self.restore() as restored:
+                self.assertEqual(restored.sum(), 45150)
+            self.assertEqual((table.count(), table.save(self.folder)["sums"]), (300, [700] * 3))
+
+    def test_sums_of_payloads_are_exact(self):
+        for payloads in ([GREATEST] * 5, [LEAST] * 5, [LEAST, GREATEST, -1, 0, 1, 2**32, -(2**32)]):
+            self.assertEqual(crackd.shard.exact_sum(np.array(payloads, np.int64)), sum(payloads))
+        self.assertEqual(crackd.shard.exact_sum(np.empty(0, np.int64)), 0)
+
+
+@wants_library
+@wants_cluster
+@wants_pandas
+class OfDask(OnWorkers, unittest.TestCase):
+    """Rows that a cluster has already."""
+
+    def frame(self, columns, blocks):
         import dask.dataframe
         import pandas
 
+        return dask.dataframe.from_pandas(pandas.DataFrame(columns), npartitions=blocks)
+
+    def test_dataframes(self):
         keys, payloads = np.arange(5000) * 7919 % 5000, np.arange(5000)
-        frame = dask.dataframe.from_pandas(pandas.DataFrame({"what": payloads, "when": keys / 2, "other": "x"}), npartitions=4)
+        frame = self.frame({"what": payloads, "when": keys / 2, "other": "x"}, 4)
         with cluster.Table.from_dask(MODULE["client"], frame, "when", "what") as table:
             self.assertEqual((table.count(0, 10), table.sum(0, 10)), (20, int(payloads[keys < 20].sum())))
-            self.assertEqual(table.select(0, 1).keys.dtype, np.float64)
+            self.assertEqual((table.shards, table.select(0, 1).keys.dtype), (WORKERS, np.float64))
             self.assertEqual(sum(it.pending_in for it in table.layout().parts), 0)
+        with cluster.Table.from_dask(MODULE["client"], frame["what"], shards=2, policy="complete") as table:
+            self.assertEqual((table.shards, table.count(), table.sum(0, 10)), (2, 5000, 45))
+        days = np.array("2020-01-01", dtype="datetime64[ns]") + np.arange(5000).astype("timedelta64[D]")
+        with cluster.Table.from_dask(MODULE["client"], self.frame({"day": days}, 3), "day") as table:
+            self.assertEqual(table.sum(np.datetime64("2020-01-02"), np.datetime64("2020-01-05")), 6)
+
+    def test_arrays(self):
+        import dask.array
+
+        keys, payloads = np.arange(5000) * 7919 % 5000, np.arange(5000)
         array = dask.array.from_array(np.stack([keys, payloads], axis=1), chunks=(1000, 1))
         with cluster.Table.from_dask(MODULE["client"], array, 0, 1) as table:
             self.assertEqual((table.count(0, 10), table.sum(0, 10)), (10, int(payloads[keys < 10].sum())))
         with cluster.Table.from_dask(MODULE["client"], dask.array.from_array(keys, chunks=700)) as table:
             self.assertEqual((table.count(), table.sum(0, 10)), (5000, int(payloads[keys < 10].sum())))
-        with self.assertRaises(TypeError):
-            cluster.Table.from_dask(MODULE["client"], frame, "when", "when")
+
+    def test_wrong_columns(self):
+        frame = self.frame({"key": [1.5, float("nan")], "text": ["a", "b"], "whole": [1, 2]}, 1)
+        for key, payload, kind in [
+            ("whole", "key", TypeError),
+            ("whole", "text", TypeError),
+            ("text", "whole", TypeError),
+            ("key", "whole", ValueError),
+            ("none", "whole", KeyError),
+        ]:
+            with self.subTest(key=key, payload=payload):
+                self.assertRaises(kind, cluster.Table.from_dask, MODULE["client"], frame, key, payload)
+        self.assertRaises(crackd.Full, cluster.Table.from_dask, MODULE["client"], frame, "whole", cells=1, shards=1)
+
+    def test_no_block_comes_to_the_client(self):
+        from distributed.protocol import serialize
+
+        frame, client = self.frame({"key": np.arange(400_000), "payload": np.ones(400_000, np.int64)}, 8), MODULE["client"]
+        held = client.persist(frame)
+        real, gathered = client.gather, []
+
+        def gather(futures):
+            found = real(futures)
+            gathered.extend(found)
+            return found
+
+        with mock.patch.object(client, "gather", gather):
+            with cluster.Table.from_dask(client, held, "key", "payload") as table:
+                self.assertEqual((table.count(), table.sum(10, 20)), (400_000, 10))
+        self.assertEqual(len(gathered), 16)
+        self.assertLess(max(len(part) for it in gathered for part in serialize(it)[1]), 200_000)
+
+    def test_a_block_that_is_loaded_again_is_loaded_once(self):
+        shard = crackd.shard.Shard(crackd.keys.Keys("i"), [], {})
+        words = shard.token, 3, np.arange(5, dtype=np.uint64), np.ones(5, np.int64)
+        for _ in range(3):
+            self.assertEqual(shard.ask("load", words), (shard.token, None))
+        shard.ask("load", (shard.token, 4, *words[2:]))
+        self.assertEqual(shard.table.count(), 10)
+        self.assertRaises(cluster.ShardFailed, shard.ask, "load", ("another", *words[1:]))
+
+
+class Imports(unittest.TestCase):
+    """What is said where something is missing."""
+
+    def test_without_numpy_or_dask(self):
+        for name in ("numpy", "distributed"):
+            code = f"import sys; sys.path.insert(0, {str(PAGE.parents[1] / 'python')!r}); sys.modules[{name!r}] = None\n"
+            code += "try: import crackd.cluster\nexcept ImportError as error: print(error)"
+            ran = subprocess.run([sys.executable, "-c", code], capture_output=True, text=True, check=True)
+            self.assertEqual(ran.stdout, "crackd.cluster needs numpy and dask.distributed: pip install numpy distributed\n")
 
 
 @wants_library
 @wants_cluster
-class Losses(unittest.TestCase):
-    """A worker that is killed."""
+class Page(unittest.TestCase):
+    """The session of the page."""
 
-    def lost(self, table, shard):
-        """Kills the process of a shard."""
-        os.kill(table._client.submit(os.getpid, workers=[table._actors[shard]._address], pure=False).result(), signal.SIGKILL)
-
-    def expect_lost(self, shard, call, *words):
-        with self.assertRaises(cluster.ShardLost) as caught:
-            call(*words)
-        self.assertEqual(caught.exception.shard, shard)
-        return caught.exception
-
-    def test_a_lost_shard_is_told_and_the_others_go_on(self):
-        with local(3) as client, tempfile.TemporaryDirectory() as folder:
-            table = cluster.Table(client, splits=[100, 200])
-            rows = table.insert_many(range(0, 300, 3), [1] * 100)
-            table.save(folder)
-            table.insert(1, 1000)
-            self.lost(table, 1)
-            error = self.expect_lost(1, table.count)
-            self.assertEqual((error.low, error.high), (100, 200))
-            self.assertIn("shard 1 (keys 100 to 199) is lost", str(error))
-            self.assertEqual((table.count(0, 100), table.sum(200, 300), table.count_many([0, 200], [100, 300]).tolist()), (35, 33, [35, 33]))
-            calls = [(table.sum, 150, 160), (table.select, 50, 250), (table.count_many, [0, 150], [1, 160]), (table.settle,), (table.layout,), (table.insert, 150, 1)]
-            calls += [(table.delete_many, rows[40:41]), (table.update_many, rows[40:41], [120], [1]), (table.save, folder), (table.checkpoint,)]
-            for call, *words in calls:
-                with self.subTest(call=call):
-                    self.expect_lost(1, call, *words)
-            error = self.expect_lost(1, table.insert_many, [10, 150, 250], [5, 6, 7])
-            self.assertEqual((len(error.answers), table.sum(10, 11), table.sum(250, 251)), (2, 5, 7))
-            table.close()
-            restored = cluster.Table.restore(client, folder)
-            self.assertEqual((restored.count(), restored.sum(), restored.sum(100, 200)), (100, 100, 33))
-            restored.close()
-
-    def test_a_worker_is_killed_amid_inserts(self):
-        with local(2) as client:
-            table = cluster.Table(client, splits=[0])
-            keys = np.arange(-2000, 2000)
-            self.killed_amid(table, lambda: [table.insert_many(keys, np.ones(len(keys), np.int64)) for _ in range(400)])
-            self.expect_lost(1, table.count)
-            self.assertEqual(table.count(None, 0) % 2000, 0)
-            self.assertGreater(table.count(None, 0), 0)
-            table.close()
-
-    def test_a_worker_is_killed_amid_counts(self):
-        with local(2) as client:
-            table = cluster.Table(client, splits=[0])
-            keys = np.arange(-100_000, 100_000)
-            table.insert_many(keys, np.ones(len(keys), np.int64))
-            lows = np.arange(-1000, 1000)
-            self.killed_amid(table, lambda: [table.sum_many(lows, lows + 10) for _ in range(1000)])
-            self.assertEqual(table.count(None, 0), 100_000)
-            table.close()
-
-    def killed_amid(self, table, call):
-        """The call must end by the loss of shard 1, which is killed shortly after it began."""
-        pid = table._client.submit(os.getpid, workers=[table._actors[1]._address], pure=False).result()
-        started = os.fork()
-        if started == 0:
-            time.sleep(0.2)
-            os.kill(pid, signal.SIGKILL)
-            os._exit(0)
-        try:
-            self.expect_lost(1, call)
-        finally:
-            os.waitpid(started, 0)
+    def test_it_prints_what_stands_there(self):
+        text = PAGE.read_text(encoding="utf-8")
+        program = text.split("```python\n")[1].split("```")[0]
+        wanted = text.split("```text\n")[1].split("```")[0]
+        with tempfile.TemporaryDirectory() as folder:
+            path = pathlib.Path(folder) / "session.py"
+            path.write_text(program, encoding="utf-8")
+            environment = {**os.environ, "PYTHONPATH": str(PAGE.parents[1] / "python")}
+            how = {"cwd": folder, "env": environment, "capture_output": True, "text": True, "timeout": 120}
+            ran = subprocess.run([sys.executable, "-W", "ignore", str(path)], check=False, **how)
+        self.assertEqual((ran.returncode, ran.stdout), (0, wanted), ran.stderr)
 
 
 if __name__ == "__main__":

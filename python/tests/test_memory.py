@@ -2,33 +2,29 @@
 
 import os
 import pathlib
-import shutil
 import subprocess
 import sys
 import tempfile
 import unittest
 
-from ways import wants_library
+from ways import refusing, wants_gcc, wants_library
 
 HERE = pathlib.Path(__file__).resolve().parent
-REFUSING = HERE.parent.parent / "acceptance" / "refusing.c"
 STEPS, ONE_IN, STEPS_IN_TURN, SECONDS = 100_000, 25, 40, 600
 
 
 @wants_library
-@unittest.skipIf(shutil.which("gcc") is None, "gcc isn't installed")
+@wants_gcc
 class Refusals(unittest.TestCase):
     """What is refused for want of memory loses nothing, as held against a plain list."""
 
     def run_refused(self, *words, **environment):
         """Runs refusals.py with an allocator that refuses. The number that it prints."""
         with tempfile.TemporaryDirectory() as room:
-            made, tells = f"{room}/refusing.so", f"{room}/tells"
-            subprocess.run(["gcc", "-shared", "-fPIC", "-O2", "-o", made, REFUSING, "-ldl"], check=True)
-            pathlib.Path(tells).write_bytes(bytes(16))
-            also = {"LD_PRELOAD": made, "REFUSE_TELLS": tells, "REFUSE_SWITCHED": "1", **environment}
+            also = refusing(room, **environment)
             command = [sys.executable, str(HERE / "refusals.py"), *words]
-            ran = subprocess.run(command, env={**os.environ, **also}, capture_output=True, text=True, timeout=SECONDS, check=False)
+            how = {"env": {**os.environ, **also}, "capture_output": True, "text": True, "timeout": SECONDS}
+            ran = subprocess.run(command, check=False, **how)
         self.assertEqual((ran.returncode, ran.stderr), (0, ""))
         return int(ran.stdout)
 

@@ -322,6 +322,19 @@ class Cases:
             self.assertEqual(table.count(), 0)
 
     @wants_numpy
+    def test_ends_of_numpy_that_no_float_has(self):
+        with self.table(key_type="int64") as table:
+            table.insert_many([2**62, 2**62 + 1, GREATEST], [1, 2, 4])
+            self.assertEqual((table.sum(np.int64(2**62 + 1)), table.sum(None, np.int64(2**62 + 1)), table.sum(np.int64(GREATEST))), (6, 1, 4))
+            self.assertEqual(table.sum_many([np.int64(2**62 + 1), None], [None, np.uint64(2**63)]), [6, 7])
+        with self.table(key_type="uint64") as table:
+            table.insert_many([2**63, 2**63 + 1, UNSIGNED], [1, 2, 4])
+            self.assertEqual((table.sum(np.uint64(2**63 + 1)), table.sum(np.uint64(UNSIGNED)), table.count(np.int64(-1), np.uint64(2**63 + 1))), (6, 4, 1))
+        with self.table(key_type="float64") as table:
+            table.insert_many([2.0**53, 2.0**53 + 2], [1, 2])
+            self.assertEqual((table.sum(np.int64(2**53 + 1)), table.sum(None, np.int64(2**53 + 1)), table.sum(np.float32(1))), (2, 1, 3))
+
+    @wants_numpy
     def test_one_array_for_all(self):
         with self.table(key_type="uint64") as table:
             both = np.arange(10, dtype=np.uint64)

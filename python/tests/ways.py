@@ -3,6 +3,8 @@
 import contextlib
 import os
 import pathlib
+import shutil
+import subprocess
 import sys
 import unittest
 
@@ -23,7 +25,16 @@ def has_program():
 
 
 wants_library = unittest.skipIf(library.find_library() is None, "libcrackd.so isn't built")
+wants_gcc = unittest.skipIf(shutil.which("gcc") is None, "gcc isn't installed")
 wants_program = unittest.skipUnless(has_program(), "the program crackd isn't built")
+
+
+def refusing(room, **environment):
+    """The environment of a program whose library is refused memory, and whose files are in this folder."""
+    source, made, told = pathlib.Path(crackd.__file__).parents[2] / "acceptance" / "refusing.c", f"{room}/refusing.so", f"{room}/told"
+    subprocess.run(["gcc", "-shared", "-fPIC", "-O2", "-o", made, source, "-ldl"], check=True)
+    pathlib.Path(told).write_bytes(bytes(16))
+    return {"LD_PRELOAD": made, "REFUSE_TELLS": told, "REFUSE_SWITCHED": "1", **environment}
 
 
 class InProcess:

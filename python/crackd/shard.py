@@ -1,0 +1,262 @@
+"""What runs on the workers of a cluster: the shards of a table, and the tasks that load rows into them.
+
+Keys are numbers here, as `crackd.keys` makes them.
+"""
+
+from __future__ import annotations
+
+import asyncio
+import os
+import pathlib
+import uuid
+from typing import Any, Callable, Iterator, NamedTuple, Sequence
+
+from .arrays import TOP, ints, np
+from .errors import Error
+from .keys import Keys
+from .table import Table as LocalTable
+
+MISSING = "crackd.cluster needs numpy and dask.distributed: pip install numpy distributed"
+if np is None:
+    raise ImportError(MISSING)
+try:
+    from distributed import Actor, get_client, get_worker
+except ImportError as error:
+    raise ImportError(MISSING) from error
+
+# how many keys of a block are drawn as a sample
+SAMPLED = 10_000
+SECONDS_OF_A_LOOK = 1
+# (Python 3.10 has two of them)
+TIMEOUTS = (TimeoutError, asyncio.TimeoutError)
+
+
+class ShardFailed(Error):
+    """A shard couldn't do what it was asked, for another reason than a refusal: a full disk, for example.
+
+    Of an `insert_many`, `answers` has the numbers of the rows that were placed in other shards.
+    """
+
+    answers: Any = None
+
+
+class BadSave(Error, ValueError):
+    """What is read isn't what was saved."""
+
+
+class LoadFailed(Error):
+    """A task that loads rows can't reach a shard."""
+
+    def __init__(self, shard: int, why: str):
+        super().__init__(f"shard {shard} can't be reached: {why}")
+        self.shard, self.why = shard, why
+
+    def __reduce__(self) -> Any:
+        return type(self), (self.shard, self.why)
+
+
+class Shard:
+    """One shard, an actor on its worker. Each answer comes with the token of the shard that gives it."""
+
+    def __init__(self, kind: Keys, cuts: Sequence[int], options: dict):
+        self.token = uuid.uuid4().hex
+        self.kind = kind
+        self.table = LocalTable(key_type="uint64", splits=cuts, **options)
+        self.loaded: set[int] = set()
+
+    def ask(self, name: str, words: tuple) -> tuple[str, Any]:
+        """The answer of a method of this shard, or else of its table."""
+        # (an array that came over the network may lie at any address)
+        words = tuple(np.require(it, requirements="CA") if isinstance(it, np.ndarray) else it for it in words)
+        try:
+            return self.token, getattr(self if name in ("begin", "load", "save") else self.table, name)(*words)
+        except Error:
+            raise
+        except Exception as error:
+            raise ShardFailed(f"{type(error).__name__}: {error}") from error
+
+    def begin(self) -> int:
+        """How many partitions the shard has."""
+        return self.table.partitions
+
+    def load(self, token: str, number: int, keys: Any, payloads: Any) -> None:
+        """Places the rows of a block, once: Dask runs a task again when it loses the worker that ran it."""
+        if token != self.token:
+            raise ShardFailed("its worker was restarted")
+        if number not in self.loaded:
+            self.table._insert_many(keys, payloads)
+            self.loaded.add(number)
+
+    def save(self, path: str) -> tuple[int, int]:
+        """Writes all rows to a file, partition by partition. Returns their count, and the sum of their payloads."""
+        part = pathlib.Path(path + ".part")
+        try:
+            saved = self._write(part)
+            os.replace(part, path)
+        except BaseException:
+            part.unlink(missing_ok=True)
+            raise
+        return saved
+
+    def _write(self, part: pathlib.Path) -> tuple[int, int]:
+        rows, total = self.table.count(), 0
+        dtype = row_dtype(self.kind)
+        head = {"descr": np.lib.format.dtype_to_descr(dtype), "fortran_order": False, "shape": (rows,)}
+        ends = [0, *self.table._cuts, TOP]
+        with open(part, "wb") as file:
+            np.lib.format.write_array_header_1_0(file, head)
+            for low, high in zip(ends, ends[1:]):
+                got = self.table.select(low, high)
+                block = np.empty(len(got.keys), dtype)
+                block["key"], block["payload"] = self.kind.back(got.keys), got.payloads
+                total += exact_sum(got.payloads)
+                file.write(block.tobytes())
+            file.flush()
+            os.fsync(file.fileno())
+        return rows, total
+
+
+def row_dtype(kind: Keys) -> Any:
+    """The type of the rows in a file."""
+    return np.dtype([("key", kind.name), ("payload", "int64")])
+
+
+def exact_sum(payloads: Any) -> int:
+    """The sum of payloads, whatever its size, by halves that fit into 64 bits."""
+    return (int((payloads >> 32).sum()) << 32) + int((payloads & 0xFFFFFFFF).sum())
+
+
+# Cutting rows by shard
+
+
+class Block(NamedTuple):
+    """Rows of one shard: their places among all those that were given, in order."""
+
+    shard: int
+    places: Any
+
+
+def shard_of(cuts: Any, keys: Any) -> Any:
+    """The shard of each key."""
+    return np.searchsorted(cuts, keys, side="right")
+
+
+def blocks_of(shards: Any) -> Iterator[Block]:
+    """The rows of each shard, of the shards of all rows."""
+    # (numbers of 16 bits are sorted by radix, in linear time)
+    order = np.argsort(shards.astype(np.uint16), kind="stable")
+    counts = np.bincount(shards) if len(shards) else np.empty(0, np.int64)
+    ends = np.cumsum(counts)
+    for shard in np.flatnonzero(counts).tolist():
+        yield Block(shard, order[ends[shard] - counts[shard] : ends[shard]])
+
+
+def waited(future: Any, is_there: Callable[[], bool]) -> Any:
+    """A future's result, waited for as long as what it comes from is there: Dask itself may wait for ever."""
+    while not future.done():
+        try:
+            return future.result(timeout=SECONDS_OF_A_LOOK)
+        except TIMEOUTS:
+            if not future.done() and not is_there():
+                raise ConnectionError("its worker is gone") from None
+    return future.result()
+
+
+def has_actor(client: Any, address: str, key: str) -> bool:
+    """Whether a worker has an actor, as the scheduler knows."""
+    return key in client.has_what([address]).get(address, ())
+
+
+# Tasks
+
+
+class Place(NamedTuple):
+    """Where a shard is: the address of its worker, its key in Dask, and its token."""
+
+    address: str
+    key: str
+    token: str
+
+
+def load_rows(number: int, keys: Any, payloads: Any, places: Sequence[Place], cuts: Any) -> int:
+    """Sends the rows of block `number` from this worker to their shards. Returns how many they are."""
+    worker = get_worker()
+    waiting = []
+    for shard, rows in blocks_of(shard_of(cuts, keys)):
+        place = places[shard]
+        words = place.token, number, keys[rows], payloads[rows]
+        waiting.append((shard, Actor(Shard, place.address, place.key, worker=worker).ask("load", words)))
+    for shard, future in waiting:
+        try:
+            waited(future, lambda place=places[shard]: has_actor(get_client(), place.address, place.key))
+        except Error:
+            raise
+        except Exception as error:
+            raise LoadFailed(shard, str(error) or type(error).__name__) from error
+    return len(keys)
+
+
+def sample_of(keys: Any) -> tuple[int, Any]:
+    """How many keys there are, and some of them."""
+    return len(keys), keys[:: max(1, len(keys) // SAMPLED)]
+
+
+def rows_of_file(path: str, count: int, kind: Keys) -> Any:
+    """The rows of a file that was saved, where it is whole. They are read as they are used."""
+    try:
+        rows = np.load(path, mmap_mode="r")
+    except (OSError, ValueError, EOFError) as error:
+        raise BadSave(f"{path} can't be read: {error}") from error
+    if rows.dtype != row_dtype(kind) or rows.shape != (count,):
+        raise BadSave(f"{path} hasn't {count} rows with keys of {kind.name}")
+    return rows
+
+
+def sample_of_file(path: str, count: int, kind: Keys) -> tuple[int, Any]:
+    keys = rows_of_file(path, count, kind)["key"]
+    return count, kind.many(sample_of(keys)[1])
+
+
+def load_file(
+    number: int,
+    path: str,
+    count: int,
+    begin: int,
+    end: int,
+    kind: Keys,
+    places: Sequence[Place],
+    cuts: Any,
+) -> int:
+    """Loads some rows of a file, as block `number`."""
+    rows = rows_of_file(path, count, kind)[begin:end]
+    return load_rows(number, kind.many(rows["key"]), np.array(rows["payload"]), places, cuts)
+
+
+def column_of(block: Any, column: Any) -> Any:
+    """A column of a block of a dataframe or of an array."""
+    if hasattr(block, "columns"):
+        return block[column].to_numpy()
+    return np.asarray(block)[:, column] if np.ndim(block) == 2 else np.asarray(block)
+
+
+def sample_of_block(block: Any, key: Any, kind: Keys) -> tuple[int, Any]:
+    return sample_of(kind.many(column_of(block, key)))
+
+
+def load_block(
+    number: int,
+    block: Any,
+    key: Any,
+    payload: Any,
+    begin: int,
+    count: int,
+    kind: Keys,
+    places: Sequence[Place],
+    cuts: Any,
+) -> int:
+    """Loads block `number` of a Dask collection. Without a column of payloads these are numbered from `begin`."""
+    keys = kind.many(column_of(block, key))
+    if len(keys) != count:
+        raise ShardFailed(f"block {number} had {count} rows when its keys were sampled, and has {len(keys)} now")
+    payloads = np.arange(begin, begin + count) if payload is None else column_of(block, payload)
+    return load_rows(number, keys, ints("q", payloads, "payloads"), places, cuts)
