@@ -1,5 +1,11 @@
-"""python3 -m crackd shell ..: a shell over a server; python3 -m crackd splits FILE.csv N: where to cut keys, for `crackd serve`; python3 -m crackd picture SCRIPT:
-a column as queries crack it, as SVG."""
+"""usage: python3 -m crackd COMMAND ..
+
+  shell              a shell over a server, of its own or another
+  splits FILE.csv N  prints where to cut keys into partitions, for `crackd serve`
+  picture SCRIPT     draws a column as the queries of a script crack it, as SVG
+
+Each has --help.
+"""
 
 from __future__ import annotations
 
@@ -15,18 +21,18 @@ from .picture import main as picture
 
 
 def splits(words: list[str]) -> int:
-    """Prints splits that cut the keys of a CSV file into about equal parts."""
-    about = "Prints splits that cut the keys of a CSV file into N about equal parts, for `crackd serve` and the other subcommands."
+    """Prints splits that cut the keys of a CSV file into nearly equal parts."""
+    about = "Prints splits that cut the keys of a CSV file into N nearly equal parts, for `crackd serve` and the other subcommands."
     parser = argparse.ArgumentParser(prog="python3 -m crackd splits", description=about)
-    parser.add_argument("file", metavar="FILE.csv", help="its keys are whole numbers from 0 to 18446744073709551615")
-    parser.add_argument("parts", metavar="N", type=int, help=f"how many partitions, 1 to {MOST_PARTS}; there are fewer where keys are few")
-    parser.add_argument("--key", metavar="COLUMN", default="0", help="the column of the keys: a name of the header, or a number from 0 on [default: 0]")
-    parser.add_argument("--delimiter", metavar="CHARACTER", default=",", help="what stands between fields [default: ,]")
+    parser.add_argument("file", metavar="FILE.csv", help="a file whose keys are integers from 0 to 18446744073709551615")
+    parser.add_argument("parts", metavar="N", type=int, help=f"how many partitions, 1 to {MOST_PARTS}; there are fewer if there are few different keys")
+    parser.add_argument("--key", metavar="COLUMN", default="0", help="the column of the keys: a name of the header, or a number from 0 [default: 0]")
+    parser.add_argument("--delimiter", metavar="CHARACTER", default=",", help="the character between fields [default: ,]")
     options = parser.parse_args(words)
     if not 1 <= options.parts <= MOST_PARTS:
-        parser.error(f"N is 1 to {MOST_PARTS}")
+        parser.error(f"N must be 1 to {MOST_PARTS}")
     if len(options.delimiter) != 1:
-        parser.error("a delimiter is one character")
+        parser.error("a delimiter must be one character")
     key = int(options.key) if options.key.isdecimal() else options.key
     file = CsvFile(options.file, options.delimiter, None, "utf-8-sig")
     keys = [row[0] for row in file.rows([(key, Column(least=0, most=TOP - 1))])]
@@ -40,7 +46,7 @@ def main(words: list[str]) -> int:
 
         return shell(words[1:])
     if words[:1] not in (["splits"], ["picture"]):
-        print(__doc__, file=sys.stdout if words[:1] in (["--help"], ["-h"]) else sys.stderr)
+        print(__doc__, end="", file=sys.stdout if words[:1] in (["--help"], ["-h"]) else sys.stderr)
         return 0 if words[:1] in (["--help"], ["-h"]) else 2
     try:
         return picture(words[1:]) if words[0] == "picture" else splits(words[1:])

@@ -1,7 +1,7 @@
-"""Arrays of numbers: those of numpy where it is installed, else those of the module `array`.
+"""Arrays of numbers: numpy's where it is installed, else those of the module `array`.
 
-Each array that is handed to the library is a copy of this package's own, contiguous and of the right type, so that nothing that the caller does to
-his meanwhile can reach it.
+Each array that goes to the library is a copy that this package owns, contiguous and of the right type, so that a
+caller who changes his own meanwhile does no harm.
 """
 
 from __future__ import annotations
@@ -22,15 +22,15 @@ DTYPES = {"Q": "uint64", "q": "int64", "I": "uint32", "B": "uint8", "d": "float6
 
 
 def is_array(it: Any) -> bool:
-    """Whether it is an array of numpy, or says how to become one, as a column of pandas does."""
+    """Whether it is a numpy array, or can become one, like a column of pandas."""
     return np is not None and (isinstance(it, (np.ndarray, np.generic)) or hasattr(it, "__array__"))
 
 
 def as_flat(it: Any) -> Any:
-    """An array of one dimension without masked items."""
+    """It as a numpy array of one dimension. Masked items are an error."""
     found = np.asanyarray(it)
     if found.ndim != 1:
-        raise ValueError(f"an array of one dimension is wanted, not of {found.ndim}")
+        raise ValueError(f"an array must have one dimension, not {found.ndim}")
     if isinstance(found, np.ma.MaskedArray):
         if np.ma.is_masked(found):
             raise ValueError("an item of the array is masked")
@@ -39,44 +39,44 @@ def as_flat(it: Any) -> Any:
 
 
 def empty(code: str, size: int) -> Any:
-    """An array of so many numbers, whatever they are."""
+    """An array for that many numbers, which aren't set."""
     if np is not None:
         return np.empty(size, dtype=DTYPES[code])
     return array.array(code, bytes(size * array.array(code).itemsize))
 
 
 def from_ints(code: str, numbers: Iterable[int], what: str) -> Any:
-    """A new array of whole numbers that are given one by one."""
+    """A new array of integers that are given one by one."""
     try:
         found = array.array(code, numbers)
     except TypeError:
-        raise TypeError(f"{what} are whole numbers") from None
+        raise TypeError(f"{what} must be integers") from None
     except OverflowError:
-        raise OverflowError(f"{what} are numbers of 64 bits{', from 0 on' if code == 'Q' else ''}") from None
+        raise OverflowError(f"{what} must fit into {'signed' if code == 'q' else 'unsigned'} integers of 64 bits") from None
     return np.frombuffer(found, dtype=DTYPES[code]) if np is not None else found
 
 
 def ints(code: str, numbers: Any, what: str) -> Any:
-    """A new array of these whole numbers, "Q" unsigned or "q" signed; an error where one is none of 64 bits."""
+    """A new array of these integers, unsigned for the code "Q" and signed for "q". One that doesn't fit is an error."""
     if not is_array(numbers):
         return from_ints(code, numbers, what)
     given = as_flat(numbers)
     if given.dtype.kind not in "ui":
         if given.size:
-            raise TypeError(f"{what} are whole numbers, not {given.dtype}")
+            raise TypeError(f"{what} must be integers, not {given.dtype}")
         given = given.astype(np.int64)
     if given.size and given.dtype.kind == "i" and code == "Q" and given.min() < 0:
-        raise OverflowError(f"{what} are numbers of 64 bits, from 0 on")
+        raise OverflowError(f"{what} must fit into unsigned integers of 64 bits")
     if given.size and given.dtype.kind == "u" and code == "q" and given.max() >= SIGN:
-        raise OverflowError(f"{what} are signed numbers of 64 bits")
+        raise OverflowError(f"{what} must fit into signed integers of 64 bits")
     return np.array(given, dtype=DTYPES[code], order="C")
 
 
 def address(it: Any) -> tuple[int, int]:
-    """Where an array of this package's own begins, and how many numbers it has; an empty one, too, begins somewhere."""
+    """The address of an array of this package's own, and its length. An empty one has an address, too."""
     if np is not None:
         if not (it.flags.c_contiguous and it.flags.aligned and it.ndim == 1):
-            raise ValueError("an array isn't laid out as the library wants it")
+            raise ValueError("an array isn't laid out as the library needs it")
         return it.ctypes.data, it.size
     at, size = it.buffer_info()
     return at or _SOMEWHERE.buffer_info()[0], size
@@ -88,19 +88,19 @@ def flags(it: Any) -> Any:
 
 
 def plain(it: Any) -> list:
-    """An array as a list of Python's own numbers."""
+    """An array as a list of Python's numbers."""
     return it.tolist() if hasattr(it, "tolist") else it
 
 
 def parsed(code: str, text: bytes) -> Any:
-    """Whole numbers that are written in decimal, with white space between them."""
+    """Integers that are written in decimal, with white space between them."""
     if np is not None:
         return np.fromstring(text, dtype=DTYPES[code], sep=" ") if text.strip() else np.empty(0, dtype=DTYPES[code])
     return array.array(code, map(int, text.split()))
 
 
 def joined_text(form: str, *columns: Sequence[int]) -> bytes:
-    """One text for all rows of these columns, each laid out by `form`."""
+    """One text for all rows of these columns, each formatted by `form`."""
     rows = len(columns[0])
     if len(columns) == 1:
         words = plain(columns[0])

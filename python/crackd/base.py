@@ -1,4 +1,4 @@
-"""What all ways to reach a table have in common: its methods, over keys that are numbered."""
+"""The methods that all tables share, over keys that are mapped to numbers in their order."""
 
 from __future__ import annotations
 
@@ -19,7 +19,7 @@ POLICIES = ("complete", "gradual", "ripple", "auto")
 
 
 class Rows(NamedTuple):
-    """What `select` answers: three arrays of one length, by partition and then by age."""
+    """What `select` returns: three arrays of equal length, ordered by partition and then by age."""
 
     rows: Any
     keys: Any
@@ -27,102 +27,113 @@ class Rows(NamedTuple):
 
 
 def parts_for(rows: int) -> int:
-    """How many partitions so many rows want."""
+    """How many partitions a table for that many rows gets."""
     return min(MOST_PARTS, max(rows // ROWS_A_PART, 1))
 
 
 def row_text(row: int) -> str:
-    """A row number as a server writes it: its partition, a full stop, and its serial there."""
+    """A row number as servers write it: the partition, a dot, and the serial there."""
     return f"{int(row) >> SHIFT}.{int(row) & SERIAL}"
 
 
 def payload_of(payload: Any) -> int:
-    """A payload that is given by itself."""
+    """A single payload as an int."""
     number = operator.index(payload)
     if not -SIGN <= number < SIGN:
-        raise OverflowError(f"{payload} is no signed number of 64 bits")
+        raise OverflowError(f"the payload {payload} doesn't fit into a signed integer of 64 bits")
     return number
 
 
 class AnyTable(abc.ABC):
-    """Rows of a key and a payload each, in the process or behind a server.
+    """A table of rows, each with a key and a payload: in this process, behind a server, or on a cluster.
 
-    Ranges are half open, as in Python: from `low` up to and without `high`, where None stands for no end. Each row has a number, which is never given twice
-    and stays with it. Any thread may call any method; a table answers one call at a time. Close it, or use it in a `with`.
+    Ranges are half open, as in Python: `low` is inside and `high` isn't, and None stands for no end. Each row has a
+    number, which stays with it and is never used again. Any thread may call any method; a table answers one call at a
+    time. Close it, or use it in a `with`.
     """
 
     _keys: Keys
 
     def insert(self, key: Any, payload: int) -> int:
-        """Places a row. Its number."""
+        """Inserts a row. Returns its number."""
         return self._insert(self._keys.one(key), payload_of(payload))
 
     def insert_many(self, keys: Any, payloads: Any) -> Any:
-        """Places a row for each key and payload. Their numbers, in an array. Where one is refused those before it are placed, `done` of the error."""
+        """Inserts a row for each key and payload. Returns their numbers, as an array.
+
+        If one is refused, the rows before it are inserted: `done` of the error says how many, and `answers` has their
+        numbers.
+        """
         if len(keys) != len(payloads):
             raise ValueError(f"{len(keys)} keys and {len(payloads)} payloads")
         return self._insert_many(self._keys.many(keys), ints("q", payloads, "payloads"))
 
     def delete(self, row: int) -> bool:
-        """Takes a row out. Whether it was there."""
+        """Deletes a row. Returns whether it was there."""
         return bool(self.delete_many([row])[0])
 
     def delete_many(self, rows: Any) -> Any:
-        """Takes rows out. Of each whether it was there, in an array."""
+        """Deletes rows. Returns for each whether it was there, as an array."""
         return flags(self._delete_many(ints("Q", rows, "row numbers")))
 
     def update(self, row: int, key: Any, payload: int) -> bool:
-        """Gives a row another key and payload. Whether it was there. A key of another partition is refused (`WrongPartition`)."""
+        """Gives a row a new key and payload. Returns whether it was there.
+
+        A key of another partition is refused (`WrongPartition`): delete the row and insert it again.
+        """
         return bool(self.update_many([row], [key], [payload])[0])
 
     def update_many(self, rows: Any, keys: Any, payloads: Any) -> Any:
-        """`update` of each row, in order. Of each whether it was there, in an array. Where one is refused those before it are done, `done` of the error."""
+        """Updates rows in order. Returns for each whether it was there, as an array.
+
+        If one is refused, those before it are updated: `done` of the error says how many.
+        """
         if not len(rows) == len(keys) == len(payloads):
             raise ValueError(f"{len(rows)} row numbers, {len(keys)} keys and {len(payloads)} payloads")
         return flags(self._update_many(ints("Q", rows, "row numbers"), self._keys.many(keys), ints("q", payloads, "payloads")))
 
     def count(self, low: Any = None, high: Any = None) -> int:
-        """How many rows have keys of the range."""
+        """How many rows have keys in the range."""
         first, end = self._keys.ends(low, high)
         return self._count(first, end - 1) if first < end else self._nothing(0)
 
     def count_many(self, lows: Optional[Sequence[Any]], highs: Optional[Sequence[Any]]) -> Any:
-        """`count` of each pair of ends, in an array. None in place of a list, or in one, stands for no end."""
+        """The counts of many ranges, as an array. None in place of a list, or in it, stands for no end."""
         return self._count_many(*self._keys.ends_many(lows, highs))
 
     def sum(self, low: Any = None, high: Any = None) -> int:
-        """The exact sum of the payloads of these rows."""
+        """The exact sum of the payloads of the rows with keys in the range."""
         first, end = self._keys.ends(low, high)
         return self._sum(first, end - 1) if first < end else self._nothing(0)
 
     def sum_many(self, lows: Optional[Sequence[Any]], highs: Optional[Sequence[Any]]) -> list[int]:
-        """`sum` of each pair of ends, in a list, since a sum may be beyond 64 bits."""
+        """The sums of many ranges, as a list of int, since a sum may need more than 64 bits."""
         return self._sum_many(*self._keys.ends_many(lows, highs))
 
     def select(self, low: Any = None, high: Any = None) -> Rows:
-        """The rows whose keys are of the range, as arrays."""
+        """The rows with keys in the range, as arrays."""
         first, end = self._keys.ends(low, high)
         rows, keys, payloads = self._select(first, end - 1) if first < end else self._nothing(self._no_rows())
         return Rows(rows, self._keys.back(keys), payloads)
 
     def settle(self) -> None:
-        """Has all rows that wait merged, as after a load, so that each query after it is quick."""
+        """Merges all pending rows, for example after a load, so that later queries are quick."""
         self._settle()
 
     def checkpoint(self) -> int:
-        """Folds the histories, which gives their memory back; rows and numbers stay. How many entries went."""
+        """Empties the histories, which frees their memory; rows and their numbers stay. Returns how many entries went."""
         return self._checkpoint()
 
     def layout(self) -> Layout:
-        """What stands where in each partition, with pictures."""
+        """How the rows of each partition are laid out. Print it, or show it in a notebook."""
         return Layout(tuple(self._layouts()))
 
     @abc.abstractmethod
     def close(self) -> None:
-        """Gives back all that the table took here. A second call does nothing."""
+        """Frees all that the table took here. A second call does nothing."""
 
     def _nothing(self, answer: Any) -> Any:
-        """The answer to an empty range, of a table that is open."""
+        """The answer to an empty range, if the table is open."""
         self._check_open()
         return answer
 
@@ -145,7 +156,7 @@ class AnyTable(abc.ABC):
     def __exit__(self, *_: Any) -> None:
         self.close()
 
-    # What each way to reach a table does, over keys that are numbers of 64 bits; ranges have a first and a last one
+    # What each kind of table does, over keys that are numbers of 64 bits; ranges have a first and a last one
 
     @abc.abstractmethod
     def _check_open(self) -> None: ...

@@ -1,4 +1,4 @@
-"""A connection with a server: lines out and in."""
+"""A connection with a server: lines in and out."""
 
 from __future__ import annotations
 
@@ -14,8 +14,8 @@ SECONDS_OF_A_STEP = 0.2
 
 
 class Channel:
-    """A connection with a server. It takes lines in while it sends, so that neither side waits for ever. `on_wait` is called where nothing came for a
-    moment."""
+    """A connection with a server. It receives while it sends, so that neither side waits for ever. `on_wait` is called when
+    nothing came for a moment."""
 
     def __init__(self, host: str, port: int, on_wait: Callable[[], None] = lambda: None):
         self.on_wait = on_wait
@@ -26,7 +26,7 @@ class Channel:
         self._poll = select.poll()
 
     def send(self, text: bytes) -> None:
-        """Has lines sent, now or while answers are waited for."""
+        """Sends lines, now or while answers are waited for."""
         self.unsent = memoryview(bytes(self.unsent) + text) if self.unsent else memoryview(text)
         self._push()
 
@@ -40,7 +40,7 @@ class Channel:
             raise Disconnected("the server closed the connection") from error
 
     def step(self) -> None:
-        """Waits a moment for the server, keeps what it gives, and sends what it takes."""
+        """Waits a moment for the server, keeps what came, and sends what can be sent."""
         self._poll.register(self.socket, select.POLLIN | (select.POLLOUT if self.unsent else 0))
         if not self._poll.poll(SECONDS_OF_A_STEP * 1000):
             self.on_wait()
@@ -57,7 +57,7 @@ class Channel:
         self._push()
 
     def block(self, lines: int) -> bytes:
-        """The next so many lines that the server gives, each with its line feed."""
+        """The next `lines` lines of the server, each with its line feed."""
         taken, missing = [], lines
         while missing:
             while not self._given:
@@ -73,15 +73,15 @@ class Channel:
         return b"".join(taken)
 
     def line(self) -> str:
-        """The next line that the server gives, without its line feed."""
+        """The next line of the server, without its line feed."""
         return self.block(1)[:-1].decode("ascii", "backslashreplace")
 
     def lines(self, count: int) -> list[str]:
-        """The next so many lines, without their line feeds."""
+        """The next `count` lines of the server, without their line feeds."""
         return self.block(count).decode("ascii", "backslashreplace").split("\n")[:-1]
 
     def lines_given(self) -> list[str]:
-        """The lines that were given and not yet taken."""
+        """The lines that have come and weren't returned yet."""
         return self.lines(sum(it.count(b"\n") for it in self._given))
 
     def close(self) -> None:

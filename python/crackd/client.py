@@ -1,4 +1,4 @@
-"""A table behind a server, over TCP: the same methods, sent without waiting where many are asked."""
+"""A table behind a server, over TCP. A call for many items sends them all before it waits for replies."""
 
 from __future__ import annotations
 
@@ -13,7 +13,7 @@ from .keys import Keys
 from .layout import PartLayout
 
 FULL = b"refused 6 "
-# so many statements are sent before their replies are taken apart
+# how many statements are sent before their replies are read
 STATEMENTS_AT_ONCE = 100_000
 
 
@@ -39,7 +39,8 @@ class Client(AnyTable):
             raise Closed("the connection is closed")
 
     def _exchange(self, text: bytes, lines: int) -> bytes:
-        """Sends statements, and takes so many lines of replies. What breaks in between ends the connection, since replies would no longer fit."""
+        """Sends statements, and returns that many lines of replies. An error in between ends the connection, since later replies
+        would no longer match."""
         self._check_open()
         try:
             self._channel.send(text)
@@ -50,14 +51,15 @@ class Client(AnyTable):
             raise
 
     def _whole(self, text: bytes, lines: int) -> bytes:
-        """The replies to statements of one line each, none of which is refused."""
+        """The replies, of one line each, to statements that mustn't be refused."""
         with self._lock:
             said = self._exchange(text, lines)
         _check(said)
         return said
 
     def _ask(self, form: str, *columns: Any) -> bytes:
-        """The replies to a statement for each row of the columns. Where a history is full there is a checkpoint, and what was refused is sent again."""
+        """The replies to a statement for each row of the columns. When a history is full, a checkpoint is made, and refused
+        statements are sent again."""
         parts = []
         for at in range(0, len(columns[0]), STATEMENTS_AT_ONCE):
             some = [it[at : at + STATEMENTS_AT_ONCE] for it in columns]
@@ -85,7 +87,7 @@ class Client(AnyTable):
         return b"".join(lines)
 
     def _fold(self) -> int:
-        """Has each partition fold its history. How many entries went."""
+        """Makes a checkpoint of each partition. Returns how many entries went."""
         text = b"".join(b"checkpoint %d\n" % it for it in range(MOST_PARTS))
         said = [line.split() for line in self._exchange(text, MOST_PARTS).splitlines()]
         for words in said:
@@ -194,7 +196,7 @@ class Client(AnyTable):
 
 
 def _check(said: bytes, before: int = 0, parts: Sequence[bytes] = ()) -> None:
-    """An error where a reply is a refusal. Its number of what was done counts those before, and its answers are the replies that are none."""
+    """Raises an error if a reply is a refusal: `done` counts the `before` earlier items too, and `answers` are the other replies."""
     if b"refused" not in said:
         return
     lines = said.splitlines(keepends=True)
@@ -206,13 +208,14 @@ def _check(said: bytes, before: int = 0, parts: Sequence[bytes] = ()) -> None:
 
 
 def connect(host: str = "127.0.0.1", port: int = 4000, *, key_type: Any = "uint64", policy: str = "auto") -> Client:
-    """A table behind `crackd serve`.
+    """Connects to a table behind `crackd serve`.
 
-    `key_type` says of which kind they are: unsigned whole numbers as the server has them, or "int64", "float64", "datetime64[s]" .., which are numbered in
-    their order; all who share a table have to say the same. `policy` says how rows are merged. Raises `Disconnected` where there is no server.
+    `key_type` is the type of the keys: "uint64", which the server itself has, or "int64", "float64", "datetime64[s]" ..;
+    all who share a table have to give the same. `policy` says how rows are merged. Raises `Disconnected` if there is no
+    server.
     """
     if policy not in POLICIES:
-        raise ValueError(f"a policy is one of {', '.join(POLICIES)}, not {policy}")
+        raise ValueError(f"policy must be one of {', '.join(POLICIES)}, not {policy}")
     kind = Keys.named(key_type)
     try:
         channel = Channel(host, port)

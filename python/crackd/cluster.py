@@ -118,7 +118,7 @@ class Table(AnyTable):
     ) -> None:
         """Starts the shards, on the workers in turn. Where `cuts` isn't given, quantiles of these numbers are."""
         if policy not in POLICIES:
-            raise ValueError(f"a policy is one of {', '.join(POLICIES)}, not {policy}")
+            raise ValueError(f"policy must be one of {', '.join(POLICIES)}, not {policy}")
         self._client, self._keys = client, kind
         self._lost: dict[int, ShardLost] = {}
         workers = sorted(client.nthreads())
@@ -126,7 +126,7 @@ class Table(AnyTable):
             raise ValueError("the cluster has no worker")
         count = len(workers) if shards is None else shards
         if not 1 <= count <= MOST_SHARDS:
-            raise ValueError(f"shards are 1 to {MOST_SHARDS}, not {count}")
+            raise ValueError(f"shards must be 1 to {MOST_SHARDS}, not {count}")
         self._cuts = np.array(quantiles(numbers, count, max(1, len(numbers))) if cuts is None else cuts, np.uint64)
         self.shards = len(self._cuts) + 1
         inner = [self._inner_cuts(numbers, it, parts_for(rows // self.shards)) for it in range(self.shards)]
@@ -250,7 +250,7 @@ class Table(AnyTable):
         return rows
 
     def _faults(self, rows: Any, keys: Any = None) -> Any:
-        """Of each row number the code of its refusal, or 0: there is no such partition, or its new key is of another shard."""
+        """The code of the refusal of each row, or 0: its partition doesn't exist, or its new key is of another shard."""
         shards = rows >> np.uint64(SHARD_SHIFT)
         parts = rows >> np.uint64(SHIFT) & np.uint64(MOST_PARTS - 1)
         is_nowhere = parts >= self._parts[np.minimum(shards, np.uint64(self.shards)).astype(np.int64)]
@@ -436,7 +436,7 @@ class Table(AnyTable):
     ) -> "Table":
         """A table for rows of which some were drawn, block by block: how many rows each has, and some of its keys."""
         rows = sum(it[0] for it in samples)
-        numbers = np.sort(np.concatenate([np.empty(0, np.uint64), *(it[1] for it in samples)]))
+        numbers = np.sort(np.concatenate([np.empty(0, np.uint64), *evened(samples)]))
         table = cls.__new__(cls)
         table._open(client, kind, numbers, rows, shards, **options)
         return table
@@ -508,10 +508,18 @@ class Table(AnyTable):
 def checked_splits(cuts: Any) -> Any:
     """Splits that rise and aren't too many."""
     if len(cuts) >= MOST_SHARDS:
-        raise ValueError(f"splits are at most {MOST_SHARDS - 1}, not {len(cuts)}")
+        raise ValueError(f"there can be {MOST_SHARDS - 1} splits, not {len(cuts)}")
     if np.any(cuts[1:] <= cuts[:-1]) or np.any(cuts == 0):
         raise BadSplits(11)
     return cuts
+
+
+def evened(samples: Sequence[tuple[int, Any]]) -> Iterator[Any]:
+    """Some of the keys that were drawn of each block, so that one stands for about as many rows in all blocks."""
+    drawn = [(rows / len(keys), keys) for rows, keys in samples if len(keys)]
+    most = max((each for each, _ in drawn), default=1)
+    for each, keys in drawn:
+        yield keys[:: round(most / each)]
 
 
 def ends_text(keys: Keys, low: int, high: int) -> str:

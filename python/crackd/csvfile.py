@@ -27,7 +27,7 @@ Place = Union[str, int]
 
 
 class CsvError(Error, ValueError):
-    """A field isn't what it should be. `line` and `column` say where, both from 1 on."""
+    """A field can't be read as it should. `line` and `column` say where, both from 1."""
 
     def __init__(self, path: str, line: int, column: int, name: str, what: str):
         super().__init__(f"{path}, line {line}, column {column}{f' ({name})' if name else ''}: {what}")
@@ -36,7 +36,7 @@ class CsvError(Error, ValueError):
 
 @dataclass(frozen=True)
 class Column:
-    """How the fields of a column are read. Keys without a sign are told by `least` and `most`."""
+    """How the fields of a column are read. `least` and `most` bound integers."""
 
     decimals: int = 0
     format: Optional[str] = None
@@ -45,7 +45,7 @@ class Column:
     most: int = SIGN - 1
 
     def reader(self) -> Callable[[str], Any]:
-        """What makes a number of a field. It raises ValueError, with the reason, where the field is none."""
+        """The function that reads a field as a number. It raises ValueError with the reason if it can't."""
         if self.format is not None:
             return self._date
         if self.is_float:
@@ -56,7 +56,7 @@ class Column:
         try:
             date = datetime.datetime.strptime(field.strip(), self.format)
         except ValueError:
-            raise ValueError(f"{shown(field)} is no date of the form {self.format!r}") from None
+            raise ValueError(f"{shown(field)} isn't a date of the form {self.format!r}") from None
         if date.tzinfo is not None:
             date = date.astimezone(datetime.timezone.utc).replace(tzinfo=None)
         return (date - EPOCH) // MICROSECOND
@@ -65,21 +65,21 @@ class Column:
         try:
             number = float(field)
         except ValueError:
-            raise ValueError(f"{shown(field)} is no number") from None
+            raise ValueError(f"{shown(field)} isn't a number") from None
         if number != number:
-            raise ValueError("NaN is no key")
+            raise ValueError("NaN can't be a key")
         return number
 
     def _whole(self, field: str) -> int:
         text = field.strip()
         if WHOLE.fullmatch(text) is None:
-            raise ValueError(f"{shown(field)} is no whole number")
+            raise ValueError(f"{shown(field)} isn't an integer")
         return self._bounded(int(text) if len(text) <= SHOWN else TOP, field)
 
     def _decimal(self, field: str) -> int:
         text = field.strip()
         if DECIMAL.fullmatch(text) is None or len(text) > SHOWN:
-            raise ValueError(f"{shown(field)} is no decimal number")
+            raise ValueError(f"{shown(field)} isn't a decimal number")
         scaled = decimal.Decimal(text).scaleb(self.decimals, decimal.Context(prec=100))
         if scaled != scaled.to_integral_value():
             raise ValueError(f"{shown(field)} has more than {self.decimals} decimal places")
@@ -87,7 +87,8 @@ class Column:
 
     def _bounded(self, number: int, field: str) -> int:
         if not self.least <= number <= self.most:
-            raise ValueError(f"{shown(field)} is none of {self.least} to {self.most}{f', times 10 to the power of {self.decimals}' if self.decimals else ''}")
+            times = f", times 10 to the power of {self.decimals}," if self.decimals else ""
+            raise ValueError(f"{shown(field)}{times} isn't {self.least} to {self.most}")
         return number
 
 
@@ -96,7 +97,7 @@ def shown(field: str) -> str:
 
 
 class CsvFile:
-    """A file of records, and where their columns are."""
+    """A file of records with columns."""
 
     def __init__(self, path: Any, delimiter: str, header: Optional[bool], encoding: str):
         self.path, self.delimiter, self.header, self.encoding = os.fspath(path), delimiter, header, encoding
@@ -123,24 +124,24 @@ class CsvFile:
         is_named = any(isinstance(place, str) for place, _ in columns)
         if self.header is not None:
             if is_named and not self.header:
-                raise ValueError("a column has a name only in a file with a header")
+                raise ValueError("columns have names only in a file with a header")
             return self.header
         return is_named or first == HEADER
 
     def _place(self, place: Place, names: list) -> int:
         if isinstance(place, str):
             if place not in names:
-                raise CsvError(self.path, 1, 1, "", f"there is no column {place!r}; there are {', '.join(names) or 'none'}")
+                raise CsvError(self.path, 1, 1, "", f"there is no column {place!r}; the header has {', '.join(names) or 'none'}")
             return names.index(place)
         if place < 0:
-            raise ValueError(f"columns are numbered from 0 on, not {place}")
+            raise ValueError(f"columns are numbered from 0, not {place}")
         return place
 
     def _row(self, record: list, fields: list, line: int) -> tuple:
         numbers = []
         for at, read, name in fields:
             if at >= len(record):
-                raise CsvError(self.path, line, at + 1, name, f"the line has {len(record)} fields")
+                raise CsvError(self.path, line, at + 1, name, f"the line has only {len(record)} field{'s' * (len(record) != 1)}")
             try:
                 numbers.append(read(record[at]))
             except ValueError as error:
@@ -149,7 +150,7 @@ class CsvFile:
 
 
 def read_columns(file: CsvFile, key: Place, key_column: Column, payload: Optional[Place], payload_column: Column) -> tuple[Any, Any]:
-    """The keys and the payloads of a file; without a column of payloads they are 0, 1, 2 .."""
+    """The keys and payloads of a file; without a column of payloads these are 0, 1, 2 .."""
     keys = array.array("d" if key_column.is_float else "Q" if key_column.least == 0 else "q")
     if payload is None:
         keys.extend(row[0] for row in file.rows([(key, key_column)]))
@@ -177,16 +178,18 @@ def load_csv(
     into: Optional[AnyTable] = None,
     **options: Any,
 ) -> AnyTable:
-    """Reads the rows of a CSV file into a table of this process, or `into` one that there is, and settles it.
+    """Reads the rows of a CSV file into a new table of this process, or `into` another table, and merges them.
 
-    `key` and `payload` are columns: a name of the header, or a number from 0 on; without a column of payloads (None) they are 0, 1, 2 .. A file has a
-    header where a column is named, where the first record is `key,payload`, or where `header` says so. `key_type` is "int64", "uint64" or "float64".
-    `key_decimals=2` reads 12.34 as the whole number 1234, and refuses 12.345. `key_format` is that of `datetime.strptime`: such keys are dates in
-    microseconds, datetime64[us] where numpy is installed and whole numbers since 1970 else; such payloads are always these numbers. A time zone in the field
-    (%z) is taken into account. What is no number is a `CsvError`, and then nothing is loaded. `options` are those of `Table`.
+    `key` and `payload` are columns: names of the header, or numbers from 0. With `payload=None` the payloads are 0, 1,
+    2 .. A file has a header if a column is named, if the first record is `key,payload`, or if `header` says so.
+    `key_type` is "int64", "uint64" or "float64". `key_decimals=2` reads 12.34 as the integer 1234, and refuses 12.345.
+
+    `key_format` is that of `datetime.strptime`: such keys are microseconds since 1970, as datetime64[us] where numpy is
+    installed; such payloads are microseconds as integers. A time zone in the field (%z) is respected. A field that can't
+    be read is a `CsvError`, and nothing is loaded. `options` are those of `Table`.
     """
     if key_type not in ("int64", "uint64", "float64", int, float):
-        raise ValueError(f"a key_type is int64, uint64 or float64, not {key_type}")
+        raise ValueError(f"key_type must be int64, uint64 or float64, not {key_type}")
     is_float = key_type in ("float64", float)
     ends = {"least": 0, "most": TOP - 1} if key_type == "uint64" else {}
     key_column = Column(key_decimals, key_format, is_float, **ends)
@@ -200,7 +203,7 @@ def load_csv(
         kind = keys.dtype if np is not None else {"d": "float64", "Q": "uint64", "q": "int64"}[keys.typecode]
         return Table.from_arrays(keys, payloads, key_type=kind, **options)
     if options:
-        raise TypeError(f"a table that is there takes no options: {', '.join(options)}")
+        raise TypeError(f"options are for a new table: {', '.join(options)}")
     into.insert_many(keys, payloads)
     into.settle()
     return into

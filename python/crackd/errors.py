@@ -5,32 +5,32 @@ from __future__ import annotations
 from typing import Any
 
 REASONS = {
-    1: "this is no statement",
-    2: "the range has no order, or ends above all keys",
-    4: "the key belongs to another partition, and a row never leaves its own",
+    1: "this isn't a statement",
+    2: "the low end of the range is above its high end, or that is above all keys",
+    4: "the key belongs to another partition, and a row can't leave its own",
     5: "there is no such partition",
     6: "the history is full; a checkpoint makes room",
-    7: "a gate said no a thousand times",
-    8: "there is no memory",
-    9: "the partition is full: it has as many cells as it may have",
-    10: "the partition has answered as many commands as it ever may",
-    11: "the splits don't rise, or one is 0 or no number of 64 bits",
+    7: "a gate refused a thousand times",
+    8: "no memory is left",
+    9: "the partition is full: all of its cells are taken",
+    10: "the partition has answered all the commands that it ever may",
+    11: "the splits don't rise, or one is the least key",
     12: "there are more than 63 splits",
     13: "the number of workers isn't 1 to 64",
-    14: "a limit is out of its range",
+    14: "a limit is out of range",
     17: "the port can't be listened on",
     102: "the handle holds a table already",
-    103: "lists that have to be equally long aren't",
+    103: "lists differ in length",
     104: "the library has no such policy",
 }
 
 
 class Error(Exception):
-    """The base of all errors of this package that are not plain TypeError, ValueError or OverflowError."""
+    """The base of all errors of this package but plain TypeError, ValueError and OverflowError."""
 
 
 class Closed(Error, ValueError):
-    """The table was closed."""
+    """The table is closed."""
 
 
 class Disconnected(Error, ConnectionError):
@@ -40,15 +40,15 @@ class Disconnected(Error, ConnectionError):
 class Refused(Error):
     """A call was refused.
 
-    `code` is the number of the refusal. `done` is how many items of the call were done before the first that was refused. Over TCP, where all are
-    sent at once, `later` is how many of those after it were done all the same; in process it is 0. Of a refused `insert_many`, `answers` has the
-    numbers of the rows that were placed.
+    `code` is the number of the refusal. `done` is how many items of the call were done before the first that was
+    refused. Over TCP and on a cluster items after it may be done too: `later` is how many, and 0 in process. After an
+    `insert_many`, `answers` has the numbers of the rows that were placed.
     """
 
     answers: Any = None
 
     def __init__(self, code: int, done: int = 0, later: int = 0):
-        after = f" (after {done} that were done{f', and {later} more after it' if later else ''})" if done or later else ""
+        after = f" (after {done} that were done{f', and {later} later' if later else ''})" if done or later else ""
         super().__init__(f"refused {code}: {REASONS.get(code, 'unknown')}{after}")
         self.code, self.done, self.later = code, done, later
 
@@ -61,23 +61,23 @@ class WrongPartition(Refused, ValueError):
 
 
 class NoSuchPartition(Refused, LookupError):
-    """A row number, or a layout, of a partition that there isn't."""
+    """A row number of a partition that doesn't exist."""
 
 
 class HistoryFull(Refused):
-    """A history has as many entries as its limit, and a checkpoint made no room."""
+    """A history is full, and a checkpoint made no room."""
 
 
 class OutOfMemory(Refused, MemoryError):
-    """Memory was refused. The rows are as they were before the item that was refused."""
+    """Memory was refused. The rows are as before the refused item."""
 
 
 class Full(Refused):
-    """A partition has as many cells as it may have. More partitions hold more rows."""
+    """All cells of a partition are taken. More partitions hold more rows."""
 
 
 class LifeOver(Refused):
-    """A partition has answered as many commands as it ever may."""
+    """A partition has answered all the commands that it ever may."""
 
 
 class BadSplits(Refused, ValueError):
@@ -85,7 +85,7 @@ class BadSplits(Refused, ValueError):
 
 
 class BadLimit(Refused, ValueError):
-    """A limit out of its range."""
+    """A limit is out of range."""
 
 
 KINDS = {

@@ -1,4 +1,4 @@
-"""How keys of Python and numpy stand in the order of a table's own keys, whole numbers from 0 to 2**64 - 1."""
+"""Maps keys of Python and numpy to a table's own keys, integers from 0 to 2**64 - 1, in the same order."""
 
 from __future__ import annotations
 
@@ -9,7 +9,7 @@ from typing import Any, Optional, Sequence
 
 from .arrays import SIGN, TOP, as_flat, empty, from_ints, ints, is_array, np
 
-NAMES = {"u": "unsigned whole numbers", "i": "whole numbers", "f": "floats", "M": "dates"}
+NAMES = {"u": "unsigned integers", "i": "integers", "f": "floats", "M": "dates"}
 BY_NAME = {"uint64": "u", "int64": "i", "float64": "f"}
 # above this a float no longer has each whole number
 GREATEST_EXACT = 1 << 53
@@ -24,7 +24,7 @@ def _float_of(bits: int) -> float:
 
 
 def kind_of(keys: Any) -> "Keys":
-    """The kind of keys that these are: of an array by its type, else by what the items are."""
+    """The kind of these keys: by the type of an array, else by the types of the items."""
     if is_array(keys):
         return Keys.of_dtype(as_flat(keys).dtype)
     types = set(map(type, keys))
@@ -42,7 +42,7 @@ def kind_of(keys: Any) -> "Keys":
 
 
 class Keys:
-    """One kind of keys: 'u' unsigned and 'i' signed whole numbers of 64 bits, 'f' floats, 'M' dates and times of numpy in one unit."""
+    """A kind of keys: 'u' unsigned and 'i' signed integers of 64 bits, 'f' floats, 'M' numpy's dates and times in one unit."""
 
     def __init__(self, kind: str, dtype: Any = None):
         self.kind, self.dtype = kind, dtype
@@ -59,7 +59,7 @@ class Keys:
 
     @staticmethod
     def named(name: Any) -> "Keys":
-        """The kind of a name such as "uint64", "int64", "float64" or "datetime64[ns]", of int or float, or of a type of numpy."""
+        """The kind with a name such as "uint64", "int64", "float64" or "datetime64[ns]", of int or float, or of a numpy type."""
         if isinstance(name, Keys):
             return name
         if name is int or name is float:
@@ -85,20 +85,20 @@ class Keys:
         return str(self.dtype) if self.kind == "M" else next(name for name, kind in BY_NAME.items() if kind == self.kind)
 
     def one(self, key: Any) -> int:
-        """The number of one key."""
+        """The number of a key."""
         if type(key) is int and self.kind in "ui":
             number = key if self.kind == "u" else key + SIGN
             if not 0 <= number < TOP:
-                raise OverflowError(f"{key} is no {'unsigned' if self.kind == 'u' else 'signed'} number of 64 bits")
+                raise OverflowError(f"the key {key} doesn't fit into {'an unsigned' if self.kind == 'u' else 'a signed'} integer of 64 bits")
             return number
         return int(self.many([key])[0])
 
     def many(self, keys: Any) -> Any:
         """The numbers of these keys, in a new array."""
         if self.kind == "u":
-            return ints("Q", keys, "the table's keys")
+            return ints("Q", keys, "keys")
         if self.kind == "i":
-            return self._of_signed(ints("q", keys, "the table's keys"))
+            return self._of_signed(ints("q", keys, "keys"))
         return self._of_floats(keys) if self.kind == "f" else self._of_dates(keys)
 
     def _of_signed(self, keys: Any) -> Any:
@@ -110,9 +110,9 @@ class Keys:
         if is_array(keys):
             given = as_flat(keys)
             if given.size and (given.dtype.kind not in "uif" or given.dtype.itemsize > 8):
-                raise TypeError(f"the table's keys are floats, not {given.dtype}")
+                raise TypeError(f"keys must be floats, not {given.dtype}")
             if given.size and given.dtype.kind in "ui" and (given.max() > GREATEST_EXACT or given.min() < -GREATEST_EXACT):
-                raise OverflowError("a key is no float exactly")
+                raise OverflowError("a key isn't exact as a float")
             # (0.0 is added so that -0.0 and 0.0 are one key)
             floats = given.astype(np.float64) + 0.0
         else:
@@ -122,23 +122,23 @@ class Keys:
         if np is None:
             return from_ints("Q", map(self._of_float, floats), "keys")
         if np.isnan(floats).any():
-            raise ValueError("NaN is no key")
+            raise ValueError("NaN can't be a key")
         bits = floats.view(np.uint64)
         return np.where(bits >> np.uint64(63), ~bits, bits | np.uint64(SIGN))
 
     @staticmethod
     def _float(key: Any) -> float:
         if isinstance(key, bool) or not isinstance(key, numbers.Real):
-            raise TypeError(f"the table's keys are floats, not {type(key).__name__}")
+            raise TypeError(f"keys must be floats, not {type(key).__name__}")
         found = float(key)
         if isinstance(key, numbers.Integral) and found != key:
-            raise OverflowError(f"{key} is no float exactly")
+            raise OverflowError(f"the key {key} isn't exact as a float")
         return found + 0.0
 
     @staticmethod
     def _of_float(key: float) -> int:
         if key != key:
-            raise ValueError("NaN is no key")
+            raise ValueError("NaN can't be a key")
         bits = _bits_of(key + 0.0)
         return TOP - 1 - bits if bits >= SIGN else bits + SIGN
 
@@ -146,13 +146,13 @@ class Keys:
         given = as_flat(keys if is_array(keys) else np.array(list(keys)) if len(keys) else np.array([], self.dtype))
         if given.dtype.kind != "M":
             if given.size:
-                raise TypeError(f"the table's keys are dates, not {given.dtype}")
+                raise TypeError(f"keys must be dates, not {given.dtype}")
             given = given.astype(self.dtype)
         if np.isnat(given).any():
-            raise ValueError("NaT is no key")
+            raise ValueError("NaT can't be a key")
         dates = given.astype(self.dtype)
         if (dates.astype(given.dtype) != given).any():
-            raise ValueError(f"a key of {given.dtype} is none of {self.dtype} exactly")
+            raise ValueError(f"a key of {given.dtype} isn't exact as {self.dtype}")
         return dates.view(np.int64).view(np.uint64) ^ np.uint64(SIGN)
 
     def back(self, found: Any) -> Any:
@@ -178,7 +178,7 @@ class Keys:
         return number - SIGN if self.kind == "i" else np.int64(number - SIGN).view(self.dtype)
 
     def bound(self, end: Any) -> int:
-        """The number of the least key that isn't below this end; 2**64 where none is."""
+        """The number of the least key that isn't below this end of a range, or 2**64 if there is none."""
         if type(end) is int and self.kind in "ui":
             number = end if self.kind == "u" else end + SIGN
             return number if 0 <= number <= TOP else 0 if number < 0 else TOP
@@ -187,9 +187,9 @@ class Keys:
         # (numpy compares and rounds its whole numbers as floats)
         end = _item(end)
         if isinstance(end, bool) or not isinstance(end, numbers.Real):
-            raise TypeError(f"an end of {type(end).__name__} at a table whose keys are {NAMES[self.kind]}")
+            raise TypeError(f"the end of a range of {NAMES[self.kind]} can't be of type {type(end).__name__}")
         if end != end:
-            raise ValueError("NaN is no end of a range")
+            raise ValueError("NaN can't be the end of a range")
         return self._float_bound(end) if self.kind == "f" else self._whole_bound(end)
 
     def _whole_bound(self, end: Any) -> int:
@@ -207,13 +207,13 @@ class Keys:
     def _date_bound(self, end: Any) -> int:
         given = np.datetime64(end)
         if np.isnat(given):
-            raise ValueError("NaT is no end of a range")
+            raise ValueError("NaT can't be the end of a range")
         date = given.astype(self.dtype)
         if date.astype(given.dtype) == given:
             return int(date.view(np.int64)) + SIGN
         # (a finer unit is cut off, so the least key that isn't below it is the next one; a far date that wraps is an error)
         if abs(date.astype(given.dtype) - given) > np.timedelta64(1, np.datetime_data(self.dtype)[0]):
-            raise OverflowError(f"{given} is no {self.dtype}")
+            raise OverflowError(f"{given} doesn't fit into {self.dtype}")
         return int(date.view(np.int64)) + SIGN + (1 if date < given else 0)
 
     def ends(self, low: Any, high: Any) -> tuple[int, int]:
@@ -223,7 +223,7 @@ class Keys:
     def ends_many(self, lows: Any, highs: Any) -> tuple[Any, Any]:
         """The first and the last number of each range, in new arrays; where a range is empty the first is above the last."""
         if lows is None and highs is None:
-            raise TypeError("either the low ends or the high ends are wanted as a list")
+            raise TypeError("low ends or high ends must be given, or both")
         count = len(highs if lows is None else lows)
         if lows is not None and highs is not None and len(highs) != count:
             raise ValueError(f"{count} low ends and {len(highs)} high ends")
@@ -236,7 +236,7 @@ class Keys:
         return np.where(is_empty, np.uint64(1), starts), np.where(is_empty, np.uint64(0), ends - np.uint64(1))
 
     def _numbers_of_ends(self, ends: Any, unbounded: int, count: int) -> Any:
-        """The numbers of ends that are an array which can be taken whole, else None."""
+        """The numbers of ends that can be mapped as a whole array, else None."""
         if np is None:
             return None
         if ends is None:
@@ -253,7 +253,7 @@ class Keys:
         return self.many(given) if self.kind in "fM" and is_same else None
 
     def _ends_of_list(self, ends: Any) -> Any:
-        """Ends of a list that are keys, all of them whole numbers, as an array; else None."""
+        """Ends in a list as an array, if all are integer keys; else None."""
         if self.kind not in "ui":
             return None
         try:
@@ -270,12 +270,15 @@ class Keys:
 
 
 def _item(it: Any) -> Any:
-    """A number of numpy as one of Python's; a date stays as it is."""
+    """A number of numpy as one of Python; a date stays as it is."""
     return it.item() if np is not None and isinstance(it, np.generic) and it.dtype.kind != "M" else it
 
 
 def quantiles(found: Sequence[int], parts: int, most: int = 10_000) -> list[int]:
-    """Splits that cut these numbers into about equal parts, as far as they differ: rising, each 1 to 2**64 - 1. Looks at about `most` of them."""
+    """Splits that cut these numbers into nearly equal parts, as far as they differ: rising, each 1 to 2**64 - 1.
+
+    Looks at about `most` of them.
+    """
     step = max(1, len(found) // most)
     drawn = sorted(int(it) for it in found[::step])
     ends = {drawn[len(drawn) * it // parts] for it in range(1, parts)} if drawn else set()

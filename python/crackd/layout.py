@@ -1,4 +1,4 @@
-"""What stands where in a table, and pictures of it."""
+"""How a table's rows are laid out, and pictures of it."""
 
 from __future__ import annotations
 
@@ -10,9 +10,9 @@ from .arrays import SIGN, TOP
 from .keys import Keys
 
 MOST_BARS = 20
-# how wide names are at the least, bars at the most, and a line whose name and bar are neither
+# the least width of names, the greatest of bars, and that of a line with a wider name and a narrower bar
 NAME_WIDTH, BAR_WIDTH, LINE_WIDTH = 24, 40, 80
-# of a picture as SVG, in pixels
+# the sizes of a picture as SVG, in pixels
 SVG_WIDTH, SVG_ROW, SVG_GAP, SVG_LEFT = 900, 22, 8, 60
 COLOURS = ("#4c78a8", "#9ecae9")
 UNSIGNED = Keys("u")
@@ -35,7 +35,8 @@ def keys_text(keys: Keys, low: int, high: int) -> str:
 
 @dataclass(frozen=True)
 class Piece:
-    """A piece of a column, or neighbours that are drawn as one: its keys as numbers from `low` up to and without `high`, and how many rows it has."""
+    """A piece of a column, or neighbours that are drawn as one: its keys, as numbers from `low` up to and without `high`, and
+    how many rows it has."""
 
     low: int
     high: int
@@ -45,8 +46,12 @@ class Piece:
 
 @dataclass(frozen=True)
 class PartLayout:
-    """What stands where in a partition: the rows that there are; the places of its column; the rows of the column that are gone and not taken out yet; the
-    rows that came and aren't merged yet; the cells, and how many of them are free; the pieces of the column."""
+    """The layout of a partition.
+
+    `rows` is how many rows it has, and `column` the length of its column. `pending_out` of these are deleted and not
+    taken out yet, and `pending_in` rows are inserted and not merged yet. `free` of its `cells` are free. `pieces` are the
+    pieces of the column.
+    """
 
     partition: int
     rows: int
@@ -60,7 +65,7 @@ class PartLayout:
 
     @classmethod
     def read(cls, lines: Sequence[str], keys: Keys = UNSIGNED) -> "PartLayout":
-        """The layout that the lines of a reply tell."""
+        """Reads the lines of a server's reply."""
         words = lines[0].split(" ")
         told = dict(zip(words[::2], map(int, words[1::2])))
         pieces = tuple(Piece(*map(int, line.split(" ")[1:])) for line in lines[1:])
@@ -72,7 +77,7 @@ class PartLayout:
         return self.pieces[0].low, self.pieces[-1].high
 
     def bars(self) -> list[Piece]:
-        """The pieces as they are drawn: so many neighbours are joined that a screen holds them."""
+        """The pieces as they are drawn: neighbours are joined until a screen holds them."""
         each = -(-len(self.pieces) // MOST_BARS)
         groups = [self.pieces[it : it + each] for it in range(0, len(self.pieces), each)]
         return [Piece(it[0].low, it[-1].high, sum(piece.rows for piece in it), len(it)) for it in groups]
@@ -90,14 +95,14 @@ class PartLayout:
 
 
 def bar(text: str, width: int, count: int, most: int, mark: str) -> str:
-    """A line with a bar as long as a count is beside the most that any line has; what isn't nothing has one mark at least."""
+    """A line with a bar, which is as long as its count is beside the greatest one; a count above 0 has at least one mark."""
     length = max(1, count * width // most) if count else 0
     return f"{text}{mark * length}".rstrip()
 
 
 @dataclass(frozen=True)
 class Layout:
-    """The layout of each partition."""
+    """The layouts of all partitions."""
 
     parts: tuple[PartLayout, ...]
 
@@ -113,7 +118,8 @@ class Layout:
         return "\n".join(line for it in self.parts for line in it.drawn())
 
     def svg(self) -> str:
-        """The layout as an SVG image: a row for each partition, as long as it has rows, its pieces in two colours in turn, and what isn't merged yet behind."""
+        """The layout as an SVG image: a bar for each partition, with its pieces in two colours in turn, and then what isn't
+        merged yet."""
         most = max((it.column + it.pending_in for it in self.parts), default=0) or 1
         scale = (SVG_WIDTH - SVG_LEFT) / most
         height = len(self.parts) * (SVG_ROW + SVG_GAP) + SVG_GAP

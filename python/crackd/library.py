@@ -1,4 +1,4 @@
-"""The library in the process: its functions, as crackd.h declares them."""
+"""The library's functions, as crackd.h declares them."""
 
 from __future__ import annotations
 
@@ -7,7 +7,7 @@ import os
 import pathlib
 from typing import Optional
 
-# what `make lib` builds, and what `make lib-unproved` does
+# what `make lib` and `make lib-unproved` build
 NAMES = ("libcrackd.so", "libcrackd-unproved.so")
 HERE = pathlib.Path(__file__).resolve().parent
 
@@ -19,13 +19,13 @@ class Handle(ctypes.Structure):
 
 
 class Totals(ctypes.Structure):
-    """What stands where in a partition."""
+    """The layout of a partition, in numbers."""
 
     _fields_ = [(name, ctypes.c_uint64) for name in ("rows", "column", "pending_out", "pending_in", "cells", "free", "pieces")]
 
 
 _HANDLE, _U32, _U64, _I64 = ctypes.POINTER(Handle), ctypes.c_uint32, ctypes.c_uint64, ctypes.c_int64
-# (where a number or a list is; a list is its address and how many there are)
+# (a pointer to a number, and a list: its address and its length)
 _AT, _LIST = ctypes.c_void_p, [ctypes.c_void_p, ctypes.c_size_t]
 
 FORMS = {
@@ -62,18 +62,19 @@ _loaded: Optional[Library] = None
 
 
 def find_library() -> Optional[str]:
-    """Where the library is: what the variable CRACKD_LIBRARY names, or that inside of the package, if there is one: the proved one, or else the other."""
+    """The path of the library: what the variable CRACKD_LIBRARY says, or else the file in this package, if there is one, the
+    proved one before the other."""
     named = os.environ.get("CRACKD_LIBRARY")
     return named or next((str(HERE / it) for it in NAMES if (HERE / it).exists()), None)
 
 
 def library() -> Library:
-    """The library, loaded once. Raises ImportError where it isn't built."""
+    """The library, loaded once. Raises ImportError if it isn't built."""
     global _loaded
     if _loaded is None:
         path = find_library()
         if path is None:
-            raise ImportError(f"{NAMES[0]} isn't built: `make lib` in the repository puts it into {HERE}, and CRACKD_LIBRARY can name another place")
+            raise ImportError(f"{NAMES[0]} isn't built: run `make lib` in the repository, which puts it into {HERE}, or set CRACKD_LIBRARY to its path")
         try:
             _loaded = Library(path)
         except (OSError, AttributeError) as error:
@@ -82,5 +83,5 @@ def library() -> Library:
 
 
 def version() -> str:
-    """The version of the library, with " (unproved)" behind it where it was built without a proof."""
+    """The version of the library, followed by " (unproved)" if it was built without a proof."""
     return library().version

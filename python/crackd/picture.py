@@ -1,7 +1,7 @@
-"""Pictures of a column as queries crack it, drawn from the layouts that the program answers: python3 -m crackd picture SCRIPT.
+"""Pictures of a column as queries crack it: python3 -m crackd picture SCRIPT.
 
-A script is run by `crackd script`, and before and after each count, sum and select of it a layout is asked for, which changes nothing. What is drawn is the
-same on every machine: no time is measured.
+The script is run by `crackd script`, with a layout before and after each count, sum and select, which changes nothing. A
+picture is the same on every machine: no time is measured.
 """
 
 from __future__ import annotations
@@ -21,7 +21,7 @@ from .layout import PartLayout, rows_text
 from .server import find_program
 
 QUERIES = ("count", "sum", "select")
-# in pixels: the picture, its strips and bars, and the space for a statement in front of a strip
+# in pixels: the picture, its strips and bars, and the space for a statement before a strip
 WIDTH, LEFT, STRIP_WIDTH, STRIP, ROW, HEAD, FOOT = 900, 212, 466, 18, 26, 44, 34
 BAR_LEFT, BAR_WIDTH = LEFT + STRIP_WIDTH + 16, 140
 # a piece without rows, the largest one, and marks
@@ -46,21 +46,21 @@ class Query:
     after: PartLayout
 
     def new_bounds(self) -> list[int]:
-        """The bounds that it added to the column."""
+        """The bounds that the query added to the column."""
         old = {it.low for it in self.before.pieces}
         return [it.low for it in self.after.pieces if it.low not in old]
 
     def merged(self) -> int:
-        """How many rows it merged, at the least: by how many fewer wait."""
+        """How many rows the query merged at least: how many fewer are pending."""
         return abs(self.before.pending_in - self.after.pending_in) + max(0, self.before.pending_out - self.after.pending_out)
 
     def cracked(self) -> int:
-        """How many rows stood in the pieces that it cracked."""
+        """How many rows the pieces had that the query cracked."""
         bounds = self.new_bounds()
         return sum(it.rows for it in self.before.pieces if any(it.low < bound < it.high for bound in bounds))
 
     def work(self) -> int:
-        """How many rows it cracked or merged."""
+        """How many rows the query cracked or merged."""
         return self.cracked() + self.merged()
 
 
@@ -70,22 +70,29 @@ def statements_of_csv(lines: Iterable[str]) -> list[str]:
     return [f"insert {key} {payload}" for key, payload in fields if key != "key"]
 
 
+def as_program_reads(line: str) -> str:
+    """A statement without a `;` at its end, and with a number for the word `end` of a range, as in the shell."""
+    words = line.strip().removesuffix(";").split()
+    is_query = bool(words) and words[0] in QUERIES
+    return " ".join(str(TOP) if is_query and it == "end" else it for it in words)
+
+
 def with_layouts(statements: Sequence[str], partition: int) -> Iterator[str]:
-    """The statements, and a layout before and after each query."""
+    """The statements, with a layout before and after each query."""
     for it in statements:
         is_query = it.split(" ")[0] in QUERIES
         yield from [f"layout {partition}", it, f"layout {partition}"] if is_query else [it]
 
 
 def replies(lines: Iterator[str]) -> Iterator[list[str]]:
-    """The lines of each reply. The last word of its first one tells how many lines follow, of rows and pieces."""
+    """The lines of each reply. The last word of the first line of rows and layouts is how many lines follow."""
     for line in lines:
         more = int(line.split()[-1]) if line.startswith(("rows ", "layout ")) else 0
         yield [line, *itertools.islice(lines, more)]
 
 
 def run(program: str, statements: Sequence[str], partition: int, words: Sequence[str]) -> list[Query]:
-    """The queries of a script, as the program answers them."""
+    """Runs a script, and returns its queries with what the program answered."""
     asked = [it for it in with_layouts(statements, partition) if it.strip()]
     ran = subprocess.run([program, "script", *words], input="".join(f"{it}\n" for it in asked), capture_output=True, text=True, check=False)
     if ran.returncode:
@@ -103,7 +110,7 @@ def run(program: str, statements: Sequence[str], partition: int, words: Sequence
 
 
 def keys_in(statements: Iterable[str]) -> tuple[int, int]:
-    """The least key that a script brings, and one past the greatest."""
+    """The least key that a script inserts, and one past the greatest."""
     keys = [int(words[1 if words[0] == "insert" else 2]) for words in map(str.split, statements) if words and words[0] in ("insert", "update")]
     if not keys:
         raise ScriptError("the script inserts no row")
@@ -111,7 +118,7 @@ def keys_in(statements: Iterable[str]) -> tuple[int, int]:
 
 
 def colour(share: float) -> str:
-    """The colour of a piece that has this share of the rows of the largest."""
+    """The colour of a piece with this share of the rows of the largest."""
     return "#" + "".join(f"{round(light + (dark - light) * share**0.5):02x}" for light, dark in zip(LIGHT, DARK))
 
 
@@ -130,7 +137,7 @@ def document(height: int, parts: Iterable[str]) -> str:
 
 
 def strip(query: Query, top: float, low: int, high: int, rows: int) -> Iterator[str]:
-    """The pieces that a query left, each as wide as its keys are and as dark as it has rows; its range, and its new bounds."""
+    """The pieces after a query, each as wide as its keys and darker with more rows; the query's range and its new bounds."""
 
     def across(key: int) -> float:
         return LEFT + (min(max(key, low), high) - low) / (high - low) * STRIP_WIDTH
@@ -147,14 +154,14 @@ def strip(query: Query, top: float, low: int, high: int, rows: int) -> Iterator[
 
 
 def cracking(queries: Sequence[Query], low: int, high: int) -> str:
-    """A column as queries crack it: keys across and queries down, and beside each how many rows it cracked or merged."""
+    """A column as queries crack it: keys across, queries down, and beside each how many rows it cracked or merged."""
     rows = max([1, *(piece.rows for it in queries for piece in it.after.pieces)])
     most = max([1, *(it.work() for it in queries)])
     parts = [words(LEFT, 18, "the column after each query, by key"), words(BAR_LEFT, 18, "rows it cracked or merged")]
     parts += [words(LEFT, 36, str(low), fill="#777"), words(LEFT + STRIP_WIDTH, 36, str(high - 1), "end", "#777")]
     for at, it in enumerate(queries):
         top = HEAD + at * ROW
-        parts.append(words(LEFT - 10, top + 13, it.text, "end"))
+        parts.append(words(LEFT - 10, top + 13, it.text.replace(str(TOP), "end"), "end"))
         parts += strip(it, top, low, high, rows)
         width = it.work() / most * BAR_WIDTH
         parts += [box(BAR_LEFT, top + 2, max(width, 1), STRIP - 4, BAR), words(BAR_LEFT + width + 6, top + 13, f"{it.work():,}")]
@@ -166,7 +173,7 @@ def cracking(queries: Sequence[Query], low: int, high: int) -> str:
 
 
 def pending(by_policy: dict[str, list[Query]]) -> str:
-    """How many rows wait to be merged after each query, under each policy."""
+    """How many rows are pending after each query, under each policy."""
     counts = {name: [it.after.pending_in + it.after.pending_out for it in queries] for name, queries in by_policy.items()}
     most = max([1, *(it for line in counts.values() for it in line)])
     last = max([1, *(len(line) - 1 for line in counts.values())])
@@ -188,27 +195,30 @@ def pending(by_policy: dict[str, list[Query]]) -> str:
 
 
 def options_of(arguments: Sequence[str]) -> argparse.Namespace:
-    """What the command line says."""
+    """The options of the command line."""
     about = "Draws a column as the queries of a script crack it, as SVG on standard output."
     parser = argparse.ArgumentParser(prog="python3 -m crackd picture", description=about)
-    parser.add_argument("script", metavar="SCRIPT", help="a file of statements, a line each")
-    parser.add_argument("splits", metavar="SPLIT", nargs="*", help="where the keys are parted")
-    parser.add_argument("--csv", metavar="FILE", help="rows to load before: a line key,payload each")
+    parser.add_argument("script", metavar="SCRIPT", nargs="?", help="a file of statements, one a line")
+    parser.add_argument("splits", metavar="SPLIT", nargs="*", help="where partitions begin")
+    parser.add_argument("--csv", metavar="FILE", help="rows to load first, one key,payload a line")
     parser.add_argument("--policy", metavar="NAME", choices=POLICIES, default="auto", help="how rows are merged, unless the script says so [default: auto]")
-    parser.add_argument("--policies", action="store_true", help="draws how many rows wait to be merged after each query, under each policy")
-    parser.add_argument("--partition", metavar="P", type=int, default=0, help="which partition is drawn [default: 0]")
-    parser.add_argument("--program", metavar="PATH", help="the program crackd [default: the one that is built beside this package, else that of PATH]")
-    return parser.parse_intermixed_args(arguments)
+    parser.add_argument("--policies", action="store_true", help="draw how many rows are pending after each query, under each policy")
+    parser.add_argument("--partition", metavar="P", type=int, default=0, help="the partition to draw [default: 0]")
+    parser.add_argument("--program", metavar="PATH", help="the program crackd [default: the one built in this checkout, else that of PATH]")
+    options = parser.parse_intermixed_args(arguments)
+    if options.script is None:
+        parser.error("SCRIPT is missing")
+    return options
 
 
 def drawn(options: argparse.Namespace) -> str:
-    """The picture that is asked for."""
+    """The picture that the options ask for."""
     statements = []
     if options.csv:
         with open(options.csv, encoding="utf-8-sig") as file:
             statements += statements_of_csv(file)
     with open(options.script, encoding="ascii") as file:
-        statements += [it.strip() for it in file if it.strip()]
+        statements += [as_program_reads(it) for it in file if it.strip()]
     program = find_program(options.program)
     if options.policies:
         statements = [it for it in statements if not it.startswith("policy ")]

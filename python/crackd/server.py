@@ -26,7 +26,8 @@ class NoServer(Error):
 
 
 def find_program(path: Optional[str] = None) -> str:
-    """The program that is given, or that the variable CRACKD names, or that is built in the checkout of this package, or else that of PATH."""
+    """The path of the program: the one that is given, that the variable CRACKD says, that is built in this checkout, or that
+    of PATH."""
     found = path or os.environ.get("CRACKD") or (str(BUILT) if BUILT.exists() else shutil.which("crackd"))
     if found is None:
         is_checkout = BUILT.parent.parent.exists()
@@ -41,7 +42,7 @@ def free_port() -> int:
 
 
 class Server:
-    """A server of this process on 127.0.0.1: see `serve`. `port` is its port."""
+    """A server that `serve` started on 127.0.0.1, at port `port`."""
 
     def __init__(self, command: Sequence[str], keys: Keys, policy: str):
         self._keys, self._policy = keys, policy
@@ -58,9 +59,9 @@ class Server:
 
     def _start(self, command: Sequence[str]) -> None:
         words = [command[0], "serve", "--port", str(self.port), *command[1:]]
-        # (a file, which a server never waits for, however much it writes)
+        # (a server that writes much would wait for a pipe)
         self._errors = tempfile.TemporaryFile()
-        # (the server ends with its input, so also where this process is killed)
+        # (the server ends with its input, so it does when this process is killed)
         how = {"stdin": subprocess.PIPE, "stdout": subprocess.PIPE, "stderr": self._errors, "start_new_session": True}
         try:
             self._process = subprocess.Popen(words, **how)
@@ -69,7 +70,7 @@ class Server:
             raise NoServer(f"{command[0]}: {error.strerror}") from error
 
     def _complaint(self) -> str:
-        """What the program wrote to standard error, once it has ended."""
+        """What the program wrote to standard error, after it has ended."""
         self._process.communicate()
         self._errors.seek(0)
         with self._errors:
@@ -82,11 +83,14 @@ class Server:
         raise NoServer(complaint or f"the program ended with status {self._process.returncode}")
 
     def connect(self, **options: Any) -> Client:
-        """A connection of its own to the table, as `crackd.connect` gives it. A server has as many at a time as it has workers; a further one waits."""
+        """A new connection to the table, as by `crackd.connect`.
+
+        A server serves as many at a time as it has workers; a further one waits.
+        """
         return connect("127.0.0.1", self.port, **{"key_type": self._keys, "policy": self._policy, **options})
 
     def close(self) -> None:
-        """Ends the server, and with it the table. A second call does nothing."""
+        """Ends the server and its table. A second call does nothing."""
         if self._errors.closed:
             return
         self._process.terminate()
@@ -111,9 +115,9 @@ class Server:
 
 
 def splits_of(keys: Keys, sample: Any, rows: int, partitions: Optional[int]) -> list[int]:
-    """Splits, as numbers, for so many rows whose keys look like those of a sample: by its quantiles, so that each partition gets about as many rows."""
+    """Splits, as numbers, by the quantiles of a sample, so that partitions get about equally many of these rows."""
     if partitions is not None and not 1 <= partitions <= MOST_PARTS:
-        raise ValueError(f"partitions are 1 to {MOST_PARTS}, not {partitions}")
+        raise ValueError(f"partitions must be 1 to {MOST_PARTS}, not {partitions}")
     count = partitions or parts_for(rows)
     return quantiles(keys.many(sample), count) if len(sample) and count > 1 else []
 
@@ -131,14 +135,14 @@ def serve(
     cells: Optional[int] = None,
     program: Optional[str] = None,
 ) -> Server:
-    """Starts `crackd serve` as a child of this process, with an empty table for some `rows` rows whose keys look like those of `sample`.
+    """Starts `crackd serve` as a child of this process, with an empty table for about `rows` rows whose keys look like those
+    of `sample`.
 
-    Used in a `with`, the server ends with it. `key_type` says of which kind they are where there is no sample: "int64" (so where nothing is said), "uint64",
-    "float64", "datetime64[s]" .. `splits` cuts the keys in place of the sample's quantiles. `workers`, 1 to 64, is how many connections are served at a
-    time. `history` and `cells` are the limits of each partition, and `program` says where crackd is.
+    In a `with` the server ends with the block. `workers`, 1 to 64, is how many connections it serves at a time. `history`
+    and `cells` are the limits of each partition, and `program` is the path of crackd. The other options are those of `Table`.
     """
     if policy not in POLICIES:
-        raise ValueError(f"a policy is one of {', '.join(POLICIES)}, not {policy}")
+        raise ValueError(f"policy must be one of {', '.join(POLICIES)}, not {policy}")
     kind = kind_of(sample) if key_type is None else Keys.named(key_type)
     cuts = splits_of(kind, sample, rows, partitions) if splits is None else [int(it) for it in kind.many(splits)]
     limits = {"--limit": history, "--cells": cells}

@@ -18,7 +18,7 @@ from .server import splits_of
 HISTORY = 65_536
 MOST_CELLS = 1_048_576
 MOST_LIFE = 1 << 40
-# a history keeps the rows that a select listed, so it is folded before they are many more than the rows that there are
+# (a history keeps the rows that selects listed, so it is emptied before these are many more than the table's rows)
 LISTED = 100_000
 CLOSED = 101
 ARRAYS = (array.array,) if np is None else (array.array, np.ndarray)
@@ -27,7 +27,7 @@ ARRAYS = (array.array,) if np is None else (array.array, np.ndarray)
 class Table(AnyTable):
     """A table in this process.
 
-    Its histories are folded by themselves as they fill. Each call goes on without the interpreter's lock, so that other threads run meanwhile.
+    Its histories are emptied as they fill. Calls run without the interpreter's lock, so other threads go on meanwhile.
     `partitions` is how many it has.
     """
 
@@ -43,14 +43,15 @@ class Table(AnyTable):
         history: int = HISTORY,
         cells: int = MOST_CELLS,
     ):
-        """An empty table for some `rows` rows whose keys look like those of `sample`, which also says of which kind they are.
+        """An empty table for about `rows` rows whose keys look like those of `sample`, and have its type.
 
-        `key_type` says so where there is no sample: "int64" (so where nothing is said), "uint64", "float64", "datetime64[s]" .. `partitions` is 1 to 64, else
-        chosen by `rows`; `splits` cuts the keys in place of the sample's quantiles. `policy` says how rows are merged, `history` after how many commands a
-        partition's history is folded, and `cells` how many rows a partition may have.
+        `key_type` says the type where there is no sample: "int64" by default, "uint64", "float64", "datetime64[s]" ..
+        There are `partitions` of them, 1 to 64, by default one for each 4,096 rows; quantiles of the sample cut the keys,
+        or `splits` does. `policy` says how rows are merged, `history` after how many commands a partition's history is
+        emptied, and `cells` how many rows a partition may have.
         """
         if policy not in POLICIES:
-            raise ValueError(f"a policy is one of {', '.join(POLICIES)}, not {policy}")
+            raise ValueError(f"policy must be one of {', '.join(POLICIES)}, not {policy}")
         self._handle = Handle()
         self._library, self._ref, self._lock = library(), byref(self._handle), threading.RLock()
         self._keys, self._policy = kind_of(sample) if key_type is None else Keys.named(key_type), POLICIES.index(policy)
@@ -63,7 +64,10 @@ class Table(AnyTable):
 
     @classmethod
     def from_arrays(cls, keys: Any, payloads: Any = None, **options: Any) -> "Table":
-        """A table of these rows, settled. Without payloads they are 0, 1, 2 ..; `row_numbers` has the rows' numbers, in the order of the arrays."""
+        """A table of these rows, all merged. Without payloads they are 0, 1, 2 ..
+
+        `row_numbers` of the table has the numbers of the rows, in the order of the arrays.
+        """
         if not hasattr(keys, "__len__"):
             keys = list(keys)
         table = cls(keys, len(keys), **options)
@@ -76,7 +80,7 @@ class Table(AnyTable):
         return table
 
     def _run(self, call: Any, *words: Any) -> int:
-        """Calls a function of the library with numbers, places and arrays, all of which stay until it is done. The status."""
+        """Calls a function of the library with numbers, pointers and arrays, which stay until it returns. Returns the status."""
         flat: list = []
         for it in words:
             flat.extend(address(it) if isinstance(it, ARRAYS) else (it,))
@@ -144,7 +148,7 @@ class Table(AnyTable):
         return [low + (high << 64) for low, high in zip(plain(lows), plain(highs))]
 
     def _ask_many(self, firsts: Any, lasts: Any, codes: Sequence[str]) -> list:
-        """What is counted or added up for each range, by one list for each code; for an empty range nothing is asked, and the answer is 0."""
+        """The answers for many ranges, a list for each code. An empty range isn't asked, and its answer is 0."""
         whole, size, done = _not_empty(firsts, lasts), len(firsts), c_uint64()
         if whole is not None:
             firsts, lasts = _picked("Q", firsts, whole), _picked("Q", lasts, whole)
@@ -205,7 +209,7 @@ class Table(AnyTable):
         return PartLayout(part, *(getattr(totals, name) for name, _ in Totals._fields_[:6]), pieces, self._keys)
 
     def close(self) -> None:
-        """Gives back all that the table took. A second call does nothing."""
+        """Frees all that the table took. A second call does nothing."""
         with self._lock:
             if self._handle.is_open:
                 self._library.close(self._ref)
@@ -230,7 +234,7 @@ def _joined(parts: Any, serials: Any) -> Any:
 
 
 def _not_empty(firsts: Any, lasts: Any) -> Any:
-    """Which ranges aren't empty, or None where none is."""
+    """The places of the ranges that aren't empty, or None if all are such."""
     if np is not None:
         is_whole = firsts <= lasts
         return None if is_whole.all() else np.flatnonzero(is_whole)

@@ -423,6 +423,14 @@ class Saves(OnWorkers, unittest.TestCase):
                 self.assertEqual(restored.sum(), 45150)
             self.assertEqual((table.count(), table.save(self.folder)["sums"]), (300, [700] * 3))
 
+    def test_samples_of_blocks_count_by_their_rows(self):
+        keys = np.arange(10_000)
+        for rows, wanted in [([10_000, 10_000], [10_000] * 2), ([1_000_000, 10_000], [10_000, 100]), ([10**9, 10], [10_000, 1])]:
+            samples = [(each, keys[:each]) for each in rows]
+            self.assertEqual([len(it) for it in cluster.evened(samples)], wanted)
+        self.assertEqual([len(it) for it in cluster.evened([(0, keys[:0]), (5, keys[:5])])], [5])
+        self.assertEqual(list(cluster.evened([])), [])
+
     def test_sums_of_payloads_are_exact(self):
         for payloads in ([GREATEST] * 5, [LEAST] * 5, [LEAST, GREATEST, -1, 0, 1, 2**32, -(2**32)]):
             self.assertEqual(crackd.shard.exact_sum(np.array(payloads, np.int64)), sum(payloads))

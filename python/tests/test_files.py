@@ -48,24 +48,24 @@ class Files(unittest.TestCase):
         self.assertEqual(self.read("1e3,1\n-2.5,2\n", key_column=Column(is_float=True)), ([1000.0, -2.5], [1, 2]))
         self.assertEqual(self.read("18446744073709551615,1\n", key_column=Column(least=0, most=2**64 - 1)), ([2**64 - 1], [1]))
 
-    def test_what_is_no_number_is_told_by_line_and_column(self):
-        self.assertEqual(self.wrong("line 2, column 1: 'x' is no whole number", "1,10\nx,20\n").line, 2)
-        self.assertEqual(self.wrong("line 3, column 3 (c): '1.5' is no whole number", "a,b,c\n1,x,10\n2,x,1.5\n", "a", "c").column, 3)
-        self.wrong("line 1, column 2: the line has 1 fields", "1\n")
-        self.wrong("line 1, column 1: '' is no whole number", ",1\n")
-        self.wrong("line 1, column 1: there is no column 'z'; there are a, b", "a,b\n1,2\n", "z")
-        self.wrong("line 1, column 1: there is no column 'z'; there are none", "", "z")
-        self.wrong("line 1, column 1: '1_0' is no whole number", "1_0,1\n")
-        self.wrong("line 1, column 1: '٣' is no whole number", "٣,1\n")
-        self.wrong(f"line 1, column 2: '{2**63}' is none of {-(2**63)} to {2**63 - 1}", f"1,{2**63}\n")
-        self.wrong(f"line 1, column 1: '-1' is none of 0 to {2**64 - 1}", "-1,1\n", key_column=Column(least=0, most=2**64 - 1))
+    def test_fields_that_are_no_numbers_are_named_by_line_and_column(self):
+        self.assertEqual(self.wrong("line 2, column 1: 'x' isn't an integer", "1,10\nx,20\n").line, 2)
+        self.assertEqual(self.wrong("line 3, column 3 (c): '1.5' isn't an integer", "a,b,c\n1,x,10\n2,x,1.5\n", "a", "c").column, 3)
+        self.wrong("line 1, column 2: the line has only 1 field", "1\n")
+        self.wrong("line 1, column 1: '' isn't an integer", ",1\n")
+        self.wrong("line 1, column 1: there is no column 'z'; the header has a, b", "a,b\n1,2\n", "z")
+        self.wrong("line 1, column 1: there is no column 'z'; the header has none", "", "z")
+        self.wrong("line 1, column 1: '1_0' isn't an integer", "1_0,1\n")
+        self.wrong("line 1, column 1: '٣' isn't an integer", "٣,1\n")
+        self.wrong(f"line 1, column 2: '{2**63}' isn't {-(2**63)} to {2**63 - 1}", f"1,{2**63}\n")
+        self.wrong(f"line 1, column 1: '-1' isn't 0 to {2**64 - 1}", "-1,1\n", key_column=Column(least=0, most=2**64 - 1))
         self.wrong("line 1, column 1: '12.345' has more than 2 decimal places", "12.345,1\n", key_column=Column(decimals=2))
-        self.wrong("line 1, column 1: '1e5' is no decimal number", "1e5,1\n", key_column=Column(decimals=2))
-        self.wrong("line 1, column 1: '2020-02-30' is no date of the form '%Y-%m-%d'", "2020-02-30,1\n", key_column=Column(format="%Y-%m-%d"))
-        self.wrong("line 1, column 1: NaN is no key", "nan,1\n", key_column=Column(is_float=True))
-        self.wrong("line 1, column 1: '" + "9" * 40 + "..' is none of " + f"{-(2**63)} to {2**63 - 1}", "9" * 5000 + ",1\n")
+        self.wrong("line 1, column 1: '1e5' isn't a decimal number", "1e5,1\n", key_column=Column(decimals=2))
+        self.wrong("line 1, column 1: '2020-02-30' isn't a date of the form '%Y-%m-%d'", "2020-02-30,1\n", key_column=Column(format="%Y-%m-%d"))
+        self.wrong("line 1, column 1: NaN can't be a key", "nan,1\n", key_column=Column(is_float=True))
+        self.wrong("line 1, column 1: '" + "9" * 40 + "..' isn't " + f"{-(2**63)} to {2**63 - 1}", "9" * 5000 + ",1\n")
         # (a field of several lines, and the line at which a record ends)
-        self.wrong("line 3, column 1: 'x\\ny' is no whole number", '1,1\n"x\ny",1\n')
+        self.wrong("line 3, column 1: 'x\\ny' isn't an integer", '1,1\n"x\ny",1\n')
 
     def test_wrong_arguments(self):
         self.assertRaises(ValueError, self.read, "1,2\n", -1)
@@ -146,7 +146,7 @@ class Splits(unittest.TestCase):
         self.assertEqual(self.splits("x,1\nx,5\nx,9\n", "rows.csv", "3", "--key", "1"), (0, "5 9\n", ""))
 
     def test_bad_words_and_files(self):
-        self.assertEqual(self.splits("-1,1\n", "rows.csv", "3")[::2], (1, f"crackd: rows.csv, line 1, column 1: '-1' is none of 0 to {2**64 - 1}\n"))
+        self.assertEqual(self.splits("-1,1\n", "rows.csv", "3")[::2], (1, f"crackd: rows.csv, line 1, column 1: '-1' isn't 0 to {2**64 - 1}\n"))
         self.assertEqual(self.splits("", "missing.csv", "3")[::2], (1, "crackd: missing.csv: No such file or directory\n"))
         for words in (["rows.csv", "0"], ["rows.csv", "65"], ["rows.csv", "x"], ["rows.csv"], []):
             with self.subTest(words):

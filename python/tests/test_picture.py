@@ -43,6 +43,20 @@ class Pictures(unittest.TestCase):
         self.assertIn(">100</text>", drawn)
         self.assertIn(">199</text>", drawn)
 
+    def test_statements_as_in_the_shell(self):
+        text = "insert 10 1;\ninsert 20 2\n\ncount 15 end;\nsum 0 end\n"
+        number = text.replace("end", str(2**64)).replace(";", "")
+        self.assertEqual(self.of_script(text), self.of_script(number))
+        self.assertIn(">count 15 end</text>", self.of_script(text))
+
+    def test_bad_words(self):
+        for words, wanted in [([], "SCRIPT is missing"), (["script.txt", "--partition", "x"], "invalid int value")]:
+            printed = io.StringIO()
+            with contextlib.redirect_stderr(printed), self.assertRaises(SystemExit) as caught:
+                picture.main(words)
+            self.assertEqual(caught.exception.code, 2)
+            self.assertIn(wanted, printed.getvalue())
+
     def test_scripts_that_cannot_be_drawn(self):
         for text, wanted in [("insert 1 1\n", "no count, sum or select"), ("count 0 1\n", "inserts no row"), ("insert 1 1\nfetch\ncount 0 9\n", "fetch: refused 1")]:
             with self.assertRaisesRegex(picture.ScriptError, wanted):

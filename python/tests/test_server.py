@@ -113,7 +113,7 @@ class Servers(unittest.TestCase):
             error = caught.exception
             self.assertEqual((error.done, error.later, len(error.answers)), (2, 1, 3))
             self.assertEqual(list(table.delete_many(error.answers)), [True] * 3)
-            self.assertIn("after 2 that were done, and 1 more after it", str(error))
+            self.assertIn("after 2 that were done, and 1 later", str(error))
 
     def test_many_rows(self):
         count = 250_000

@@ -1,4 +1,4 @@
-"""How the shell reaches a server: one of its own or one that is there, and what a control-C does meanwhile."""
+"""How the shell reaches a server, its own or another, and what a control-C does meanwhile."""
 
 import contextlib
 import signal
@@ -13,7 +13,7 @@ SECONDS_OF_AN_END = 60
 
 
 class Interrupts:
-    """Notes a control-C while something is at work, which then ends in order. A second one breaks in, and ends the shell."""
+    """Notes a control-C, so that what is running ends in order. A second one ends the shell at once."""
 
     def __init__(self):
         self.noted, self.is_told = 0, False
@@ -28,13 +28,13 @@ class Interrupts:
         self.noted, self.is_told = 0, False
 
     def check(self, left_undone):
-        """Breaks off at a place where all is in order."""
+        """Ends what is running if a control-C was noted."""
         if self.noted:
             raise Interrupted(left_undone)
 
     @contextlib.contextmanager
     def breaking_in(self):
-        """While a person, a file or a program is waited for, the first one breaks in."""
+        """While a person, a file or a program is waited for, the first control-C ends that."""
         try:
             signal.signal(signal.SIGINT, signal.default_int_handler)
             yield
@@ -42,14 +42,14 @@ class Interrupts:
             signal.signal(signal.SIGINT, self.note)
 
     def tell_once(self):
-        """Says that an answer is still waited for."""
+        """Says once that an answer is still missing."""
         if self.noted and not self.is_told:
             self.is_told = True
             complain("the server hasn't answered yet; control-C again ends the session")
 
 
 class Server:
-    """A server of the shell's own, for one session. It isn't of the terminal's processes, so that no control-C reaches it."""
+    """The shell's own server, for one session. It is in a session of its own, so that no control-C reaches it."""
 
     def __init__(self, program, words):
         self.program = program
@@ -74,7 +74,7 @@ class Server:
             raise Ended(f"no server: {fault_text(self.program, error)}") from error
 
     def has_begun(self):
-        """Whether the process listens; waits until it says so, or ends."""
+        """Waits until the process listens or ends. Returns whether it listens."""
         try:
             return self.process.stdout.readline() == f"listening {self.port}\n"
         except BaseException:
@@ -82,7 +82,7 @@ class Server:
             raise
 
     def end_text(self, complaint):
-        """What the program said as it ended, in words, or else how it ended."""
+        """The last line that the program wrote, in words, or else how it ended."""
         status = self.process.returncode
         if complaint:
             return in_words(complaint.splitlines()[-1].replace("crackd: ", "", 1))
@@ -93,20 +93,20 @@ class Server:
         try:
             wrote, complaint = self.process.communicate(timeout=SECONDS_OF_AN_END)
         except subprocess.TimeoutExpired as error:
-            raise Ended("the server didn't end behind its session") from error
+            raise Ended("the server didn't end after its session") from error
         if self.process.returncode:
             raise Ended(self.end_text(complaint))
         return wrote.rstrip("\n")
 
     def why(self):
-        """Why it left."""
+        """Why the server left."""
         try:
             return self.end_text(self.process.communicate(timeout=1)[1])
         except subprocess.TimeoutExpired:
             return "it cut the session off"
 
     def end(self):
-        """Ends the server where it has not ended by itself."""
+        """Ends the server if it hasn't ended."""
         if self.process.poll() is None:
             self.process.kill()
         self.process.communicate()

@@ -1,10 +1,10 @@
 """A shell over `crackd serve`: python3 -m crackd shell [--program PATH] [--limit N] [--cells N] [--life N] [--policy NAME] [SPLIT ..], or
 python3 -m crackd shell --port N
 
-Without a port it starts a server of its own, which ends with it. On a terminal it prompts, says what a refusal means, and how long each statement
-took, keeps what was typed in a file, and completes words by Tab; `help` lists the statements. Where its input or output is no terminal it answers line by
-line and says nothing else. The status is 0; 1 where no server can be had, or it left, or of a filter a statement was refused or a command wasn't done; 2
-where the command line was refused.
+Without a port it starts a server of its own, which ends with it. On a terminal it prompts, says what a refusal means and
+how long each statement took, keeps typed lines in a file, and completes words by Tab; `help` lists the statements. Without
+a terminal it is a filter, which answers line by line. The status is 0; it is 1 if there is no server, if the server left,
+or if a filter had a refused statement or a failed command; it is 2 for a bad command line.
 """
 
 import argparse
@@ -32,7 +32,7 @@ SECONDS_OF_A_PROGRESS = 0.1
 
 @contextlib.contextmanager
 def of_file(path):
-    """What is done with a file. What goes wrong with it is told by its path."""
+    """Work with a file. Its errors are reported with its path."""
     try:
         yield
     except (OSError, ValueError) as error:
@@ -41,7 +41,7 @@ def of_file(path):
 
 @contextlib.contextmanager
 def replacing(path):
-    """A file that takes the place of another once all is written; until then that one stays as it is."""
+    """A file that replaces another once all is written; until then the other stays as it is."""
     target = os.path.realpath(path)
     if os.path.exists(target) and not os.path.isfile(target):
         with open(target, "w", encoding="ascii") as file:
@@ -59,7 +59,7 @@ def replacing(path):
 
 
 class Progress:
-    """A line of a terminal that tells how far something is."""
+    """A line of a terminal that shows progress."""
 
     def __init__(self, is_shown):
         self.is_shown, self.width, self.next = is_shown, 0, time.monotonic() + SECONDS_OF_A_PROGRESS
@@ -76,22 +76,22 @@ class Progress:
 
 
 class Shell:
-    """Does what lines say, and shows the answers."""
+    """Runs lines, and shows the replies."""
 
     def __init__(self, session, interrupts, is_terminal):
         self.session, self.interrupts, self.is_terminal = session, interrupts, is_terminal
-        # (faults are refused statements and commands that weren't done)
+        # (faults are refused statements and failed commands)
         self.answered = self.refused = self.faults = 0
         self.has_ended = self.bails = False
         self.mode, self.most_rows = "lines", None
-        # (those whose lines are being obeyed)
+        # (those whose lines are running)
         self.files = []
         self.of_files = {".load": self.load, ".save": self.save, ".read": self.read}
         self.others = {".layout": self.layout, ".help": self.help, ".quit": self.quit}
         self.others |= {".mode": self.set_mode, ".limit": self.set_limit, ".bail": self.set_bail}
 
     def run(self, lines):
-        """Obeys lines until one ends the session, or there are no more."""
+        """Runs lines until one ends the session, or there are no more."""
         for line in lines:
             self.interrupts.forget()
             faults = self.faults
@@ -110,7 +110,7 @@ class Shell:
         self.quit()
 
     def obey(self, line):
-        """Does what a line says."""
+        """Runs a line."""
         text = line[:-1] if line.endswith(b"\r") else line
         name, _, argument = text.strip(b" ").partition(b" ")
         if name.startswith(b"."):
@@ -123,14 +123,14 @@ class Shell:
             self.statement(b"quit" if ended(text) == b"exit" else statement or text)
 
     def command(self, name, argument):
-        """Does what a command says. What goes wrong is told, and the shell goes on."""
+        """Runs a command. An error is reported, and the shell goes on."""
         try:
             if name in self.of_files and argument:
                 self.of_files[name](os.path.expanduser(argument))
             elif name in self.others:
                 self.others[name](argument)
             else:
-                raise Fault(f"{name} needs a file" if name in self.of_files else f"there is no {name}; .help tells what there is")
+                raise Fault(f"{name} needs a file" if name in self.of_files else f"there is no {name}; .help lists the commands")
         except Fault as fault:
             self.fail(fault)
 
@@ -148,7 +148,8 @@ class Shell:
         self.show(reply)
 
     def show(self, reply):
-        """Shows a reply in the mode that was chosen. On a terminal it says what a refusal means, and the time: behind a reply of one line, below others."""
+        """Shows a reply in the current mode. On a terminal it also says what a refusal means, and the time: after a reply of one
+        line, below others."""
         lines = modes.shown(reply.lines, self.mode, self.most_rows)
         if not self.is_terminal:
             print("\n".join(lines))
@@ -162,18 +163,18 @@ class Shell:
             print(f"({rows_text(hidden)} more; .limit off shows all)  {time_text(reply.seconds)}" if hidden else time_text(reply.seconds))
 
     def say(self, text, seconds):
-        """Says what was done, with the time where a person is told."""
+        """Says what was done, and on a terminal how long it took."""
         print(f"{text}  {time_text(seconds)}" if self.is_terminal else text)
 
     @contextlib.contextmanager
     def waiting_for(self, path):
-        """A file is opened or read, which may wait for another program. A control-C ends that."""
+        """While a file is opened or read, which may wait for another program, a control-C ends that."""
         try:
             with of_file(path), self.interrupts.breaking_in():
                 yield
         except KeyboardInterrupt:
             self.interrupts.noted = 1
-            raise Interrupted(f"{path} isn't read") from None
+            raise Interrupted(f"{path} wasn't read") from None
 
     def load(self, path):
         """Inserts the rows of a CSV file."""
@@ -202,7 +203,7 @@ class Shell:
         self.say(f"saved {rows_text(rows)} to {path}; the histories keep {kept}", time.perf_counter() - begun)
 
     def read(self, path):
-        """Obeys the lines of a file."""
+        """Runs the lines of a file."""
         if os.path.realpath(path) in self.files:
             raise Fault(f"{path}: it is being read already")
         with self.waiting_for(path), open(path, "rb") as file:
@@ -227,7 +228,7 @@ class Shell:
 
     @contextlib.contextmanager
     def within(self, path):
-        """While the lines of a file are obeyed."""
+        """While the lines of a file run."""
         self.files.append(os.path.realpath(path))
         try:
             yield
@@ -256,7 +257,7 @@ class Shell:
         self.most_rows = None if number == "off" else int(number)
 
     def set_bail(self, word):
-        """Chooses whether what reads a file or a pipe ends at the first fault."""
+        """Chooses whether a file or a pipe ends at the first fault."""
         if word not in ("on", "off"):
             raise Fault(".bail is on or off")
         self.bails = word == "on"
@@ -271,12 +272,12 @@ class Shell:
 
 
 def ended(text):
-    """A line without the spaces around it, and without one ; at its end."""
+    """A line without spaces around it, and without one ; at its end."""
     return text.strip(b" ").removesuffix(b";").rstrip(b" ")
 
 
 def with_ends(statement):
-    """A statement in which the word `end` of a range stands as the number past the greatest key."""
+    """A statement with the number past the greatest key in place of the word `end` of a range."""
     words = statement.split(b" ")
     if ended(statement).split(b" ")[0] not in RANGED:
         return statement
@@ -284,7 +285,7 @@ def with_ends(statement):
 
 
 def typed_lines(interrupts):
-    """The lines that a person types, until control-D. A control-C leaves out the one that was begun."""
+    """The lines that a person types, until control-D. A control-C drops the one that was begun."""
     sys.stdin.reconfigure(errors="surrogateescape")
     with typing.edited():
         while True:
@@ -317,7 +318,7 @@ def is_with_a_person():
 
 
 def talk(port, policy, is_known, interrupts):
-    """A session with the server of a port, in which a policy is known to hold or is asked for first. Whether all was done."""
+    """A session with the server at a port, whose policy is known or is set first. Returns whether all was done."""
     channel, is_terminal = channel_to(port, interrupts), is_with_a_person()
     session = Session(channel, interrupts, policy if is_known else None)
     if policy and not is_known:
@@ -331,7 +332,7 @@ def talk(port, policy, is_known, interrupts):
 
 
 def program_of(path):
-    """The program that is given, or that is found."""
+    """The path of the program."""
     try:
         return find_program(path)
     except NoServer as error:
@@ -339,7 +340,7 @@ def program_of(path):
 
 
 def talk_to_own(options, interrupts):
-    """A session with a server of its own. Whether all was done."""
+    """A session with a server of its own. Returns whether all was done."""
     policy = options.policy or POLICY
     named = {"--limit": options.limit, "--cells": options.cells, "--life": options.life, "--policy": policy}
     words = [word for name, value in named.items() if value for word in (name, value)]
@@ -358,20 +359,20 @@ def talk_to_own(options, interrupts):
 
 
 def options_of(words):
-    """What the command line says."""
+    """The options of the command line."""
     parser = argparse.ArgumentParser(prog="python3 -m crackd shell", description="A shell over `crackd serve`. Without a port it starts a server of its own.")
-    parser.add_argument("--program", metavar="PATH", help="the program crackd [default: the one that is built beside this package, else that of PATH]")
+    parser.add_argument("--program", metavar="PATH", help="the program crackd [default: the one built in this checkout, else that of PATH]")
     parser.add_argument("--port", metavar="N", type=int, help="the port of a server on this machine")
-    parser.add_argument("--limit", metavar="N", help="how many commands a partition answers from one checkpoint to the next, 1 to 1000000")
+    parser.add_argument("--limit", metavar="N", help="how many commands a partition answers between two checkpoints, 1 to 1000000")
     parser.add_argument("--cells", metavar="N", help="how many cells for rows a partition has, 1 to 1048576")
     parser.add_argument("--life", metavar="N", help="how many commands a partition answers in all, 1 to 1099511627776")
-    parser.add_argument("--policy", metavar="NAME", choices=POLICIES, help="how rows that came or went are merged: complete, gradual, ripple or auto [default: auto, of a server that is started]")
-    parser.add_argument("splits", metavar="SPLIT", nargs="*", help="where the keys are parted, rising, each 1 to 18446744073709551615")
+    parser.add_argument("--policy", metavar="NAME", choices=POLICIES, help="how inserts and deletes are merged: complete, gradual, ripple or auto [default: auto, for a server that is started]")
+    parser.add_argument("splits", metavar="SPLIT", nargs="*", help="where partitions begin: rising keys, each 1 to 18446744073709551615")
     options = parser.parse_args(words)
     if options.port is not None and not 1 <= options.port <= GREATEST_PORT:
-        parser.error(f"a port is 1 to {GREATEST_PORT}")
+        parser.error(f"a port must be 1 to {GREATEST_PORT}")
     if options.port is not None and (options.program or options.limit or options.cells or options.life or options.splits):
-        parser.error("program, limits and splits are for a server that is started, and a port is of one that is there")
+        parser.error("with --port there is a server already: program, limits and splits can't be given")
     return options
 
 

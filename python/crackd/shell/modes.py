@@ -14,12 +14,12 @@ def is_list_of_rows(lines):
 
 
 def hidden(lines, most):
-    """How many rows of a reply aren't shown where at most so many are."""
+    """How many rows of a reply aren't shown if at most `most` are."""
     return max(0, len(lines) - 1 - most) if most is not None and is_list_of_rows(lines) else 0
 
 
 def shown(lines, mode, most):
-    """The lines that a reply is shown by, with at most so many of its rows, or all."""
+    """The lines that show a reply, with at most `most` of its rows, or all."""
     kept = lines[: len(lines) - hidden(lines, most)]
     if mode == "lines":
         return kept
@@ -27,17 +27,17 @@ def shown(lines, mode, most):
 
 
 def number(word):
-    """A word of a reply, as a number where it is one."""
+    """A word of a reply, as a number if it is one."""
     return int(word) if word.removeprefix("-").isdigit() else word
 
 
 def of_names(names, line):
-    """The words of a line, by these names."""
+    """The words of a line, by name."""
     return dict(zip(names, map(number, line.split(" "))))
 
 
 def value(lines):
-    """What a reply says, as JSON has it."""
+    """A reply as a value for JSON."""
     words = lines[0].split(" ")
     match words[0]:
         case "rows":
@@ -55,7 +55,7 @@ def value(lines):
 
 
 def records(lines):
-    """A reply as records of CSV: rows and pieces behind a header, any other reply as its words."""
+    """A reply as records of CSV: rows and pieces after a header, any other reply as its words."""
     if is_list_of_rows(lines):
         return [",".join(ROW), *(line.replace(" ", ",") for line in lines[1:])]
     if lines[0].startswith("layout "):

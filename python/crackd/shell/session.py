@@ -26,7 +26,7 @@ ROWS_UNANSWERED = 20_000
 
 @dataclasses.dataclass
 class Reply:
-    """The lines of a reply, and how long they took."""
+    """The lines of a reply, and the seconds until they came."""
 
     lines: list
     seconds: float
@@ -50,13 +50,13 @@ def is_row(record):
 
 
 def are_digits(texts):
-    """Whether all texts are digits, and few enough."""
+    """Whether all texts are digits, and not too many."""
     digits = "".join(texts)
     return all(texts) and digits.isascii() and digits.isdigit() and max(map(len, texts)) <= MOST_DIGITS
 
 
 def are_rows(records):
-    """Whether all records are rows, if there are any: the same as of each, in less time."""
+    """Whether all records are rows, and there are some: as `is_row` of each, in less time."""
     if set(map(len, records)) != {2}:
         return False
     keys, payloads = zip(*records)
@@ -67,15 +67,15 @@ def are_rows(records):
 
 
 class Records:
-    """The records of a CSV file, up to the first that is no row. `fault` then says which that is, and why."""
+    """The records of a CSV file, up to the first that isn't a row. `fault` then says which one that is, and why."""
 
     def __init__(self, file):
-        # (blank lines are no records)
+        # (blank lines aren't records)
         self.records = filter(None, csv.reader(file))
         self.number, self.has_header, self.fault = 0, False, ""
 
     def next_rows(self, interrupts):
-        """The next records that are rows. Where another program gives them, a control-C ends the waiting."""
+        """The next records that are rows. A control-C ends the waiting for another program."""
         records, fault = [], ""
         try:
             with interrupts.breaking_in():
@@ -99,7 +99,7 @@ class Records:
 
 @dataclasses.dataclass
 class Loaded:
-    """How far a load is: how many rows were sent, answered and placed; the first refusal, and how many rows had been placed before it."""
+    """How far a load is: how many rows were sent, answered and inserted; the first refusal, and how many were inserted before."""
 
     sent: int = 0
     answered: int = 0
@@ -116,10 +116,10 @@ class Loaded:
         self.answered += len(lines)
 
     def end_text(self, records, is_interrupted):
-        """What ended the load before its end, and which rows stay; nothing where it came to its end."""
+        """What ended the load early, and which rows stay; empty if all were loaded."""
         if self.refusal:
-            behind = self.placed - self.before
-            also = f", with {behind} from behind it that had been sent" if behind else ""
+            later = self.placed - self.before
+            also = f", with {later} after it that had been sent" if later else ""
             return f"record {self.before + 1 + records.has_header}: {in_words(self.refusal)}; {rows_text(self.before)} came before it, and stay{also}"
         if is_interrupted:
             return f"interrupted: {rows_text(self.placed)} came in, and stay"
@@ -130,7 +130,7 @@ class Session:
     """A session with a server, over a channel."""
 
     def __init__(self, channel, interrupts, policy):
-        # (the policy of a server that was there already isn't known, and is None)
+        # (None where the policy of a server isn't known)
         self.channel, self.interrupts, self.policy = channel, interrupts, policy
 
     def ask(self, statement):
@@ -176,13 +176,13 @@ class Session:
         return loaded
 
     def settle(self, loaded, most):
-        """Waits until all is sent, and no more rows than these are unanswered."""
+        """Waits until all is sent, and at most `most` rows are unanswered."""
         while self.channel.unsent or loaded.sent - loaded.answered > most:
             self.channel.step()
             loaded.take(self.channel.lines_given())
 
     def layout(self, partition):
-        """How a partition is laid out, or None where there is no such partition."""
+        """The layout of a partition, or None if there is no such partition."""
         reply = self.ask(f"layout {partition}")
         if reply.lines[0] == "refused 5":
             return None
@@ -191,11 +191,11 @@ class Session:
         return PartLayout.read(reply.lines)
 
     def layouts(self):
-        """How each partition is laid out."""
+        """The layout of each partition."""
         return itertools.takewhile(lambda it: it is not None, map(self.layout, itertools.count()))
 
     def save(self, file):
-        """Writes all rows as CSV, partition by partition. How many there were, and how many selects listed them."""
+        """Writes all rows as CSV, partition by partition. Returns how many, and how many selects listed them."""
         ends = [it.ends for it in self.layouts()]
         rows = 0
         file.write(",".join(HEADER) + "\n")

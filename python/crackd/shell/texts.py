@@ -1,4 +1,4 @@
-"""What the shell says: the meanings of refusals, the help, times, and what it complains of."""
+"""The texts of the shell: the meanings of refusals, the help, times and complaints."""
 
 import re
 import sys
@@ -10,7 +10,7 @@ LEAST_PAYLOAD, GREATEST_PAYLOAD = -9223372036854775808, 9223372036854775807
 REFUSED = re.compile("refused ([0-9]+)")
 
 MEANINGS = {
-    "1": "this is no statement; help lists them",
+    "1": "this isn't a statement; help lists them",
     "2": "the low end of the range is above its high end, or that is above 18446744073709551616",
     "4": "the key is of another partition, and a row never leaves its own",
     "5": "there is no such partition",
@@ -31,30 +31,30 @@ MEANINGS = {
 }
 
 HELP = """\
-insert K V        a row of key K and payload V; the reply is its row number P.S
-delete P.S        that row goes
-update P.S K V    that row gets another key and payload
+insert K V        inserts a row with key K and payload V; the reply is its row number P.S
+delete P.S        deletes that row
+update P.S K V    that row gets a new key and payload
 count LO HI       how many rows have keys from LO up to and without HI; the word end is past all keys: count 0 end
 sum LO HI         the sum of their payloads
 select LO HI      these rows, a line P.S K V for each
-layout P          what stands where in partition P, as numbers
-checkpoint P      the history of partition P begins anew, and its rows stay; the reply is how many entries went
-policy NAME       how rows that came or went are merged: complete, gradual, ripple or auto
+layout P          how the rows of partition P are laid out, as numbers
+checkpoint P      empties the history of partition P; its rows stay, and the reply is how many entries went
+policy NAME       how inserts and deletes are merged: complete, gradual, ripple or auto
 quit              ends the session, as exit does
 
-A ; at the end of a statement is left out. Keys are whole numbers from 0 to 18446744073709551615, payloads from -9223372036854775808 to 9223372036854775807.
+A ; at the end of a statement is ignored. Keys are whole numbers from 0 to 18446744073709551615, payloads from -9223372036854775808 to 9223372036854775807.
 
 .load FILE        inserts the rows of CSV, with or without the header key,payload
 .save FILE        writes all rows as CSV; the histories keep the selects that list them
-.read FILE        answers the lines of a file
+.read FILE        runs the lines of a file
 .layout [P]       draws the columns of all partitions, or of one
 .mode NAME        how replies are shown: lines as the server gives them, csv, or json with a value a line
 .limit N          a select shows at most N rows; .limit off shows all
-.bail on          what reads a file or a pipe ends where a statement is refused or a command isn't done; .bail off goes on
+.bail on          a file or a pipe ends at a refused statement or a failed command; .bail off goes on
 .help             this, as help does
 .quit             ends the session, as control-D does
 
-Control-C ends what is at work; rows that were answered stay."""
+Control-C ends what is running; rows that were answered stay."""
 
 
 class Fault(Exception):
@@ -74,13 +74,13 @@ class Left(Disconnected):
 
 
 def complain(text):
-    """Tells what is wrong, in a line of its own."""
+    """Writes a line to standard error."""
     sys.stdout.flush()
     print(f"shell: {text}", file=sys.stderr, flush=True)
 
 
 def in_words(line):
-    """A reply, and behind a refusal what it means."""
+    """A reply, followed by what it means if it is a refusal."""
     refused = REFUSED.match(line)
     return f"{line}: {MEANINGS[refused[1]]}" if refused and refused[1] in MEANINGS else line
 

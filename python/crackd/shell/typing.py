@@ -1,4 +1,4 @@
-"""What is typed at the prompt: edited, completed by Tab, and kept in a file, where the module readline is there."""
+"""Lines at the prompt: edited, completed by Tab, and kept in a file, if the module readline is there."""
 
 import contextlib
 import glob
@@ -9,31 +9,31 @@ from .modes import MODES
 
 WORDS = ["insert", "delete", "update", "count", "sum", "select", "layout", "checkpoint", "policy", "quit", "exit", "help"]
 COMMANDS = [".load", ".save", ".read", ".layout", ".mode", ".limit", ".bail", ".help", ".quit"]
-# what may stand behind a word
-BEHIND = {"policy": list(POLICIES), ".mode": list(MODES), ".bail": ["on", "off"], ".limit": ["off"]}
+# what may follow a word
+AFTER = {"policy": list(POLICIES), ".mode": list(MODES), ".bail": ["on", "off"], ".limit": ["off"]}
 OF_FILES = (".load", ".save", ".read")
 MOST_KEPT = 1000
 
 
 def history_file():
-    """Where what was typed is kept: the file that CRACKD_HISTORY names, or nowhere where that is empty, or else ~/.crackd_history."""
+    """The file for typed lines: what CRACKD_HISTORY says, none if that is empty, or else ~/.crackd_history."""
     return os.environ.get("CRACKD_HISTORY", os.path.expanduser("~/.crackd_history"))
 
 
 def completions(line, word):
-    """What a word may be completed to that ends a line."""
+    """What the last word of a line can be completed to."""
     before = line[: len(line) - len(word)].split()
     if not before:
         return [f"{it} " for it in WORDS + COMMANDS if it.startswith(word)]
     if before[0] in OF_FILES and len(before) == 1:
         found = sorted(glob.glob(glob.escape(os.path.expanduser(word)) + "*"))
         return [it + ("/" if os.path.isdir(it) else " ") for it in found]
-    return [f"{it} " for it in BEHIND.get(before[0], []) if len(before) == 1 and it.startswith(word)]
+    return [f"{it} " for it in AFTER.get(before[0], []) if len(before) == 1 and it.startswith(word)]
 
 
 @contextlib.contextmanager
 def edited():
-    """While lines are typed. What was typed before is there, and what is typed is kept."""
+    """While lines are typed: earlier lines can be recalled, and new ones are kept."""
     try:
         import readline
     except ImportError:
