@@ -19,6 +19,8 @@ from .errors import BadSplits, Closed, Error, Refused, refused
 from .keys import Keys, kind_of, quantiles
 from .layout import PartLayout, keys_text
 from .shard import (
+    SECONDS_OF_A_LOOK,
+    TIMEOUTS,
     BadSave,
     LoadFailed,
     Place,
@@ -36,7 +38,7 @@ from .shard import (
 from .table import HISTORY, MOST_CELLS
 
 import dask
-from distributed import Client, Future
+from distributed import Actor, Client, Future, wait
 
 __all__ = ["BadSave", "ShardFailed", "ShardLost", "Table"]
 
@@ -200,12 +202,19 @@ class Table(AnyTable):
             errors[shard] = self._lose(shard, str(error) or type(error).__name__)
             return None
 
-    def _actor(self, shard: int, worker: str) -> Any:
+    def _actor(self, shard: int, worker: str) -> Actor:
         """The actor of a shard that was begun on a worker. An opening that is refused raises its error."""
-        try:
-            return waited(self._futures[shard], lambda: worker in self._client.nthreads())
-        except ConnectionError as error:
-            raise self._lose(shard, str(error)) from error
+        future = self._futures[shard]
+        while not future.done():
+            # (a timeout of `result` would cancel what other results wait for)
+            try:
+                wait(future, timeout=SECONDS_OF_A_LOOK)
+            except TIMEOUTS:
+                if not future.done() and worker not in self._client.nthreads():
+                    raise self._lose(shard, "its worker is gone") from None
+        if future.status != "finished":
+            future.result()
+        return Actor(Shard, worker, future.key)
 
     def _result(self, shard: int, future: Any) -> tuple[str, Any]:
         """Waits for a shard's answer. What is no error of this package means that the shard is lost."""

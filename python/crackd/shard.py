@@ -152,7 +152,7 @@ def blocks_of(shards: Any) -> Iterator[Block]:
 
 
 def waited(future: Any, is_there: Callable[[], bool]) -> Any:
-    """A future's result, waited for as long as what it comes from is there: Dask itself may wait for ever."""
+    """An actor's answer, waited for as long as the actor is there: Dask itself may wait for ever."""
     while not future.done():
         try:
             return future.result(timeout=SECONDS_OF_A_LOOK)

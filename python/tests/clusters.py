@@ -1,6 +1,7 @@
 """Dask clusters of this machine, for the tests of tables on one. Workers import this module, too."""
 
 import contextlib
+import importlib.util
 import os
 import pathlib
 import resource
@@ -18,17 +19,12 @@ try:
 except ImportError:
     cluster = None
 
-try:
-    import dask.dataframe as frames
-except ImportError:
-    frames = None
-
 HERE = pathlib.Path(__file__).resolve().parent
 wants_cluster = unittest.skipIf(cluster is None, "numpy or dask.distributed isn't installed")
-wants_pandas = unittest.skipIf(frames is None, "dask.dataframe or pandas isn't installed")
-SECONDS = 60
+wants_pandas = unittest.skipIf(importlib.util.find_spec("pandas") is None, "pandas isn't installed")
+SECONDS = 300
 CONFIG = {
-    "distributed.comm.timeouts.connect": "10s",
+    "distributed.comm.timeouts.connect": "60s",
     "distributed.comm.retry.count": 0,
     "distributed.logging": {"distributed": "critical"},
 }

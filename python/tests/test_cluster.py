@@ -537,7 +537,7 @@ class Page(unittest.TestCase):
             path = pathlib.Path(folder) / "session.py"
             path.write_text(program, encoding="utf-8")
             environment = {**os.environ, "PYTHONPATH": str(PAGE.parents[1] / "python")}
-            how = {"cwd": folder, "env": environment, "capture_output": True, "text": True, "timeout": 120}
+            how = {"cwd": folder, "env": environment, "capture_output": True, "text": True, "timeout": 600}
             ran = subprocess.run([sys.executable, "-W", "ignore", str(path)], check=False, **how)
         self.assertEqual((ran.returncode, ran.stdout), (0, wanted), ran.stderr)
 
