@@ -89,7 +89,7 @@ class Frame:
 
     def __init__(self, client, keys, payloads):
         whole = pd.DataFrame({"number": np.arange(len(keys)), "key": keys, "payload": payloads})
-        self.frame = client.persist(frames.from_pandas(whole, npartitions=BLOCKS))
+        self.frame = client.persist(frames.from_pandas(whole, npartitions=BLOCKS).clear_divisions())
         len(self.frame)
 
     def inside(self, low):
@@ -99,12 +99,12 @@ class Frame:
         return [int(it) for it in dask.compute(*(self.inside(low).sum() for low in lows))]
 
     def sums(self, lows):
-        return [int(it) for it in dask.compute(*(self.frame.payload.where(self.inside(low), 0).sum() for low in lows))]
+        return [int(it) for it in dask.compute(*(self.frame[self.inside(low)].payload.sum() for low in lows))]
 
     def change(self, keys, payloads, changed, gone, new):
         after = pd.DataFrame({"number": len(keys) + np.arange(len(new)), "key": new, "payload": np.zeros(len(new), np.int64)})
         before = self.frame.map_partitions(changed_block, changed, gone, meta=self.frame._meta)
-        self.frame = frames.concat([before, frames.from_pandas(after, npartitions=1)], interleave_partitions=True).persist()
+        self.frame = frames.concat([before, frames.from_pandas(after, npartitions=1).clear_divisions()]).persist()
         len(self.frame)
 
     def close(self):
@@ -165,7 +165,7 @@ def least(client, rows, runs):
 def shown(seconds):
     if seconds is None:
         return "–"
-    return f"{seconds:.2g} s" if seconds >= 1 else f"{seconds * 1e3:.0f} ms" if seconds >= 0.01 else f"{seconds * 1e3:.1f} ms"
+    return f"{seconds:.1f} s" if seconds >= 1 else f"{seconds * 1e3:.0f} ms" if seconds >= 0.01 else f"{seconds * 1e3:.1f} ms"
 
 
 def lines_of(found):
