@@ -179,8 +179,8 @@ def main(rows=ROWS, runs=RUNS):
     with LocalCluster(n_workers=WORKERS, threads_per_worker=1, dashboard_address=None) as workers, Client(workers) as client:
         table = "".join(lines_of(least(client, rows, runs)))
     print(table)
-    before, _, rest = PAGE.read_text(encoding="utf-8").partition(BEGIN)
     if rows == ROWS:
+        before, _, rest = PAGE.read_text(encoding="utf-8").partition(BEGIN)
         PAGE.write_text(before + BEGIN + table + END + rest.partition(END)[2], encoding="utf-8")
 
 
