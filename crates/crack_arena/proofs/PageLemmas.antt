@@ -85,7 +85,7 @@ module _ {C : Type 0} where
   joined_none [] paged = refl
   joined_none (p ∷ ps) paged = rw (nil_from_length p (omega (arith, paged.0))) (joined_none ps paged.1)
 
-  -- a cell behind the last
+  -- a cell after the last
   pub joined-push : (pages : List (List C)) (len : ℕ) (e : List C) (c : C) → IsPaged pages len → len < 256 * length pages → joined (set pages (len / 256) (get_or pages (len / 256) e ++ c ∷ [])) ≡ joined pages ++ c ∷ []
   joined-push [] len e c paged room = absurd (omega arith)
   joined-push (p ∷ ps) len e c paged room = elim (cases_lt len 256) [
@@ -111,7 +111,7 @@ module _ {C : Type 0} where
         rw (at.page, next) (omega (arith, far, paged.0), IsPaged-push ps (len - 256) e c paged.1 (omega (arith, room)))
   ]
 
-  -- pages without cells behind the last
+  -- pages without cells after the last
   pub joined-more : (pages : List (List C)) (more : ℕ) → joined (pages ++ replicate more []) ≡ joined pages
   joined-more [] zero = refl
   joined-more [] (suc more) = joined-more [] more
@@ -169,7 +169,7 @@ module _ {C : Type 0} where
       let sound = IsPaged-push pages len page c paged room in
       rw (← found) at sound
 
-  -- behind the first `kept` pages stand pages without cells alone
+  -- after the first `kept` pages stand pages without cells alone
   pub record AreSpare (pages : List (List C)) (kept : ℕ) : Type 0 where
     pub within : kept ≤ length pages
     pub empty : drop kept pages ≡ replicate (length pages - kept) []

@@ -130,7 +130,7 @@ impl<C> CellList<C> {
     }
 }
 
-/// How many pages have room for so many cells behind those that are used.
+/// How many pages have room for so many cells after those that are used.
 fn pages_for(used: usize, additional: usize) -> usize
     requires { used < 256 }
     ensures enough { used + additional ≤ 256 * result }
@@ -172,7 +172,7 @@ fn push_pages<C>(pages: &mut Vec<Page<C>>, more: usize) -> Result<(), AllocError
     Ok(())
 }
 
-/// Gives the pages back that stand behind the first so many. They have no cells.
+/// Gives the pages back that stand after the first so many. They have no cells.
 fn give_back<C>(pages: &mut Vec<Page<C>>, kept: usize)
     requires within { kept ≤ length pages.old.items }
     requires empty { drop kept pages.old.items ≡ replicate (length pages.old.items - kept) [] }

@@ -166,7 +166,7 @@ module _ (ceiling : Option ℕ) (r : Range) (high : IsUnder ceiling r) (On : ℕ
             ap (with_room a b) (bulk_from-first ceiling place t a b es left_of stays.0 coming) ∙ ap (λ x. with_room a b (bulk_from ceiling (comes x ∷ es) left_of t)) one;
       }
 
-  -- those still to be looked at stand behind those that were passed by and before those that were evicted
+  -- those still to be looked at stand after those that were passed by and before those that were evicted
   carries_on : (todo : List Handle) (t : State) (from : ℕ) (passed back : List Handle) → IsIntact t [] → t.pending_in ≡ passed ++ (todo ++ back) → from ≤ length passed → NoneFrom r (key_at t.cells) from passed → All (IsOutside r (key_at t.cells)) back → On from t → (inside_of t.cells r todo ≡ [] → with_room a b t ≡ t) → IsThrough r On (with_room a b (bulk_from ceiling (map comes (inside_of t.cells r todo)) (passed ++ (outside_of t.cells r todo ++ back)) t))
   carries_on [] t from passed back intact pending order none outside before roomy =
       let same : with_room a b (bulk_from ceiling [] (passed ++ back) t) ≡ t = rw (← pending) (ap (with_room a b) (bulk_from-none ceiling t intact) ∙ roomy refl) in

@@ -156,6 +156,6 @@ module _ {X : Type 0} (key : X → ℕ) (stops : X → Bool) where
   going-coming [] = refl
   going-coming (x ∷ xs) = going-coming xs
 
-  -- the rows that come in, those whose carries end with a row in hand at its place, the others behind the last piece: the passes leave what the carries do
+  -- the rows that come in, those whose carries end with a row in hand at its place, the others after the last piece: the passes leave what the carries do
   pub down-in_bulk : (xs : List X) (pieces : Pieces X) → AreDivided key 0 pieces → All Goes xs → sifted_down key stops 0 (placed_all key stops 0 xs (map comes xs) pieces) (going key stops xs (bulk_outcomes key stops (map comes xs) pieces)) ≡ ([], in_bulk key stops (map comes xs) pieces)
   down-in_bulk xs pieces divided coming = rw (← (going-coming xs)) (sifted_down-placed 0 xs (map comes xs) pieces divided (AreOn-coming xs) coming)

@@ -30,7 +30,7 @@ raised-lower low place (m ∷ ms) below_it =
     rw (lt-leb low m.bound.0 first, raised-lower low place ms (All-tail (λ n. n.bound.0 < low) m ms below_it)) refl
 
 module _ {X : Type 0} where
-  -- marks behind the place stay
+  -- marks after the place stay
   pub raised-behind : (low place at : ℕ) (pieces : Pieces X) → place < at → map (raised low place) (marks_of at pieces) ≡ marks_of at pieces
   raised-behind low place at (last rows) behind = refl
   raised-behind low place at (below rows bound pieces) behind =

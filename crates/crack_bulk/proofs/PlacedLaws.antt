@@ -1,4 +1,4 @@
--- One pass over what stands behind a piece leaves what the rows that reach it do, one after the other.
+-- One pass over what follows a piece leaves what the rows that reach it do, one after the other.
 use Rattle.std.proofs.Common.{◌≡◌, ℕ, ◌<◌, ◌≤◌, Bool, false, cond, List, [], ◌∷◌, ◌++◌, refl, sym, ap, ◌∙◌, inl, inr}
 use Rattle.std.specs.List.{All}
 use Rattle.std.proofs.lemmas.Bool.{cases_lt, cases_Bool, lt-ltb, le-ltb}
@@ -20,7 +20,7 @@ module _ {X : Type 0} (key : X → ℕ) (stops : X → Bool) where
   placed-push (w ∷ ws) [] x goes = rw (goes, placed-nil ws) refl
   placed-push (w ∷ ws) (y ∷ ys) x goes = ap (λ zs. cond (stops y) w y ∷ zs) (placed-push ws ys x goes)
 
-  -- rows of lower pieces at the front stand there, whatever stands behind them
+  -- rows of lower pieces at the front stand there, whatever stands after them
   pub front-lower : (low : ℕ) (lower rows : List X) → All (λ x. key x < low) lower → (front key stops low (lower ++ rows) ≡ lower ++ front key stops low rows) × (behind_front key stops low (lower ++ rows) ≡ behind_front key stops low rows)
   front-lower low [] rows all = (refl, refl)
   front-lower low (x ∷ xs) rows all =
@@ -51,7 +51,7 @@ module _ {X : Type 0} (key : X → ℕ) (stops : X → Bool) where
   pub pass-turn : (low : ℕ) (x : X) (xs before rows : List X) → key x < low → pass_over key stops low (x ∷ xs) before rows ≡ pass_over key stops low xs (before ++ (front key stops low rows ++ x ∷ [])) (turned_once (behind_front key stops low rows))
   pass-turn low x xs before rows under = ap (λ b. cond b (pass_over key stops low xs (before ++ (front key stops low rows ++ x ∷ [])) (turned_once (behind_front key stops low rows))) (pass_over key stops low xs before (rows ++ x ∷ []))) (lt-ltb (key x) low under)
 
-  -- rows one behind the other
+  -- rows one after another
   joined : (before lower ts : List X) (x : X) → (before ++ (lower ++ x ∷ [])) ++ ts ≡ (before ++ lower) ++ x ∷ ts
   joined before lower ts x = append_assoc before (lower ++ x ∷ []) ts ∙ ap (λ zs. before ++ zs) (append_assoc lower (x ∷ []) ts) ∙ sym (append_assoc before lower (x ∷ ts))
 

@@ -11,7 +11,7 @@ use Rattle.crack_bulk.specs.Queues.{Event, comes, turns, stopped, is_below, any_
 use Rattle.crack_column.specs.Sifts.{turned_once, one_if_some, below_bound, queued, made_way}
 use Rattle.crack_bulk.proofs.Sifts.{sifted, all_made_way, count_below, OfMet, risen}
 
--- one more behind them
+-- one more after them
 All-take_push : {X : Type 0} (P : X → Type 0) (n : ℕ) (xs : List X) (x : X) → All P (take n xs) → P x → All P (take n (xs ++ x ∷ []))
 All-take_push P zero xs x all one = All-nil P
 All-take_push P (suc n) [] x all one = All-take P (suc n) (x ∷ []) (All-cons P x [] one (All-nil P))

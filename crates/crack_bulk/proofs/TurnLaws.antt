@@ -11,7 +11,7 @@ use Rattle.crack_bulk.specs.Queues.{Event, comes, turns, stopped, is_below, left
 use Rattle.crack_column.specs.Sifts.{turned_once, queued}
 use Rattle.crack_bulk.proofs.PieceLaws.{mark_at}
 
--- the first row went behind the last, so many times
+-- the first row went after the last, so many times
 abbrev pub turned_by : {X : Type 0} → ℕ → List X → List X
 turned_by zero rows = rows
 turned_by (suc g) rows = turned_by g (turned_once rows)

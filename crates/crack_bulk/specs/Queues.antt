@@ -22,7 +22,7 @@ module _ {X : Type 0} (key : X → ℕ) (stops : X → Bool) where
   abbrev pub any_row : X → Bool
   any_row x = true
 
-  -- what a turn leaves: the first row, which makes way, goes behind the last, unless a carry ends with it in hand
+  -- what a turn leaves: the first row, which makes way, goes after the last, unless a carry ends with it in hand
   abbrev pub after_turn : List X → List X
   after_turn [] = []
   after_turn (y ∷ ys) = cond (stops y) ys (ys ++ y ∷ [])

@@ -67,7 +67,7 @@ pub IsDividedAt-set_below : (bound : ℕ) (keys : List ℕ) (place i key : ℕ) 
 IsDividedAt-set_below bound keys place i key inside below d =
     IsDividedAt-set bound keys place place i key (λ k _ h. h) (λ k _ h. h) (λ _. below) (λ h. absurd (omega arith)) d.within d
 
--- another key behind the division
+-- another key after the division
 pub IsDividedAt-set_above : (bound : ℕ) (keys : List ℕ) (place i key : ℕ) → place ≤ i → bound ≤ key → IsDividedAt bound keys place → IsDividedAt bound (set keys i key) place
 IsDividedAt-set_above bound keys place i key inside above d =
     IsDividedAt-set bound keys place place i key (λ k _ h. h) (λ k _ h. h) (λ h. absurd (omega arith)) (λ _. above) d.within d

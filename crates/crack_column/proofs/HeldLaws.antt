@@ -8,7 +8,7 @@ use Rattle.crack_column.specs.Keeps.{IsHeld}
 use Rattle.crack_column.proofs.TicketLaws.{AreDrawn-exchange, unread-exchange}
 
 module _ (ts : List Tag) (len place : ℕ) (hand there : Tag) (first : place < len) (some : len < length ts) (is : there ≡ get_or ts place no_tag) where
-  -- the tags with the hand behind the last place, and those afterwards
+  -- the tags with the hand after the last place, and those afterwards
   abbrev before : List Tag
   before = tags_with ts len hand
 
@@ -21,7 +21,7 @@ module _ (ts : List Tag) (len place : ℕ) (hand there : Tag) (first : place < l
   pub there_is : get_or before place no_tag ≡ there
   there_is = get_or-set_other ts len place hand no_tag (λ e. absurd (omega (arith, e))) ∙ sym is
 
-  -- it is an exchange with the row that stands behind the last place
+  -- it is an exchange with the row that stands after the last place
   pub swapped-held : after ≡ set (set before place (get_or before len no_tag)) len (get_or before place no_tag)
   swapped-held =
       let moved : set before place hand ≡ set (set ts place hand) len hand = set_comm ts len place hand hand (λ e. absurd (omega (arith, e))) in

@@ -88,7 +88,7 @@ shifted-permutes ts t low gap order inside =
           IsPermutation-swap filled (shifted ts gap low t) gap low (omega arith) (omega arith) (same ∙ swap_is filled gap low no_tag (omega arith) (omega arith))
     ]
 
--- the tag behind the gap comes in, and the gap is where it stood
+-- the tag after the gap comes in, and the gap is where it stood
 pub IsPartway-step : (bound : ℕ) (ts ts1 : List Tag) (first next : Tag) (low gap low2 : ℕ) → gap + 1 < length ts1 → get_or ts1 (gap + 1) no_tag ≡ next → Falls bound next low low2 → IsPartway bound ts ts1 first low gap → IsPartway bound ts (shifted ts1 gap low next) first low2 (gap + 1)
 IsPartway-step bound ts ts1 first next low gap low2 inside is falls so_far =
     let whole : List Tag = set ts1 gap first in

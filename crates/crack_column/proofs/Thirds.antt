@@ -157,7 +157,7 @@ Divided-turned low high ts t middle upper gap place middle2 upper2 bounds inside
 pub Belongs-within : (low high : ℕ) (t : Tag) (middle upper place middle2 upper2 : ℕ) → middle ≤ upper → Belongs low high t middle upper place middle2 upper2 → place ≤ upper
 Belongs-within low high t middle upper place middle2 upper2 order belongs = elim belongs.which [ inl l ↦ omega (arith, l.1) | inr g ↦ omega (arith, g.1) ]
 
--- the tag behind the gap comes in, and the gap is where it stood
+-- the tag after the gap comes in, and the gap is where it stood
 pub IsThirdway-step : (low high : ℕ) (ts ts1 : List Tag) (first next : Tag) (middle upper gap place middle2 upper2 : ℕ) → low ≤ high → gap + 1 < length ts1 → get_or ts1 (gap + 1) no_tag ≡ next → Belongs low high next middle upper place middle2 upper2 → IsThirdway low high ts ts1 first middle upper gap → IsThirdway low high ts (turned ts1 gap upper place next) first middle2 upper2 (gap + 1)
 IsThirdway-step low high ts ts1 first next middle upper gap place middle2 upper2 bounds inside is belongs so_far =
     let before : place ≤ upper = Belongs-within low high next middle upper place middle2 upper2 so_far.order belongs in

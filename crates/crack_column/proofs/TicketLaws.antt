@@ -82,7 +82,7 @@ remembered-last ts len inside = remembered-longer ts ts len (get_or ts len no_ta
 pub unread-last : (ts : List Tag) (len : ℕ) → len < length ts → unread_in (take (len + 1) ts) ≡ unread_in (take len ts) + times unknown ((get_or ts len no_tag).key ∷ [])
 unread-last ts len inside = unread-longer ts ts len (get_or ts len no_tag) (take_more ts len no_tag inside)
 
--- what stands behind the column's end, entry by entry
+-- what follows the column's end, entry by entry
 pub length-aside : (gs : List ℕ) (ts : List Tag) (len : ℕ) → length (aside_in gs ts len) ≡ length ts - len
 length-aside gs ts len = length-map (drop len ts) (aside_of gs) ∙ length-drop len ts
 
@@ -90,13 +90,13 @@ aside_at : (gs : List ℕ) (ts : List Tag) (len k : ℕ) (d : Aside) → len + k
 aside_at gs ts len k d inside =
     get_or-map (aside_of gs) (drop len ts) k no_tag d (omega (arith, length-drop len ts)) ∙ ap (aside_of gs) (get_or-drop len ts k no_tag)
 
--- the one aside is read off the tag behind the last place
+-- the one aside is read off the tag after the last place
 pub first-aside : (gs : List ℕ) (ts : List Tag) (len : ℕ) → len < length ts → get_or (aside_in gs ts len) 0 no_aside ≡ aside_of gs (get_or ts len no_tag)
 first-aside gs ts len inside =
     let at : len + 0 ≡ len = omega arith in
     aside_at gs ts len 0 no_aside (omega arith) ∙ ap (λ n. aside_of gs (get_or ts n no_tag)) at
 
--- and without it the rest is what stands behind one place more
+-- and without it the rest is what follows one place more
 pub aside-longer : (gs : List ℕ) (ts : List Tag) (len : ℕ) → drop 1 (aside_in gs ts len) ≡ aside_in gs ts (len + 1)
 aside-longer gs ts len = drop-map (aside_of gs) 1 (drop len ts) ∙ ap (λ (xs : List Tag). map (aside_of gs) xs) (drop-drop 1 len ts)
 
@@ -137,7 +137,7 @@ module _ (gs : List ℕ) (ts : List Tag) (place : ℕ) (h : Handle) (m : Memory)
       let generation : get_or gs' (get_or ts k no_tag).ticket 0 ≡ get_or gs (get_or ts k no_tag).ticket 0 = rw kept.generations_are (get_or-set_other gs (get_or ts place no_tag).ticket (get_or ts k no_tag).ticket h.generation 0 (apart ts place k inside within ne (are.once (get_or ts place no_tag).ticket))) in
       rw (other_tag k ne) (ap (λ g. let n : Handle = record { slot = (get_or ts k no_tag).slot; generation = g } in n) generation)
 
-  -- as many tags as before, or one more where the place was behind the end
+  -- as many tags as before, or one more where the place was after the end
   pub AreDrawn-Kept : (len' : ℕ) → len' ≤ length ts → AreDrawn gs' ts' len'
   AreDrawn-Kept len' within = record {
     beside = omega (arith, length-Kept, length_generations-Kept, are.beside);
@@ -175,7 +175,7 @@ module _ (gs : List ℕ) (ts : List Tag) (place : ℕ) (h : Handle) (m : Memory)
       let old : get_or ks place 0 ≡ known.key = get_or-map remembered_key (take len ts) place no_tag 0 (omega (arith, length-take-le len ts are.within)) ∙ ap remembered_key (get_or-take len ts place no_tag first) ∙ ap (λ (x : Memory). x.key) (sym kept.known_is) in
       rw (new, ← old) (times-set unknown ks place m.key 0 (omega arith))
 
-  -- the places before, where the row was put behind them
+  -- the places before, where the row was put after them
   pub tags-before : len ≤ place → take len ts' ≡ take len ts
   tags-before behind = ap (λ (xs : List Tag). take len xs) kept.tags_are ∙ take-set-le len ts place (tag_for (get_or ts place no_tag).ticket h m) behind
 
@@ -193,7 +193,7 @@ module _ (gs : List ℕ) (ts : List Tag) (place : ℕ) (h : Handle) (m : Memory)
       let by_tag : Tag → Aside = λ t. record { handle = tag_handle gs (get_or ts k no_tag); memory = memory_of t } in
       ap by_handle (other_handle k ne within) ∙ ap by_tag (other_tag k ne)
 
-  -- what stands aside behind it stays
+  -- what stands aside after it stays
   pub aside-behind : (from : ℕ) → place < from → aside_in gs' ts' from ≡ aside_in gs ts from
   aside-behind from behind =
       ext_get_or no_aside (aside_in gs' ts' from) (aside_in gs ts from) (omega (arith, length-aside gs' ts' from, length-aside gs ts from, length-Kept)) (λ k l.
@@ -209,7 +209,7 @@ module _ (gs : List ℕ) (ts : List Tag) (place : ℕ) (h : Handle) (m : Memory)
       let rest : aside_in gs' ts' (len + 1) ≡ drop 1 (aside_in gs ts len) = aside-behind (len + 1) (omega arith) ∙ sym (aside-longer gs ts len) in
       aside-shorter gs' ts' len (omega (arith, length-Kept)) ∙ ap (λ a. a ∷ aside_in gs' ts' (len + 1)) first ∙ ap (λ (xs : List Aside). (record { handle = h; memory = m }) ∷ xs) rest
 
--- a row was put behind all others, under a new ticket
+-- a row was put after all others, under a new ticket
 module _ (gs : List ℕ) (ts : List Tag) (h : Handle) (m : Memory) (are : AreDrawn gs ts (length ts)) where
   pub AreDrawn-draw : length ts < 2 ^ 32 → AreDrawn (gs ++ h.generation ∷ []) (ts ++ (tag_for (length gs) h m) ∷ []) (length ts)
   AreDrawn-draw few =
@@ -411,7 +411,7 @@ module _ (gs : List ℕ) (from to : ℕ) (ts ts' : List Tag) (learned len : ℕ)
           ]
         ]))
 
-  -- what stands behind the column stays
+  -- what follows the column stays
   pub aside-Reorders : aside_in gs ts' len ≡ aside_in gs ts len
   aside-Reorders =
       ext_get_or no_aside (aside_in gs ts' len) (aside_in gs ts len) (omega (arith, length-aside gs ts' len, length-aside gs ts len, standing.len)) (λ k l.

@@ -29,7 +29,7 @@ pub record Aside : Type 0 where
   pub handle : Handle
   pub memory : Memory
 
--- handles in cracked order, what is remembered of their rows, how many more fit in without memory, and what stands behind the last
+-- handles in cracked order, what is remembered of their rows, how many more fit in without memory, and what follows the last
 -- place: the first of these is the one aside
 pub record Column : Type 0 where
   pub handles : List Handle

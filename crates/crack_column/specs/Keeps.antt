@@ -17,7 +17,7 @@ remembered_key t = t.key
 abbrev pub unread_in : List Tag → ℕ
 unread_in tags = times unknown (map remembered_key tags)
 
--- each ticket is drawn by one tag; those behind the column's end keep theirs for a later row
+-- each ticket is drawn by one tag; those after the column's end keep theirs for a later row
 pub record AreDrawn (generations : List ℕ) (tags : List Tag) (len : ℕ) : Type 0 where
   pub beside : length tags ≡ length generations
   pub within : len ≤ length tags

@@ -1,4 +1,4 @@
--- What rows that stand behind a piece leave of it, where they are sifted through it one after the other.
+-- What rows that stand after a piece leave of it, where they are sifted through it one after the other.
 use Rattle.std.specs.Prelude.{◌≡◌, ℕ, ◌+◌, cond, nat_lt, filter, List, [], ◌∷◌, ◌++◌, length, map, take, drop}
 use Rattle.std.specs.List.{between}
 use Rattle.crack_arena.specs.Arena.{Cell}
@@ -6,7 +6,7 @@ use Rattle.crack_arena.specs.Rows.{key_at}
 use Rattle.crack_row.specs.declared.Row.{Row}
 use Rattle.crack_column.specs.Column.{Column, memory_at}
 
--- the first goes behind the last
+-- the first goes after the last
 abbrev pub turned_once : {X : Type 0} → List X → List X
 turned_once [] = []
 turned_once (y ∷ ys) = ys ++ y ∷ []
@@ -21,8 +21,8 @@ module _ {X : Type 0} (key : X → ℕ) where
   abbrev pub below_bound : ℕ → List X → List X
   below_bound bound xs = filter (λ x. nat_lt (key x) bound) xs
 
-  -- what rows that come in leave of a piece that begins at this bound: one below the bound takes the place of the first, which goes behind the
-  -- last; another goes behind the last
+  -- what rows that come in leave of a piece that begins at this bound: one below the bound takes the place of the first, which goes after the
+  -- last; another goes after the last
   abbrev pub queued : ℕ → List X → List X → List X
   queued bound [] rows = rows
   queued bound (x ∷ xs) rows = queued bound xs (cond (nat_lt (key x) bound) (turned_once rows) (rows ++ x ∷ []))

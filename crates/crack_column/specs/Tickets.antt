@@ -24,7 +24,7 @@ remembered_in tags len = map memory_of (take len tags)
 abbrev pub aside_of : List ℕ → Tag → Aside
 aside_of generations t = record { handle = tag_handle generations t; memory = memory_of t }
 
--- what stands behind the column that has so many places
+-- what follows the column that has so many places
 abbrev pub aside_in : List ℕ → List Tag → ℕ → List Aside
 aside_in generations tags len = map (aside_of generations) (drop len tags)
 

@@ -28,7 +28,7 @@ use std::mem;
 pub struct CrackerColumn {
     /// By ticket.
     pub(crate) generations: Vec<u64>,
-    /// In cracked order; those behind `len` keep their tickets for later rows.
+    /// In cracked order; those after `len` keep their tickets for later rows.
     pub(crate) tags: Tags,
     pub(crate) len: usize,
     /// How many tags don't know their rows.
@@ -275,7 +275,7 @@ impl CrackerColumn {
         Some((self.aside(), self.aside_memory()))
     }
 
-    /// Puts the handle aside, behind the last place, into room that was reserved, with what is to be remembered of its row. It stands at
+    /// Puts the handle aside, after the last place, into room that was reserved, with what is to be remembered of its row. It stands at
     /// no place of the column; one that stood aside before is let go. O(1).
     pub fn set_aside(&mut self, handle: Handle<Row>, remembered: Remembered)
         requires { 0 < self.old.room }
@@ -299,7 +299,7 @@ impl CrackerColumn {
         self.unread -= self.tags.get(self.len).unread();
     }
 
-    /// Puts the handle that stands aside behind the last. O(1), and reads no row.
+    /// Puts the handle that stands aside after the last. O(1), and reads no row.
     pub fn append_aside(&mut self)
         requires { 0 < length self.old.aside }
         ensures after { self.new ≡ appended_aside self.old }
@@ -418,7 +418,7 @@ impl CrackerColumn {
     }
 
     /// Sifts the rows from the place `from` up to and without `to`, one after the other, through the piece before them, which begins at the
-    /// place `start`: one below the bound changes places with the first of the piece, and the others stay behind its last. Those below
+    /// place `start`: one below the bound changes places with the first of the piece, and the others stay after its last. Those below
     /// the bound stand first then. How many they are, and how many rows of the piece made way. The rows that are sifted are known.
     /// In place, without memory. O(to - from); reads no other row, and the arena not at all.
     pub fn sift(
@@ -461,7 +461,7 @@ fn keep(
     (Handle::new(here.slot, generation), here.remembered())
 }
 
-/// Keeps the handle behind the last place: under the ticket that stands there, or under a new one.
+/// Keeps the handle after the last place: under the ticket that stands there, or under a new one.
 fn keep_behind(
     generations: &mut Vec<u64>,
     tags: &mut Tags,
@@ -486,7 +486,7 @@ fn keep_behind(
     }
 }
 
-/// Keeps the handle under a new ticket, with a tag behind all others.
+/// Keeps the handle under a new ticket, with a tag after all others.
 fn draw(generations: &mut Vec<u64>, tags: &mut Tags, handle: Handle<Row>, remembered: Remembered)
     requires beside { length tags.old.items ≡ vec_len generations.old }
     requires few { length tags.old.items < 2 ^ 32 }

@@ -17,7 +17,7 @@ pub struct HeldColumn {
     len: usize,
     /// How many tags don't know their rows, the one in hand among them.
     unread: usize,
-    /// The tag of the row in hand; the one behind the last place isn't read.
+    /// The tag of the row in hand; the one after the last place isn't read.
     hand: Tag,
 }
 

@@ -101,7 +101,7 @@ impl Tags {
         Ok(())
     }
 
-    /// Puts the tag behind all others, into room that was reserved.
+    /// Puts the tag after all others, into room that was reserved.
     pub(crate) fn push_reserved(&mut self, tag: Tag)
         requires { length self.old.items < self.old.capacity }
         ensures { self.new ≡ record self.old { items = self.old.items ++ tag ∷ [] } }

@@ -378,7 +378,7 @@ Rising-lowered_at place marks rising = Rising-map (lowered_at place) (InOrder-lo
 
 -- The neighbours of a number, once the bounds next to it moved past a place
 
--- a number at or above the bounds up to a place, and below those behind it: its next mark is the first behind the place, also
+-- a number at or above the bounds up to a place, and below those after it: its next mark is the first after the place, also
 -- once bounds at the place moved up
 pub next_mark-raised : (low place number : ℕ) (marks : List Mark) → All (λ m. m.position ≤ place → m.bound.0 ≤ number) marks → All (λ m. place < m.position → number < m.bound.0) marks → next_mark number (map (raised low place) marks) ≡ first_behind place marks
 next_mark-raised low place number [] up_to behind = refl
@@ -408,7 +408,7 @@ last_mark-lowered high place number (m ∷ ms) before from = elim (cases_lt m.po
       rw (le-ltb m.position place l, lt-leb m.bound.0 number above) refl
 ]
 
--- the first mark behind a place is there, also once bounds at the place moved up
+-- the first mark after a place is there, also once bounds at the place moved up
 pub first_behind-kept : (low place : ℕ) (marks : List Mark) (m : Mark) → first_behind place marks ≡ Some m → Contains (map (raised low place) marks) m
 first_behind-kept low place [] m found = absurd (cc)
 first_behind-kept low place (n ∷ ns) m found = elim (cases_lt place n.position) [

@@ -160,7 +160,7 @@ raised-left low place l m r rising past =
     let order = Rising-behind l m r rising in
     moved_left (raised low place) l m r (λ k d h. raised_apart low place (get_or r k d) (omega (arith, past, (order k d h).positions))) (raised_apart low place m (omega arith))
 
--- those behind a mark that isn't moved for its bound, or stands behind the place, aren't either
+-- those after a mark that isn't moved for its bound, or stands after the place, aren't either
 pub lowered-left : (high place : ℕ) (l : List Mark) (m : Mark) (r : List Mark) → Rising (l ++ m ∷ r) → (high < m.bound.0) ⊎ (place < m.position) → map (lowered high place) (l ++ m ∷ r) ≡ map (lowered high place) l ++ m ∷ r
 lowered-left high place l m r rising which =
     let order = Rising-behind l m r rising in

@@ -109,7 +109,7 @@ up-bound visits number m m' a b u v (StepsUp.along n way x above going at) = (re
 up-bound visits number m m' a b u v (StepsUp.goes_on n way x y above going apart told) = (refl, omega arith)
 up-bound visits number m m' a b u v (StepsUp.stops n way x y above going apart told) = (refl, omega arith)
 
--- behind a mark that moved, a mark at its place moves, too
+-- after a mark that moved, a mark at its place moves, too
 up-behind : {V : Type 0} (visits : V → ℕ → Bool → V → Type 0) (number : ℕ) (m m' : Mark) (a b : Way) (u v : V) → StepsUp visits number m a u m' b v → number < m.bound.0 → a.ended ≡ None → a.last ≤ m.position → a.last < m'.position
 up-behind visits number m m' a b u v (StepsUp.apart n way x below) above going behind = absurd (omega arith)
 up-behind visits number m m' a b u v (StepsUp.over n e way x is) above going behind = absurd (let both : Some e ≡ None = sym is ∙ going in cc)
@@ -250,7 +250,7 @@ pub record Walked {V : Type 0} (step : Mark → Way → V → Mark → Way → V
   pub goes : Goes step (turn (marks_of o)) a u (turn (marks_of o')) b v
   pub height : height_of o' ≡ height_of o
 
--- of the side to which it came first, and of the mark behind that; it goes on
+-- of the side to which it came first, and of the mark after that; it goes on
 pub record Neared {V : Type 0} (step : Mark → Way → V → Mark → Way → V → Type 0) (turn : List Mark → List Mark) (o o' : Option (Box Grown Global)) (m m' : Mark) (a b : Way) (u v : V) : Type 0 where
   pub goes : Goes step (turn (marks_of o) ++ m ∷ []) a u (turn (marks_of o') ++ m' ∷ []) b v
   pub height : height_of o' ≡ height_of o

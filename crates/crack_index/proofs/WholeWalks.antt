@@ -37,7 +37,7 @@ up-new new m ns rising =
 up-upto : (new : List Mark) (m : Mark) (ns : List Mark) → Rising (new ++ m ∷ ns) → All (λ x. x.position ≤ m.position) (new ++ m ∷ [])
 up-upto new m ns rising = All-push (λ x. x.position ≤ m.position) new m (λ k d h. (Rising-before new m ns rising k d h).positions) (omega arith)
 
--- the first bound behind those that moved, and what they are then
+-- the first bound after those that moved, and what they are then
 up-found : (at : Mark) (old : List Mark) (m : Mark) (ns : List Mark) → All (λ n. n.position ≤ at.position) old → at.position < m.position → first_behind at.position (old ++ m ∷ ns) ≡ Some m
 up-found at old m ns upto past = first_behind-past at.position old (m ∷ ns) upto ∙ (rw (lt-ltb at.position m.position past) refl)
 

@@ -11,7 +11,7 @@ pub record Index : Type 0 where
   pub marks : List Mark
   pub room : ℕ
 
--- the first mark's bound is below the second's, and its place isn't behind the second's
+-- the first mark's bound is below the second's, and its place isn't after the second's
 pub record InOrder (m n : Mark) : Type 0 where
   pub bounds : m.bound.0 < n.bound.0
   pub positions : m.position ≤ n.position
@@ -48,12 +48,12 @@ abbrev pub last_mark : ℕ → List Mark → Option Mark
 last_mark number [] = None
 last_mark number (m ∷ ms) = cond (nat_le m.bound.0 number) (Some (unwrap_or (last_mark number ms) m)) None
 
--- the first mark that stands behind the place
+-- the first mark that stands after the place
 abbrev pub first_behind : ℕ → List Mark → Option Mark
 first_behind place [] = None
 first_behind place (m ∷ ms) = cond (nat_lt place m.position) (Some m) (first_behind place ms)
 
--- the last mark before the first that stands at the place or behind it
+-- the last mark before the first that stands at the place or after it
 abbrev pub last_before : ℕ → List Mark → Option Mark
 last_before place [] = None
 last_before place (m ∷ ms) = cond (nat_lt m.position place) (Some (unwrap_or (last_before place ms) m)) None

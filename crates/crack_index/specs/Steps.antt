@@ -12,7 +12,7 @@ one_up m = record m { position = m.position + 1 }
 abbrev pub one_down : Mark → Mark
 one_down m = record m { position = m.position - 1 }
 
--- what a walk up from the first bound above a number does at a bound: the bound, the way and the visitor before it and behind it
+-- what a walk up from the first bound above a number does at a bound: the bound, the way and the visitor before it and after it
 pub data StepsUp {V : Type 0} (visits : V → ℕ → Bool → V → Type 0) (number : ℕ) : Mark → Way → V → Mark → Way → V → Type 0 where
   -- it isn't above the number
   apart : (m : Mark) (way : Way) (v : V) → m.bound.0 ≤ number → StepsUp visits number m way v m way v
@@ -20,7 +20,7 @@ pub data StepsUp {V : Type 0} (visits : V → ℕ → Bool → V → Type 0) (nu
   over : (m e : Mark) (way : Way) (v : V) → way.ended ≡ Some e → StepsUp visits number m way v m way v
   -- it stands where the bounds stood that moved last: it moves along
   along : (m : Mark) (way : Way) (v : V) → number < m.bound.0 → way.ended ≡ None → m.position ≡ way.last → StepsUp visits number m way v (one_up m) way v
-  -- the visitor is told its place, and says that the walk goes on
+  -- the visitor is given its place, and says that the walk goes on
   goes_on : (m : Mark) (way : Way) (v w : V) → number < m.bound.0 → way.ended ≡ None → m.position ≢ way.last → visits v m.position true w → StepsUp visits number m way v (one_up m) (record way { last = m.position }) w
   -- it says that the walk ends there
   stops : (m : Mark) (way : Way) (v w : V) → number < m.bound.0 → way.ended ≡ None → m.position ≢ way.last → visits v m.position false w → StepsUp visits number m way v m (record way { ended = Some m }) w
@@ -35,7 +35,7 @@ pub data StepsDown {V : Type 0} (visits : V → ℕ → Bool → V → Type 0) (
   front : (m : Mark) (way : Way) (v : V) → m.bound.0 ≤ number → way.ended ≡ None → m.position ≡ 0 → StepsDown visits number m way v m (record way { ended = Some m }) v
   -- it stands where the bounds stood that moved last: it moves along
   along : (m : Mark) (way : Way) (v : V) → m.bound.0 ≤ number → way.ended ≡ None → 0 < m.position → m.position ≡ way.last → StepsDown visits number m way v (one_down m) way v
-  -- the visitor is told the last place before it, and says that the walk goes on
+  -- the visitor is given the last place before it, and says that the walk goes on
   goes_on : (m : Mark) (way : Way) (v w : V) → m.bound.0 ≤ number → way.ended ≡ None → 0 < m.position → m.position ≢ way.last → visits v (m.position - 1) true w → StepsDown visits number m way v (one_down m) (record way { last = m.position }) w
   -- it says that the walk ends there
   stops : (m : Mark) (way : Way) (v w : V) → m.bound.0 ≤ number → way.ended ≡ None → 0 < m.position → m.position ≢ way.last → visits v (m.position - 1) false w → StepsDown visits number m way v m (record way { ended = Some m }) w

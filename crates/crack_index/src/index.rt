@@ -21,7 +21,7 @@ pub struct Piece {
     pub high: Option<InnerBound>,
     /// The place of its first row.
     pub from: usize,
-    /// The place behind its last row.
+    /// The place after its last row.
     pub to: usize,
 }
 
@@ -226,7 +226,7 @@ impl CrackerIndex {
     }
 
     /// Each bound at or above this one that stands where it stands moves up by one, and the answer is the first bound that
-    /// stood behind that place. O(log bounds) and the bounds at that place.
+    /// stood after that place. O(log bounds) and the bounds at that place.
     pub fn raise_past(&mut self, mark: Mark) -> Option<Mark>
         requires there { Contains self.old.marks mark }
         requires small { mark.position < usize.MAX }
@@ -259,7 +259,7 @@ impl CrackerIndex {
         next
     }
 
-    /// Walks up from the least bound above the key: the visitor is told the place of the bound, and where it says so, that bound and those
+    /// Walks up from the least bound above the key: the visitor is given the place of the bound, and where it says so, that bound and those
     /// above it that stand there move up by one, and the walk goes on to the next place. The bound at which it ended, if one is left.
     /// O(log bounds) and the bounds at the places on its way. Takes no memory.
     #[inline(always)]
@@ -275,7 +275,7 @@ impl CrackerIndex {
         walk::climb(&mut self.root, key.number(), visitor)
     }
 
-    /// Walks down from the greatest bound at or below the key: the visitor is told the last place before the bound, and where it says so,
+    /// Walks down from the greatest bound at or below the key: the visitor is given the last place before the bound, and where it says so,
     /// that bound and those below it that stand where it stands move down by one, and the walk goes on to the next place. The bound at
     /// which it ended, if one is left; a bound at the column's front has no place before it, and ends it.
     /// O(log bounds) and the bounds at the places on its way. Takes no memory.
@@ -291,7 +291,7 @@ impl CrackerIndex {
         walk::descend(&mut self.root, key.number(), visitor)
     }
 
-    /// Walks over the bounds from the highest down: the visitor is told each, and says how far it rises. No bound rises further than the
+    /// Walks over the bounds from the highest down: the visitor is given each, and says how far it rises. No bound rises further than the
     /// one above it, and none further than `most`; where one doesn't rise, none below it is looked at. How far the lowest rose.
     /// O(bounds that rise + log bounds). Takes no memory.
     pub fn raise_each<V: Raiser>(&mut self, most: usize, visitor: &mut V) -> usize

@@ -17,7 +17,7 @@ use std::mem;
 /// A tree of marks; none where there is no mark.
 pub(crate) type Link = Option<Box<Node>>;
 
-/// A mark between the trees of those before and behind it. Contracts see all marks in rising order, and the height.
+/// A mark between the trees of those before and after it. Contracts see all marks in rising order, and the height.
 #[derive(Drop)]
 pub(crate) struct Node {
     pub(crate) mark: Mark,
@@ -164,7 +164,7 @@ pub(crate) fn neighbours(link: &Link, number: KeyNumber) -> (Option<Mark>, Optio
     (below, above)
 }
 
-/// The first mark that stands behind the place. O(log marks), one comparison a level.
+/// The first mark that stands after the place. O(log marks), one comparison a level.
 pub(crate) fn first_behind(link: &Link, place: usize) -> Option<Mark>
     ensures { result ≡ first_behind place (marks_of link.now) }
 {

@@ -1,4 +1,4 @@
-//! Who is told the places of a walk.
+//! Who is given the places of a walk.
 ghost use Rattle.std.specs.Prelude.{ℕ, Bool};
 ghost use Rattle.crack_index.specs.declared.mark.Mark.{Mark};
 
@@ -8,7 +8,7 @@ use crate::Mark;
 /// whether the walk goes on. It has no part of the index, and so calls none.
 /// A walk calls it once for each place, and its body is a part of the walk's loop: mark `visit` with `#[inline(always)]`.
 pub trait Visitor {
-    /// When it may be told a place.
+    /// When it may be given a place.
     ghost is_ready: { Self → Type 0 };
 
     /// What a visit leaves: from the first state, at this place, with this answer, the second.

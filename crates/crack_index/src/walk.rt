@@ -1,5 +1,5 @@
 //! Walks over the marks of a tree in order, from place to place, each one recursion over the tree: a bound at the place that was just
-//! told moves along, and at a bound behind it the visitor is told the next place.
+//! given moves along, and at a bound after it the visitor is given the next place.
 ghost use Rattle.std.specs.Prelude.{ℕ, ◌≡◌, ◌<◌, ◌≤◌, reverse, length, All, Contains, IfSome, None, is_some};
 ghost use Rattle.crack_index.specs.Marks.{Rising, next_mark, last_mark};
 ghost use Rattle.crack_index.specs.Steps.{Goes, StepsUp, StepsDown};

@@ -1,4 +1,4 @@
--- The rules that end a carry, and how the carries of a range go on behind it.
+-- The rules that end a carry, and how the carries of a range go on after it.
 use Rattle.std.proofs.Common.{◌≡◌, ℕ, ◌+◌, ◌<◌, List, [], ◌∷◌, ◌++◌, length, Option, Some, None, refl, inl, inr, arith, suc, get_or, take, drop, map, cond, ap}
 use Rattle.std.proofs.lemmas.Bool.{cases_lt}
 use Rattle.std.proofs.lemmas.List.{get_or_append_left, get_or_push, length_push, map-append, take-map, drop-map}
@@ -71,7 +71,7 @@ pub not_inside : (ceiling : Option ℕ) (r : Range) (key : ℕ) → IsCeiling ce
 not_inside None r key high over = absurd (over tt)
 not_inside (Some bound) r key high over = λ inside. over (omega (arith, inside.1, high))
 
--- a key outside the range comes behind the others
+-- a key outside the range comes after the others
 Finds-push : (r : Range) (keys : List ℕ) (key from : ℕ) (found : Option ℕ) → ¬ IsIn r key → Finds r keys from found → Finds r (keys ++ key ∷ []) from found
 Finds-push r keys key from (Some place) other first = record {
   after = first.after;
@@ -93,12 +93,12 @@ pending_keys-buried c intact =
     let apart = hand_apart s.cells s.free s.column s.pending_in s.pending_out c.hand intact.owned in
     keys-off c.hand.slot s.cells (buried c).cells s.pending_in (AgreeOff-set s.cells c.hand.slot (record { generation = c.hand.generation + 1; value = None })) apart.off_pending
 
--- the hand goes behind the last one
+-- the hand goes after the last one
 pub pending_keys-returned : (c : Carried) → pending_keys (ended Evicts c) ≡ pending_keys c.store ++ hand_key c ∷ []
 pending_keys-returned c = map-append (key_at c.store.cells) c.store.pending_in (c.hand ∷ [])
 
 module _ (ceiling : Option ℕ) (r : Range) (high : IsCeiling ceiling r) where
-  -- a search finds the same before a carry ends and behind it
+  -- a search finds the same before a carry ends and after it
   pub Finds-ended : (rule : CarryEnd) (c : Carried) (from : ℕ) (found : Option ℕ) → IsIntact c.store (c.hand ∷ []) → EvictsOver ceiling rule (hand_key c) → Finds r (pending_keys c.store) from found → Finds r (pending_keys (ended rule c)) from found
   Finds-ended Buries c from found intact over finds = rw (pending_keys-buried c intact) finds
   Finds-ended Evicts c from found intact over finds = rw (pending_keys-returned c) (Finds-push r (pending_keys c.store) (hand_key c) from found (not_inside ceiling r (hand_key c) high over) finds)

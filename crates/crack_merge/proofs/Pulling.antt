@@ -80,7 +80,7 @@ module _ (r fillers : Range) (s : State) (from seen : ℕ) (c : Carried) (on : I
       keys_out =
           keys_still d.store.cells (buried d).cells (buried d).pending_out (StillReads-buried d intact) one.intact.owned.doomed_reads ∙ ap (keys_at d.store.cells) one.pending_out
 
-      -- each that stood behind it stands one place before
+      -- each that stood after it stands one place before
       key_behind : (k : ℕ) → from ≤ k → k + 1 < length d.store.pending_out → slice_index (keys_at (buried d).cells (buried d).pending_out) k ≡ slice_index (keys_at d.store.cells d.store.pending_out) (k + 1)
       key_behind k after within =
           let less : k < length (remove d.store.pending_out from) = omega (arith, within, one.fewer, ap length one.pending_out) in
@@ -93,7 +93,7 @@ module _ (r fillers : Range) (s : State) (from seen : ℕ) (c : Carried) (on : I
       long : length (keys_at (buried d).cells (buried d).pending_out) + 1 ≡ length d.store.pending_out
       long = omega (arith, length-map (buried d).pending_out (key_at (buried d).cells), one.fewer)
 
-      -- so the search behind it finds, one place before, what the search from its place on finds after the burial
+      -- so the search after it finds, one place before, what the search from its place on finds after the burial
       pulling_next : (place : ℕ) → Finds r (keys_at d.store.cells d.store.pending_out) (from + 1) (Some place) → Finds r (keys_at (buried d).cells (buried d).pending_out) from (Some (place - 1))
       pulling_next place first =
           let within : place < length d.store.pending_out = omega (arith, first.within, length-map d.store.pending_out (key_at d.store.cells)) in

@@ -34,7 +34,7 @@ module _ (cells : List (Cell Row)) (r : Range) (before left : List Handle) (from
   pub LacksFirst-missed : Finds r (keys_at cells left) from None → left ≡ outside_of cells r before
   LacksFirst-missed none = LacksFirst-all cells r before left from lacks (none_inside (length left) (omega arith) (rw (length-map left (key_at cells)) at none))
 
--- keys behind the range change nothing where they stand last
+-- keys after the range change nothing where they stand last
 pub Finds-front : (r : Range) (keys more : List ℕ) (from : ℕ) (found : Option ℕ) → All (λ key. r.high ≤ key) more → Finds r (keys ++ more) from found → Finds r keys from found
 Finds-front r keys more from (Some place) behind first =
     let within : place < length keys = elim (cases_lt place (length keys)) [

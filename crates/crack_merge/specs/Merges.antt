@@ -34,7 +34,7 @@ pub data CarriesIn (ceiling : Option ℕ) (r : Range) (s : State) : ℕ → Stat
   -- one more was: room was made, and it was lifted and carried
   carries : (from place : ℕ) (t u v : State) → CarriesIn ceiling r s from t → Finds r (keys_at t.cells t.pending_in) from (Some place) → SameButRoom t u → Carries ceiling (lifted place u) v → CarriesIn ceiling r s place v
 
--- all pending insertions of a range were carried: the search finds none behind the last
+-- all pending insertions of a range were carried: the search finds none after the last
 pub record CarriesAll (ceiling : Option ℕ) (r : Range) (s t : State) : Type 0 where
   pub from : ℕ
   pub carries : CarriesIn ceiling r s from t
@@ -78,7 +78,7 @@ pub data PullsOut (r fillers : Range) (s : State) : ℕ → ℕ → State → Ty
   -- one more was
   pulls : (from place seen next : ℕ) (doomed : Handle) (t u : State) (c : Carried) → PullsOut r fillers s from seen t → Finds r (keys_at t.cells t.pending_out) from (Some place) → StandsAt t.pending_out place doomed → Begins fillers t seen next c → Pulls doomed c u → PullsOut r fillers s place next u
 
--- all pending deletions of a range were pulled: the search finds none behind the last
+-- all pending deletions of a range were pulled: the search finds none after the last
 pub record PullsAll (r fillers : Range) (s t : State) : Type 0 where
   pub from : ℕ
   pub seen : ℕ
@@ -86,7 +86,7 @@ pub record PullsAll (r fillers : Range) (s t : State) : Type 0 where
   pub none : Finds r (keys_at t.cells t.pending_out) from None
 
 -- the pending insertions of a store where the first ones, so many, were put in under ripple, as far as they are of the range: those are gone,
--- and behind the others stand the evicted, at most as many
+-- and after the others stand the evicted, at most as many
 pub record EvictsFirst (s : State) (r : Range) (left : List Handle) : Type 0 where
   pub passed : ℕ
   pub within : passed ≤ length s.pending_in

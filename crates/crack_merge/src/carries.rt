@@ -67,7 +67,7 @@ fn first_to_carry(store: &mut Store, range: KeyRange, ceiling: Option<Bound>) ->
 }
 
 /// Carries all pending insertions of a range at once, of which `first` is the first; whether it did so. Where no bound stands and the range has
-/// all keys they are put behind the column's last row, and elsewhere they are carried in bulk, but under a ceiling, which may be in the
+/// all keys they are put after the column's last row, and elsewhere they are carried in bulk, but under a ceiling, which may be in the
 /// way, one after the other. Where it finds no memory for all of them, it carries none. O(pending insertions), and O(pieces) for each
 /// that is carried.
 pub(crate) fn carry_at_once(
@@ -104,7 +104,7 @@ fn is_appendable(store: &Store, range: KeyRange) -> bool
     has_all && store.is_uncracked()
 }
 
-/// Puts all pending insertions behind the column's last row; whether it found memory for them.
+/// Puts all pending insertions after the column's last row; whether it found memory for them.
 fn append_at_once(store: &mut Store) -> bool
     requires { store.old.marks ≡ [] }
     ensures all { IsTrue result → SameButRoom (all_appended store.old) store.new }
@@ -113,7 +113,7 @@ fn append_at_once(store: &mut Store) -> bool
     store.append_all().is_ok()
 }
 
-/// Carries the hand up through the pieces until a rule holds that ends the carry, and tells which. As long as none does, the hand
+/// Carries the hand up through the pieces until a rule holds that ends the carry, and returns which. As long as none does, the hand
 /// takes the place where its own piece ends, and the row that stood there is in hand.
 /// O(log bounds) and O(1) for each piece, and the bounds at its place; takes no memory.
 pub(crate) fn carry(carrying: &mut Carrying, ceiling: Option<Bound>) -> CarryEnd

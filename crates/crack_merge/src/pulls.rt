@@ -41,7 +41,7 @@ pub fn pull_range(mut store: Store, range: KeyRange, fillers: KeyRange, seen: us
     }
 }
 
-/// Takes the first filler from the place `seen` on into the hand, and where there is none the column's last row; tells from where the next
+/// Takes the first filler from the place `seen` on into the hand, and where there is none the column's last row; returns from where the next
 /// filler is to be searched for. O(1) for each pending insertion that it passes. Takes no memory.
 fn begin(store: Store, fillers: KeyRange, seen: usize) -> (Carrying, usize)
     requires some { 0 < length store.column }
@@ -79,7 +79,7 @@ fn bury_and_begin(carrying: &mut Carrying, fillers: KeyRange, seen: usize) -> us
 
 /// Draws a doomed row into the hand: the cell in hand goes down through the pieces to fill its place, takes the last place before its own
 /// piece, and the row that stood there is in hand. Another doomed row that comes into hand is drawn on like any other. The cell in hand may
-/// come from anywhere behind the doomed row; where the pull ends, the doomed row is in hand, and is to be buried.
+/// come from anywhere after the doomed row; where the pull ends, the doomed row is in hand, and is to be buried.
 /// O(log bounds) and O(1) for each piece, and the bounds at its place; one search for the doomed row's place. Takes no memory.
 fn draw(carrying: &mut Carrying, doomed: Handle<Row>)
     requires pending { Contains carrying.old.store.pending_out doomed }

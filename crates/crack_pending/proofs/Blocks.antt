@@ -16,7 +16,7 @@ pub no_flag : (any : ℕ) (b : Bool) → bit_or any (bool_byte b) ≡ 0 → (any
 no_flag any true none = absurd (omega (arith, none, le_or_r any (bool_byte true)))
 no_flag any false none = (omega (arith, none, le_or_l any (bool_byte false)), refl)
 
--- one comparison tells that a key doesn't lie between two
+-- one comparison shows that a key doesn't lie between two
 pub apart : (key low last : ℕ) → low ≤ last → last < GREATEST_BOUND → leb ((key + (GREATEST_BOUND - low)) % GREATEST_BOUND) (last - low) ≡ false → ¬ Lies low last key
 apart key low last order small far lies =
     let beyond : last - low < (key + (GREATEST_BOUND - low)) % GREATEST_BOUND = leb-false _ _ far in

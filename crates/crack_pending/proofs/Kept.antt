@@ -61,7 +61,7 @@ Stands-within [] spot stands = absurd (true≢false (sym stands))
 Stands-within (b ∷ bs) zero stands = omega arith
 Stands-within (b ∷ bs) (suc n) stands = omega (arith, Stands-within bs n stands)
 
--- behind a row the places are higher
+-- after a row the places are higher
 pub place_at-before : (bs : List Bool) (spot n : ℕ) → HasRow bs spot → spot < n → place_at bs spot < place_at bs n
 place_at-before bs spot n stands before =
     let more = place_at-more bs spot (Stands-within bs spot stands) in
@@ -170,7 +170,7 @@ module _ {X : Type 0} where
       let none : 0 + place_at bs n ≡ place_at bs n = omega arith in
       rw none (kept-set bs xs n y (omega (arith, beside)) stands)
 
-  -- one more behind all spots
+  -- one more after all spots
   pub kept-push : (bs : List Bool) (xs : List X) (y : X) → length bs ≡ length xs → kept (bs ++ true ∷ []) (xs ++ y ∷ []) ≡ kept bs xs ++ y ∷ []
   kept-push [] [] y beside = refl
   kept-push [] (x ∷ xs) y beside = absurd (omega (arith, beside))

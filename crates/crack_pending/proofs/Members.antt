@@ -1,4 +1,4 @@
--- Laws of the bits that tell which cells have a handle in a list.
+-- Laws of the bits that say which cells have a handle in a list.
 use Rattle.std.proofs.Common.{◌≡◌, ◌≢◌, ℕ, zero, suc, ◌+◌, ◌/◌, ◌%◌, ◌*◌, ◌^◌, ◌<◌, ◌≤◌, ◌↔◌, true, eqb, List, [], ◌∷◌, ◌++◌, length, get_or, set, refl, sym, ap, ◌∙◌, inl, inr, arith, eqb-true, eq-eqb, w64}
 use Rattle.std.specs.Prelude.{bit_and, bit_or}
 use Rattle.std.specs.List.{remove}
@@ -10,12 +10,12 @@ use Rattle.crack_arena.specs.Arena.{Handle, times, slots, no_handle}
 use Rattle.crack_arena.proofs.Times.{times-nil, times_head, times_other, times-map-append, times-map-remove}
 use Rattle.crack_pending.specs.Keeps.{Has, AreMarked}
 
--- what the test of a bit tells
+-- what the test of a bit shows
 pub tested : (words : List ℕ) (number : ℕ) → (eqb (bit_and (get_or words (number / 64) 0 / 2 ^ (number % 64)) 1) 1 ≡ true) ↔ Has words number
 unfolding Has
 tested words number = rw shr_and_one (eqb-true _ 1, eq-eqb _ 1)
 
--- no number has a bit behind the last word
+-- no number has a bit after the last word
 pub Has-within : (words : List ℕ) (number : ℕ) → Has words number → number < 64 * length words
 unfolding Has
 Has-within words number has = elim (cases_lt (number / 64) (length words)) [

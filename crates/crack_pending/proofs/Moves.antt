@@ -9,7 +9,7 @@ use Rattle.crack_pending.specs.Keeps.{place_at, HasRow, LeadBack, StandApart, Ar
 use Rattle.crack_pending.specs.Inside.{AreApart}
 use Rattle.crack_pending.proofs.Kept.{place_at-more, place_at-few, length-kept, kept-at, kept-at_place, spot_of, Stands-within}
 
--- so far the rows of the first spots have moved to the front, and the spots behind are as they were
+-- so far the rows of the first spots have moved to the front, and the spots after are as they were
 pub record AreMoved {X : Type 0} (stands : List Bool) (old new : List X) (spot low : ℕ) : Type 0 where
   pub long : length new ≡ length old
   pub low_is : low ≡ place_at stands spot

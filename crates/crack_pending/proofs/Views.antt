@@ -213,7 +213,7 @@ module _ (handles : List Handle) (keys : List ℕ) (stands : List Bool) (spots :
         hinted = hinted;
       }
 
-  -- a row more, behind all spots
+  -- a row more, after all spots
   pub kept_more : (h : Handle) (key : ℕ) → length handles < 2 ^ 32 → h.slot < length spots → times h.slot (slots (kept stands handles)) ≡ 0 → AreKept (handles ++ h ∷ []) (keys ++ key ∷ []) (stands ++ true ∷ []) spots (rows + 1) noted hint_place hint_spot
   kept_more h key few covered absent =
       let long = length-append handles (h ∷ []) in

@@ -123,7 +123,7 @@ impl<Kind> PendingList<Kind> {
         self.list.make_places(cells, &mut self.marks)
     }
 
-    /// Puts the handle behind all others; the key of its row isn't remembered. It takes no memory. O(1).
+    /// Puts the handle after all others; the key of its row isn't remembered. It takes no memory. O(1).
     pub fn push(&mut self, handle: Handle<Row>)
         requires room { 0 < self.old.room }
         requires covered { handle.slot < self.old.covered }
@@ -138,7 +138,7 @@ impl<Kind> PendingList<Kind> {
         self.add(handle, UNKNOWN);
     }
 
-    /// Puts the handle behind all others, and remembers the key of its row. It takes no memory. O(1).
+    /// Puts the handle after all others, and remembers the key of its row. It takes no memory. O(1).
     #[inline(always)]
     pub fn push_keyed(&mut self, handle: Handle<Row>, key: Key)
         requires room { 0 < self.old.room }
@@ -154,7 +154,7 @@ impl<Kind> PendingList<Kind> {
         self.add(handle, key.number());
     }
 
-    /// Puts the handle behind all others, with what stands beside it, and marks its cell.
+    /// Puts the handle after all others, with what stands beside it, and marks its cell.
     #[inline(always)]
     fn add(&mut self, handle: Handle<Row>, key: StoredKey)
         requires room { 0 < self.old.room }

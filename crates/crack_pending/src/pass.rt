@@ -99,7 +99,7 @@ fn hit_between(
     None
 }
 
-/// The first spot of a block, from the one that is told on, whose row has its key in the range.
+/// The first spot of a block, from the one that is given on, whose row has its key in the range.
 /// Looks at each only where one may have it, by the keys alone.
 fn hit_in_block(
     handles: &[Handle<Row>],

@@ -74,7 +74,7 @@ fn spot_from(stands: &[bool], before: usize, from: usize, place: usize) -> usize
     }
 }
 
-/// The spot of the row at the place. O(1) where there are no holes; else the rows are counted, from the spot that is told if
+/// The spot of the row at the place. O(1) where there are no holes; else the rows are counted, from the spot that is given if
 /// the place isn't before it.
 pub(crate) fn spot_of(
     stands: &[bool],
@@ -98,7 +98,7 @@ pub(crate) fn spot_of(
     }
 }
 
-/// A spot before which as many rows stand as before the place: the spot that is told, or the next where it is a hole, if so many stand
+/// A spot before which as many rows stand as before the place: the spot that is given, or the next where it is a hole, if so many stand
 /// before it; else that of the row itself.
 pub(crate) fn spot_before(
     stands: &[bool],

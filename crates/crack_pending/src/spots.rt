@@ -37,7 +37,7 @@ const MORE_PLACES: usize = 2048;
 const MOST_UNCODED: usize = 64;
 
 /// Handles in the order of their arrival, each at a spot of its own, and holes where rows went. A hole keeps its handle and
-/// its key, which nobody reads; a mark beside tells it from a row.
+/// its key, which nobody reads; a mark beside it distinguishes it from a row.
 #[derive(Drop)]
 pub(crate) struct SpotList {
     handles: Vec<Handle<Row>>,

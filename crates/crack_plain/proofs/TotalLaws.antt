@@ -25,7 +25,7 @@ deleted-cons e es = omega (arith, deleted-append (e ∷ []) es)
 pub updated-cons : (e : Entry) (es : List Entry) → updated (e ∷ es) ≡ (if is_changed e.reply then 1 else 0) + updated es
 updated-cons e es = omega (arith, updated-append (e ∷ []) es)
 
--- one more entry behind
+-- one more entry after
 pub inserted-push : (es : List Entry) (e : Entry) → inserted (es ++ e ∷ []) ≡ inserted es + (if is_placed e.reply then 1 else 0)
 inserted-push es e = omega (arith, inserted-append es (e ∷ []))
 

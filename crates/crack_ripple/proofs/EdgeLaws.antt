@@ -54,7 +54,7 @@ high_within s hand r of intact = omega (arith, (high_divides s hand r of intact)
 pub divided_once : (bound : ℕ) (keys : List ℕ) (p q : ℕ) → IsDividedAt bound keys p → IsDividedAt bound keys q → p ≡ q
 divided_once bound keys p q one other = omega (arith, IsDividedAt-order bound bound keys p q (omega arith) one other, IsDividedAt-order bound bound keys q p (omega arith) other one)
 
--- the piece of a key at or above the low end ends at or behind its place
+-- the piece of a key at or above the low end ends at or after its place
 pub low-piece_end : (s : State) (hand : List Handle) (r : Range) (key : ℕ) → IsRangeOf s r → IsIntact s hand → r.low ≤ key → edge s r.low ≤ piece_end s key
 low-piece_end s hand r key of intact above = by_next (next_mark key s.marks) refl
   where
@@ -78,7 +78,7 @@ piece_end-high s hand r key of intact below =
       | inr h ↦ rw (lt-leb r.high s.keys.low above, le-leb s.keys.high r.high h) (piece_end-le s key intact.rising intact.obeyed)
     ]
 
--- keys in which one, at or behind the low end and at or before the high end, was set to a key of the range
+-- keys in which one, at or after the low end and at or before the high end, was set to a key of the range
 pub record SetBetween (e e' f f' p : ℕ) : Type 0 where
   pub low : e' ≡ e
   pub high : ((p < f) × (f' ≡ f)) ⊎ ((p ≡ f) × (f' ≡ f + 1))
@@ -126,7 +126,7 @@ StaysOutside-trans s t u r a b = record {
   behind = b.behind ∙ drop_later t.column s.column (edge t r.high) (edge u r.high) b.rises a.behind;
 }
 
--- a `push_on` puts the hand inside the range, and where it meets a row behind it, the range's end moves up
+-- a `push_on` puts the hand inside the range, and where it meets a row after it, the range's end moves up
 pub record PushesInside (c : Carried) (r : Range) : Type 0 where
   pub stays : StaysOutside c.store (pushed_on c).store r
   pub same : hand_key (pushed_on c) < r.high → edge (pushed_on c).store r.high ≡ edge c.store r.high

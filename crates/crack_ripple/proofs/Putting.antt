@@ -42,7 +42,7 @@ SomeOf-append some all other more nothing of = of
 SomeOf-append some all other more (left_out h one rest first) of = left_out h (one ++ other) (rest ++ more) (SomeOf-append one rest other more first of)
 SomeOf-append some all other more (kept h one rest first) of = kept h (one ++ other) (rest ++ more) (SomeOf-append one rest other more first of)
 
--- some of a list's front, and one behind it
+-- some of a list's front, and one after it
 pub SomeOf-push : (some all : List Handle) (n k : ℕ) (h : Handle) → n ≤ k → k < length all → get_or all k h ≡ h → SomeOf some (take n all) → SomeOf (some ++ h ∷ []) (take (k + 1) all)
 SomeOf-push some all n k h order within is of =
     let front = SomeOf-front some (take k all) n (rw (take-take n k all order) of) in
@@ -76,7 +76,7 @@ length-SomeOf some all nothing = omega arith
 length-SomeOf some all (left_out h one more of) = omega (arith, length-SomeOf one more of)
 length-SomeOf some all (kept h one more of) = omega (arith, length-SomeOf one more of)
 
--- rows behind the place of the range's end have their keys at or above it
+-- rows after the place of the range's end have their keys at or above it
 pub behind_range : (s : State) (r : Range) (some : List Handle) → IsRangeOf s r → IsIntact s [] → SomeOf some (drop (edge s r.high) s.column) → All (λ h. r.high ≤ key_at s.cells h) some
 behind_range s r some of intact is =
     let high = high_divides s [] r of intact in
@@ -92,7 +92,7 @@ MovesNear-trans s t u r same before a b = λ exact.
     let second = rw same at (b exact) in
     omega arith
 
--- of the rows that were evicted, which are of those behind the range, none stands behind where the range's end has moved to
+-- of the rows that were evicted, which are of those after the range, none stands after where the range's end has moved to
 pub record EvictsUpTo (s t : State) (r : Range) (evicted : List Handle) : Type 0 where
   pub count : ℕ
   pub before : edge s r.high + count ≤ edge t r.high
@@ -147,7 +147,7 @@ PutsNear-room s t v r from room was = record {
   lacks = was.lacks;
 }
 
--- a search finds what it finds among those that are left, since the evicted are behind the range
+-- a search finds what it finds among those that are left, since the evicted are after the range
 finds_left : (s t : State) (r : Range) (from : ℕ) (found : Option ℕ) → IsRangeOf s r → IsIntact s [] → (was : PutsNear s t r from) → Finds r (keys_at t.cells t.pending_in) from found → Finds r (keys_at s.cells was.left) from found
 finds_left s t r from found of intact was finds =
     let behind = behind_range s r was.evicted of intact (SomeOf-front was.evicted (drop (edge s r.high) s.column) was.up_to.count was.up_to.some) in

@@ -6,7 +6,7 @@ use Rattle.crack_state.specs.State.{State, IsIntact}
 use Rattle.crack_state.specs.Merge.{Follows, StillReads, SomeOf, Evicts, LosesFirst, IsExact, beyond, edge, outside_of, count_inside}
 
 -- the pending insertions of a range are put in, near it: the column is the same before the range's low end, and from the place of its high
--- end on, where that place is after the rows were put in; the rows that made way behind the range are evicted, or buried where they were
+-- end on, where that place is after the rows were put in; the rows that made way after the range are evicted, or buried where they were
 -- doomed, of which there are no more than pending insertions in the range; and the column is no longer than it was, unless the range ends it
 pub record PutsInNear (s t : State) (r : Range) : Type 0 where
   pub follows : Follows s t

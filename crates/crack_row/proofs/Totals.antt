@@ -18,7 +18,7 @@ module _ {X : Type 0} (number : X → ℤ) where
   total_from first [] = omega (arith, ints)
   total_from first (x ∷ xs) = omega (arith, ints, total_from (first +ℤ number x) xs, total_from (pos 0 +ℤ number x) xs)
 
-  -- of one element more, before the others and behind them
+  -- of one element more, before the others and after them
   pub total_by-cons : (x : X) (xs : List X) → total_by number (x ∷ xs) ≡ number x +ℤ total_by number xs
   total_by-cons x xs = omega (arith, ints, total_from (pos 0 +ℤ number x) xs)
 

@@ -101,7 +101,7 @@ pub enum Policy {
     Complete,
     /// Those alone whose key is in the range.
     Gradual,
-    /// Those alone whose key is in the range, with room made near it: a row that stands in the way behind the range is
+    /// Those alone whose key is in the range, with room made near it: a row that stands in the way after the range is
     /// evicted, and is a pending insertion again.
     Ripple,
     /// As `Complete` where many insertions are pending beside the rows of the column, else as `Ripple`; chosen anew at

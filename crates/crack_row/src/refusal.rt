@@ -66,7 +66,7 @@ pub enum Refusal {
     BadRecord { number: u64 },
 }
 
-/// The numbers of the bits that are set, in rising order, each behind a space.
+/// The numbers of the bits that are set, in rising order, each after a space.
 #[derive(Clone, Copy)]
 struct Numbers(u64);
 

@@ -98,7 +98,7 @@ pub vacant : (s : State) (free : List ℕ) → s.free ≡ free → AreEmpty s.ce
 vacant s [] is empty = ap (λ (c : Cell Row). c.value) (get_or_past s.cells (length s.cells) empty_cell (omega arith))
 vacant s (n ∷ ns) is empty = All-head (λ m. (cell_at s.cells m).value ≡ None) n ns (rw is at empty)
 
--- a serial that is put behind the others is found, and every other as before
+-- a serial that is put after the others is found, and every other as before
 pub handle_of-push : (serials : List (ℕ × Handle)) (serial : ℕ) (h : Handle) → handle_of serials serial ≡ None → (p : ℕ) → handle_of (serials ++ (serial, h) ∷ []) p ≡ cond (serial == p) (Some h) (handle_of serials p)
 handle_of-push [] serial h fresh p = elim (cases_eq serial p) [
   | inl e ↦ rw (eq-eqb serial p e, eq-eqb p serial (sym e)) refl

@@ -71,7 +71,7 @@ pub record CarriedIn (s t : State) (i : ℕ) : Type 0 where
   pub pending_in : t.pending_in ≡ remove s.pending_in i
   pub few : length s.pending_out ≤ length t.pending_out + 1
 
--- what was moved, and then put behind the column or buried: cells and pending deletions change at the end alone
+-- what was moved, and then put after the column or buried: cells and pending deletions change at the end alone
 advances_by : (policy : Policy) (s u t : State) → u.keys ≡ s.keys → u.cells ≡ s.cells → u.pending_out ≡ s.pending_out → bounds_of u.marks ≡ bounds_of s.marks → Follows u t → StillReads u.cells t.cells → SomeOf t.pending_out u.pending_out → Tallies policy s t → Advances policy s t
 advances_by policy s u t keys cells doomed bounds follows reads some tallies = record {
   follows = Follows-trans s u t (Follows-kept s u keys cells doomed bounds) follows;

@@ -25,7 +25,7 @@ more_and n k = elim (cases_lt n greatest) [
 abbrev pub first_appended : State → State
 first_appended s = appended (lifted 0 s)
 
--- where no bound stands, those behind it are appended as before
+-- where no bound stands, those after it are appended as before
 pub all-first : (s : State) (h : Handle) (hs : List Handle) → s.marks ≡ [] → s.pending_in ≡ h ∷ hs → all_appended (first_appended s) ≡ record (all_appended s) { column_room = s.column_room - 1 }
 all-first s h hs none first =
     rw (none, first, append_assoc s.column (h ∷ []) hs, more_and s.tally.put_in (length hs)) refl

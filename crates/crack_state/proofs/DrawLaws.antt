@@ -18,7 +18,7 @@ use Rattle.crack_state.proofs.CellLaws.{one_handle, stands_there}
 use Rattle.crack_state.proofs.PieceLaws.{cases_Option, Divides-order, Divides-listed}
 use Rattle.crack_state.proofs.PullLaws.{met_below}
 
--- a piece ends at or behind a place where each bound above its key stands there or behind it
+-- a piece ends at or after a place where each bound above its key stands there or after it
 piece_end-least : (s : State) (key place : ℕ) → Rising s.marks → place ≤ length s.column → All (λ (m : Mark). key < m.bound.0 → place ≤ m.position) s.marks → place ≤ piece_end s key
 piece_end-least s key place rising within behind = cases_Option (λ o. place ≤ end_of (length s.column) o) (next_mark key s.marks) (λ none. within) (λ m found.
     let is_next = next_mark-is key s.marks m rising found in
@@ -30,7 +30,7 @@ piece_start-most s key place rising before = cases_Option (λ o. start_of o ≤ 
     let is_last = last_mark-is key s.marks m rising found in
     All-contains (λ (n : Mark). n.bound.0 ≤ key → n.position ≤ place) s.marks m before is_last.listed is_last.below)
 
--- a bound above the key of a row stands behind it
+-- a bound above the key of a row stands after it
 mark_behind : (s : State) (hand : List Handle) (k place : ℕ) (d : Mark) (met : Handle) → IsIntact s hand → k < length s.marks → place < length s.column → met ≡ get_or s.column place met → key_at s.cells met < (get_or s.marks k d).bound.0 → place < (get_or s.marks k d).position
 mark_behind s hand k place d met intact listed within read above =
     elim (cases_lt place (get_or s.marks k d).position) [
@@ -41,7 +41,7 @@ mark_behind s hand k place d met intact listed within read above =
           absurd (omega (arith, high, at, above))
     ]
 
--- the piece of a key ends behind each row of this key or a lower one
+-- the piece of a key ends after each row of this key or a lower one
 pub piece_end-behind : (s : State) (hand : List Handle) (key place : ℕ) (met : Handle) → IsIntact s hand → place < length s.column → met ≡ get_or s.column place met → key_at s.cells met ≤ key → place < piece_end s key
 piece_end-behind s hand key place met intact within read below =
     piece_end-least s key (suc place) intact.rising (omega arith) (λ k d listed above. mark_behind s hand k place d met intact listed within read (omega arith))

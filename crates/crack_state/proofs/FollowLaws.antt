@@ -143,7 +143,7 @@ pub Follows-Pushes : (b c : Carried) → Pushes b c → Follows b.store c.store
 Follows-Pushes b c pushes =
     Follows-kept b.store c.store (ap (λ (x : State). x.keys) pushes.same) (ap (λ (x : State). x.cells) pushes.same) (ap (λ (x : State). x.pending_out) pushes.same) pushes.bounds
 
--- a whole carry: lifted, pushed on, and then put behind the column, or buried, which takes out a row
+-- a whole carry: lifted, pushed on, and then put after the column, or buried, which takes out a row
 pub Tallies-carried : (policy : Policy) (s t : State) (i out : ℕ) (c : Carried) → i < length s.pending_in → IsIntact s [] → Pushes (lifted i s) c → t.tally ≡ record c.store.tally { taken_out = t.tally.taken_out } → t.pending_in ≡ c.store.pending_in → Rises out c.store.tally.taken_out t.tally.taken_out → length t.pending_out + out ≡ length c.store.pending_out → Tallies policy s t
 Tallies-carried policy s t i out c inside intact pushes ends ends_in rises ends_out =
     let tally : t.tally ≡ record s.tally { put_in = more s.tally.put_in; taken_out = t.tally.taken_out; moved = c.store.tally.moved } = ends ∙ ap (λ (x : State). let y : MergeReport = record x.tally { taken_out = t.tally.taken_out } in y) pushes.same in

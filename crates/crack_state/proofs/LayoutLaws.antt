@@ -84,7 +84,7 @@ rows-intact s hand intact =
     let doomed = length-doomed s hs (λ n some. omega (arith, some, times-map-append n slot (s.column ++ s.pending_in) hand, times-map-append n slot s.column s.pending_in, times-places n s.column s.pending_in s.free hand, once-most s.cells s.free s.column s.pending_in s.pending_out hand n owned, owned.doomed_once n, times-append n (slots s.column) (slots hand))) in
     omega (arith, live, ap length split, length-live_among s hs reads, doomed, length-append (s.column ++ s.pending_in) hand, length-append s.column s.pending_in)
 
--- the layout that an intact store tells meets the layout equations, where its pieces do
+-- the layout that an intact store reports meets the layout equations, where its pieces do
 pub IsLayout-intact : (s : State) (layout : Layout) → layout.column ≡ length s.column → layout.pending_in ≡ length s.pending_in → layout.pending_out ≡ length s.pending_out → layout.cells ≡ length s.cells → layout.free ≡ length s.free → layout.rows ≡ layout.column - layout.pending_out + layout.pending_in → sum_by (λ (p : PieceSize). p.size) layout.pieces ≡ length s.column → AreJoined s.keys.low s.keys.high layout.pieces → IsIntact s [] → IsLayout s.keys layout
 IsLayout-intact s layout column pending_in pending_out cells free rows sizes joined intact = record {
   sizes = omega arith;

@@ -1,4 +1,4 @@
--- What a look-up of a serial tells of the live rows, and of any list of them; and how such a list changes.
+-- What a look-up of a serial says of the live rows, and of any list of them; and how such a list changes.
 use Rattle.std.proofs.Common.{◌≡◌, ◌≢◌, ℕ, Bool, List, [], ◌∷◌, map, filter, length, get_or, Option, Some, None, IsSome, refl, sym, ap, ◌∙◌}
 use Rattle.std.specs.Prelude.{◌==◌, unwrap_or}
 use Rattle.std.specs.List.{All, Contains, find, range_with_len}

@@ -17,7 +17,7 @@ key_there : (s : State) (place : ℕ) (hand : Handle) → place < length s.colum
 key_there s place hand within =
     get_or-map (key_at s.cells) s.column place (get_or s.column place hand) 0 within ∙ ap (key_at s.cells) (sym (get_or_default s.column place hand (get_or s.column place hand) within))
 
--- after a push_on, the bound above the key in hand is the first that stood behind the place where the hand was put
+-- after a push_on, the bound above the key in hand is the first that stood after the place where the hand was put
 pub next-pushed_on : (c : Carried) (m : Mark) → next_mark (hand_key c) c.store.marks ≡ Some m → m.position < length c.store.column → IsIntact c.store (c.hand ∷ []) → next_mark (hand_key (pushed_on c)) (pushed_on c).store.marks ≡ first_behind m.position c.store.marks
 next-pushed_on c m found within intact =
     let s = c.store in

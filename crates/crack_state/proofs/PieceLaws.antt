@@ -16,7 +16,7 @@ use Rattle.crack_arena.specs.Arena.{Handle}
 use Rattle.crack_arena.specs.Rows.{key_at}
 use Rattle.crack_state.specs.Steps.{piece_start, piece_end, raise_next, bounds_above, bounds_up_to}
 
--- a bound above another stands at or behind it
+-- a bound above another stands at or after it
 pub Divides-order : (keys : List ℕ) (m n : Mark) → Divides keys m → Divides keys n → m.bound.0 ≤ n.bound.0 → m.position ≤ n.position
 Divides-order keys m n d e h = IsDividedAt-order m.bound.0 n.bound.0 keys m.position n.position h d e
 

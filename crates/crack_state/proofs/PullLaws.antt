@@ -55,7 +55,7 @@ Divides-lowered_at keys m some d =
           rw stays (IsDividedAt-take m.bound.0 keys m.position (length keys - 1) (omega (arith, d.within)) (omega arith) d)
     ]
 
--- `lift_last`: the last key is taken, and the bounds that stood behind it move down
+-- `lift_last`: the last key is taken, and the bounds that stood after it move down
 Obeyed-lowered_at : (keys : List ℕ) (marks : List Mark) → 0 < length keys → IsObeyed marks keys → IsObeyed (map (lowered_at (length keys)) marks) (take (length keys - 1) keys)
 Obeyed-lowered_at keys marks some obeyed =
     All-map (Divides (take (length keys - 1) keys)) (lowered_at (length keys)) marks (λ k d h. Divides-lowered_at keys (get_or marks k d) some (obeyed k d h))
@@ -64,7 +64,7 @@ bounds_of-lower_last : (o : Option Mark) (ms : List Mark) → bounds_of (lower_l
 bounds_of-lower_last None ms = refl
 bounds_of-lower_last (Some m) ms = bounds_of-lowered m.bound.0 m.position ms
 
--- the hand, which isn't doomed, goes behind the last pending insertion
+-- the hand, which isn't doomed, goes after the last pending insertion
 pub IsIntact-returned : (c : Carried) → times c.hand.slot (slots c.store.pending_out) ≡ 0 → IsIntact c.store (c.hand ∷ []) → IsIntact (returned c) []
 IsIntact-returned c kept intact =
     let s = c.store in

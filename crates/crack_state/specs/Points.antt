@@ -37,7 +37,7 @@ struck h s =
       pending_in = remove s.pending_in (place_in s.pending_in h.slot);
     }
 
--- a handle of the column goes behind the last pending deletion
+-- a handle of the column goes after the last pending deletion
 abbrev pub doomed_too : Handle → State → State
 doomed_too h s = record s { pending_out = s.pending_out ++ h ∷ [] }
 
@@ -45,7 +45,7 @@ doomed_too h s = record s { pending_out = s.pending_out ++ h ∷ [] }
 abbrev pub overwritten : Row → Handle → State → State
 overwritten row h s = record s { cells = slice_set s.cells h.slot (record { generation = h.generation; value = Some row }) }
 
--- a handle of the column goes behind the last pending deletion, and a row in a new cell behind the last pending insertion
+-- a handle of the column goes after the last pending deletion, and a row in a new cell after the last pending insertion
 abbrev pub renewed : Row → Handle → State → State
 renewed row h s =
     record s {

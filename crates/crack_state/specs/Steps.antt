@@ -64,7 +64,7 @@ lifted i s =
       hand = slice_index_or s.pending_in i no_handle;
     }
 
--- lift_last: the column's last handle is taken into the hand, and the bounds behind it move down
+-- lift_last: the column's last handle is taken into the hand, and the bounds after it move down
 abbrev pub lifted_last : State → Carried
 lifted_last s =
     record {
@@ -122,7 +122,7 @@ buried c =
 abbrev pub next_handle : State → Handle
 next_handle s = handle_for s.cells s.free
 
--- admit: a row in a new cell, behind the last pending insertion
+-- admit: a row in a new cell, after the last pending insertion
 abbrev pub admitted : Row → State → State
 admitted row s =
     record s {
@@ -151,7 +151,7 @@ bounds_above key marks = count_by (λ (m : Mark). nat_lt key m.bound.0) marks
 abbrev pub bounds_up_to : ℕ → List Mark → ℕ
 bounds_up_to key marks = count_by (λ (m : Mark). nat_le m.bound.0 key) marks
 
--- put_back: the hand goes behind the last pending insertion
+-- put_back: the hand goes after the last pending insertion
 abbrev pub returned : Carried → State
 returned c =
     record c.store {
@@ -176,7 +176,7 @@ pub data PushesOn (ceiling : Option ℕ) : Carried → Carried → Type 0 where
   stays : (c : Carried) → PushesOn ceiling c c
   pushes : (c d : Carried) → ¬ IsDoomed c → IsBelow ceiling (hand_key c) → piece_end c.store (hand_key c) < length c.store.column → PushesOn ceiling (pushed_on c) d → PushesOn ceiling c d
 
--- so many times, one or none, the hand was pulled back: each time its own piece began behind the place
+-- so many times, one or none, the hand was pulled back: each time its own piece began after the place
 pub data PullsBack (place : ℕ) : Carried → Carried → Type 0 where
   stays : (c : Carried) → PullsBack place c c
   pulls : (c d : Carried) → place < piece_start c.store (hand_key c) → PullsBack place (pulled_back c) d → PullsBack place c d

@@ -302,7 +302,7 @@ module _ (s u : State) (low high : InnerBound) (handles : List Handle) (known kn
   Refines-three r is_low is_high =
       Refines-both s halfway u r low.0 high.0 (inl (is_low, is_high)) (RefinesAt-cracked s halfway [] low first intact) (RefinesAt-cracked halfway u [] high second halfway_intact)
 
-  -- the high end may be added where it stands, behind the low one
+  -- the high end may be added where it stands, after the low one
   second_fits : Fits (record { bound = high; position = b }) (added low_mark s.marks)
   second_fits = Fits-piece (record { bound = high; position = b }) (length handles) (added low_mark s.marks) halfway_intact.rising (omega (arith, starts, rises)) (omega (arith, stops, d.high))
 

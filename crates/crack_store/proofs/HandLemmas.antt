@@ -1,4 +1,4 @@
--- What calls on the inside tell of a step that takes a row back or out.
+-- What calls on the inside say of a step that takes a row back or out.
 use Rattle.std.proofs.Common.{◌≡◌, ℕ, ◌<◌, true, List, [], ◌∷◌, length, get_or, Option, Some, None, sym, ap, subst, ◌∙◌, arith}
 use Rattle.std.specs.Prelude.{MatchOption, IsSome, is_some}
 use Rattle.std.proofs.lemmas.Bool.{true≢false}
@@ -50,7 +50,7 @@ exchanged_to p column index notes tally place near d has column_is within put in
 pub intact_hand : (p : Inside) (near : Near) (c : Carried) → carried_of p ≡ c → KeepsHand p near → IsIntact c.store (c.hand ∷ [])
 intact_hand p near c is keeps = subst (λ (d : Carried). IsIntact d.store (d.hand ∷ [])) is keeps.has.kept.intact
 
--- handles that are told to be the same are one
+-- handles that compare as the same are one
 pub same_handles : (h k : Handle) → same_handle h k ≡ true → h ≡ k
 same_handles h k e =
     let slots_agree : h.slot ≡ k.slot = grind (arith, nat_tests) in

@@ -1,4 +1,4 @@
--- What a look-up of a bound next to a key tells.
+-- What a look-up of a bound next to a key says.
 use Rattle.std.proofs.Common.{◌≡◌, ℕ, ◌<◌, ◌^◌, ◌-◌, ◌∷◌, [], List, map, length, Option, Some, None, refl, sym, ◌∙◌, arith}
 use Rattle.std.specs.Prelude.{Contains, IfSome}
 use Rattle.std.proofs.lemmas.List.Elements.{All-contains}
@@ -42,7 +42,7 @@ is_up c m is room intact =
       nearer = bounds_above-pushed_on c room intact;
     }
 
--- the bound where the own piece of the hand begins, behind the column's front, and what becomes of a hand that is put before it
+-- the bound where the own piece of the hand begins, after the column's front, and what becomes of a hand that is put before it
 pub record IsDown (c : Carried) (m : Mark) : Type 0 where
   pub listed : Contains c.store.marks m
   pub above : 0 < m.position

@@ -33,7 +33,7 @@ use Rattle.crack_store.specs.Sieves.{AreClear, Passes, Rises}
 
 -- Parts of lists
 
--- what stands where in three lists, one behind the other
+-- what stands where in three lists, one after another
 three : {X : Type 0} (front lower rest : List X) (a b : ℕ) → length front ≡ a → length lower ≡ b → (take a (front ++ (lower ++ rest)) ≡ front) × (between a (a + b) (front ++ (lower ++ rest)) ≡ lower) × (drop (a + b) (front ++ (lower ++ rest)) ≡ rest)
 three front lower rest a b is_front is_lower =
     let all = front ++ (lower ++ rest) in
@@ -225,7 +225,7 @@ module _ (r : Range) (s : State) (intact : IsIntact s []) where
   GoThrough-clear : AreClear (length rows) s → GoThrough None r s
   GoThrough-clear clear = record { met = OfMet-clear (length rows) s intact clear rows (omega arith); under = λ k d l. refl }
 
-  -- the walk began with the rows behind the column's last
+  -- the walk began with the rows after the column's last
   pub record IsSifted (ms' : List Mark) (w : Sieve) : Type 0 where
     pub column_is : w.column.handles ≡ (carried_by_sifting r s).column
     pub marks_are : ms' ≡ (carried_by_sifting r s).marks

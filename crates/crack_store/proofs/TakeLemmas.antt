@@ -168,13 +168,13 @@ inside-few cells r (h ∷ hs) = elim (cases_Bool (is_in r (key_at cells h))) [
       omega (arith, ap length rest, inside-few cells r hs)
 ]
 
--- what stands behind the first so many, and one more
+-- what follows the first so many, and one more
 pub drop-push : {X : Type 0} (n : ℕ) (xs : List X) (x : X) → n ≤ length xs → drop n (xs ++ x ∷ []) ≡ drop n xs ++ x ∷ []
 drop-push zero xs x within = refl
 drop-push (suc n) [] x within = absurd (omega (arith, within))
 drop-push (suc n) (y ∷ ys) x within = drop-push n ys x (omega (arith, within))
 
--- what is remembered of the rows behind the first so many is what they read
+-- what is remembered of the rows after the first so many is what they read
 pub behind-read : (cells : List (Cell Row)) (n : ℕ) (c : Column) → length c.remembered ≡ length c.handles → drop n c.remembered ≡ map (memory_at cells) (drop n c.handles) → AreRead cells n (length c.handles) c
 behind-read cells n c beside read =
     let memories : between n (length c.handles) c.remembered ≡ drop n c.remembered = ap (λ k. take (k - n) (drop n c.remembered)) (sym beside) ∙ take_rest c.remembered n in

@@ -44,7 +44,7 @@ pub record FallApart (s : State) (first second : Gap) : Type 0 where
 abbrev pub AreEnds : Range → ℕ → ℕ → Type 0
 AreEnds r low high = (low ≡ r.low) × (high ≡ r.high)
 
--- what is told of the ends of a range is right: where one alone is missing, no other inner end of the range is
+-- what is said of the ends of a range is right: where one alone is missing, no other inner end of the range is
 abbrev pub Misses : State → Range → Missing → Type 0
 Misses s r Neither = IsCracked s r
 Misses s r (One gap) = MissesIn s gap.bound.0 gap.piece × ((gap.bound.0 ≡ r.low) ⊎ (gap.bound.0 ≡ r.high)) × ((b : ℕ) → IsInner s.keys r b → b ≢ gap.bound.0 → HasBound s.marks b)

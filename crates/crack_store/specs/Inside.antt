@@ -43,7 +43,7 @@ no_cells keys column_room in_room = record {
   in_room = in_room;
 }
 
--- a layout tells the lengths of a store's lists, and its pieces by the index
+-- a layout reports the lengths of a store's lists, and its pieces by the index
 pub record IsLayoutOf (s : State) (layout : Layout) : Type 0 where
   pub rows : layout.rows ≡ length s.column - length s.pending_out + length s.pending_in
   pub column : layout.column ≡ length s.column

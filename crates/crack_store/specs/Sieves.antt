@@ -29,7 +29,7 @@ pub record Passes (v : Sieve) (m : Mark) (rise : ℕ) (w : Sieve) : Type 0 where
   pub room : w.column.room ≡ v.column.room
   pub remembered : StillRemembers v.column w.column
 
--- the bound doesn't stand behind the rows that came in: then they were sifted, and it rises by as many as are below it
+-- the bound doesn't stand after the rows that came in: then they were sifted, and it rises by as many as are below it
 abbrev pub Rises : Sieve → Mark → ℕ → Sieve → Type 0
 Rises v m rise w = m.position ≤ v.from → Passes v m rise w
 

@@ -1,4 +1,4 @@
-//! All pending insertions put behind the column's last row at once, where no bound stands.
+//! All pending insertions put after the column's last row at once, where no bound stands.
 ghost use Rattle.std.specs.Prelude.{◌≡◌, ◌↔◌, ◌≤◌, ◌++◌, [], length, All, IsTrue, IfErr, OnOk, OnErr};
 ghost use Rattle.crack_column.specs.Column.{Remembers};
 ghost use Rattle.crack_state.specs.State.{Reads, live_rows};
@@ -19,7 +19,7 @@ impl Store {
         self.inside.index.is_empty()
     }
 
-    /// Puts all pending insertions behind the column's last row, in the order of arrival: where no bound stands, it leaves what the carry of
+    /// Puts all pending insertions after the column's last row, in the order of arrival: where no bound stands, it leaves what the carry of
     /// one after the other leaves. Room is made for all of them at once. O(pending insertions).
     /// Refused with 8 where it finds no memory; all is then as it was.
     pub fn append_all(&mut self) -> Result<(), Refusal>
@@ -44,7 +44,7 @@ impl Store {
     }
 }
 
-/// Puts the rows of a list behind the column's last one, in their order, each with what is to be remembered of it. O(rows), where the list has
+/// Puts the rows of a list after the column's last one, in their order, each with what is to be remembered of it. O(rows), where the list has
 /// no holes; the cells are read in the order of the list.
 fn append_rows(column: &mut CrackerColumn, rows: &PendingIn, arena: &Arena<Row>)
     requires room { length rows.now.handles ≤ column.old.room }

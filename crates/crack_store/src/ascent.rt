@@ -106,7 +106,7 @@ impl Visitor for Descent<'_> {
 
     ghost visits = { Draws };
 
-    /// Pulls the hand back to the place, unless its way ends behind it. A doomed row has its place noted.
+    /// Pulls the hand back to the place, unless its way ends after it. A doomed row has its place noted.
     #[inline(always)]
     fn visit(&mut self, place: usize) -> bool {
         if place < self.place {
@@ -122,7 +122,7 @@ impl Visitor for Descent<'_> {
     }
 }
 
-/// Pulls the hand back from place to place as long as its own piece begins behind the place. The bound where its piece begins then.
+/// Pulls the hand back from place to place as long as its own piece begins after the place. The bound where its piece begins then.
 /// O(log bounds) and the bounds at the places on its way; takes no memory.
 #[inline(always)]
 pub(crate) fn descend(inside: &mut Inside, place: usize) -> Near

@@ -242,7 +242,7 @@ impl Carrying {
         Store { inside }
     }
 
-    /// Puts the hand, which isn't doomed, behind the last pending insertion: its row makes way for another. Takes no memory. O(1).
+    /// Puts the hand, which isn't doomed, after the last pending insertion: its row makes way for another. Takes no memory. O(1).
     pub fn put_back(self) -> Store
         requires room { 0 < self.store.in_room }
         requires kept { times self.hand.slot (slots self.store.pending_out) ≡ 0 }
@@ -257,7 +257,7 @@ impl Carrying {
         Store { inside }
     }
 
-    /// Puts the hand behind the column's last row, where its own piece ends there; each bound above its key that stands there
+    /// Puts the hand after the column's last row, where its own piece ends there; each bound above its key that stands there
     /// moves up by one. O(1) on the way up and the bounds at that place, else O(log bounds) more.
     pub fn append(self) -> Store
         requires ends { piece_end self.store (hand_key self) ≡ length self.store.column }

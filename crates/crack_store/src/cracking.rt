@@ -1,4 +1,4 @@
-//! A crack by both ends of a range. One look-up of each end tells what is to be divided.
+//! A crack by both ends of a range. One look-up of each end says what is to be divided.
 ghost use Rattle.std.specs.Prelude.{◌≡◌, ◌+◌, ◌≤◌, [], length, IfSome, IfNone};
 ghost use Rattle.crack_index.specs.Marks.{added, piece_at};
 ghost use Rattle.crack_state.specs.Merge.{Refines, Stands};

@@ -43,7 +43,7 @@ impl Found {
 
 impl Store {
     /// The rows that commands see, in rising serial. It cracks and merges nothing. O(cells) where serials rise with the numbers of the cells,
-    /// in whose order they are read; else O(n log n) for n rows: behind an insert into a freed cell, or an update of a row of the column,
+    /// in whose order they are read; else O(n log n) for n rows: after an insert into a freed cell, or an update of a row of the column,
     /// which takes another cell. Refused with 8 where it finds no memory.
     pub fn live_rows(&self) -> Result<Vec<Row>, Refusal>
         ensures rows { IfOk result (λ rows. IsPermutation (live_rows self.now) rows.items) }
@@ -83,7 +83,7 @@ impl Store {
         Ok(found)
     }
 
-    /// Adds the rows that commands see of cells that stand side by side, from the one of this number on, behind those of the cells before.
+    /// Adds the rows that commands see of cells that stand side by side, from the one of this number on, after those of the cells before.
     /// O(cells).
     fn add_live(
         &self,

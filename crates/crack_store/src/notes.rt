@@ -54,7 +54,7 @@ impl Notes {
     }
 }
 
-/// Puts notes of no place behind the others until there are as many as cells.
+/// Puts notes of no place after the others until there are as many as cells.
 fn fill_up_to(places: &mut Vec<u32>, cells: usize)
     requires { cells ≤ vec_capacity places.old }
 {

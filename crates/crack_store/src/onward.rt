@@ -73,7 +73,7 @@ impl Carrying {
     }
 
     /// Ends the way of the hand as `put_back` does, and takes the pending insertion at this place into the hand, as `lift` does; the hand
-    /// itself stands behind all others.
+    /// itself stands after all others.
     /// It costs what the two do, and moves no store.
     pub fn put_back_and_lift(&mut self, place: usize)
         requires room { 0 < self.old.store.in_room }
@@ -86,7 +86,7 @@ impl Carrying {
         self.near = take_in(&mut self.inside, place);
     }
 
-    /// The first pending insertion at or behind the place with its key in the range; O(1) for each that it passes. Where the range holds all
+    /// The first pending insertion at or after the place with its key in the range; O(1) for each that it passes. Where the range holds all
     /// of the partition's keys, it looks at none. It goes on from the place that it finds when one is lifted next: to find a row and then
     /// to lift it is one pass.
     pub fn seek_in(&mut self, range: KeyRange, from: usize) -> Option<usize>
@@ -103,7 +103,7 @@ impl Carrying {
         inside.pending_in.seek_in(range, from, &inside.arena)
     }
 
-    /// The first pending deletion at or behind the place with its key in the range, from which the next look goes on; O(1) for each that it passes.
+    /// The first pending deletion at or after the place with its key in the range, from which the next look goes on; O(1) for each that it passes.
     pub fn seek_out(&mut self, range: KeyRange, from: usize) -> Option<usize>
         ensures finds { Finds range (keys_at self.old.store.cells self.old.store.pending_out) from result }
         ensures same { self.new ≡ self.old }

@@ -150,7 +150,7 @@ impl Store {
     }
 
     /// Gives the row of this serial another key and another payload. A pending insertion is written in place, which takes no
-    /// memory and always succeeds. A row of the column becomes a pending deletion, and a new one of its serial stands behind
+    /// memory and always succeeds. A row of the column becomes a pending deletion, and a new one of its serial stands after
     /// the last pending insertion. O(1), but for a growth.
     /// Refused with 8 where it finds no memory; all is then as it was.
     pub fn rewrite(&mut self, serial: Serial, key: Key, payload: Payload) -> Result<(), Refusal>

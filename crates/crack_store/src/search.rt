@@ -21,7 +21,7 @@ const FEW: usize = 16;
 const SHORT: usize = 4096;
 
 impl Carrying {
-    /// The place of the column where a doomed row stands, as `place_of` tells it.
+    /// The place of the column where a doomed row stands, as `place_of` returns it.
     /// O(1) where the row was noted, else O(its own piece + log bounds). Where the row is likely to be the one doomed row of its piece, it is
     /// looked for by itself, at a fifth of the cost of a pass that notes every doomed row there; so a long piece is passed over once for all
     /// its doomed rows, until a crack moves them. Steps that move a doomed row note its new place.

@@ -14,7 +14,7 @@ const STRETCH: u64 = 8;
 const SPREAD: u64 = 0x9e37_79b9_7f4a_7c15;
 
 /// Hashes serials for `indexmap`: its table has a power of two of groups, of 12 rows each and 9 on average once it is full. The low
-/// bits of a hash choose the group, and the highest eight of its 32 tell rows of one group apart.
+/// bits of a hash choose the group, and the highest eight of its 32 distinguish rows of one group.
 ///
 /// A partition gives its serials in order, so rows that are admitted one after the other go into a group whose line is in the cache,
 /// and a growth copies the table stretch by stretch. A client can't choose serials, so nothing has to be kept from those who would let

@@ -1,4 +1,4 @@
-//! All pending insertions of a range carried in bulk: their rows are put behind the column's last one, and sifted through its pieces from the
+//! All pending insertions of a range carried in bulk: their rows are put after the column's last one, and sifted through its pieces from the
 //! highest down.
 ghost use Rattle.std.specs.Prelude.{◌≡◌, ◌≤◌, ◌^◌, ◌++◌, [], None, Some, length, All, IsTrue, IsFalse};
 ghost use Rattle.crack_arena.specs.Rows.{RemembersKeys, keys_at};
@@ -133,7 +133,7 @@ fn carry_rows(inside: &mut Inside, range: KeyRange, first: usize, count: usize)
     inside.tally.put_in = inside.tally.put_in.saturating_add(count as u64);
 }
 
-/// Takes the rows of a range out of a list, the first of which is `first`, and puts them behind the column's last one, in their order, each
+/// Takes the rows of a range out of a list, the first of which is `first`, and puts them after the column's last one, in their order, each
 /// with what is to be remembered of it.
 fn take_rows(
     rows: &mut PendingIn,

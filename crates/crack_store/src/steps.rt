@@ -15,7 +15,7 @@ use crack_column::Remembered;
 use crack_index::{CrackerIndex, Mark};
 
 /// Takes the pending insertion at this place into the hand, with what is to be remembered of its row. No bound is looked up yet.
-/// O(1) at the first place or behind the one that was taken last; takes no memory. A list that is emptied gives its memory back.
+/// O(1) at the first place or after the one that was taken last; takes no memory. A list that is emptied gives its memory back.
 pub(crate) fn take_in(inside: &mut Inside, place: usize) -> Near
     requires intact { KeepsIntact inside.old [] }
     requires there { place < length inside.old.pending_in.handles }
@@ -31,7 +31,7 @@ pub(crate) fn take_in(inside: &mut Inside, place: usize) -> Near
     Near::Unsought
 }
 
-/// Takes the column's last row into the hand, with what is remembered of it; each bound that stands behind it moves down by one.
+/// Takes the column's last row into the hand, with what is remembered of it; each bound that stands after it moves down by one.
 /// No bound is looked up yet. O(log bounds) and the bounds at that place; takes no memory.
 pub(crate) fn take_last(inside: &mut Inside) -> Near
     requires intact { KeepsIntact inside.old [] }
@@ -61,7 +61,7 @@ pub(crate) fn free_hand(inside: &mut Inside)
     inside.tally.taken_out = inside.tally.taken_out.saturating_add(1);
 }
 
-/// Puts the hand behind the column's last row; `above` is the bound above its key.
+/// Puts the hand after the column's last row; `above` is the bound above its key.
 /// O(1) and the bounds at that place; takes no memory.
 pub(crate) fn put_last(inside: &mut Inside, above: Option<Mark>)
     requires hand { HasHand inside.old }
@@ -74,7 +74,7 @@ pub(crate) fn put_last(inside: &mut Inside, above: Option<Mark>)
     inside.column.append_aside();
 }
 
-/// Puts the hand, which isn't doomed, behind the last pending insertion. O(1); takes no memory.
+/// Puts the hand, which isn't doomed, after the last pending insertion. O(1); takes no memory.
 pub(crate) fn give_back(inside: &mut Inside)
     requires hand { HasHand inside.old }
     requires room { 0 < inside.old.in_room }

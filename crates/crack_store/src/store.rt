@@ -84,7 +84,7 @@ impl Store {
         let _ = &self.inside;
     }
 
-    /// Keeps a row in a new cell behind the last pending insertion. O(1).
+    /// Keeps a row in a new cell after the last pending insertion. O(1).
     /// Refused with 8 where it finds no memory; all is then as it was.
     pub fn admit(&mut self, row: Row) -> Result<(), Refusal>
         requires { IsAdmissible row self.old }
@@ -155,7 +155,7 @@ impl Store {
     }
 
     /// Takes the pending insertion at this place of the order of arrival into the hand, after `make_room`.
-    /// O(log bounds) at the first place or behind the one that was taken last; takes no memory.
+    /// O(log bounds) at the first place or after the one that was taken last; takes no memory.
     pub fn lift(self, place: usize) -> Carrying
         requires there { place < length self.pending_in }
         requires room { 0 < self.column_room }
@@ -167,7 +167,7 @@ impl Store {
         Carrying { inside, near }
     }
 
-    /// Takes the column's last row into the hand; each bound that stands behind it moves down by one.
+    /// Takes the column's last row into the hand; each bound that stands after it moves down by one.
     /// O(log bounds) and the bounds at that place; takes no memory.
     pub fn lift_last(self) -> Carrying
         requires { 0 < length self.column }
@@ -320,7 +320,7 @@ impl Store {
         self.inside.pending_out.first_in(range, &self.inside.arena)
     }
 
-    /// The first pending insertion at or behind the place with its key in the range; O(1) for each that it passes.
+    /// The first pending insertion at or after the place with its key in the range; O(1) for each that it passes.
     pub fn next_in(&self, range: KeyRange, from: usize) -> Option<usize>
         ensures { Finds range (keys_at self.now.cells self.now.pending_in) from result }
     {
@@ -328,7 +328,7 @@ impl Store {
         self.inside.pending_in.next_in(range, from, arena)
     }
 
-    /// The first pending deletion at or behind the place with its key in the range; O(1) for each that it passes.
+    /// The first pending deletion at or after the place with its key in the range; O(1) for each that it passes.
     pub fn next_out(&self, range: KeyRange, from: usize) -> Option<usize>
         ensures { Finds range (keys_at self.now.cells self.now.pending_out) from result }
     {

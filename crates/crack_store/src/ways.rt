@@ -21,7 +21,7 @@ pub enum CarryEnd {
 }
 
 impl Carrying {
-    /// Pushes the hand on until a rule holds that ends its carry, and tells which. It leaves what as many `push_on` leave, in one walk over
+    /// Pushes the hand on until a rule holds that ends its carry, and returns which. It leaves what as many `push_on` leave, in one walk over
     /// the bounds. O(log bounds) and the bounds at the places on its way; takes no memory.
     pub fn carry_up(&mut self, ceiling: Option<Bound>) -> CarryEnd
         ensures pushes { PushesOn (ceiling_of ceiling) self.old self.new }
@@ -41,7 +41,7 @@ impl Carrying {
         }
     }
 
-    /// Pulls the hand back as long as its own piece begins behind the place. It leaves what as many `pull_back` leave, in one walk over the
+    /// Pulls the hand back as long as its own piece begins after the place. It leaves what as many `pull_back` leave, in one walk over the
     /// bounds. O(log bounds) and the bounds at the places on its way; takes no memory.
     pub fn pull_down(&mut self, place: usize)
         ensures pulls { PullsBack place self.old self.new }

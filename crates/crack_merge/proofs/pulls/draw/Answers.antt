@@ -49,7 +49,7 @@ returns-in_default-clause-hand c = rw c.find.ensures.same (hand_absent c.args.ca
 pub returns-in_default-clause-pending_out : goal.returns-in_default-clause-pending_out
 returns-in_default-clause-pending_out c = rw c.find.ensures.same refl
 
--- pulls that come to a row whose piece doesn't begin behind the place
+-- pulls that come to a row whose piece doesn't begin after the place
 record IsPulled (doomed : Handle) (place : ℕ) (c e : Carried) : Type 0 where
   pub same : e.store.pending_out ≡ c.store.pending_out
   pub ahead : IsAhead e place doomed

@@ -7,7 +7,7 @@ use Rattle.crack_state.specs.State.{Reads}
 use Rattle.std.specs.Prelude.{All}
 use Rattle.crack_store.proofs.sifting.take_rows.Given as goal
 
--- those of the range that were passed stand behind the others in the column, and the others are left
+-- those of the range that were passed stand after the others in the column, and the others are left
 abbrev pub invariant-rows : goal.invariant-rows
 invariant-rows l = record {
   within : l.from ≤ length l.rows.handles;
