@@ -51,7 +51,7 @@ marked-later false short (Some k) n = refl
 marked-later false true None n = refl
 marked-later false false None n = refl
 
-first_short-push : (answers : List Answer) (a : Answer) (n : ℕ) → length answers + 1 ≡ n → first_short (answers ++ a ∷ []) ≡ marked (first_short answers) n (is_short_answer a)
+pub first_short-push : (answers : List Answer) (a : Answer) (n : ℕ) → length answers + 1 ≡ n → first_short (answers ++ a ∷ []) ≡ marked (first_short answers) n (is_short_answer a)
 first_short-push [] a n e = marked-last (is_short_answer a) ∙ ap (λ m. marked None m (is_short_answer a)) e
 first_short-push (b ∷ answers) a n e =
     let later = first_short-push answers a (length answers + 1) refl in
@@ -71,7 +71,7 @@ AreAnswered-push {bounds} {splits} {tables} {rs} {texts} {short} {s} r a next sh
   left_is = left;
 }
 
-concat-push : (xs : List (List ℕ)) (y : List ℕ) → concat (xs ++ y ∷ []) ≡ concat xs ++ y
+pub concat-push : (xs : List (List ℕ)) (y : List ℕ) → concat (xs ++ y ∷ []) ≡ concat xs ++ y
 concat-push [] y = append-nil y
 concat-push (x ∷ xs) y = ap (λ z. x ++ z) (concat-push xs y) ∙ sym (append_assoc x (concat xs) y)
 
@@ -81,12 +81,12 @@ ending-push (q ∷ []) r = refl
 ending-push (q ∷ p ∷ rs) r = ending-push (p ∷ rs) r
 
 -- what known bytes are, after more
-appended : (out : Option (List ℕ)) (o : List ℕ) (out' : Option (List ℕ)) (t : List ℕ) → out ≡ Some o → Appends out out' t → out' ≡ Some (o ++ t)
+pub appended : (out : Option (List ℕ)) (o : List ℕ) (out' : Option (List ℕ)) (t : List ℕ) → out ≡ Some o → Appends out out' t → out' ≡ Some (o ++ t)
 appended None o out' t e h = cc
 appended (Some x) o None t e h = absurd h
 appended (Some x) o (Some y) t e h = let same : x ≡ o = cc in ap Some (h ∙ ap (λ z. z ++ t) same)
 
-kept_known : (out : Option (List ℕ)) (out' : Option (List ℕ)) (o : List ℕ) → Keeps out out' → out ≡ Some o → out' ≡ Some o
+pub kept_known : (out : Option (List ℕ)) (out' : Option (List ℕ)) (o : List ℕ) → Keeps out out' → out ≡ Some o → out' ≡ Some o
 kept_known None out' o h e = cc
 kept_known (Some x) None o h e = absurd h
 kept_known (Some x) (Some y) o h e = ap Some h ∙ e
@@ -164,7 +164,7 @@ Going-served bytes o x end {bounds} {splits} {k} {short} {how} {s0} {s} {out0} {
     rw (g.split ∙ append-nil g.done, fs) (g.told x o e f)
 
 -- the first statements are those that are done
-done_first : (all done left : List Reading) (n : ℕ) → all ≡ done ++ left → length done ≡ n → take n all ≡ done
+pub done_first : (all done left : List Reading) (n : ℕ) → all ≡ done ++ left → length done ≡ n → take n all ≡ done
 done_first all done left n split count = ap (take n) split ∙ take_at done left n count
 
 pub Going-within : {bounds : Bounds} {splits : List Bound} {all left : List Reading} {k : ℕ} {short : Option ℕ} {how : How} {s0 s : Option (List PlainView)} {out0 out : Option (List ℕ)} → Going bounds splits all left k short how s0 s out0 out → k + length left ≡ length all

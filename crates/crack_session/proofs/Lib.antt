@@ -1,10 +1,13 @@
 pub mod Asking
+pub mod Calling
 pub mod Feeds
 pub mod Finishing
 pub mod Following
 pub mod Going
 pub mod Joining
+pub mod Making
 pub mod Passing
+pub mod Plainly
 pub mod Ranges
 pub mod Reading
 pub mod WholeLines

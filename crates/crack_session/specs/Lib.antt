@@ -1,5 +1,7 @@
 pub mod Answers
+pub mod Calls
 pub mod Input
+pub mod Leads
 pub mod Lines
 pub mod Plains
 pub mod Queries
@@ -7,3 +9,4 @@ pub mod Readings
 pub mod Served
 pub mod Sessions
 pub mod Telling
+pub mod Written

@@ -13,29 +13,29 @@ use Rattle.crack_session.specs.declared.session.Progress.{Progress}
 use Rattle.crack_row.specs.Ranges.{Range}
 use Rattle.crack_row.specs.declared.refusal.Refusal.TheVariants.{OutOfMemory}
 use Rattle.crack_commands.specs.Texts.{head_text, row_text, Writes}
-use Rattle.crack_session.specs.declared.answer.Answer.TheVariants.{Set, Refused}
+use Rattle.crack_session.specs.declared.answer.Answer.TheVariants.{Refused}
 use Rattle.crack_session.specs.declared.query.PartReply.{PartReply}
 use Rattle.crack_session.specs.declared.query.Query.{Query}
 use Rattle.crack_session.specs.Queries.{counted, summed, listed}
 use Rattle.crack_session.specs.Answers.{IsJoined, IsAnswer, is_short_answer, answer_text}
+use Rattle.crack_session.specs.Calls.{Call, Calls, IsReadingMadeOf, policy_after}
 use Rattle.crack_core.specs.Steps.{Bounds}
 
--- A desk is asked: its tables, where they are known, change as they may by its bounds and splits, and these stay.
-pub record AsksDesk {D : Type 0} (bounds : D → Bounds) (splits : D → List Bound) (tables : D → Option (List PlainView)) (IsChange : Bounds → List Bound → List PlainView → List PlainView → Type 0) (old new : D) : Type 0 where
+-- A desk is asked: its tables, where they are known, change as they may by its bounds and splits, and these stay; and such calls lead from one
+-- state to the other.
+pub record AsksDesk {D : Type 0} (bounds : D → Bounds) (splits : D → List Bound) (tables : D → Option (List PlainView)) (leads : D → Call → D → Type 0) (IsChange : Bounds → List Bound → List PlainView → List PlainView → Type 0) (AreSuch : List Bound → List Call → Type 0) (old new : D) : Type 0 where
   pub is : (known : List PlainView) → tables old ≡ Some known → (next : List PlainView) × IsChange (bounds old) (splits old) known next × (tables new ≡ Some next)
   pub bounds_are : bounds new ≡ bounds old
   pub splits_are : splits new ≡ splits old
+  pub calls : List Call
+  pub were : Calls leads old calls new
+  pub made : AreSuch (splits old) calls
 
 -- the first want of room, after the n-th statement
 abbrev pub marked : Option ℕ → ℕ → Bool → Option ℕ
 marked (Some k) n short = Some k
 marked None n true = Some n
 marked None n false = None
-
--- the session's policy after an answer
-abbrev pub policy_after : MergePolicy → Answer → MergePolicy
-policy_after policy (Set next) = next
-policy_after policy _ = policy
 
 -- An answer is told: a first want of room and another policy are noted, its text is written, and it is counted where that is whole.
 pub record Tells {W : Type 0} (contents : W → Option (List ℕ)) (answer : Answer) (old new : Progress) (result : Result (Unit {0}) Refusal) (writer writer' : Watched W) : Type 0 where
@@ -45,9 +45,9 @@ pub record Tells {W : Type 0} (contents : W → Option (List ℕ)) (answer : Ans
   pub writes : Writes contents (answer_text answer) result writer writer'
 
 -- A statement is answered at a desk, and the answer is told.
-pub record Responds {D W : Type 0} (bounds : D → Bounds) (splits : D → List Bound) (tables : D → Option (List PlainView)) (contents : W → Option (List ℕ)) (reading : Reading) (old new : Progress) (result : Result (Unit {0}) Refusal) (desk desk' : D) (writer writer' : Watched W) : Type 0 where
+pub record Responds {D W : Type 0} (bounds : D → Bounds) (splits : D → List Bound) (tables : D → Option (List PlainView)) (leads : D → Call → D → Type 0) (contents : W → Option (List ℕ)) (reading : Reading) (old new : Progress) (result : Result (Unit {0}) Refusal) (desk desk' : D) (writer writer' : Watched W) : Type 0 where
   pub answer : Answer
-  pub asks : AsksDesk bounds splits tables (λ bounds splits tables. IsAnswer bounds splits tables reading answer) desk desk'
+  pub asks : AsksDesk bounds splits tables leads (λ bounds splits tables. IsAnswer bounds splits tables reading answer) (λ splits calls. IsReadingMadeOf splits old.policy reading answer calls) desk desk'
   pub tells : Tells contents answer old new result writer writer'
 
 -- how many rows these count or list, all together

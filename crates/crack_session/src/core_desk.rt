@@ -4,6 +4,8 @@ ghost use Rattle.crack_plain.specs.Plain.{IsSmall};
 ghost use Rattle.crack_core.specs.Steps.{bounds_of, IsOutcomeAt, IsFoldOutcome, tables_of, tables_after, tables_folded, pasts_of, accepted_by};
 ghost use Rattle.crack_core.specs.Jobs.{performed, KeepsJobs, FoldsAt};
 ghost use Rattle.crack_core.specs.declared.step.Job.TheVariants.{Perform};
+ghost use Rattle.crack_session.specs.Calls.{Asked, Checkpointed};
+ghost use Rattle.crack_session.specs.Leads.{core_leads};
 
 use crate::desk::Desk;
 use crack_core::{Core, Step};
@@ -12,6 +14,7 @@ use crack_row::{Bound, Command, Layout, Policy, Refusal, Reply};
 impl Desk for Core {
     ghost use Rattle.std.specs.Prelude.{Some};
     ghost use Rattle.crack_core.specs.Steps.{bounds_of, tables_of, accepted_by};
+    ghost use Rattle.crack_session.specs.Leads.{core_leads};
 
     ghost tables = { λ c. Some (tables_of c.parts) };
 
@@ -20,6 +23,8 @@ impl Desk for Core {
     ghost splits = { λ c. c.splits };
 
     ghost receipts = { λ c. accepted_by c.parts };
+
+    ghost leads = { λ c call d. core_leads c call d };
 
     #[inline(always)]
     fn ask(&mut self, part: u32, command: Command, policy: Policy) -> Result<Reply, Refusal>
@@ -30,6 +35,7 @@ impl Desk for Core {
         ensures small { IfOk result IsSmall }
         ensures opened { (self.new.splits ≡ self.old.splits) × (self.new.limits ≡ self.old.limits) }
         ensures accepted { accepted_by self.new.parts ≡ (if is_ok result then accepted_by self.old.parts + 1 else accepted_by self.old.parts) }
+        ensures leads { core_leads self.old (Asked part command policy result) self.new }
     {
         self.step(Step {
             worker: 0,
@@ -46,6 +52,7 @@ impl Desk for Core {
         ensures folds { OnOk result (FoldsAt part self.old.parts self.new.parts) }
         ensures opened { (self.new.splits ≡ self.old.splits) × (self.new.limits ≡ self.old.limits) }
         ensures accepted { accepted_by self.new.parts ≡ accepted_by self.old.parts }
+        ensures leads { core_leads self.old (Checkpointed part result) self.new }
     {
         Core::checkpoint(self, part)
     }

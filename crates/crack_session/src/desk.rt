@@ -3,6 +3,7 @@ ghost use Rattle.std.specs.Prelude.{◌≡◌, ℕ, ◌+◌, List, length, All, 
 ghost use Rattle.crack_plain.specs.Plain.{PlainView, IsNumbered, IsSmall};
 ghost use Rattle.crack_core.specs.Routes.{AreSplits, keys_of_part};
 ghost use Rattle.crack_core.specs.Steps.{IsOutcomeAt, IsLayoutOutcome, IsFoldOutcome, tables_after, tables_folded};
+ghost use Rattle.crack_session.specs.Calls.{Asked, Checkpointed, Looked};
 
 use crack_row::{Bound, Command, Layout, Policy, Refusal, Reply};
 
@@ -12,6 +13,7 @@ pub trait Desk {
     ghost use Rattle.crack_row.specs.declared.Bound.{Bound};
     ghost use Rattle.crack_plain.specs.Plain.{PlainView};
     ghost use Rattle.crack_core.specs.Steps.{Bounds};
+    ghost use Rattle.crack_session.specs.Calls.{Call};
 
     /// The plain rows of each partition, and how many commands it accepted up to its last checkpoint and since, where they are known.
     ghost tables: { Self → Option (List PlainView) };
@@ -24,6 +26,9 @@ pub trait Desk {
 
     /// How many commands were accepted through this desk.
     ghost receipts: { Self → ℕ };
+
+    /// What a call, and what came of it, leads to: from one state to another.
+    ghost leads: { Self → Call → Self → Type 0 };
 
     /// Asks one partition. Refused, with the rows and histories as they were, with 5 where there is no such partition,
     /// with 4 where the command brings a key that isn't the partition's, with 6 where its history is full and no checkpoint is due, with 10
@@ -40,7 +45,9 @@ pub trait Desk {
         ensures small { IfOk result IsSmall }
         ensures splits { splits self.new ≡ splits self.old }
         ensures bounds { bounds self.new ≡ bounds self.old }
-        ensures receipts { receipts self.new ≡ (if is_ok result then receipts self.old + 1 else receipts self.old) };
+        ensures receipts { receipts self.new ≡ (if is_ok result then receipts self.old + 1 else receipts self.old) }
+        // The partition is asked this command by this policy, once, and this is what comes of that.
+        ensures leads { leads self.old (Asked part command policy result) self.new };
 
     /// Makes a checkpoint of one partition, and tells how many commands it accepted since the last one: its rows are kept as they are, and
     /// what it was asked no more. It isn't kept itself. Refused with 5 where there is no such partition, and with 8 where no memory is
@@ -54,14 +61,16 @@ pub trait Desk {
 
         ensures splits { splits self.new ≡ splits self.old }
         ensures bounds { bounds self.new ≡ bounds self.old }
-        ensures receipts { receipts self.new ≡ receipts self.old };
+        ensures receipts { receipts self.new ≡ receipts self.old }
+        ensures leads { leads self.old (Checkpointed part result) self.new };
 
     /// What stands where in one partition. It cracks and merges nothing, and isn't kept. Refused with 5 where there is no
     /// such partition, and with 8 where no memory is found.
     fn layout(&self, part: u32) -> Result<Layout, Refusal>
         // Its pieces lead from the partition's one end to the other, its numbers fit, and its rows are as many as the plain rows.
-        ensures { (known : List PlainView) → tables self.now ≡ Some known →
-            IsLayoutOutcome (keys_of_part (splits self.now) part) (slice_get known part) result };
+        ensures outcome { (known : List PlainView) → tables self.now ≡ Some known →
+            IsLayoutOutcome (keys_of_part (splits self.now) part) (slice_get known part) result }
+        ensures leads { leads self.now (Looked part result) self.now };
 
     /// Where one partition ends and the next begins. Takes no memory.
     fn splits(&self) -> &[Bound]

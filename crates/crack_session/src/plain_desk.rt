@@ -7,6 +7,7 @@ use crack_row::{Bound, Command, Layout, Policy, Refusal, Reply};
 impl Desk for PlainTable {
     ghost use Rattle.std.specs.Prelude.{Some, [], ◌∷◌};
     ghost use Rattle.crack_plain.specs.Plain.{accepted_of};
+    ghost use Rattle.crack_session.specs.Leads.{rows_lead};
     ghost use Rattle.crack_session.specs.Plains.{plain_bounds};
 
     ghost tables = { λ t. Some (t ∷ []) };
@@ -16,6 +17,8 @@ impl Desk for PlainTable {
     ghost splits = { λ t. [] };
 
     ghost receipts = { λ t. accepted_of t };
+
+    ghost leads = { λ t call u. rows_lead plain_bounds [] (t ∷ []) call (u ∷ []) };
 
     fn ask(&mut self, part: u32, command: Command, _policy: Policy) -> Result<Reply, Refusal> {
         if part != 0 {

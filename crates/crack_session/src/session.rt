@@ -6,7 +6,9 @@ ghost use Rattle.crack_plain.specs.Plain.{PlainView};
 ghost use Rattle.crack_session.specs.Served.{CountsStatements, AreTold, IsDone, IsCutOff};
 ghost use Rattle.crack_session.specs.Readings.{statements};
 ghost use Rattle.crack_session.specs.Answers.{is_short_answer};
-ghost use Rattle.crack_session.specs.Telling.{Responds, Tells, marked, policy_after};
+ghost use Rattle.crack_session.specs.Calls.{policy_after, AreAnswersOf};
+ghost use Rattle.crack_session.specs.Telling.{Responds, Tells, marked};
+ghost use Rattle.crack_session.specs.Written.{AreWritten, AreWrittenThen};
 
 use crate::answer::{Answer, answer_reading, part_of};
 use crate::desk::Desk;
@@ -103,7 +105,7 @@ fn respond<D: Desk, W: Write>(
     writer: &mut Watched<W>,
 ) -> Result<(), Refusal>
     requires { progress.old.statements + 1 < 2 ^ 64 }
-    ensures { Responds D.bounds D.splits D.tables W.contents reading progress.old progress.new result desk.old desk.new writer.old writer.new }
+    ensures { Responds D.bounds D.splits D.tables D.leads W.contents reading progress.old progress.new result desk.old desk.new writer.old writer.new }
 {
     if let Some((key, payload)) = inserted(&reading) {
         return respond_to_insert(desk, key, payload, progress, writer);
@@ -123,7 +125,7 @@ fn respond_to_any<D: Desk, W: Write>(
     writer: &mut Watched<W>,
 ) -> Result<(), Refusal>
     requires { progress.old.statements + 1 < 2 ^ 64 }
-    ensures { Responds D.bounds D.splits D.tables W.contents reading progress.old progress.new result desk.old desk.new writer.old writer.new }
+    ensures { Responds D.bounds D.splits D.tables D.leads W.contents reading progress.old progress.new result desk.old desk.new writer.old writer.new }
 {
     let answer = answer_reading(alloc, desk, progress.policy, reading);
     tell(&answer, progress, writer)
@@ -154,7 +156,7 @@ fn respond_to_insert<D: Desk, W: Write>(
     writer: &mut Watched<W>,
 ) -> Result<(), Refusal>
     requires { progress.old.statements + 1 < 2 ^ 64 }
-    ensures { Responds D.bounds D.splits D.tables W.contents (Ok (Statement.Insert key payload)) progress.old progress.new result desk.old desk.new writer.old writer.new }
+    ensures { Responds D.bounds D.splits D.tables D.leads W.contents (Ok (Statement.Insert key payload)) progress.old progress.new result desk.old desk.new writer.old writer.new }
 {
     let part = part_of(desk, key);
     match desk.ask(part, Command::Insert { key, payload }, progress.policy) {
@@ -263,6 +265,12 @@ pub fn serve<D: Desk, R: Read, W: Write>(
         R.remaining (device reader.old) ≡ Some bytes → W.contents (device writer.old) ≡ Some out →
         D.tables desk.old ≡ Some tables →
         IsCutOff (D.bounds desk.old) (D.splits desk.old) tables bytes out fault (D.tables desk.new) (W.contents (device writer.new))) }
+    // Whatever is known of the rows: each answer is made of what came of the next calls of the desk, for just the partitions and parts that its
+    // statement fixes and by the policy in force, and what is written are the texts of the answers; no call is left over.
+    ensures written { IfOk result (λ end. (bytes out : List ℕ) → R.remaining (device reader.old) ≡ Some bytes → W.contents (device writer.old) ≡ Some out →
+        AreWritten (AreAnswersOf D.leads (D.splits desk.old) policy desk.old desk.new) (statements bytes) out end.first_short (W.contents (device writer.new))) }
+    ensures written_in_part { IfErr result (λ fault. (bytes out : List ℕ) → R.remaining (device reader.old) ≡ Some bytes → W.contents (device writer.old) ≡ Some out →
+        AreWrittenThen (AreAnswersOf D.leads (D.splits desk.old) policy desk.old desk.new) bytes out fault (W.contents (device writer.new))) }
     // Whatever came, the desk's bounds and splits are as they were, so another session, or an export, over it goes on from there.
     ensures splits { D.splits desk.new ≡ D.splits desk.old }
     ensures bounds { D.bounds desk.new ≡ D.bounds desk.old }

@@ -39,6 +39,8 @@ impl Desk for Starved {
 
     ghost receipts = { λ d. accepted_of d.table };
 
+    ghost leads = { λ d call e. Unit {0} };
+
     fn ask(&mut self, part: u32, command: Command, policy: Policy) -> Result<Reply, Refusal> {
         self.asked = self.asked.saturating_add(1);
         if self.asked == self.refuses {
@@ -81,6 +83,8 @@ impl Desk for Refusing {
     ghost splits = { λ d. [] };
 
     ghost receipts = { λ d. 0 };
+
+    ghost leads = { λ d call e. Unit {0} };
 
     fn ask(&mut self, _part: u32, _command: Command, _policy: Policy) -> Result<Reply, Refusal> {
         Err(self.refusal)

@@ -2,5 +2,7 @@
 #![tactic(auto)]
 
 pub mod desk;
+pub mod receipts;
 
 pub use desk::WorkerDesk;
+pub use receipts::answers_are_receipts;

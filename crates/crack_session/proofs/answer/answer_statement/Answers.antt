@@ -6,6 +6,9 @@ returns g c = record {
   is = search rules;
   bounds_are = c.ask_part.ensures.bounds_are;
   splits_are = c.ask_part.ensures.splits_are;
+  calls = c.ask_part.ensures.calls;
+  were = c.ask_part.ensures.were;
+  made = search rules;
 }
 
 pub returns-in-Count : goal.returns-in-Count

@@ -1,5 +1,7 @@
-use Rattle.std.proofs.Common.{Ok, Err, refl}
+use Rattle.std.proofs.Common.{Ok, Err, [], ◌∷◌, refl}
 use Rattle.crack_core.specs.Steps.{tables_after}
+use Rattle.crack_session.specs.Calls.{Asked}
+use Rattle.crack_session.proofs.Calling.{Calls-one}
 use Rattle.crack_session.proofs.answer.ask_part.Goals as goal
 
 pub returns-in-Ok : goal.returns-in-Ok
@@ -11,6 +13,9 @@ returns-in-Ok g c = record {
   );
   bounds_are = c.ask.ensures.bounds;
   splits_are = c.ask.ensures.splits;
+  calls = Asked c.args.part c.args.command c.args.policy (Ok c.in-Ok.reply) ∷ [];
+  were = Calls-one g.D.Desk.leads _ _ _ c.in-Ok.ensures.leads;
+  made = (Ok c.in-Ok.reply, refl, refl);
 }
 
 pub returns-in-Err : goal.returns-in-Err
@@ -22,4 +27,7 @@ returns-in-Err g c = record {
   );
   bounds_are = c.ask.ensures.bounds;
   splits_are = c.ask.ensures.splits;
+  calls = Asked c.args.part c.args.command c.args.policy (Err c.in-Err.refusal) ∷ [];
+  were = Calls-one g.D.Desk.leads _ _ _ c.in-Err.ensures.leads;
+  made = (Err c.in-Err.refusal, refl, refl);
 }

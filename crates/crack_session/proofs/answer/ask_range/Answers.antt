@@ -1,7 +1,8 @@
-use Rattle.std.proofs.Common.{◌∙◌, List, ap, refl, inr}
+use Rattle.std.proofs.Common.{◌∙◌, List, [], ap, refl, inr}
 use Rattle.crack_row.specs.declared.Bound.{Bound}
 use Rattle.crack_core.specs.Routes.{parts_of}
 use Rattle.crack_session.proofs.Asking.{AsksParts-several}
+use Rattle.crack_session.proofs.Calling.{ArePartsAsked-several}
 use Rattle.crack_session.proofs.answer.ask_range.Goals as goal
 
 pub returns-in-Some : goal.returns-in-Some
@@ -12,6 +13,9 @@ returns-in-Some g c =
       is = λ tables e. let said = asked.is tables e in (said.0, rw one (rw c.over.ensures at said.1), said.2);
       bounds_are = asked.bounds_are;
       splits_are = asked.splits_are;
+      calls = asked.calls;
+      were = asked.were;
+      made = rw one (rw c.over.ensures at asked.made);
     }
 
 pub returns-in-Ok : goal.returns-in-Ok
@@ -22,6 +26,9 @@ returns-in-Ok g c =
       is = λ tables e. let said = asked.is tables e in (said.0, AsksParts-several _ (rw c.splits.ensures.value at c.in_default.ensures.several) (rw all at said.1), said.2);
       bounds_are = asked.bounds_are;
       splits_are = asked.splits_are;
+      calls = asked.calls;
+      were = asked.were;
+      made = ArePartsAsked-several _ _ _ _ _ (rw c.splits.ensures.value at c.in_default.ensures.several) (rw all at asked.made);
     }
 
 pub returns-in-Err : goal.returns-in-Err
@@ -29,4 +36,7 @@ returns-in-Err g c = record {
   is = λ tables e. (tables, AsksParts-several _ (rw c.splits.ensures.value at c.in_default.ensures.several) (inr (rw c.in-Err.ensures.err refl, refl)), e);
   bounds_are = refl;
   splits_are = refl;
+  calls = [];
+  were = refl;
+  made = ArePartsAsked-several _ _ _ _ _ (rw c.splits.ensures.value at c.in_default.ensures.several) (inr (rw c.in-Err.ensures.err refl, refl));
 }

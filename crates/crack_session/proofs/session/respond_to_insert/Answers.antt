@@ -1,7 +1,9 @@
-use Rattle.std.proofs.Common.{Ok, Err, refl}
+use Rattle.std.proofs.Common.{Ok, Err, [], ◌∷◌, refl}
 use Rattle.crack_row.specs.declared.command.Command.TheVariants.{Insert}
 use Rattle.crack_core.specs.Steps.{tables_after}
 use Rattle.crack_session.specs.declared.answer.Answer.TheVariants.{Replied, Refused}
+use Rattle.crack_session.specs.Calls.{Asked}
+use Rattle.crack_session.proofs.Calling.{Calls-one}
 use Rattle.crack_session.proofs.session.respond_to_insert.Goals as goal
 
 pub returns-in-Ok : goal.returns-in-Ok
@@ -15,6 +17,9 @@ returns-in-Ok g c = record {
     );
     bounds_are = c.ask.ensures.bounds;
     splits_are = c.ask.ensures.splits;
+    calls = Asked c.part_of-part.result (Insert c.args.key c.args.payload) c.args.progress.now.policy (Ok c.in-Ok.reply) ∷ [];
+    were = Calls-one g.D.Desk.leads _ _ _ c.in-Ok.ensures.leads;
+    made = rw (← c.part_of-part.ensures) (Ok c.in-Ok.reply, refl, refl);
   };
   tells = c.tell_reply.ensures;
 }
@@ -30,6 +35,9 @@ returns-in-Err g c = record {
     );
     bounds_are = c.ask.ensures.bounds;
     splits_are = c.ask.ensures.splits;
+    calls = Asked c.part_of-part.result (Insert c.args.key c.args.payload) c.args.progress.now.policy (Err c.in-Err.refusal) ∷ [];
+    were = Calls-one g.D.Desk.leads _ _ _ c.in-Err.ensures.leads;
+    made = rw (← c.part_of-part.ensures) (Err c.in-Err.refusal, refl, refl);
   };
   tells = c.tell_refusal.ensures;
 }

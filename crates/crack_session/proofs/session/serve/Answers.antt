@@ -8,6 +8,7 @@ use Rattle.crack_session.proofs.Reading.{start_input, IsPaid-then, counted-then}
 use Rattle.crack_session.proofs.Following.{next_blank}
 use Rattle.crack_session.proofs.Finishing.{IsOver, finish-counted, finish-served, finish-done, finish-cut_off}
 use Rattle.crack_session.proofs.Going.{Going-start, Going-kept, Going-left, Going-line, Going-answered, Going-within, Going-done, Going-cut, Going-cut_in, Going-on, Going-quit, Answered-desk}
+use Rattle.crack_session.proofs.Making.{IsMade, Making-start, Making-kept, Making-left, Making-line, Making-more, Making-on, Making-quit, Making-cut, Making-cut_in, finish-written, finish-written_in_part}
 use Rattle.crack_session.proofs.WholeLines.{AreUsed-start, AreUsed-blank, AreUsed-more, AreUsed-done, line_feeds}
 use Rattle.crack_session.proofs.session.serve.Given.{Over}
 use Rattle.crack_session.proofs.session.serve.Goals.{After-finish, After-finish-then-says_quit}
@@ -16,6 +17,7 @@ use Rattle.crack_session.proofs.session.serve.Goals as goal
 pub lines-init : goal.lines-init
 lines-init g c = record {
   going = λ bytes e. (bytes, rw (c.new-input.ensures.unread, e) refl, Going-start _ (g.D.Desk.splits c.args.desk.now) (statements bytes) _ _, λ _. AreUsed-start bytes);
+  made = λ bytes e. (bytes, rw (c.new-input.ensures.unread, e) refl, Making-start g.D.Desk.leads (g.D.Desk.splits c.args.desk.now) c.args.policy c.args.desk.now (statements bytes) _);
   reader = refl;
   writer = refl;
   splits = refl;
@@ -39,6 +41,13 @@ pub returns-in-Err-clause-cut_off : goal.returns-in-Err-clause-cut_off
 returns-in-Err-clause-cut_off g c = λ bytes out s e f h.
     let inv = c.lines.invariant.going bytes e in
     Going-cut bytes out s c.fault.result (Going-kept _ _ inv.2 c.next_line.ensures.bytes) (ap (λ (x : Fault). x.done) c.fault.ensures) (ap (λ (x : Fault). x.first_short) c.fault.ensures) h f
+
+pub returns-in-Err-clause-written_in_part : goal.returns-in-Err-clause-written_in_part
+returns-in-Err-clause-written_in_part g c = λ bytes out e f.
+    let inv = c.lines.invariant.made bytes e in
+    Making-cut g.D.Desk.leads (g.D.Desk.splits c.args.desk.now) c.args.policy c.args.desk.now bytes out c.fault.result
+    (Making-kept g.D.Desk.leads (g.D.Desk.splits c.args.desk.now) c.args.policy c.args.desk.now (statements bytes) _ _ _ inv.2 c.next_line.ensures.bytes)
+    (ap (λ (x : Fault). x.done) c.fault.ensures) (ap (λ (x : Fault). x.first_short) c.fault.ensures) f
 
 pub returns-in-Err-clause-splits : goal.returns-in-Err-clause-splits
 returns-in-Err-clause-splits g c = c.lines.invariant.splits
@@ -72,6 +81,19 @@ at_end g c = λ bytes e.
     let empty : inv.0 ≡ [] = none inv.0 inv.1 in
     Going-kept _ _ (Going-left [] (Going-kept _ _ inv.2 c.next_line.ensures.bytes) (ap statements empty)) c.finish.ensures.bytes
 
+made_at_end : (g : Over) (c : After-finish g) → IsMade g.D.Desk.leads (g.D.Desk.splits c.args.desk.now) c.args.policy c.args.desk.now (g.R.Read.remaining (device c.args.reader.now)) c.lines.progress c.lines.desk (g.W.Write.contents (device c.args.writer.now)) (g.W.Write.contents (device c.finish.new.writer))
+made_at_end g c = λ bytes e.
+    let inv = c.lines.invariant.made bytes e in
+    let none = rw c.in-Ok-false.field-0-test at c.in-Ok-false.ensures.line in
+    let empty : inv.0 ≡ [] = none inv.0 inv.1 in
+    Making-kept g.D.Desk.leads (g.D.Desk.splits c.args.desk.now) c.args.policy c.args.desk.now (statements bytes) _ _ _ (Making-left g.D.Desk.leads (g.D.Desk.splits c.args.desk.now) c.args.policy c.args.desk.now (statements bytes) _ [] (Making-kept g.D.Desk.leads (g.D.Desk.splits c.args.desk.now) c.args.policy c.args.desk.now (statements bytes) _ _ _ inv.2 c.next_line.ensures.bytes) (ap statements empty)) c.finish.ensures.bytes
+
+pub returns-in-Ok-false-clause-written : goal.returns-in-Ok-false-clause-written
+returns-in-Ok-false-clause-written g c = finish-written g.D.Desk.leads (g.D.Desk.splits c.args.desk.now) c.args.policy c.args.desk.now c.finish.result c.lines.progress InputEnded c.finish.ensures.end (made_at_end g c)
+
+pub returns-in-Ok-false-clause-written_in_part : goal.returns-in-Ok-false-clause-written_in_part
+returns-in-Ok-false-clause-written_in_part g c = finish-written_in_part g.D.Desk.leads (g.D.Desk.splits c.args.desk.now) c.args.policy c.args.desk.now c.finish.result c.lines.progress InputEnded c.finish.ensures.fault (made_at_end g c)
+
 pub returns-in-Ok-false-clause-counted : goal.returns-in-Ok-false-clause-counted
 returns-in-Ok-false-clause-counted g c = finish-counted c.finish.result c.lines.progress InputEnded c.finish.ensures.end (at_end g c)
 
@@ -95,6 +117,24 @@ at_quit g c = λ bytes e.
     (Answered-desk c.in-Some.reading c.in_default-respond.ensures.answer c.in_default-respond.ensures.asks.is c.lines.invariant.bounds c.lines.invariant.splits) c.in_default-respond.ensures.tells in
     let quit : is_quit c.in-Some.reading ≡ true = sym c.says_quit.ensures ∙ c.if-says_quit.true in
     Going-kept _ _ (Going-quit (statements (after_line inv.0)) (is_quit c.in-Some.reading) more quit) c.finish-then-says_quit.ensures.bytes
+
+made_at_quit : (g : Over) (c : After-finish-then-says_quit g) → IsMade g.D.Desk.leads (g.D.Desk.splits c.args.desk.now) c.args.policy c.args.desk.now (g.R.Read.remaining (device c.args.reader.now)) c.respond.new.progress c.respond.new.desk (g.W.Write.contents (device c.args.writer.now)) (g.W.Write.contents (device c.finish-then-says_quit.new.writer))
+made_at_quit g c = λ bytes e.
+    let inv = c.lines.invariant.made bytes e in
+    let some = rw c.in-Ok-true.field-0-test at c.in-Ok-true.ensures.line in
+    let next = some inv.0 inv.1 in
+    let said = sym c.in-Some.ensures in
+    let line = Making-line g.D.Desk.leads (g.D.Desk.splits c.args.desk.now) c.args.policy c.args.desk.now (statements bytes) _ _ _ inv.0 c.next_line.new.input.line c.in-Some.reading inv.2 c.next_line.ensures.bytes next.0 next.1 said in
+    let asks = c.in_default-respond.ensures.asks in
+    let more = Making-more g.D.Desk.leads (g.D.Desk.splits c.args.desk.now) c.args.policy c.args.desk.now (statements bytes) _ g.W.Write.contents c.in-Some.reading c.in_default-respond.ensures.answer c.lines.progress c.respond.new.progress c.respond.new.desk c.next_line.new.writer c.respond.new.writer _ asks.calls line c.lines.invariant.splits asks.were asks.made c.in_default-respond.ensures.tells in
+    let quit : is_quit c.in-Some.reading ≡ true = sym c.says_quit.ensures ∙ c.if-says_quit.true in
+    Making-kept g.D.Desk.leads (g.D.Desk.splits c.args.desk.now) c.args.policy c.args.desk.now (statements bytes) _ _ _ (Making-quit g.D.Desk.leads (g.D.Desk.splits c.args.desk.now) c.args.policy c.args.desk.now (statements bytes) _ (statements (after_line inv.0)) (is_quit c.in-Some.reading) more quit) c.finish-then-says_quit.ensures.bytes
+
+pub returns-then-says_quit-clause-written : goal.returns-then-says_quit-clause-written
+returns-then-says_quit-clause-written g c = finish-written g.D.Desk.leads (g.D.Desk.splits c.args.desk.now) c.args.policy c.args.desk.now c.finish-then-says_quit.result c.respond.new.progress Quit c.finish-then-says_quit.ensures.end (made_at_quit g c)
+
+pub returns-then-says_quit-clause-written_in_part : goal.returns-then-says_quit-clause-written_in_part
+returns-then-says_quit-clause-written_in_part g c = finish-written_in_part g.D.Desk.leads (g.D.Desk.splits c.args.desk.now) c.args.policy c.args.desk.now c.finish-then-says_quit.result c.respond.new.progress Quit c.finish-then-says_quit.ensures.fault (made_at_quit g c)
 
 pub returns-then-says_quit-clause-counted : goal.returns-then-says_quit-clause-counted
 returns-then-says_quit-clause-counted g c = finish-counted c.finish-then-says_quit.result c.respond.new.progress Quit c.finish-then-says_quit.ensures.end (at_quit g c)
@@ -124,6 +164,17 @@ returns-in-Err-respond-clause-cut_off g c = λ bytes out s e f h.
     (Answered-desk c.in-Some.reading c.in-Err-respond.ensures.answer c.in-Err-respond.ensures.asks.is c.lines.invariant.bounds c.lines.invariant.splits) c.in-Err-respond.ensures.tells
     (ap (λ (x : Fault). x.done) c.fault-in-Err-respond.ensures) (ap (λ (x : Fault). x.first_short) c.fault-in-Err-respond.ensures) (ap (λ (x : Fault). x.refusal) c.fault-in-Err-respond.ensures) h f
 
+pub returns-in-Err-respond-clause-written_in_part : goal.returns-in-Err-respond-clause-written_in_part
+returns-in-Err-respond-clause-written_in_part g c = λ bytes out e f.
+    let inv = c.lines.invariant.made bytes e in
+    let some = rw c.in-Ok-true.field-0-test at c.in-Ok-true.ensures.line in
+    let next = some inv.0 inv.1 in
+    let said = sym c.in-Some.ensures in
+    let line = Making-line g.D.Desk.leads (g.D.Desk.splits c.args.desk.now) c.args.policy c.args.desk.now (statements bytes) _ _ _ inv.0 c.next_line.new.input.line c.in-Some.reading inv.2 c.next_line.ensures.bytes next.0 next.1 said in
+    let asks = c.in-Err-respond.ensures.asks in
+    Making-cut_in g.D.Desk.leads (g.D.Desk.splits c.args.desk.now) c.args.policy c.args.desk.now g.W.Write.contents bytes out c.fault-in-Err-respond.result c.in-Some.reading c.in-Err-respond.ensures.answer c.lines.progress c.respond.new.progress c.in-Err-respond.refusal c.respond.new.desk c.next_line.new.writer c.respond.new.writer _ asks.calls line c.lines.invariant.splits asks.were asks.made c.in-Err-respond.ensures.tells
+    (ap (λ (x : Fault). x.done) c.fault-in-Err-respond.ensures) (ap (λ (x : Fault). x.first_short) c.fault-in-Err-respond.ensures) (ap (λ (x : Fault). x.refusal) c.fault-in-Err-respond.ensures) f
+
 pub lines-preserved-else-says_quit : goal.lines-preserved-else-says_quit
 lines-preserved-else-says_quit g c =
     record {
@@ -142,6 +193,16 @@ lines-preserved-else-says_quit g c =
             λ goes_on. AreUsed-more inv.0 c.next_line.new.input.line c.in-Some.reading c.respond.new.progress.statements (inv.3 (c.in-Ok-true.ensures.paid goes_on).0)
                 (line_feeds inv.0 c.next_line.new.input.ended (last refl inv.0 inv.1) goes_on) next.1 said goes c.in_default-respond.ensures.tells.count,
           );
+      made = λ bytes e.
+          let inv = c.lines.invariant.made bytes e in
+          let some = rw c.in-Ok-true.field-0-test at c.in-Ok-true.ensures.line in
+          let next = some inv.0 inv.1 in
+          let said = sym c.in-Some.ensures in
+          let line = Making-line g.D.Desk.leads (g.D.Desk.splits c.args.desk.now) c.args.policy c.args.desk.now (statements bytes) _ _ _ inv.0 c.next_line.new.input.line c.in-Some.reading inv.2 c.next_line.ensures.bytes next.0 next.1 said in
+          let asks = c.in_default-respond.ensures.asks in
+          let more = Making-more g.D.Desk.leads (g.D.Desk.splits c.args.desk.now) c.args.policy c.args.desk.now (statements bytes) _ g.W.Write.contents c.in-Some.reading c.in_default-respond.ensures.answer c.lines.progress c.respond.new.progress c.respond.new.desk c.next_line.new.writer c.respond.new.writer _ asks.calls line c.lines.invariant.splits asks.were asks.made c.in_default-respond.ensures.tells in
+          let goes : is_quit c.in-Some.reading ≡ false = sym c.says_quit.ensures ∙ c.if-says_quit.false in
+          (after_line inv.0, next.2, Making-on g.D.Desk.leads (g.D.Desk.splits c.args.desk.now) c.args.policy c.args.desk.now (statements bytes) _ (statements (after_line inv.0)) (is_quit c.in-Some.reading) more goes);
       reader = let ok = c.in-Ok-true.ensures.unfailed in ok.0 ∙ c.lines.invariant.reader;
       writer = let ok = c.in-Ok-true.ensures.unfailed in c.in_default-respond.ensures.tells.writes.unfailed ∙ ok.1 ∙ c.lines.invariant.writer;
       splits = c.respond.ensures.asks.splits_are ∙ c.lines.invariant.splits;
@@ -166,6 +227,12 @@ lines-preserved g c = record {
         λ goes_on. AreUsed-blank inv.0 c.next_line.new.input.line (inv.3 (c.in-Ok-true.ensures.paid goes_on).0)
             (line_feeds inv.0 c.next_line.new.input.ended (last refl inv.0 inv.1) goes_on) next.1 blank,
       );
+  made = λ bytes e.
+      let inv = c.lines.invariant.made bytes e in
+      let some = rw c.in-Ok-true.field-0-test at c.in-Ok-true.ensures.line in
+      let next = some inv.0 inv.1 in
+      let blank : reading_of c.next_line.new.input.line ≡ None = search rules in
+      (after_line inv.0, next.2, Making-left g.D.Desk.leads (g.D.Desk.splits c.args.desk.now) c.args.policy c.args.desk.now (statements bytes) _ _ (Making-kept g.D.Desk.leads (g.D.Desk.splits c.args.desk.now) c.args.policy c.args.desk.now (statements bytes) _ _ _ inv.2 c.next_line.ensures.bytes) (next_blank inv.0 c.next_line.new.input.line next.0 next.1 blank));
   reader = let ok = c.in-Ok-true.ensures.unfailed in ok.0 ∙ c.lines.invariant.reader;
   writer = let ok = c.in-Ok-true.ensures.unfailed in ok.1 ∙ c.lines.invariant.writer;
   splits = c.lines.invariant.splits;

@@ -1,5 +1,14 @@
 use Rattle.std.proofs.Common.{rules}
+use Rattle.crack_session.proofs.Plainly.{plain-leads}
 use Rattle.crack_session.proofs.plain_desk.PlainTableDesk.ask.Goals as goal
 
 pub returns : goal.returns
-returns c = search rules
+returns c = record {
+  outcome = search rules;
+  after = search rules;
+  small = search rules;
+  splits = search rules;
+  bounds = search rules;
+  receipts = search rules;
+  leads = plain-leads _ _ _ _ _ (search rules) (search rules);
+}

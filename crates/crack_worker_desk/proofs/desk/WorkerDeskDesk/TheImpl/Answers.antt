@@ -1,5 +1,5 @@
 -- A desk's clauses of a table that is known say nothing here: it isn't known.
-use Rattle.std.proofs.Common.{◌≡◌, length, Some, None, is_some, ap}
+use Rattle.std.proofs.Common.{◌≡◌, length, Some, None, is_some, ap, refl}
 use Rattle.std.proofs.lemmas.Bool.{false≢true}
 use Rattle.crack_core.specs.Receipts.{BookState}
 use Rattle.crack_core.specs.Steps.{bounds_of}
@@ -14,19 +14,21 @@ ask-tells g c = record {
   outcome = λ tables known. unknown tables known;
   after = λ tables known. unknown tables known;
   small = c.ensures.asks.small;
-  splits = ap (λ t. t.splits) c.ensures.table;
-  bounds = ap (λ (t : TableState). bounds_of t.limits) c.ensures.table;
+  splits = ap (λ t. t.splits) c.ensures.table.0;
+  bounds = ap (λ (t : TableState). bounds_of t.limits) c.ensures.table.0;
   receipts = c.ensures.receipts;
+  leads = (c.ensures.table.0, c.ensures.table.1, c.ensures.asks);
 }
 
 pub checkpoint-tells : goal.checkpoint-tells
 checkpoint-tells g c = record {
   outcome = λ tables known. unknown tables known;
   after = λ tables known. unknown tables known;
-  splits = ap (λ (t : TableState). t.splits) c.ensures.table;
-  bounds = ap (λ (t : TableState). bounds_of t.limits) c.ensures.table;
+  splits = ap (λ (t : TableState). t.splits) c.ensures.table.0;
+  bounds = ap (λ (t : TableState). bounds_of t.limits) c.ensures.table.0;
   receipts = ap (λ (w : BookState). length w.receipts) c.ensures.worker;
+  leads = (c.ensures.table.0, c.ensures.table.1, (c.ensures.folds, c.ensures.worker));
 }
 
 pub layout-tells : goal.layout-tells
-layout-tells g c tables known = unknown tables known
+layout-tells g c = record { outcome = λ tables known. unknown tables known; leads = (refl, refl, (c.ensures.looks, refl)) }

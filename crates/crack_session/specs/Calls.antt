@@ -1,0 +1,98 @@
+-- The calls that a desk is asked, and what is made of what comes of them: what a session answers, whatever is known of the rows.
+use Rattle.std.specs.Prelude.{◌≡◌, ℕ, List, [], ◌∷◌, ◌++◌, ◌⊎◌, length, Option, Result, Ok, Err}
+use Rattle.crack_row.specs.Ranges.{Range}
+use Rattle.crack_row.specs.declared.Bound.{Bound}
+use Rattle.crack_row.specs.declared.command.Command.{Command}
+use Rattle.crack_row.specs.declared.command.Command.TheVariants.{Insert as AskInsert, Delete as AskDelete, Update as AskUpdate}
+use Rattle.crack_row.specs.declared.command.Policy.{Policy as MergePolicy}
+use Rattle.crack_row.specs.declared.command.Reply.{Reply}
+use Rattle.crack_row.specs.declared.layout.Layout.{Layout as PartLayout}
+use Rattle.crack_row.specs.declared.refusal.Refusal.{Refusal}
+use Rattle.crack_row.specs.declared.refusal.Refusal.TheVariants.{OutOfMemory}
+use Rattle.crack_commands.specs.Grammar.{Reading}
+use Rattle.crack_commands.specs.declared.statement.Statement.{Statement}
+use Rattle.crack_commands.specs.declared.statement.Statement.TheVariants.{Insert, Delete, Update, Count, Sum, Select, Layout, Checkpoint, Policy, Quit}
+use Rattle.crack_core.specs.Routes.{route, parts_of}
+use Rattle.crack_session.specs.declared.answer.Answer.{Answer}
+use Rattle.crack_session.specs.declared.answer.Answer.TheVariants.{Replied, Laid, Folded, Set, Refused, Bye}
+use Rattle.crack_session.specs.declared.query.PartReply.{PartReply}
+use Rattle.crack_session.specs.declared.query.Query.{Query}
+use Rattle.crack_session.specs.declared.query.Query.TheVariants.{Count as AsksCount, Sum as AsksSum, Select as AsksSelect}
+use Rattle.crack_session.specs.Queries.{asking, joined}
+use Rattle.crack_session.specs.Answers.{told}
+
+-- a call of a desk, and what came of it: a partition was asked a command by a policy, it was to make a checkpoint, or its layout was asked for
+pub data Call : Type 0 where
+  Asked : ℕ → Command → MergePolicy → Result Reply Refusal → Call
+  Checkpointed : ℕ → Result ℕ Refusal → Call
+  Looked : ℕ → Result PartLayout Refusal → Call
+
+-- these calls lead from one state of a desk to another, one after the other and no other in between
+abbrev pub Calls : {D : Type 0} → (D → Call → D → Type 0) → D → List Call → D → Type 0
+Calls leads old [] new = new ≡ old
+Calls {D} leads old (call ∷ calls) new = (between : D) × leads old call between × Calls leads between calls new
+
+-- one partition is asked, and the answer is what comes of that
+abbrev pub IsOneAsked : MergePolicy → ℕ → Command → Answer → List Call → Type 0
+IsOneAsked policy part command answer calls = (outcome : Result Reply Refusal) × (calls ≡ Asked part command policy outcome ∷ []) × (answer ≡ told (Replied part) outcome)
+
+-- Several partitions are asked in turn, each once and for its part of a range: their replies, or the first refusal.
+pub data AreAskedInTurn (policy : MergePolicy) (query : Query) : List (ℕ × Range) → Result (List PartReply) Refusal → List Call → Type 0 where
+  -- none is asked yet
+  none_yet : AreAskedInTurn policy query [] (Ok []) []
+  -- after those that replied, the next one replies
+  one_replies : (parts : List (ℕ × Range)) (part : ℕ × Range) (said : List PartReply) (reply : Reply) (calls : List Call)
+      → AreAskedInTurn policy query parts (Ok said) calls
+      → AreAskedInTurn policy query (parts ++ part ∷ []) (Ok (said ++ record { part = part.0; reply = reply } ∷ [])) (calls ++ Asked part.0 (asking query part.1) policy (Ok reply) ∷ [])
+  -- after those that replied, the next one refuses, and those after it aren't asked
+  one_refuses : (parts : List (ℕ × Range)) (part : ℕ × Range) (rest : List (ℕ × Range)) (said : List PartReply) (e : Refusal) (calls : List Call)
+      → AreAskedInTurn policy query parts (Ok said) calls
+      → AreAskedInTurn policy query (parts ++ part ∷ rest) (Err e) (calls ++ Asked part.0 (asking query part.1) policy (Err e) ∷ [])
+
+-- several partitions are asked in turn, and what they reply is joined; or none of them, where no memory is found for their replies
+pub record IsJoinedFrom (policy : MergePolicy) (query : Query) (parts : List (ℕ × Range)) (answer : Answer) (calls : List Call) : Type 0 where
+  pub outcome : Result (List PartReply) Refusal
+  pub asked : AreAskedInTurn policy query parts outcome calls
+  pub answer_is : answer ≡ told (joined query) outcome
+
+abbrev pub AreSeveralAsked : MergePolicy → Query → List (ℕ × Range) → Answer → List Call → Type 0
+AreSeveralAsked policy query parts answer calls = IsJoinedFrom policy query parts answer calls ⊎ ((answer ≡ Refused OutOfMemory) × (calls ≡ []))
+
+-- these parts of a range are asked: one alone as by any command, or several in turn
+abbrev pub ArePartsAsked : MergePolicy → Query → List (ℕ × Range) → Answer → List Call → Type 0
+ArePartsAsked policy query (part ∷ []) answer calls = IsOneAsked policy part.0 (asking query part.1) answer calls
+ArePartsAsked policy query parts answer calls = AreSeveralAsked policy query parts answer calls
+
+-- an answer to a statement is made of what comes of just these calls: of the partition that a row's key or its number fixes, or of those that
+-- hold a part of a range, by this policy
+abbrev pub IsMadeOf : List Bound → MergePolicy → Statement → Answer → List Call → Type 0
+IsMadeOf splits policy (Insert key payload) answer calls = IsOneAsked policy (route splits key.0) (AskInsert key payload) answer calls
+IsMadeOf splits policy (Delete row) answer calls = IsOneAsked policy row.part (AskDelete row.serial) answer calls
+IsMadeOf splits policy (Update row key payload) answer calls = IsOneAsked policy row.part (AskUpdate row.serial key payload) answer calls
+IsMadeOf splits policy (Count range) answer calls = ArePartsAsked policy AsksCount (parts_of splits range) answer calls
+IsMadeOf splits policy (Sum range) answer calls = ArePartsAsked policy AsksSum (parts_of splits range) answer calls
+IsMadeOf splits policy (Select range) answer calls = ArePartsAsked policy AsksSelect (parts_of splits range) answer calls
+IsMadeOf splits policy (Layout part) answer calls = (outcome : Result PartLayout Refusal) × (calls ≡ Looked part outcome ∷ []) × (answer ≡ told (Laid part) outcome)
+IsMadeOf splits policy (Checkpoint part) answer calls = (outcome : Result ℕ Refusal) × (calls ≡ Checkpointed part outcome ∷ []) × (answer ≡ told Folded outcome)
+IsMadeOf splits policy (Policy other) answer calls = (answer ≡ Set other) × (calls ≡ [])
+IsMadeOf splits policy Quit answer calls = (answer ≡ Bye) × (calls ≡ [])
+
+-- the same of what a line is read as
+abbrev pub IsReadingMadeOf : List Bound → MergePolicy → Reading → Answer → List Call → Type 0
+IsReadingMadeOf splits policy (Err e) answer calls = (answer ≡ Refused e) × (calls ≡ [])
+IsReadingMadeOf splits policy (Ok statement) answer calls = IsMadeOf splits policy statement answer calls
+
+-- the session's policy after an answer
+abbrev pub policy_after : MergePolicy → Answer → MergePolicy
+policy_after policy (Set next) = next
+policy_after policy _ = policy
+
+-- the answers to these statements are made of these calls: each of the next of them, by the policy in force, and none is left over
+abbrev pub AreMadeOf : List Bound → MergePolicy → List Reading → List Answer → List Call → Type 0
+AreMadeOf splits policy [] [] calls = calls ≡ []
+AreMadeOf splits policy (reading ∷ readings) (answer ∷ answers) calls = (here : List Call) × (rest : List Call) × (calls ≡ here ++ rest) × IsReadingMadeOf splits policy reading answer here × AreMadeOf splits (policy_after policy answer) readings answers rest
+AreMadeOf splits policy _ _ calls = ⊥
+
+-- the calls that lead from one state of a desk to another are those of which these answers are made
+abbrev pub AreAnswersOf : {D : Type 0} → (D → Call → D → Type 0) → List Bound → MergePolicy → D → D → List Reading → List Answer → Type 0
+AreAnswersOf leads splits policy old new readings answers = (calls : List Call) × Calls leads old calls new × AreMadeOf splits policy readings answers calls

@@ -1,0 +1,30 @@
+-- What calls of a core and of a plain table lead to.
+use Rattle.std.specs.Prelude.{◌≡◌, ℕ, [], ◌∷◌, List, OnOk, OnErr, slice_get}
+use Rattle.crack_row.specs.Commands.{range_of}
+use Rattle.crack_row.specs.declared.Bound.{Bound}
+use Rattle.crack_row.specs.declared.command.Command.{Command}
+use Rattle.crack_row.specs.declared.command.Policy.{Policy}
+use Rattle.crack_row.specs.declared.command.Reply.{Reply}
+use Rattle.crack_row.specs.declared.refusal.Refusal.{Refusal}
+use Rattle.crack_plain.specs.Plain.{PlainView}
+use Rattle.crack_part.specs.Parts.{Part, Serves, Spares}
+use Rattle.crack_core.specs.Cores.{CoreState}
+use Rattle.crack_core.specs.Routes.{keys_of_part}
+use Rattle.crack_core.specs.Steps.{Bounds, bounds_of, IsOutcomeAt, IsLayoutOutcome, IsFoldOutcome, tables_of, tables_after, tables_folded}
+use Rattle.crack_core.specs.Jobs.{AtPart}
+use Rattle.crack_session.specs.Calls.{Call, Asked, Checkpointed, Looked}
+
+-- what a call of partitions whose rows are known comes to, and their rows afterwards
+abbrev pub rows_lead : Bounds → List Bound → List PlainView → Call → List PlainView → Type 0
+rows_lead bounds splits old (Asked part command policy outcome) new = IsOutcomeAt bounds splits old part command outcome × (new ≡ tables_after bounds old part command outcome)
+rows_lead bounds splits old (Checkpointed part outcome) new = IsFoldOutcome (slice_get old part) outcome × (new ≡ tables_folded old part outcome)
+rows_lead bounds splits old (Looked part outcome) new = IsLayoutOutcome (keys_of_part splits part) (slice_get old part) outcome × (new ≡ old)
+
+-- what a call does to the stores of a core's partitions: the one that is asked is served or spared by the policy
+abbrev pub stores_lead : List Part → Call → List Part → Type 0
+stores_lead old (Asked part command policy outcome) new = OnOk outcome (AtPart part (λ p q. Serves policy p.keys p.next command p.store q.store) old new) × OnErr outcome (AtPart part (λ p q. Spares policy p.keys (range_of command) p.store q.store) old new)
+stores_lead old call new = Unit {0}
+
+-- what a call of a core leads to
+abbrev pub core_leads : CoreState → Call → CoreState → Type 0
+core_leads old call new = rows_lead (bounds_of old.limits) old.splits (tables_of old.parts) call (tables_of new.parts) × stores_lead old.parts call new.parts

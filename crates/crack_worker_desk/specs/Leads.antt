@@ -1,0 +1,24 @@
+-- What calls of a worker's desk lead to.
+use Rattle.std.specs.Prelude.{◌≡◌, ℕ, List, [], ◌∷◌, Ok}
+use Rattle.crack_row.specs.declared.command.Command.{Command}
+use Rattle.crack_row.specs.declared.command.Reply.{Reply}
+use Rattle.crack_core.specs.declared.receipt.Receipt.{Receipt}
+use Rattle.crack_core.specs.Receipts.{BookState}
+use Rattle.crack_session.specs.Calls.{Call, Asked, Checkpointed, Looked}
+use Rattle.crack_table.specs.Tables.{TableState, AsksTable, FoldsAt, LooksAt}
+
+-- what a call does to the worker's book: an answer is a receipt more, and nothing else changes its receipts
+abbrev pub worker_leads : TableState → (ℕ → ℕ → Type 0) → BookState → Call → BookState → Type 0
+worker_leads table may_refuse old (Asked part command policy outcome) new = AsksTable table (may_refuse part) part command outcome old new
+worker_leads table may_refuse old (Checkpointed part outcome) new = FoldsAt table part outcome × (new ≡ old)
+worker_leads table may_refuse old (Looked part outcome) new = LooksAt table part outcome × (new ≡ old)
+
+-- the commands that calls answered: the partition of each, the command and its reply
+abbrev pub answered : List Call → List (ℕ × Command × Reply)
+answered [] = []
+answered (Asked part command policy (Ok reply) ∷ calls) = (part, command, reply) ∷ answered calls
+answered (call ∷ calls) = answered calls
+
+-- the same of a receipt
+abbrev pub receipted : Receipt → ℕ × Command × Reply
+receipted r = (r.part, r.command, r.reply)
