@@ -2,9 +2,9 @@
 """Runs cases of hostile use with new seeds, side by side, until the time is over: soak.py SECONDS [--top FOLDER] [--seed N] [--only KIND ..]
 [--failures FOLDER]; or one case again: soak.py --again KIND SEED
 
-The kinds are histories of threads, clients of a server, small limits that clients share, lines, CSV, devices, memory that is refused, and random scripts, most
-with checkpoints amid their work. Each has its shares of the time, histories the most, and there are as many cases at once as there are processors; one run
-of clients is that of 3,000 sessions and 64 workers. Each case has a seed of its own; a soak's first one is drawn anew, and printed. A case that fails is
+The kinds are histories of threads, clients of a server, a server's hour, small limits that clients share, lines, CSV, devices, memory that is refused, and
+random scripts, most with checkpoints amid their work. Each has its shares of the time, histories the most, and there are as many cases at once as there are
+processors; one run of clients is that of 3,000 sessions and 64 workers, and one hour has 3.6 million commands. Each case has a seed of its own; a soak's first one is drawn anew, and printed. A case that fails is
 written to FOLDER, soak-failures/ where none is given: what is wrong, and the command that repeats it, as far as the schedule of threads allows. --top names
 another checkout whose programs are tried. Cases that were begun are ended once the time is over. Prints counts by kind, and last 'N passed, M failed'.
 """
@@ -21,6 +21,7 @@ import unittest
 import clients
 import fixtures
 import histories
+import hours
 import memory
 import memory_workers
 import random_script
@@ -70,7 +71,9 @@ def kinds():
     """All kinds by their names. Of those that take several processors only one case runs at a time."""
     all_kinds = [
         Kind("clients-whole", clients.whole_fault, alone=True),
+        Kind("hours-whole", hours.whole_fault, alone=True),
         Kind("clients", clients.fault, alone=True),
+        Kind("hours", hours.fault, alone=True),
         Kind("limits", limits_fault, alone=True),
         Kind("threads", histories.soak_fault, "crack_histories", shares=4),
         Kind("lines", test_lines.fault),
@@ -110,9 +113,9 @@ def run_case(name, top, seed):
 
 
 def next_kind(of):
-    """The kind that has had the least of its shares of the time, of those that may run now. The whole run of clients comes once."""
+    """The kind that has had the least of its shares of the time, of those that may run now. A whole run comes once."""
     alone = any(it.running for it in of if it.alone)
-    free = [it for it in of if it.failed < MOST_FAILURES and not (it.alone and alone) and not (it.name == "clients-whole" and it.passed + it.failed)]
+    free = [it for it in of if it.failed < MOST_FAILURES and not (it.alone and alone) and not (it.name.endswith("-whole") and it.passed + it.failed)]
     return min(free, key=lambda it: (it.share(), it.name)) if free else None
 
 

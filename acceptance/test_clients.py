@@ -4,6 +4,7 @@
 import threading
 
 import fixtures
+import hours
 from client_kinds import Connection, Guest, honest
 from client_rows import Own
 from clients import SEED, storm
@@ -35,6 +36,11 @@ class Clients(fixtures.Case):
     def test_under_short_lives(self):
         """The same, where histories get full and lives may end."""
         self.storm(SEED + 2)
+
+    def test_an_hour(self):
+        """A short hour: checkpoints that are due, an end by closed input amid a load, and totals that are what was replied."""
+        figures = hours.hour(self.program, SEED, hours.SHORT)
+        print("hour: " + ", ".join(f"{name} {it}" for name, it in figures.items()), flush=True)
 
     def test_all_but_one_are_silent(self):
         """Silent clients hold their own workers alone: with one worker left, a hundred clients are served one after the

@@ -128,8 +128,33 @@ class Ends(fixtures.Case):
             it.close()
             it.wait((5, 5, 0, 5), *it.notes(1))
 
+    def fill(self, server, count):
+        """Has one client insert so many rows above 100."""
+        with Client(server.port) as one:
+            one.send("".join(f"insert {100 + number} 1\n" for number in range(count)))
+            expect("rows", [f"row 1.{number}\n" for number in range(count)], [one.lines.readline() for _ in range(count)])
+            one.end()
+        server.close()
+
+    def test_a_line_for_checkpoints(self):
+        """A checkpoint that is due has a line, with the length of its history. Those of short histories share one, once a thousand entries are folded."""
+        line, lines = "crackd: checkpoint of partition 1: {} entries", "crackd: {} checkpoints, the last of partition 1: {} entries"
+        for limit, count, wanted in [
+            (1500, 1500, []),
+            (1500, 4500, [line.format(1500)] * 2),
+            (1000, 2001, [line.format(1000)] * 2),
+            (4, 1009, [line.format(4), lines.format(250, 4)]),
+            (1, 1002, [line.format(1), lines.format(1000, 1)]),
+        ]:
+            with self.ending(1, "--auto-checkpoint", "--limit", str(limit), "100") as it:
+                self.fill(it, count)
+                it.wait((count, count, 0, count), *it.notes(1), *wanted)
+
     def test_a_quiet_server_says_nothing(self):
-        """With --quiet standard error stays empty, also where a session is cut off."""
+        """With --quiet standard error stays empty, also where a session is cut off, and where a checkpoint is due."""
+        with self.ending(1, "--quiet", "--auto-checkpoint", "--limit", "2", "100") as it:
+            self.fill(it, 9)
+            it.wait((9, 9, 0, 9))
         with self.ending(1, "--quiet", "--idle", "1") as it:
             with Client(it.port) as silent:
                 silent.ask("insert 1 1", "row 0.0")

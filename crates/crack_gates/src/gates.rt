@@ -1,10 +1,11 @@
-//! Gates that say no: always, at one partition, or until another worker is inside; and one that says yes, and notes to whom.
+//! Gates that say no: always, at one partition, or until another worker is inside; and those that say yes, and note to whom, or which
+//! checkpoints were due.
 ghost use Rattle.std.specs.Prelude.{◌≡◌, ◌<◌, not, false, nat_eq};
 ghost use Rattle.std.specs.Bool.{OnFalse};
 
 use crack_table::Gate;
 use std::alloc::{AllocError, Global};
-use std::sync::atomic::{AtomicBool, AtomicU32, Ordering};
+use std::sync::atomic::{AtomicBool, AtomicU32, AtomicU64, Ordering};
 use std::thread;
 
 /// A gate that always says no.
@@ -213,5 +214,51 @@ impl Gate for Noting<'_> {
     fn inside(&self, _part: u32, _turn: u32) -> bool {
         self.notes.note(self.worker);
         true
+    }
+}
+
+/// A gate that says yes, and notes the checkpoints that were due: how many, how many entries they folded, and of which partition the last was.
+#[derive(Drop)]
+pub struct Due {
+    count: AtomicU64,
+    entries: AtomicU64,
+    part: AtomicU32,
+}
+
+impl Due {
+    /// A gate that has noted none.
+    pub fn new() -> Due {
+        Due {
+            count: AtomicU64::new(0),
+            entries: AtomicU64::new(0),
+            part: AtomicU32::new(u32::MAX),
+        }
+    }
+
+    /// How many there were, and how many entries they folded.
+    pub fn noted(&self) -> [u64; 2] {
+        [
+            self.count.load(Ordering::SeqCst),
+            self.entries.load(Ordering::SeqCst),
+        ]
+    }
+
+    /// The partition of the last one.
+    pub fn part(&self) -> u32 {
+        self.part.load(Ordering::SeqCst)
+    }
+}
+
+impl Gate for Due {
+    ghost may_refuse = { λ gate part turn. ⊥ };
+
+    fn inside(&self, _part: u32, _turn: u32) -> bool {
+        true
+    }
+
+    fn note_checkpoint(&self, part: u32, entries: u64) {
+        self.count.fetch_add(1, Ordering::SeqCst);
+        self.entries.fetch_add(entries, Ordering::SeqCst);
+        self.part.store(part, Ordering::SeqCst);
     }
 }

@@ -5,4 +5,4 @@ pub mod ending;
 pub mod gates;
 
 pub use ending::totals;
-pub use gates::{Alone, Counting, Meeting, Notes, Noting, Shut, ShutAt};
+pub use gates::{Alone, Counting, Due, Meeting, Notes, Noting, Shut, ShutAt};

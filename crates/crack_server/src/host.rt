@@ -8,6 +8,9 @@ use std::fmt::{Display, Formatter, Write};
 pub enum Notice {
     /// The server listens on this port of 127.0.0.1.
     Listening { port: u16 },
+    /// Partitions made checkpoints by themselves, since their histories were full: how many since the last such notice, 1 at least, and of the
+    /// last one its partition, and how many entries it folded.
+    Checkpoints { count: u64, part: u32, entries: u64 },
     /// A session was cut off: a read or a write of its connection failed or waited too long, or no memory was found.
     CutOff { worker: usize, refusal: Refusal },
     /// The server has served its last session: how many there were, those that were cut off among them.
@@ -18,6 +21,19 @@ impl Display for Notice {
     fn fmt<W: Write>(&self, f: &mut Formatter<W>) -> fmt::Result {
         match *self {
             Notice::Listening { port } => write!(f, "listening on 127.0.0.1:{port}"),
+            Notice::Checkpoints {
+                count: 1,
+                part,
+                entries,
+            } => write!(f, "checkpoint of partition {part}: {entries} entries"),
+            Notice::Checkpoints {
+                count,
+                part,
+                entries,
+            } => write!(
+                f,
+                "{count} checkpoints, the last of partition {part}: {entries} entries"
+            ),
             Notice::CutOff { worker, refusal } => {
                 let cause = cause_of(refusal);
                 write!(f, "worker {worker}: session cut off: {refusal}: {cause}")

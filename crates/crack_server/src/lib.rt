@@ -4,6 +4,7 @@
 pub mod batch;
 pub mod host;
 mod input;
+mod reporting;
 pub mod server;
 pub mod tickets;
 mod totals;
@@ -21,3 +22,7 @@ pub const MOST_INPUT_BYTES: u64 = 67108864;
 /// the greatest numbers, and hold at most 2048 more statements; a line of 2 bytes gets the most for its length, the 10 of
 /// `refused 1`. The rows of a select and the pieces of a layout may be more: then what is kept is written, and the rest kept.
 pub const REPLY_BYTES: usize = 24576;
+
+/// How many entries are folded between two notices of checkpoints that were due, at least: where a history may have so many, each
+/// checkpoint has a notice of its own, and else one notice is of several, so that there is none for each statement.
+pub const ENTRIES_PER_NOTICE: u64 = 1000;

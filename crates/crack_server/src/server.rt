@@ -1,13 +1,14 @@
 //! A server: sessions over TCP, each worker's on a thread of its own.
 use crate::REPLY_BYTES;
 use crate::host::{Alone, Host, Notice};
+use crate::reporting::Reporting;
 use crate::tickets::{Ending, Tickets};
 use crate::totals::totals_of;
 use crack_row::{Policy, Refusal, Watched};
-use crack_session::serve;
+use crack_session::{Desk, serve};
 use crack_table::{Gate, Table, Worker};
 use crack_worker_desk::WorkerDesk;
-use std::alloc::Global;
+use std::alloc::{AllocError, Global};
 use std::io::{BufWriter, ErrorKind, Read, Write};
 use std::net::{Shutdown, TcpListener, TcpStream};
 use std::sync::Wait;
@@ -24,6 +25,8 @@ pub struct Terms {
     pub ending: Ending,
     /// How long one read or write of a connection may wait, in seconds, 1 at least; without it, for ever.
     pub idle: Option<u32>,
+    /// Whether the host takes note of checkpoints that were due.
+    pub notes_checkpoints: bool,
 }
 
 /// Serves so many connections of a listener, one at a time for each worker, then gathers the workers and writes the totals. An accept that fails,
@@ -44,6 +47,7 @@ pub fn run_server<Rt: Threads + Wait + Sync, G: Gate + Sync, W: Write>(
         policy,
         ending: Ending::AfterSessions(sessions),
         idle: None,
+        notes_checkpoints: false,
     };
     let mut input: &[u8] = &[];
     run_service(
@@ -53,8 +57,8 @@ pub fn run_server<Rt: Threads + Wait + Sync, G: Gate + Sync, W: Write>(
 
 /// Serves connections as `run_server` does, on these terms: with `Ending::AtEndOfInput` until `input` ends or fails. Then the workers that
 /// wait for a connection are woken by `host.knock()`, and those that have one serve it to its end. A read or a write of a connection that waits
-/// longer than `terms.idle` fails, so its session is cut off. The host is given a notice of each session that was cut off, and of the end.
-/// Refused as `run_server` is.
+/// longer than `terms.idle` fails, so its session is cut off. The host is given a notice of each session that was cut off, of the end, and where
+/// the terms say so of checkpoints that were due. Refused as `run_server` is.
 pub fn run_service<Rt: Threads + Wait + Sync, G: Gate + Sync, H: Host + Sync, I: Read, W: Write>(
     rt: &Rt,
     alloc: Global,
@@ -67,17 +71,24 @@ pub fn run_service<Rt: Threads + Wait + Sync, G: Gate + Sync, H: Host + Sync, I:
     input: &mut I,
     writer: &mut W,
 ) -> Result<(), Refusal> {
-    match serve_all(
-        rt, alloc, listener, &table, workers, terms, gate, host, input,
-    ) {
+    let served = if terms.notes_checkpoints {
+        let reporting = Reporting::new(gate, host);
+        serve_table(
+            rt, alloc, listener, &table, workers, terms, &reporting, host, input,
+        )
+    } else {
+        serve_table(
+            rt, alloc, listener, &table, workers, terms, gate, host, input,
+        )
+    };
+    match served {
         Ok(workers) => totals_of(alloc, table, workers)?.write(writer),
         Err(refusal) => Err(refusal),
     }
 }
 
-/// Has each worker serve sessions on a thread of its own. No ticket is given out before all threads are started: where one can't be, there are
-/// none, and the others end at once.
-fn serve_all<Rt: Threads + Wait + Sync, G: Gate + Sync, H: Host + Sync, I: Read>(
+/// Has each worker of a table serve sessions, at a desk of its own.
+fn serve_table<Rt: Threads + Wait + Sync, G: Gate + Sync, H: Host + Sync, I: Read>(
     rt: &Rt,
     alloc: Global,
     listener: &TcpListener,
@@ -88,18 +99,51 @@ fn serve_all<Rt: Threads + Wait + Sync, G: Gate + Sync, H: Host + Sync, I: Read>
     host: &H,
     input: &mut I,
 ) -> Result<Vec<Worker>, Refusal> {
-    let mut threads = Vec::with_capacity(alloc, workers.len())?;
-    let mut ended = Vec::with_capacity(alloc, workers.len())?;
+    let mut back = Vec::with_capacity(alloc, workers.len())?;
+    let desks = desks_of(rt, alloc, table, workers, gate)?;
+    let served = serve_desks(rt, alloc, listener, desks, terms, host, input)?;
+    'desks: for desk in served {
+        back.push(desk.into_worker())?;
+    }
+    Ok(back)
+}
+
+/// The desks at which workers ask their table.
+fn desks_of<'a, Rt: Wait, G: Gate>(
+    rt: &'a Rt,
+    alloc: Global,
+    table: &'a Table,
+    workers: Vec<Worker>,
+    gate: &'a G,
+) -> Result<Vec<WorkerDesk<'a, Rt, G>>, AllocError> {
+    let mut desks = Vec::with_capacity(alloc, workers.len())?;
+    'workers: for worker in workers {
+        desks.push(WorkerDesk::new(rt, table, gate, worker))?;
+    }
+    Ok(desks)
+}
+
+/// Has a worker at each desk serve sessions on a thread of its own. No ticket is given out before all threads are started: where one can't be,
+/// there are none, and the others end at once.
+fn serve_desks<Rt: Threads + Wait + Sync, D: Desk + Send + Drop, H: Host + Sync, I: Read>(
+    rt: &Rt,
+    alloc: Global,
+    listener: &TcpListener,
+    desks: Vec<D>,
+    terms: Terms,
+    host: &H,
+    input: &mut I,
+) -> Result<Vec<D>, Refusal> {
+    let mut threads = Vec::with_capacity(alloc, desks.len())?;
+    let mut ended = Vec::with_capacity(alloc, desks.len())?;
     let counter = Tickets::new(terms.ending);
     let tickets = &counter;
     let all = thread::scope(thread::scope_env(), rt, move |scope| {
         let mut progress = tickets.progress.lock(rt);
         let mut started = true;
-        'starts: for (number, worker) in workers.into_iter().enumerate() {
+        'starts: for (number, desk) in desks.into_iter().enumerate() {
             match scope.spawn(move || {
-                serve_tickets(
-                    rt, alloc, listener, table, number, worker, terms, tickets, gate, host,
-                )
+                serve_tickets(rt, alloc, listener, number, desk, terms, tickets, host)
             }) {
                 Ok(thread) => started = threads.push(thread).is_ok() && started,
                 Err(_) => started = false,
@@ -162,20 +206,18 @@ fn wake<Rt: Wait, H: Host>(rt: &Rt, tickets: &Tickets, host: &H) {
     }
 }
 
-/// Serves one connection for each ticket, as long as there are tickets.
-fn serve_tickets<Rt: Wait, G: Gate, H: Host>(
+/// Serves one connection for each ticket at a desk, as long as there are tickets.
+fn serve_tickets<Rt: Wait, D: Desk + Drop, H: Host>(
     rt: &Rt,
     alloc: Global,
     listener: &TcpListener,
-    table: &Table,
     number: usize,
-    worker: Worker,
+    desk: D,
     terms: Terms,
     tickets: &Tickets,
-    gate: &G,
     host: &H,
-) -> Worker {
-    let mut desk = WorkerDesk::new(rt, table, gate, worker);
+) -> D {
+    let mut desk = desk;
     'tickets: for _ in 0..u64::MAX {
         if !tickets.take(rt) {
             break;
@@ -198,13 +240,13 @@ fn serve_tickets<Rt: Wait, G: Gate, H: Host>(
             Err(_) => host.pause(),
         }
     }
-    desk.into_worker()
+    desk
 }
 
 /// Serves one connection as a session. Its replies are kept until it reads again, and then sent at once. Why it was cut off, if it was.
-fn serve_stream<Rt: Wait, G: Gate>(
+fn serve_stream<D: Desk>(
     alloc: Global,
-    desk: &mut WorkerDesk<'_, Rt, G>,
+    desk: &mut D,
     terms: Terms,
     stream: &TcpStream,
 ) -> Option<Refusal> {

@@ -208,6 +208,7 @@ fn server_at_its_end<H: Threads + Wait + Net<Listener = TcpListener, Stream = Tc
         policy: Policy::Ripple,
         ending: Ending::AtEndOfInput,
         idle: Some(60),
+        notes_checkpoints: false,
     };
     let host = Knocking { rt, port };
     let mut input: &[u8] = b"what is read is ignored";

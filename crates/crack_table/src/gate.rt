@@ -1,4 +1,4 @@
-//! What a command waits for under a lock.
+//! What a command waits for under a lock, and what hears of checkpoints that were due.
 ghost use Rattle.std.specs.Prelude.{◌≡◌, ◌<◌, ℕ, IfErr};
 ghost use Rattle.std.specs.Bool.{OnFalse};
 ghost use Rattle.crack_table.specs.declared.TheConstants.{GATE_TURNS};
@@ -15,6 +15,12 @@ pub trait Gate {
     /// at most `GATE_TURNS` times in one call.
     fn inside(&self, part: u32, turn: u32) -> bool
         ensures { OnFalse result (may_refuse self.now part turn) };
+
+    /// Takes note of a checkpoint that partition `part` made by itself, since one was due, and of how many entries it folded. The worker whose
+    /// command found the history full calls it, once for each such checkpoint, after it has let go of the lock.
+    fn note_checkpoint(&self, part: u32, entries: u64) {
+        let _ = (part, entries);
+    }
 }
 
 /// A gate that says yes at once.

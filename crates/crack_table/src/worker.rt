@@ -46,7 +46,7 @@ impl Worker {
     /// Asks partition `part` of a table, under its lock, which it may wait for.
     /// Refused, in this order: with 5 where there is no such partition; with 8 where there is no memory for its receipt; under the lock with 7
     /// where the gate says no at each turn; then as `Partition::apply` is, with 4, 6, 10, 9 and 8. After each refusal the book is as it was.
-    /// Besides what `Partition::apply` takes it is O(1), amortised, and the gate's turns.
+    /// The gate takes note of a checkpoint that was due. Besides what `Partition::apply` takes it is O(1), amortised, and the gate's turns.
     pub fn ask<R: Wait, G: Gate>(
         &mut self,
         rt: &R,
@@ -63,7 +63,18 @@ impl Worker {
         };
         self.book.reserve()?;
         let mut partition = lock.lock(rt);
-        let answered = ask_behind(gate, &mut self.book, part, &mut partition, command, policy)?;
+        let mut folded = 0;
+        let answered = ask_behind(
+            gate,
+            &mut self.book,
+            part,
+            &mut partition,
+            command,
+            policy,
+            &mut folded,
+        )?;
+        drop(partition);
+        note_folded(gate, part, folded);
         with_table_limit(answered, table.limits.history)
     }
 
@@ -91,6 +102,14 @@ impl Worker {
         };
         let partition = lock.lock(rt);
         partition.layout()
+    }
+}
+
+/// Has a gate take note of a checkpoint that was due, if one was: then it folded something.
+#[inline(always)]
+pub fn note_folded<G: Gate>(gate: &G, part: u32, folded: u64) {
+    if folded > 0 {
+        gate.note_checkpoint(part, folded);
     }
 }
 

@@ -1,10 +1,10 @@
 //! What one worker is told under small limits, with checkpoints amid its commands.
-use crate::values::{ask, insert};
+use crate::values::{ask, ask_by, insert, splits};
 use crack_commands::{write_folded, write_layout, write_refusal, write_reply};
-use crack_gates::totals;
+use crack_gates::{Due, totals};
 use crack_row::{
     Command, GREATEST_LIMIT, Key, KeyNumber, KeyRange, Limits, Payload, PayloadNumber, Refusal,
-    Serial, Watched,
+    Serial, Upkeep, Watched,
 };
 use crack_table::{Table, Worker};
 use std::alloc::Global;
@@ -209,5 +209,37 @@ fn a_checkpoint_folds_for_all_workers(rt: HostRuntime) -> Result<(), Fail> {
     workers.push(second)?;
     workers.push(first)?;
     assert_eq!(rt; totals(alloc, table, workers), Ok([3, 3, 0, 3]));
+    Ok(())
+}
+
+/// Has a worker insert so many rows into partition 1, behind a gate; whether all were placed.
+fn fill<R: Wait>(rt: &R, worker: &mut Worker, table: &Table, gate: &Due, count: u32) -> bool {
+    let mut fine = true;
+    'rows: for _ in 0..count {
+        fine = ask_by(rt, worker, table, gate, 1, insert(1000000)).is_ok() && fine;
+    }
+    fine
+}
+
+/// A checkpoint that is due is noted once, with its partition and the length of its history; one that was asked for isn't.
+#[test]
+fn a_checkpoint_that_is_due_is_noted(rt: HostRuntime) -> Result<(), Fail> {
+    let alloc: Global = rt.alloc();
+    let limits = Limits {
+        upkeep: Upkeep::Automatic,
+        ..Limits::of_history(3)
+    };
+    let (table, mut workers) = Table::open_with(alloc, &splits(), limits, 1)?;
+    let mut worker = workers.pop().ok_or("worker")?;
+    let gate = Due::new();
+    assert!(rt; fill(&rt, &mut worker, &table, &gate, 3));
+    assert_eq!(rt; gate.noted(), [0, 0]);
+    assert!(rt; fill(&rt, &mut worker, &table, &gate, 4));
+    assert_eq!(rt; gate.noted(), [2, 6]);
+    assert_eq!(rt; gate.part(), 1);
+    assert_eq!(rt; worker.checkpoint(&rt, &table, 1), Ok(1));
+    assert_eq!(rt; gate.noted(), [2, 6]);
+    workers.push(worker)?;
+    assert_eq!(rt; totals(alloc, table, workers), Ok([7, 7, 0, 7]));
     Ok(())
 }

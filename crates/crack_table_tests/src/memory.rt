@@ -4,7 +4,9 @@
 use crate::values::insert;
 use crack_core::Book;
 use crack_plain::PlainTable;
-use crack_row::{Command, GREATEST_LIMIT, Key, KeyRange, Payload, Policy, Refusal, Reply, Serial};
+use crack_row::{
+    Command, GREATEST_LIMIT, Key, KeyRange, Limits, Payload, Policy, Refusal, Reply, Serial, Upkeep,
+};
 use crack_table::{Closed, GatherRefused, OpenGate, Table, Worker, gather};
 use std::alloc::Global;
 use std::process::Abort;
@@ -108,17 +110,30 @@ fn gather_at_last(rt: &impl Abort, alloc: Global, table: Table, workers: Vec<Wor
     }
 }
 
-#[test]
-fn sweep_worker(rt: HostRuntime) {
-    let alloc: Global = rt.alloc();
-    let Ok((table, mut workers)) = Table::open(alloc, &[], GREATEST_LIMIT, 1) else {
+/// Has a worker ask for all at a table of these limits, and gathers it.
+fn work_within<R: Abort + Wait>(rt: &R, alloc: Global, limits: Limits) {
+    let Ok((table, mut workers)) = Table::open_with(alloc, &[], limits, 1) else {
         return;
     };
-    let mut worker = workers.pop().expect(&rt, "a worker");
-    let told = ask_all(&rt, alloc, &mut worker, &table);
+    let mut worker = workers.pop().expect(rt, "a worker");
+    let told = ask_all(rt, alloc, &mut worker, &table);
     assert!(rt; workers.push(worker).is_ok());
-    let closed = gather_at_last(&rt, alloc, table, workers);
+    let closed = gather_at_last(rt, alloc, table, workers);
     let gathered = [closed.accepted, closed.held];
     drop(closed);
     assert_eq!(rt; gathered, told);
+}
+
+#[test]
+fn sweep_worker(rt: HostRuntime) {
+    work_within(&rt, rt.alloc(), Limits::of_history(GREATEST_LIMIT));
+}
+
+#[test]
+fn sweep_worker_whose_checkpoints_are_due(rt: HostRuntime) {
+    let limits = Limits {
+        upkeep: Upkeep::Automatic,
+        ..Limits::of_history(2)
+    };
+    work_within(&rt, rt.alloc(), limits);
 }

@@ -4,7 +4,7 @@
 use crack_arguments::{ArgumentsError, Opening, Request, Service, Staffed, asks_for_words};
 use crack_core::Core;
 use crack_csv::{export_csv, load_csv};
-use crack_row::{Policy, Refusal, Watched};
+use crack_row::{Policy, Refusal, Upkeep, Watched};
 use crack_server::{Ending, Host, Notice, REPLY_BYTES, Terms, run_batch, run_service};
 use crack_session::serve;
 use crack_table::{OpenGate, Table};
@@ -146,14 +146,21 @@ fn serve_port<H: Threads + Wait + Net<Listener = TcpListener, Stream = TcpStream
 
 /// How a server serves.
 fn terms_of(service: &Service) -> Terms {
+    let opening = &service.table.opening;
     Terms {
-        policy: service.table.opening.policy,
+        policy: opening.policy,
         ending: match service.sessions {
             Some(sessions) => Ending::AfterSessions(sessions),
             None => Ending::AtEndOfInput,
         },
         idle: service.idle,
+        notes_checkpoints: !service.is_quiet && has_upkeep(opening),
     }
+}
+
+/// Whether partitions make checkpoints by themselves.
+fn has_upkeep(opening: &Opening) -> bool {
+    matches!(opening.limits.upkeep, Upkeep::Automatic)
 }
 
 /// The program as a server's host. Its notices are lines of standard error.

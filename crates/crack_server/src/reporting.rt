@@ -1,0 +1,64 @@
+//! A gate that reports checkpoints that were due to a server's host.
+use crate::ENTRIES_PER_NOTICE;
+use crate::host::{Host, Notice};
+use crack_table::Gate;
+use std::sync::atomic::{AtomicU64, Ordering};
+
+/// The gate of all workers of a server, with what wasn't reported yet.
+#[derive(Drop)]
+pub(crate) struct Reporting<'a, G: Gate, H: Host> {
+    gate: &'a G,
+    host: &'a H,
+    /// How many checkpoints were made since the last notice.
+    count: AtomicU64,
+    /// How many entries have to be folded before the next one.
+    entries_left: AtomicU64,
+}
+
+impl<'a, G: Gate, H: Host> Reporting<'a, G, H> {
+    /// A gate that lets in whom this one does.
+    pub(crate) fn new(gate: &'a G, host: &'a H) -> Reporting<'a, G, H> {
+        Reporting {
+            gate,
+            host,
+            count: AtomicU64::new(0),
+            entries_left: AtomicU64::new(0),
+        }
+    }
+
+    /// Whether there is to be a notice of a checkpoint that folded so many entries.
+    fn is_notice_due(&self, entries: u64) -> bool {
+        let left = self.entries_left.load(Ordering::SeqCst);
+        let is_due = entries >= left;
+        let next = if is_due {
+            ENTRIES_PER_NOTICE
+        } else {
+            left - entries
+        };
+        self.entries_left.store(next, Ordering::SeqCst);
+        is_due
+    }
+}
+
+impl<'a, G: Gate, H: Host> Gate for Reporting<'a, G, H> {
+    ghost may_refuse = { λ reporting part turn. G.may_refuse reporting.gate.now part turn };
+
+    fn inside(&self, part: u32, turn: u32) -> bool {
+        self.gate.inside(part, turn)
+    }
+
+    fn note_checkpoint(&self, part: u32, entries: u64) {
+        self.gate.note_checkpoint(part, entries);
+        self.count.fetch_add(1, Ordering::SeqCst);
+        if self.is_notice_due(entries) {
+            let count = self.count.swap(0, Ordering::SeqCst);
+            if count > 0 {
+                self.host.note(Notice::Checkpoints {
+                    count,
+                    part,
+                    entries,
+                });
+            }
+        }
+    }
+}
