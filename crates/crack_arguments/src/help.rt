@@ -51,29 +51,29 @@ macro_rules! with_statements {
     };
 }
 
-/// Behind the help of the program.
+/// After the help of the program.
 pub const OF_PROGRAM: &str = with_statements!(
     "  printf 'insert 30 3\\ninsert 10 1\\ncount 0 20\\n' | crackd script"
 );
 
-/// Behind the help of `script`.
+/// After the help of `script`.
 pub const OF_SCRIPT: &str = with_statements!(
     "  printf 'insert 30 3\\ninsert 150 1\\nsum 0 200\\n' | crackd script 100"
 );
 
-/// Behind the help of `batch`.
+/// After the help of `batch`.
 pub const OF_BATCH: &str = with_statements!(
     "  printf '0 insert 30 3\\n1 count 0 50\\n' | crackd batch --workers 2",
     "\n  (the number in front of a statement is its worker's)"
 );
 
-/// Behind the help of `serve`.
+/// After the help of `serve`.
 pub const OF_SERVE: &str = with_statements!(
     "  crackd serve --port 4000 --workers 2 --sessions 1 &\n",
     "  python3 examples/client.py 4000"
 );
 
-/// Behind the help of `csv`.
+/// After the help of `csv`.
 pub const OF_CSV: &str = with_refusals!(
     "Example:\n",
     "  printf 'key,payload\\n30,3\\n10,1\\n' | crackd csv\n\n",

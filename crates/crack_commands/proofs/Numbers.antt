@@ -100,7 +100,7 @@ sign_kept zero xs some = absurd (omega (arith, some))
 sign_kept (suc n) [] some = refl
 sign_kept (suc n) (x ∷ xs) some = refl
 
--- what stands behind a minus sign at the front, if there is one
+-- what follows a minus sign at the front, if there is one
 abbrev pub unsigned : List ℕ → List ℕ
 unsigned word = cond (has_sign word) (drop 1 word) word
 
@@ -108,7 +108,7 @@ unsigned word = cond (has_sign word) (drop 1 word) word
 abbrev pub signed : Bool → ℕ → ℤ
 signed is_negative n = cond is_negative (neg_ℤ (pos n)) (pos n)
 
--- a whole number by its sign, and the number behind it
+-- a whole number by its sign, and the number after it
 whole_by : (word : List ℕ) (is_negative : Bool) → has_sign word ≡ is_negative → whole_number_of word ≡ option_map (signed is_negative) (number_of (cond is_negative (drop 1 word) word))
 whole_by word true sign = rw sign refl
 whole_by word false sign = rw sign refl
@@ -140,7 +140,7 @@ short_whole_by bytes b bs value rest false sign same front d =
     let number : number_of word ≡ Some value = number_of_digits word (omega (arith, long, d.few)) (omega (arith, long, d.few)) d.digits ∙ ap Some (sym d.value) in
     (word, rw d.behind first, sym (whole_is word false value (sign_kept n xs d.few.0 ∙ sign) number))
 
--- digits behind a minus sign or none are the first word, and a whole number
+-- digits after a minus sign or none are the first word, and a whole number
 pub short_whole : (bytes xs : List ℕ) (value : ℕ) (rest : List ℕ) → words xs ≡ words bytes → (get_or xs 0 0 ≡ 32 → ⊥) → BeginsWithDigits (unsigned xs) value rest → IsFirstWholeNumber bytes (Some (signed (has_sign xs) value)) rest
 short_whole bytes [] value rest same front d = absurd (omega (arith, d.few))
 short_whole bytes (b ∷ bs) value rest same front d = short_whole_by bytes b bs value rest (eqb b 45) refl same front d
@@ -185,7 +185,7 @@ whole_before_by b bs stop value n false sign few stops digits is =
       says = whole_is (take n xs) false value (sign_kept n xs few.0 ∙ sign) number;
     }
 
--- digits up to a byte, behind a minus sign or none, are a whole number
+-- digits up to a byte, after a minus sign or none, are a whole number
 pub whole_before : (xs : List ℕ) (stop value n : ℕ) → (0 < n) × (n ≤ 20) × (n < length (unsigned xs)) → get_or (unsigned xs) n 0 ≡ stop → list_all is_digit (take n (unsigned xs)) ≡ true → value ≡ value_on 0 (take n (unsigned xs))
     → BeginsWithWhole xs stop (signed (has_sign xs) value) (length xs - length (unsigned xs) + n)
 whole_before [] stop value n few stops digits is = absurd (omega (arith, few))

@@ -43,7 +43,7 @@ front_first a b xs ys (n, short, wrote) =
     let same : take n (xs ++ ys) ≡ take n xs = take-append-le n xs ys (omega arith) in
     (n, omega (arith, short, long), rw same wrote)
 
--- and behind a whole text it is one of both
+-- and after a whole text it is one of both
 pub front_then : (a b c : Option (List ℕ)) (xs ys : List ℕ) → Appends a b xs → AppendsFront b c ys → AppendsFront a c (xs ++ ys)
 front_then a b c xs ys whole (n, short, wrote) =
     let long = length-append xs ys in

@@ -46,7 +46,7 @@ spaces_space (b ∷ bs) more h =
     let other : eqb b 32 ≡ false = each.0 in
     rw (other, spaces_space bs more each.1) refl
 
--- a word, and the end or a space behind it
+-- a word, and the end or a space after it
 pub words_end : (w : List ℕ) → has_space w ≡ false → is_word w ≡ true → words w ≡ w ∷ []
 words_end w h some = rw (spaces_word w h, some) refl
 

@@ -23,16 +23,16 @@ abbrev pub has_space : List ℕ → Bool
 has_space [] = false
 has_space (b ∷ bs) = b == 32 || has_space bs
 
--- the first of the words, and what stands behind it: no word where there is none
+-- the first of the words, and what follows it: no word where there is none
 pub record IsFirstWord (bytes word rest : List ℕ) : Type 0 where
   pub some : is_word word ≡ true → words bytes ≡ word ∷ words rest
   pub none : is_word word ≡ false → (words bytes ≡ []) × (words rest ≡ [])
 
--- the number that the first of the words is, if it is one, and what stands behind that word
+-- the number that the first of the words is, if it is one, and what follows that word
 abbrev pub IsFirstNumber : List ℕ → Option ℕ → List ℕ → Type 0
 IsFirstNumber bytes number rest = (word : List ℕ) × IsFirstWord bytes word rest × (number ≡ number_of word)
 
--- the whole number that the first of the words is, if it is one, and what stands behind that word
+-- the whole number that the first of the words is, if it is one, and what follows that word
 abbrev pub IsFirstWholeNumber : List ℕ → Option ℤ → List ℕ → Type 0
 IsFirstWholeNumber bytes number rest = (word : List ℕ) × IsFirstWord bytes word rest × (number ≡ whole_number_of word)
 
@@ -40,11 +40,11 @@ IsFirstWholeNumber bytes number rest = (word : List ℕ) × IsFirstWord bytes wo
 abbrev pub row_from : ℕ → ℤ → Option (Key × Payload)
 row_from key payload = option_zip (option_map (λ n. record { 0 = n }) (if nat_le key GREATEST_KEY then Some key else None)) (if int_le LEAST_PAYLOAD payload && int_le payload GREATEST_PAYLOAD then Some (record { 0 = payload }) else None)
 
--- the number that digits spell, behind others
+-- the number that digits spell, after others
 abbrev pub value_on : ℕ → List ℕ → ℕ
 value_on n word = fold (λ n b. n * 10 + (b - 48)) n word
 
--- Bytes begin with digits, few of them, which end at a space or with the bytes: the number that they spell, and what stands behind them.
+-- Bytes begin with digits, few of them, which end at a space or with the bytes: the number that they spell, and what follows them.
 pub record BeginsWithDigits (bytes : List ℕ) (number : ℕ) (rest : List ℕ) : Type 0 where
   pub count : ℕ
   pub few : (0 < count) × (count ≤ 20) × (count ≤ length bytes)
@@ -53,7 +53,7 @@ pub record BeginsWithDigits (bytes : List ℕ) (number : ℕ) (rest : List ℕ) 
   pub ends : count < length bytes → slice_index bytes count ≡ 32
   pub behind : rest ≡ drop count bytes
 
--- Bytes begin with a whole number of so many bytes, few of them, behind which this byte stands.
+-- Bytes begin with a whole number of so many bytes, few of them, after which this byte stands.
 pub record BeginsWithWhole (bytes : List ℕ) (stop : ℕ) (number : ℤ) (count : ℕ) : Type 0 where
   pub few : (0 < count) × (count ≤ 21) × (count < length bytes)
   pub stops : slice_index bytes count ≡ stop
@@ -72,7 +72,7 @@ gone_text row = codes "gone " ++ key_text row.key ++ codes " " ++ payload_text r
 abbrev pub rows_text : ℕ → List Row → List ℕ
 rows_text part rows = head_text (length rows) ++ flat_map (row_text part) rows
 
--- two names, each with its number behind it
+-- two names, each with its number after it
 abbrev pub two_fields : List ℕ → ℕ → List ℕ → ℕ → List ℕ
 two_fields first m second n = first ++ decimal m ++ second ++ decimal n
 

@@ -83,7 +83,7 @@ policy_text Gradual = codes "policy gradual\n"
 policy_text Ripple = codes "policy ripple\n"
 policy_text Auto = codes "policy auto\n"
 
--- a number behind a space
+-- a number after a space
 abbrev pub field_text : ℕ → List ℕ
 field_text number = codes " " ++ decimal number
 

@@ -8,7 +8,7 @@ ghost use Rattle.crack_commands.specs.LeadingInsert.{BeginsWithInsert};
 use crate::words::{MOST_DIGITS, has_sign, leading_number, row_from, signed, unsigned};
 use crack_row::{Key, Payload};
 
-/// The name of the statement with the space behind it.
+/// The name of the statement with the space after it.
 const NAME: &[u8] = b"insert ";
 
 /// An insert that bytes begin with: the row that it brings, and how long its line is.
@@ -16,7 +16,7 @@ const NAME: &[u8] = b"insert ";
 pub struct LeadingInsert {
     pub key: Key,
     pub payload: Payload,
-    /// The bytes of its line, without the line feed behind it.
+    /// The bytes of its line, without the line feed after it.
     pub len: usize,
 }
 
@@ -37,7 +37,7 @@ pub fn leading_insert(bytes: &[u8]) -> Option<LeadingInsert>
     })
 }
 
-/// The whole number that bytes begin with, and how many bytes it takes, where this byte stands behind it.
+/// The whole number that bytes begin with, and how many bytes it takes, where this byte stands after it.
 #[inline(always)]
 fn whole_number_before(bytes: &[u8], stop: u8) -> Option<(i128, usize)>
     ensures { IfSome result (λ n. BeginsWithWhole bytes.now stop n.0 n.1) }
@@ -48,7 +48,7 @@ fn whole_number_before(bytes: &[u8], stop: u8) -> Option<(i128, usize)>
     Some((number, bytes.len() - digits.len() + count))
 }
 
-/// The number that bytes begin with, and how many digits it has, where this byte stands behind them.
+/// The number that bytes begin with, and how many digits it has, where this byte stands after them.
 #[inline(always)]
 fn number_before(bytes: &[u8], stop: u8) -> Option<(u64, usize)>
     ensures within { IfSome result (λ n. (0 < n.1) × (n.1 ≤ MOST_DIGITS) × (n.1 < length bytes.now)) }

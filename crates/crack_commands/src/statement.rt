@@ -54,7 +54,7 @@ pub fn parse_statement(line: &[u8]) -> Result<Statement, Refusal>
     parse_named(name, rest)
 }
 
-/// What stands behind the name of an insert and a space. Most lines are inserts,
+/// What follows the name of an insert and a space. Most lines are inserts,
 /// and begin so: the end of their first word isn't looked for.
 #[inline(always)]
 fn behind_insert(line: &[u8]) -> Option<&[u8]>
@@ -63,7 +63,7 @@ fn behind_insert(line: &[u8]) -> Option<&[u8]>
     line.strip_prefix(b"insert ".as_slice())
 }
 
-/// The statement of a name and of what stands behind it.
+/// The statement of a name and of what follows it.
 #[inline(never)]
 fn parse_named(name: &[u8], rest: &[u8]) -> Result<Statement, Refusal>
     ensures { result ≡ named name.now (words rest.now) }
@@ -93,7 +93,7 @@ fn parse_named(name: &[u8], rest: &[u8]) -> Result<Statement, Refusal>
     }
 }
 
-/// An insert of the words behind its name.
+/// An insert of the words after its name.
 #[inline(always)]
 fn parse_insert(rest: &[u8]) -> Result<Statement, Refusal>
     ensures { result ≡ insert_of (words rest.now) }
@@ -104,7 +104,7 @@ fn parse_insert(rest: &[u8]) -> Result<Statement, Refusal>
     }
 }
 
-/// A delete of the one word behind its name.
+/// A delete of the one word after its name.
 fn parse_delete(rest: &[u8]) -> Result<Statement, Refusal>
     ensures { result ≡ delete_of (words rest.now) }
 {
@@ -114,7 +114,7 @@ fn parse_delete(rest: &[u8]) -> Result<Statement, Refusal>
     }
 }
 
-/// An update of the words behind its name.
+/// An update of the words after its name.
 fn parse_update(rest: &[u8]) -> Result<Statement, Refusal>
     ensures { result ≡ update_of (words rest.now) }
 {
@@ -135,7 +135,7 @@ fn update_from(row: RowNo, pair: Option<(Key, Payload)>) -> Result<Statement, Re
     }
 }
 
-/// A count of the words behind its name.
+/// A count of the words after its name.
 #[tactic(auto, using(crate::proofs::Statements::over_ok, crate::proofs::Statements::over_err))]
 fn parse_count(rest: &[u8]) -> Result<Statement, Refusal>
     ensures { result ≡ over Count (two_numbers (words rest.now)) }
@@ -146,7 +146,7 @@ fn parse_count(rest: &[u8]) -> Result<Statement, Refusal>
     }
 }
 
-/// A sum of the words behind its name.
+/// A sum of the words after its name.
 #[tactic(auto, using(crate::proofs::Statements::over_ok, crate::proofs::Statements::over_err))]
 fn parse_sum(rest: &[u8]) -> Result<Statement, Refusal>
     ensures { result ≡ over Sum (two_numbers (words rest.now)) }
@@ -157,7 +157,7 @@ fn parse_sum(rest: &[u8]) -> Result<Statement, Refusal>
     }
 }
 
-/// A select of the words behind its name.
+/// A select of the words after its name.
 #[tactic(auto, using(crate::proofs::Statements::over_ok, crate::proofs::Statements::over_err))]
 fn parse_select(rest: &[u8]) -> Result<Statement, Refusal>
     ensures { result ≡ over Select (two_numbers (words rest.now)) }
@@ -178,7 +178,7 @@ fn parse_range(rest: &[u8]) -> Result<KeyRange, Refusal>
     }
 }
 
-/// A layout of the one word behind its name.
+/// A layout of the one word after its name.
 fn parse_layout(rest: &[u8]) -> Result<Statement, Refusal>
     ensures { result ≡ layout_of (words rest.now) }
 {
@@ -188,7 +188,7 @@ fn parse_layout(rest: &[u8]) -> Result<Statement, Refusal>
     }
 }
 
-/// A checkpoint of the one word behind its name.
+/// A checkpoint of the one word after its name.
 fn parse_checkpoint(rest: &[u8]) -> Result<Statement, Refusal>
     ensures { result ≡ checkpoint_of (words rest.now) }
 {
@@ -198,7 +198,7 @@ fn parse_checkpoint(rest: &[u8]) -> Result<Statement, Refusal>
     }
 }
 
-/// A policy of the one word behind its name.
+/// A policy of the one word after its name.
 fn parse_policy(rest: &[u8]) -> Result<Statement, Refusal>
     ensures { result ≡ policy_of (words rest.now) }
 {
@@ -225,7 +225,7 @@ fn policy_named(name: &[u8]) -> Option<Policy>
     }
 }
 
-/// A quit, where no word stands behind its name.
+/// A quit, where no word stands after its name.
 fn parse_quit(rest: &[u8]) -> Result<Statement, Refusal>
     ensures { result ≡ quit_of (words rest.now) }
 {

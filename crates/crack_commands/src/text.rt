@@ -18,7 +18,7 @@ const TEXT_BYTES: usize = 112;
 /// A line of text in the making.
 type Text = ArrayVec<u8, TEXT_BYTES>;
 
-/// Room for the line of a placed row, which is told most: a word, a partition's number of 10 digits, a serial of 20, and three bytes more.
+/// Room for the line of a placed row, the most frequent one: a word, a partition's number of 10 digits, a serial of 20, and three bytes more.
 /// It is cleared for each line.
 const PLACED_BYTES: usize = 48;
 
@@ -58,7 +58,7 @@ fn write_placed<W: Write>(part: u32, serial: Serial, writer: &mut Watched<W>) ->
     send(writer, text.as_slice())
 }
 
-/// Adds the begin of a placed row's line, through the full stop behind the partition's number: at once where that has one digit.
+/// Adds the beginning of a placed row's line, through the full stop after the partition's number: at once where that has one digit.
 #[inline(always)]
 #[tactic(auto, using(std::proofs::lemmas::Fmt::decimal_digit))]
 fn push_part(text: &mut ArrayVec<u8, PLACED_BYTES>, part: u32)
@@ -204,7 +204,7 @@ fn write_layout_head<W: Write>(
     send(writer, b"\n")
 }
 
-/// Writes two names of at most 10 bytes, each with its number behind it.
+/// Writes two names of at most 10 bytes, each with its number after it.
 fn write_fields<W: Write>(
     first: &[u8],
     number: u64,
@@ -290,7 +290,7 @@ fn write_missing<W: Write>(code: u32, missing: u64, writer: &mut Watched<W>) -> 
     send(writer, b"\n")
 }
 
-/// Writes the begin of a refusal's line.
+/// Writes the beginning of a refusal's line.
 fn write_code<W: Write>(code: u32, writer: &mut Watched<W>) -> Result<(), Refusal>
     ensures { Writes W.contents (codes "refused " ++ decimal code) result writer.old writer.new }
 {
@@ -351,7 +351,7 @@ pub fn policy_line(policy: Policy) -> &'static [u8]
     }
 }
 
-/// Adds at most two numbers, each behind a space.
+/// Adds at most two numbers, each after a space.
 fn push_fields(text: &mut Text, numbers: &[u64])
     requires few { length numbers.now ≤ 2 }
     requires room { length text.old.items + 42 ≤ TEXT_BYTES }
@@ -363,7 +363,7 @@ fn push_fields(text: &mut Text, numbers: &[u64])
     }
 }
 
-/// Adds a number behind a space.
+/// Adds a number after a space.
 fn push_field(text: &mut Text, number: u64)
     requires { length text.old.items + 21 ≤ TEXT_BYTES }
     ensures digits { text.new.items ≡ text.old.items ++ field_text number }

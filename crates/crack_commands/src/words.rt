@@ -37,7 +37,7 @@ pub fn key_and_payload(bytes: &[u8]) -> Option<(Key, Payload)>
     any_key_and_payload(bytes)
 }
 
-/// A number and a whole number, where there are just two words, these, 64 bits are enough for each, and no space stands behind them.
+/// A number and a whole number, where there are just two words, these, 64 bits are enough for each, and no space stands after them.
 #[inline(always)]
 fn two_short_words(bytes: &[u8]) -> Option<(u64, i128)>
     ensures { IfSome result (λ pair. key_and_payload (words bytes.now) ≡ row_from pair.0 pair.1) }
@@ -127,7 +127,7 @@ pub fn two_numbers(bytes: &[u8]) -> Option<(u128, u128)>
     }
 }
 
-/// The two numbers, where there are just two words, both are numbers of 64 bits, and no space stands behind them.
+/// The two numbers, where there are just two words, both are numbers of 64 bits, and no space stands after them.
 #[inline(always)]
 fn two_short_numbers(bytes: &[u8]) -> Option<(u64, u64)>
     ensures { IfSome result (λ pair. two_numbers (words bytes.now) ≡ Some (pair.0, pair.1)) }
@@ -156,7 +156,7 @@ fn any_two_numbers(bytes: &[u8]) -> Option<(u128, u128)>
     }
 }
 
-/// The number that the first word is, if it is one, and what stands behind the word.
+/// The number that the first word is, if it is one, and what follows the word.
 fn next_number(bytes: &[u8]) -> (Option<u128>, &[u8])
     ensures { IsFirstNumber bytes.now result.0 result.1.now }
 {
@@ -223,7 +223,7 @@ fn stop_at(word: &[u8]) -> usize
     word.len()
 }
 
-/// The number that the first word is, if it is one of 64 bits, and what stands behind the word.
+/// The number that the first word is, if it is one of 64 bits, and what follows the word.
 #[inline(always)]
 fn short_number(bytes: &[u8]) -> Option<(u64, &[u8])>
     ensures { IfSome result (λ pair. IsFirstNumber bytes.now (Some pair.0) pair.1.now) }
@@ -231,7 +231,7 @@ fn short_number(bytes: &[u8]) -> Option<(u64, &[u8])>
     short_digits(without_spaces(bytes))
 }
 
-/// The whole number that the first word is, if 64 bits are enough for its digits, and what stands behind the word.
+/// The whole number that the first word is, if 64 bits are enough for its digits, and what follows the word.
 #[inline(always)]
 fn short_whole_number(bytes: &[u8]) -> Option<(i128, &[u8])>
     ensures { IfSome result (λ pair. IsFirstWholeNumber bytes.now (Some pair.0) pair.1.now) }
@@ -241,7 +241,7 @@ fn short_whole_number(bytes: &[u8]) -> Option<(i128, &[u8])>
     Some((signed(has_sign(word), value as u128), rest))
 }
 
-/// The number of 64 bits that bytes begin with, where a space stands behind it or nothing, and what stands behind it.
+/// The number of 64 bits that bytes begin with, where a space stands after it or nothing, and what follows it.
 #[inline(always)]
 fn short_digits(bytes: &[u8]) -> Option<(u64, &[u8])>
     ensures { IfSome result (λ pair. BeginsWithDigits bytes.now pair.0 pair.1.now) }
@@ -262,7 +262,7 @@ pub(crate) fn has_sign(bytes: &[u8]) -> bool
     !bytes.is_empty() && bytes[0] == b'-'
 }
 
-/// What stands behind a minus sign at the front, if there is one.
+/// What follows a minus sign at the front, if there is one.
 #[inline(always)]
 pub(crate) fn unsigned(bytes: &[u8]) -> &[u8]
     ensures { result.now ≡ (if has_sign bytes.now then drop 1 bytes.now else bytes.now) }
@@ -308,7 +308,7 @@ pub(crate) fn leading_number(bytes: &[u8]) -> (u64, usize)
     }
 }
 
-/// The number with a digit more behind it, if the byte is one, and the number fits.
+/// The number with a digit more after it, if the byte is one, and the number fits.
 fn with_digit(value: u64, byte: u8) -> Option<u64>
     ensures { IfSome result (λ n. (is_digit byte ≡ true) × (n ≡ value * 10 + (byte - 48))) }
 {
@@ -430,7 +430,7 @@ fn value_of(word: &[u8]) -> u128
     value
 }
 
-/// The first word, and what stands behind it. It is empty where there is none.
+/// The first word, and what follows it. It is empty where there is none.
 pub fn next_word(bytes: &[u8]) -> (&[u8], &[u8])
     ensures { IsFirstWord bytes.now result.0.now result.1.now }
 {
@@ -448,7 +448,7 @@ pub fn only_word(bytes: &[u8]) -> &[u8]
     if more.is_empty() { word } else { b"" }
 }
 
-/// The bytes behind the spaces at the front.
+/// The bytes after the spaces at the front.
 #[tactic(auto, using(crate::proofs::Splitting::words_space, crate::proofs::Splitting::words_all))]
 fn without_spaces(bytes: &[u8]) -> &[u8]
     ensures words { words result.now ≡ words bytes.now }

@@ -14,13 +14,13 @@ use Rattle.crack_core.specs.Listing.{rows_in, of_part, listed, listed_at, no_row
 abbrev row_of : ℕ → ℕ → ℕ → ℤ → ℕ × Row
 row_of part serial key payload = (part, record { serial = record { 0 = serial }; key = record { 0 = key }; payload = record { 0 = payload } })
 
--- rows behind those that there is room for stand nowhere
+-- rows after those that there is room for stand nowhere
 pub stand-longer : (rows more : List (ℕ × Row)) (parts serials keys : List ℕ) (payloads : List ℤ) → length parts ≤ length rows → StandIn rows parts serials keys payloads → StandIn (rows ++ more) parts serials keys payloads
 stand-longer rows more parts serials keys payloads full stand k within there =
     let below : k < length rows = omega arith in
     stand k below there ∙ sym (get_or_append_left rows more no_row k below)
 
--- a row more is written behind them
+-- a row more is written after them
 pub stand-more : (rows : List (ℕ × Row)) (row : ℕ × Row) (parts serials keys : List ℕ) (payloads : List ℤ) (at : ℕ)
     → length rows ≡ at → at < length parts → length serials ≡ length parts → length keys ≡ length parts → length payloads ≡ length parts
     → StandIn rows parts serials keys payloads

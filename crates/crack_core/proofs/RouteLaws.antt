@@ -117,7 +117,7 @@ sorted-rising low (split ∷ splits) rising = λ i j d i_le_j j_lt. at (sorted-r
     at later (suc i) zero d i_le_j j_lt = absurd (omega (arith, i_le_j))
     at later (suc i) (suc j) d i_le_j j_lt = later i j d (omega (arith, i_le_j)) (omega (arith, j_lt))
 
--- where those that pass a test stand first, the place behind them is how many there are
+-- where those that pass a test stand first, the place after them is how many there are
 pub count-point : (p : Bound → Bool) (splits : List Bound) (place : ℕ) → place ≤ length splits → AllWithin (λ (b : Bound). p b ≡ true) splits 0 place → AllWithin (λ (b : Bound). p b ≡ false) splits place (length splits) → place ≡ count_by p splits
 count-point p [] place within pass fail = omega (arith, within)
 count-point p (split ∷ splits) zero within pass fail =
@@ -158,7 +158,7 @@ high-before splits n part are before =
     let within = route-le splits n in
     low-le n 0 splits (suc part) GREATEST_BOUND are.rising (omega arith) (omega (arith, before))
 
--- a partition behind the one in which a number falls begins above the number
+-- a partition after the one in which a number falls begins above the number
 low-behind : (splits : List Bound) (n part : ℕ) → AreSplits splits → n < GREATEST_BOUND → route splits n < part → part ≤ length splits → n < (keys_of_part splits part).low
 low-behind splits n zero are below behind within = absurd (omega (arith, behind))
 low-behind splits n (suc part) are below behind within =
@@ -182,7 +182,7 @@ clipped-has r s = by_test (nat_lt (max r.low s.low) (min r.high s.high)) refl
     by_test true is = is
     by_test false is = le-ltb s.low s.low (omega arith)
 
--- a partition before the first that a range meets, or behind the last, has no keys of it
+-- a partition before the first that a range meets, or after the last, has no keys of it
 pub part-none : (splits : List Bound) (r : Range) (part : ℕ) → AreSplits splits → r.low < r.high → r.high ≤ GREATEST_BOUND → part ≤ length splits → (part < route splits r.low) ⊎ (route splits (r.high - 1) < part) → has_keys (part_at splits r part) ≡ false
 part-none splits r part are filled bounded within beside =
     let keys = keys_of_part splits part in
@@ -222,7 +222,7 @@ parts_below-front splits r (suc n) are filled bounded before =
     let one : suc n ≡ n + 1 = omega arith in
     ap (parts_below splits r) one ∙ parts_below-none splits r n none ∙ parts_below-front splits r n are filled bounded (omega (arith, before))
 
--- behind the last partition that a range meets there are no more
+-- after the last partition that a range meets there are no more
 pub parts_below-back : (splits : List Bound) (r : Range) (n more : ℕ) → AreSplits splits → r.low < r.high → r.high ≤ GREATEST_BOUND → n ≡ route splits (r.high - 1) + 1 → n + more ≤ length splits + 1 → parts_below splits r (n + more) ≡ parts_below splits r n
 parts_below-back splits r n zero are filled bounded last within = ap (parts_below splits r) (omega arith)
 parts_below-back splits r n (suc more) are filled bounded last within =
@@ -304,7 +304,7 @@ parts_of-one splits r are filled bounded inside =
     ∙ ap (λ (parts : List (ℕ × Range)). parts ++ part_at splits r first ∷ []) (parts_below-front splits r first are filled bounded (omega arith))
     ∙ ap (λ (p : ℕ × Range). p ∷ []) part
 
--- a range that goes on behind the partition of its low end has several parts
+-- a range that goes on after the partition of its low end has several parts
 pub parts_of-several : (splits : List Bound) (r : Range) → AreSplits splits → r.low < r.high → r.high ≤ GREATEST_BOUND → (keys_of_part splits (route splits r.low)).high < r.high → 1 < length (parts_of splits r)
 parts_of-several splits r are filled bounded beyond =
     let first = route splits r.low in

@@ -49,7 +49,7 @@ pub small-given : (a : Result (Reply × Reply) Refusal) (r : Result Reply Refusa
 small-given (Ok replies) r gives small = rw gives.ok small
 small-given (Err e) r gives small = rw gives.err tt
 
--- a refusal is told as it is
+-- a refusal is passed on as it is
 given-err : (a : Result (Reply × Reply) Refusal) (r : Result Reply Refusal) (e : Refusal) → Gives a r → a ≡ Err e → r ≡ Err e
 given-err a r e gives is = rw is at gives.err
 

@@ -92,7 +92,7 @@ pub data AsksInTurn (limits : Limits) (splits : List Bound) (query : Query) (old
       → AsksInTurn limits splits query old parts (Ok said) between
       → Asks limits splits part.0 (asking query part.1) (Ok reply) between new
       → AsksInTurn limits splits query old (parts ++ part ∷ []) (Ok (said ++ reply ∷ [])) new
-  -- after those that replied, the next one refuses, and those behind it aren't asked
+  -- after those that replied, the next one refuses, and those after it aren't asked
   refuses : (parts : List (ℕ × Range)) (part : ℕ × Range) (behind : List (ℕ × Range)) (said : List Reply) (e : Refusal) (between new : List PlainView)
       → AsksInTurn limits splits query old parts (Ok said) between
       → Asks limits splits part.0 (asking query part.1) (Err e) between new

@@ -66,7 +66,7 @@ pub record Makes (splits : List Bound) (limits : Limits) (step : Step) (result :
   pub spared : OnErr result (AtPart step.part (λ p q. Spares step.policy p.keys (range_of step.command) p.store q.store) old new)
   pub same : IfErr result (λ e. e ≢ OutOfMemory → new ≡ old)
 
--- what comes of a job whose partition is this: a step comes out as its partition is to answer, and a checkpoint tells how many commands it
+-- what comes of a job whose partition is this: a step comes out as its partition is to answer, and a checkpoint reports how many commands it
 -- accepted since the last one
 abbrev pub IsJobOutcome : Bounds → List Bound → Option PlainView → Job → Result Done Refusal → Type 0
 IsJobOutcome bounds splits table (Perform step) result = (outcome : Result Reply Refusal) × (result ≡ performed outcome) × IsOutcome bounds (keys_of_part splits step.part) table step.command outcome

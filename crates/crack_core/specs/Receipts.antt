@@ -4,11 +4,11 @@ use Rattle.crack_row.specs.declared.command.Entry.{Entry}
 use Rattle.crack_plain.specs.Totals.{accepted, inserted, deleted}
 use Rattle.crack_core.specs.declared.receipt.Receipt.{Receipt}
 
--- the entry that a receipt tells of
+-- the entry that a receipt is of
 abbrev pub entry_of : Receipt → Entry
 entry_of r = record { worker = r.worker; command = r.command; reply = r.reply }
 
--- the entries that receipts tell of, in their order
+-- the entries that receipts are of, in their order
 abbrev pub entries_of : List Receipt → List Entry
 entries_of receipts = map entry_of receipts
 

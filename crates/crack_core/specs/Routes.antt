@@ -16,7 +16,7 @@ pub record AreSplits (splits : List Bound) : Type 0 where
   pub rising : is_rising 0 splits ≡ true
   pub few : length splits ≤ MOST_SPLITS
 
--- the keys of a partition: from the split before it, or 0, to the split behind it, or the greatest bound
+-- the keys of a partition: from the split before it, or 0, to the split after it, or the greatest bound
 abbrev pub keys_of_part : List Bound → ℕ → Range
 keys_of_part splits part = record { low = slice_index_or (0 ∷ map (λ (b : Bound). b.0) splits) part 0; high = slice_index_or (map (λ (b : Bound). b.0) splits) part GREATEST_BOUND }
 

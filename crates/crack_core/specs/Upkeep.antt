@@ -1,4 +1,4 @@
--- Checkpoints that upkeep makes, told as jobs.
+-- Checkpoints that upkeep makes, as jobs.
 use Rattle.std.specs.Prelude.{◌≡◌, ℕ, Bool, false, ◌&&◌, ◌==◌, List, [], ◌∷◌, ◌++◌, length, Result, Ok, if◌then◌else◌}
 use Rattle.crack_row.specs.declared.limit.Limits.{Limits}
 use Rattle.crack_row.specs.declared.limit.Upkeep.TheVariants.{OnRequest}

@@ -193,7 +193,7 @@ impl Core {
         Ok(results)
     }
 
-    /// Folds the history of one partition into its base, and tells how many entries went: the partition's rows are
+    /// Folds the history of one partition into its base, and returns how many entries went: the partition's rows are
     /// kept as they are now, its commands no more, and its history begins anew. It cracks and merges nothing, and no
     /// later reply depends on it. Refused with 5 where there is no such partition, and with 8 where no memory is
     /// found; nothing has changed then. Its costs are those of `Partition::checkpoint`.

@@ -21,7 +21,7 @@ use Rattle.crack_commands.proofs.Sending.{Appends-then}
 use Rattle.crack_csv.specs.Exports.{header_text, record_text, rows_from, asked, IsExported}
 use Rattle.crack_csv.specs.Inside.{rows_at, IsPartExported}
 
--- the place behind a list is the first of what follows
+-- the place after a list is the first of what follows
 get_behind : {X : Type 0} (xs ys : List X) → slice_get (xs ++ ys) (length xs) ≡ slice_get ys 0
 get_behind [] ys = refl
 get_behind (x ∷ xs) ys = get_behind xs ys
@@ -128,7 +128,7 @@ Exporting-whole {bounds} {splits} {tables} done (t ∷ rest) split all counted k
 pub Exporting-end : {bounds : Bounds} {splits : List Bound} {tables : List PlainView} {part count : ℕ} {left : Option (List PlainView)} {out out' : Option (List ℕ)} (out'' : Option (List ℕ)) → Exporting bounds splits tables part count left out out' → part ≡ length tables → Appends out' out'' [] → IsExported bounds splits tables count left out out''
 Exporting-end out'' was all kept = Exporting-whole was.done was.rest was.split (was.reached ∙ all) was.count_is was.left_is (kept_written _ _ _ _ was.written kept)
 
--- what is handed on by a flush is nothing more
+-- a flush writes nothing more
 pub keeps_appends : (a b : Option (List ℕ)) → Keeps a b → Appends a b []
 keeps_appends None b h = tt
 keeps_appends (Some x) None h = absurd h

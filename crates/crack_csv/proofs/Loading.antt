@@ -16,7 +16,7 @@ use Rattle.crack_csv.specs.Loads.{with_row, Refuses, AreInserted, IsLoaded, IsCu
 use Rattle.crack_csv.specs.declared.TheConstants.{MOST_RECORDS}
 use Rattle.crack_core.specs.Steps.{Bounds}
 
--- whether a record is a header, behind these others
+-- whether a record is a header, after these others
 abbrev is_header_behind : List Fields → Fields → Bool
 is_header_behind [] fields = is_header fields
 is_header_behind (first ∷ records) fields = false
@@ -29,7 +29,7 @@ without_header-more : (header : Bool) (first : Fields) (records : List Fields) (
 without_header-more true first records fields = refl
 without_header-more false first records fields = refl
 
--- behind others, a record that is no header is to be inserted
+-- after others, a record that is no header is to be inserted
 without_header-push : (records : List Fields) (fields : Fields) → is_header_behind records fields ≡ false → without_header (records ++ fields ∷ []) ≡ without_header records ++ fields ∷ []
 without_header-push [] fields e = rw e refl
 without_header-push (first ∷ records) fields e = without_header-more (is_header first) first records fields
@@ -98,7 +98,7 @@ Going-row new fields left' g reads plain brings = record {
 pub Going-end : {R : Type 0} {remaining : R → Option (List ℕ)} {old : Reader R} {bounds : Bounds} {splits : List Bound} {tables : List PlainView} {bytes : List ℕ} {number loaded : ℕ} {left : Option (List PlainView)} → Going remaining old bounds splits tables bytes number loaded left → ((text : List ℕ) (records : List Fields) → IsBehind remaining old text records → AreRecords default_config st.StartRecord text records) → IsLoaded bounds splits tables bytes loaded left
 Going-end g ends = record { records = g.records; all = ends _ g.records g.behind; inserted = g.inserted }
 
--- why a record isn't inserted behind so many others: they are as many as may be, or it is refused
+-- why a record isn't inserted after so many others: they are as many as may be, or it is refused
 abbrev pub IsCause : Bounds → List Bound → List PlainView → ℕ → ℕ → Fields → Refusal → Type 0
 IsCause bounds splits tables loaded number fields e = ((loaded ≡ MOST_RECORDS) × (e ≡ ReadFault)) ⊎ ((loaded < MOST_RECORDS) × Refuses bounds splits tables number (new_row_of fields) e)
 

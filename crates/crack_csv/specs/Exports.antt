@@ -45,8 +45,8 @@ abbrev pub AreUnsent : List (List ℕ) → Refusal → Bool → Bool → Option 
 AreUnsent texts e failed failed' out out' = ((e ≡ OutOfMemory) × (failed' ≡ failed) × (count : ℕ) × (count < length texts) × Appends out out' (concat (take count texts)))
     ⊎ ((e ≡ WriteFault) × (failed' ≡ true) × AppendsFront out out' (concat texts))
 
--- why an export stops behind these partitions, before the rest: the lines aren't all written; or they are, and the next partition refuses the
--- list of its rows; or there is no other, and what is written can't be handed on
+-- why an export stops after these partitions, before the rest: the lines aren't all written; or they are, and the next partition refuses the
+-- list of its rows; or there is no other, and what is written can't be flushed
 abbrev pub IsStopped : Bounds → List Bound → List PlainView → List PlainView → Refusal → Bool → Bool → Option (List ℕ) → Option (List ℕ) → Type 0
 IsStopped bounds splits done rest e failed failed' out out' = AreUnsent (lines_of splits done) e failed failed' out out'
     ⊎ ((table : PlainView) × (slice_get rest 0 ≡ Some table) × IsOutcome bounds (keys_of_part splits (length done)) (Some table) (Select (keys_of_part splits (length done))) (Err e) × (failed' ≡ failed) × Appends out out' (concat (lines_of splits done)))

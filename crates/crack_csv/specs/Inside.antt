@@ -76,7 +76,7 @@ pub record IsPartCut (bounds : Bounds) (splits : List Bound) (tables : List Plai
 abbrev pub BringsRow : Bounds → List Bound → List PlainView → Fields → Option (List PlainView) → Type 0
 BringsRow bounds splits tables fields left = (row : NewRow) × (new_row_of fields ≡ Some row) × (left ≡ Some (with_row bounds splits tables row))
 
--- the refusal that tells why a record isn't read: no memory was found, or else the reader failed
+-- the refusal that says why a record isn't read: no memory was found, or else the reader failed
 abbrev pub unread_by : ErrorKind → Refusal
 unread_by kind.OutOfMemory = OutOfMemory
 unread_by _ = ReadFault
@@ -88,7 +88,7 @@ pub record IsReady {R : Type 0} (reader : Reader R) : Type 0 where
   pub flexible : is_flexible reader ≡ true
   pub ready : Ready reader
 
--- a reader of a text stands behind these records
+-- a reader of a text stands after these records
 pub record IsBehind {R : Type 0} (remaining : R → Option (List ℕ)) (reader : Reader R) (text : List ℕ) (records : List Fields) : Type 0 where
   pub rest : List ℕ
   pub left : source_of remaining reader ≡ Some rest

@@ -36,7 +36,7 @@ pub record IsLoaded (bounds : Bounds) (splits : List Bound) (tables : List Plain
   pub all : AreRecords default_config st.StartRecord (strip_bom bytes) records
   pub inserted : AreInserted bounds splits tables records count left
 
--- A record of the bytes is refused behind so many others, whose rows are inserted: it is no header, and these are as many as may be, or it is refused.
+-- A record of the bytes is refused after so many others, whose rows are inserted: it is no header, and these are as many as may be, or it is refused.
 pub record IsRefused (bounds : Bounds) (splits : List Bound) (tables : List PlainView) (bytes : List ℕ) (records : List (List (List ℕ))) (fault : LoadFault) : Type 0 where
   pub fields : List (List ℕ)
   pub first : AreFirstOf (strip_bom bytes) (records ++ fields ∷ [])

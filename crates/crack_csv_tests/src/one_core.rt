@@ -64,7 +64,7 @@ fn serve_and_export<R: Read, W: Write>(
     }
 }
 
-/// What the three write, one behind the other. It promises nothing, so that the test carries nothing of what they
+/// What the three write, one after another. It promises nothing, so that the test carries nothing of what they
 /// promise.
 fn tell_all(alloc: Global, core: &mut Core) -> Result<Vec<u8>, Refusal> {
     let mut first = Watched::new(b"insert 150 6\nquit\ninsert 1 1\n".as_slice());

@@ -58,7 +58,7 @@ fn some_store(rt: &impl Abort, alloc: Global, numbers: &mut Numbers, keys: u64) 
     store
 }
 
-/// Takes the last row of the column out, and puts it behind the pending insertions, or frees it where it is doomed; its serial.
+/// Takes the last row of the column out, and puts it after the pending insertions, or frees it where it is doomed; its serial.
 fn take_last(rt: &impl Abort, store: Store) -> (Store, u64) {
     let mut store = store;
     let len = store.column_len();
@@ -76,7 +76,7 @@ fn take_last(rt: &impl Abort, store: Store) -> (Store, u64) {
     }
 }
 
-/// Takes the first pending insertion out, and puts it behind the others; its serial.
+/// Takes the first pending insertion out, and puts it after the others; its serial.
 fn take_first(rt: &impl Abort, store: Store) -> (Store, u64) {
     let mut store = store;
     let len = store.pending_in();

@@ -53,7 +53,7 @@ accepted-le-life p sound = omega (arith, sound.legal.lived, sound.limited.life.1
 pub next-le-life : (p : Part) → IsSound p → p.next ≤ GREATEST_LIFE
 next-le-life p sound = omega (arith, sound.faithful.serial, next-le-accepted p.past sound.legal.base sound.legal.replies, accepted-le-life p sound)
 
--- there are far fewer rows than a reply may tell
+-- there are far fewer rows than a reply may report
 pub few_rows : (p : Part) → IsSound p → length (state_of p).rows < 2 ^ 32
 few_rows p sound = omega (arith, rows-le-cells p.store (state_of p).rows sound.faithful.rows, sound.cells, sound.limited.cells.1)
 
@@ -173,7 +173,7 @@ Spends-replaced s t plain row (Some pending) is intact faithful within renewable
     by_row None none spends = absurd (false≢true none)
     by_row (Some old) some spends = spends
 
--- what a command spends, as its reply tells it
+-- what a command spends, as its reply says
 Spends-performed : (next : ℕ) (plain : PlainState) (command : Command) (s t : State) → IsIntact s [] → IsPermutation (live_rows s) plain.rows → MayPerform next (change_of command) s → Performs next (change_of command) s t → Spends (made (reply_to plain command)) (spent (reply_to plain command)) s t
 Spends-performed next plain (Insert key payload) s t intact faithful may admits =
     let row = placed next key payload in

@@ -54,7 +54,7 @@ struct Fold {
 }
 
 /// The rows whose keys lie in one range, and every command that was answered since the last checkpoint, with the worker who asked and the
-/// reply, behind a base: what the commands before it left. Contracts see besides what stands where in the store of its rows; the plain rows
+/// reply, after a base: what the commands before it left. Contracts see besides what stands where in the store of its rows; the plain rows
 /// are those after the history, from the base on.
 #[derive(Drop)]
 pub struct Partition {

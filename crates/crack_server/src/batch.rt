@@ -155,7 +155,7 @@ fn report<W: Write>(
     totals.write(writer)
 }
 
-/// Writes what each worker's session wrote, behind a line with its number.
+/// Writes what each worker's session wrote, after a line with its number.
 fn write_outputs<W: Write>(outputs: &Vec<Vec<u8>>, writer: &mut W) -> Result<(), Refusal> {
     'workers: for (worker, output) in outputs.iter().enumerate() {
         let head = writeln!(writer, "worker {worker}");

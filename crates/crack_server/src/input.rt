@@ -50,7 +50,7 @@ fn empty_shares(alloc: Global, workers: usize) -> Result<Vec<Vec<u8>>, AllocErro
     Ok(shares)
 }
 
-/// The first line, without its line feed, and what stands behind that.
+/// The first line, without its line feed, and what follows that.
 fn first_line(bytes: &[u8]) -> (&[u8], &[u8])
     requires { 0 < length bytes.now }
     ensures { length result.1.now < length bytes.now }
@@ -84,7 +84,7 @@ fn deal(shares: &mut Vec<Vec<u8>>, line: &[u8]) -> Result<(), Refusal>
     Ok(())
 }
 
-/// The number at the front of a line, and what stands behind it and one space.
+/// The number at the front of a line, and what follows it and one space.
 fn numbered(line: &[u8]) -> Option<(u32, &[u8])> {
     let space = memchr(b' ', line)?;
     let number = read_number_up_to(u32::MAX, &line[..space])?;

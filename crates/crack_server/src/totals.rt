@@ -41,7 +41,7 @@ pub(crate) fn totals_of(
 }
 
 impl Totals {
-    /// Writes the last line of a run, and hands on all that is written.
+    /// Writes the last line of a run, and flushes all that is written.
     pub(crate) fn write<W: Write>(&self, writer: &mut W) -> Result<(), Refusal> {
         let Totals {
             accepted,

@@ -147,7 +147,7 @@ fn clients_who_break_off_harm_nobody(rt: HostRuntime) -> Result<(), Fail> {
     Ok(())
 }
 
-/// What a client is answered behind one that reads a byte of its reply and goes: what is left of the reply resets the
+/// What a client is answered after one that reads a byte of its reply and goes: what is left of the reply resets the
 /// connection, which cuts that one's session off.
 fn behind_one_cut_off<N: Net<Listener = TcpListener, Stream = TcpStream>>(
     rt: &N,

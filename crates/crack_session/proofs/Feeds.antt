@@ -61,7 +61,7 @@ lines-first b (c ∷ bs) = ⊎_elim
     (λ (e : eqb b 10 ≡ false). rw (e, lines-first c bs) refl)
     (cases_Bool (eqb b 10))
 
--- a feed at i behind none before it
+-- a feed at i after none before it
 split_at_feed : (xs : List ℕ) (i : ℕ) → i < length xs → get_or xs i 0 ≡ 10 → xs ≡ take i xs ++ 10 ∷ drop (i + 1) xs
 split_at_feed xs i below here =
     let rest = drop-cons xs i 0 below in

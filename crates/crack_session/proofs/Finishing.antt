@@ -1,4 +1,4 @@
--- How a session ends, once its last bytes are handed on.
+-- How a session ends, once its last bytes are flushed.
 use Rattle.std.proofs.Common.{◌≡◌, ℕ, Option, Some, Result, Ok, Err, List, [], ap}
 use Rattle.std.specs.Prelude.{IfOk, IfErr}
 use Rattle.crack_row.specs.declared.Bound.{Bound}

@@ -41,12 +41,12 @@ cond_cons false r rs = refl
 same_reading : (u line : List ℕ) → kept_of line ≡ kept_of (first_line u) → reading_of (first_line u) ≡ reading_of line
 same_reading u line k = sym (reading_kept (first_line u)) ∙ ap reading_of (sym k) ∙ reading_kept line
 
--- behind a blank line
+-- after a blank line
 pub next_blank : (u line : List ℕ) → 0 < length u → kept_of line ≡ kept_of (first_line u) → reading_of line ≡ None → statements u ≡ statements (after_line u)
 next_blank [] line l k e = absurd (omega arith)
 next_blank (b ∷ bs) line l k e = statements-blank b bs (same_reading (b ∷ bs) line k ∙ e)
 
--- behind a line that is answered
+-- after a line that is answered
 pub next_some : (u line : List ℕ) (r : Reading) → 0 < length u → kept_of line ≡ kept_of (first_line u) → reading_of line ≡ Some r → statements u ≡ r ∷ cond (is_quit r) [] (statements (after_line u))
 next_some [] line r l k e = absurd (omega arith)
 next_some (b ∷ bs) line r l k e = statements-some b bs r (same_reading (b ∷ bs) line k ∙ e) ∙ cond_cons (is_quit r) r (statements (after_line (b ∷ bs)))

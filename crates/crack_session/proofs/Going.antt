@@ -203,7 +203,7 @@ Going-cut_in contents bytes o x fault {bounds} {splits} {left} {s0} {s} {out0} r
       written_is = appended (contents (device w)) _ (contents (device w')) _ was.written_is tells.writes.front.2 ∙ ap Some (append_assoc o (concat was.texts) (take tells.writes.front.0 text));
     })
 
--- a session goes on behind a statement, or ends at a quit
+-- a session goes on after a statement, or ends at a quit
 pub Going-on : {bounds : Bounds} {splits : List Bound} {all : List Reading} (rest : List Reading) {k : ℕ} {short : Option ℕ} {s0 s : Option (List PlainView)} {out0 out : Option (List ℕ)} (q : Bool) → Going bounds splits all (cond q [] rest) k short (cond q Quit InputEnded) s0 s out0 out → q ≡ false → Going bounds splits all rest k short InputEnded s0 s out0 out
 Going-on {bounds} {splits} {all} rest {k} {short} {s0} {s} {out0} {out} q g e = subst (λ (b : Bool). Going bounds splits all (cond b [] rest) k short (cond b Quit InputEnded) s0 s out0 out) e g
 

@@ -9,7 +9,7 @@ use Rattle.std.specs.List.{slice_range, copy_within}
 use Rattle.crack_session.specs.Input.{kept_of}
 use Rattle.crack_commands.proofs.Sending.{take_on}
 
--- two ranges, one behind the other
+-- two ranges, one after another
 pub range_joined : (xs : List ℕ) (s l e : ℕ) → s ≤ l → l ≤ e → slice_range xs s e ≡ slice_range xs s l ++ slice_range xs l e
 range_joined xs s l e h k =
     let sum : e - s ≡ (l - s) + (e - l) = omega arith in
@@ -28,7 +28,7 @@ range_front xs i j p within =
 pub range_behind : (xs : List ℕ) (i j p : ℕ) → slice_range xs (i + p) j ≡ drop p (slice_range xs i j)
 range_behind xs i j p = between_is xs (i + p) j ∙ sym (drop-drop p i (take j xs)) ∙ ap (drop p) (sym (between_is xs i j))
 
--- a line that grows by the front of what stands behind it
+-- a line that grows by the front of what follows it
 pub line_grown : (xs : List ℕ) (s l i j p : ℕ) (line unread : List ℕ) → slice_range xs s l ≡ line → slice_range xs i j ≡ unread → eqb l i ≡ true → s ≤ l → p ≤ length unread → slice_range xs s (i + p) ≡ line ++ take p unread
 line_grown xs s l i j p line unread is is' joined before within =
     let at : l ≡ i = eqb-true l i joined in
@@ -53,7 +53,7 @@ line_moved xs new s l k line is is' kept before within room =
     (cases_lt (l - s) 202) in
     moved ∙ sym front ∙ same
 
--- a write behind a range
+-- a write after a range
 pub range_below : (a k : ℕ) (xs ys : List ℕ) (s : ℕ) → a ≤ length xs → slice_range (put_mid a k xs ys) s a ≡ slice_range xs s a
 range_below a k xs ys s within =
     between_is (put_mid a k xs ys) s a ∙ ap (drop s) (take-put_mid_below a k xs ys a (omega arith) within) ∙ sym (between_is xs s a)
@@ -64,7 +64,7 @@ range_written a k xs ys n within some =
     let whole : slice_range (put_mid a k xs ys) a (a + length ys) ≡ ys = between-put_mid a k xs ys (a + length ys) within (omega arith) in
     sym (range_front (put_mid a k xs ys) a (a + length ys) n (omega (arith, ap length whole, some))) ∙ ap (take n) whole
 
--- a line that was moved stays what it is while more is read behind it
+-- a line that was moved stays what it is while more is read after it
 pub line_stays : (k : ℕ) (xs xs' ys : List ℕ) (s l : ℕ) (line : List ℕ) → slice_range xs' (202 - k) 202 ≡ kept_of (slice_range xs s l) → slice_range xs s l ≡ line → 202 ≤ length xs' → kept_of (slice_range (put_mid 202 4096 xs' ys) (202 - k) 202) ≡ kept_of line
 line_stays k xs xs' ys s l line is is' room =
     ap kept_of (range_below 202 4096 xs' ys (202 - k) room ∙ is ∙ ap kept_of is') ∙ take-take 202 202 line (omega arith)

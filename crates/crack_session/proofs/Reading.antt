@@ -26,7 +26,7 @@ pub record SoFar (u : List ℕ) (new : Option (List ℕ)) (line : List ℕ) : Ty
   pub kept : kept_of line ≡ kept_of front
   pub new_is : new ≡ Some rest
 
--- lines that are kept alike are kept alike with more behind them
+-- lines that are kept alike are kept alike with more after them
 kept-append : (xs ys zs : List ℕ) → kept_of xs ≡ kept_of ys → kept_of (xs ++ zs) ≡ kept_of (ys ++ zs)
 kept-append xs ys zs e = sym (take-take-append 202 xs zs) ∙ ap (λ w. kept_of (w ++ zs)) e ∙ take-take-append 202 ys zs
 
@@ -100,13 +100,13 @@ pub SoFar-ended : {u line : List ℕ} (known : Option (List ℕ)) (found : Bool)
 SoFar-ended known true s ended some none = SoFar-last known s ended (some refl)
 SoFar-ended known false s ended some none = SoFar-none known s ended (none refl)
 
--- what was taken is the begin of a line
+-- what was taken is the beginning of a line
 pub SoFar-begun : {u line : List ℕ} (known known' : Option (List ℕ)) → SoFar u known line → Keeps known known' → IsBegun u known'
 SoFar-begun None known' s keeps = absurd (let h : ◌≡◌ {A = Option (List ℕ)} None (Some s.rest) = s.new_is in cc)
 SoFar-begun (Some v) None s keeps = absurd keeps
 SoFar-begun (Some v) (Some w) s keeps = record { front = s.front; rest = s.rest; split = s.split; none = s.none; left = ap Some keeps ∙ s.new_is }
 
--- what is behind a line feed is shorter
+-- what is after a line feed is shorter
 pub after_line-shorter : (xs : List ℕ) → has_feed xs ≡ true → length (after_line xs) < length xs
 after_line-shorter [] e = absurd (false≢true e)
 after_line-shorter (b ∷ bs) e = ⊎_elim

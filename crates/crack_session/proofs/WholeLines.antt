@@ -9,7 +9,7 @@ use Rattle.crack_commands.specs.Grammar.{Reading}
 use Rattle.crack_session.proofs.Feeds.{first_line-append, after_line-append}
 use Rattle.crack_session.proofs.Following.{next_blank, next_some}
 
--- a line with its feed, and what stands behind it
+-- a line with its feed, and what follows it
 first_line-none : (u : List ℕ) → has_feed (first_line u) ≡ false
 first_line-none [] = refl
 first_line-none (b ∷ bs) = ⊎_elim
@@ -98,7 +98,7 @@ AreUsed-more {bytes} {k} u line r n a h kept said goes more = record {
   whole = used_whole a.used u;
 }
 
--- where the input goes on behind a line, the line has its feed
+-- where the input goes on after a line, the line has its feed
 pub line_feeds : (u : List ℕ) (ended : Bool) → (has_feed u ≡ false → ended ≡ true) → ended ≡ false → has_feed u ≡ true
 line_feeds u ended last goes_on = ⊎_elim
     (λ (h : has_feed u ≡ true). h)
@@ -109,7 +109,7 @@ line_feeds u ended last goes_on = ⊎_elim
 same_rest : (known : Option (List ℕ)) (xs ys : List ℕ) → known ≡ Some xs → known ≡ Some ys → xs ≡ ys
 same_rest known xs ys e f = let both : ◌≡◌ {A = Option (List ℕ)} (Some xs) (Some ys) = sym e ∙ f in cc
 
--- what was taken is used, but for the begin of a line
+-- what was taken is used, but for the beginning of a line
 pub AreUsed-done : {bytes : List ℕ} {k : ℕ} (u : List ℕ) (remaining : Option (List ℕ)) → AreUsed bytes u k → IsBegun u remaining → (taken rest : List ℕ) → remaining ≡ Some rest → bytes ≡ taken ++ rest → k ≡ length (statements (whole_lines taken))
 AreUsed-done {bytes} {k} u remaining a begun taken rest known split =
     let same : begun.rest ≡ rest = same_rest remaining begun.rest rest begun.left known in

@@ -1,4 +1,4 @@
--- What a session answers to a statement, and how it tells that.
+-- What a session answers to a statement, and how it writes that.
 use Rattle.std.specs.List.{flat_map}
 use Rattle.std.specs.Prelude.{◌≡◌, ℕ, Bool, true, false, List, [], ◌∷◌, ◌++◌, ◌⊎◌, Result, Ok, Err, codes, slice_get}
 use Rattle.crack_row.specs.Ranges.{Range}
@@ -39,12 +39,12 @@ pub record IsAsked (bounds : Bounds) (splits : List Bound) (tables : List PlainV
 pub data AsksInTurn (bounds : Bounds) (splits : List Bound) (query : Query) (tables : List PlainView) : List (ℕ × Range) → Result (List PartReply) Refusal → List PlainView → Type 0 where
   -- none is asked yet
   begins : AsksInTurn bounds splits query tables [] (Ok []) tables
-  -- behind those that replied, the next one replies
+  -- after those that replied, the next one replies
   replies : (parts : List (ℕ × Range)) (part : ℕ × Range) (said : List PartReply) (reply : Reply) (between : List PlainView)
       → AsksInTurn bounds splits query tables parts (Ok said) between
       → IsOutcomeAt bounds splits between part.0 (asking query part.1) (Ok reply)
       → AsksInTurn bounds splits query tables (parts ++ part ∷ []) (Ok (said ++ record { part = part.0; reply = reply } ∷ [])) (tables_after bounds between part.0 (asking query part.1) (Ok reply))
-  -- behind those that replied, the next one refuses, and those behind it aren't asked
+  -- after those that replied, the next one refuses, and those after it aren't asked
   refuses : (parts : List (ℕ × Range)) (part : ℕ × Range) (behind : List (ℕ × Range)) (said : List PartReply) (e : Refusal) (between : List PlainView)
       → AsksInTurn bounds splits query tables parts (Ok said) between
       → IsOutcomeAt bounds splits between part.0 (asking query part.1) (Err e)
@@ -67,7 +67,7 @@ pub record IsLaidOut (splits : List Bound) (tables : List PlainView) (part : ℕ
   pub comes_out : IsLayoutOutcome (keys_of_part splits part) (slice_get tables part) outcome
   pub answer_is : answer ≡ told (Laid part) outcome
 
--- One partition is folded: the answer tells how many commands it accepted since its last checkpoint, and the partitions are new afterwards.
+-- One partition is folded: the answer says how many commands it accepted since its last checkpoint, and the partitions are new afterwards.
 pub record IsFolded (tables : List PlainView) (part : ℕ) (answer : Answer) (new : List PlainView) : Type 0 where
   pub outcome : Result ℕ Refusal
   pub comes_out : IsFoldOutcome (slice_get tables part) outcome

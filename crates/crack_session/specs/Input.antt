@@ -13,7 +13,7 @@ abbrev pub first_line : List ℕ → List ℕ
 first_line [] = []
 first_line (b ∷ bs) = if b == 10 then [] else b ∷ first_line bs
 
--- the bytes behind the first line feed
+-- the bytes after the first line feed
 abbrev pub after_line : List ℕ → List ℕ
 after_line [] = []
 after_line (b ∷ bs) = if b == 10 then bs else after_line bs
@@ -23,7 +23,7 @@ abbrev pub kept_of : List ℕ → List ℕ
 kept_of line = take KEPT_BYTES line
 
 -- the line that was found last, or as much of the next one as is read; whether what isn't used yet stands
--- right behind it; what is read and not yet used; how many more reads there may be; whether a read brought nothing
+-- right after it; what is read and not yet used; how many more reads there may be; whether a read brought nothing
 pub record Input : Type 0 where
   pub line : List ℕ
   pub joined : Bool
@@ -55,7 +55,7 @@ IsNextLine bytes false line new = bytes ≡ []
 IsNextLine bytes true line new = (0 < length bytes) × (kept_of line ≡ kept_of (first_line bytes))
     × (new ≡ Some (after_line bytes))
 
--- From these bytes on, what was taken is the begin of a line: it has no line feed.
+-- From these bytes on, what was taken is the beginning of a line: it has no line feed.
 pub record IsBegun (bytes : List ℕ) (remaining : Option (List ℕ)) : Type 0 where
   pub front : List ℕ
   pub rest : List ℕ

@@ -25,7 +25,7 @@ counted (TellsCount count) = count
 counted (TellsRows rows) = length rows
 counted _ = 0
 
--- the sum that a reply tells
+-- the sum that a reply carries
 abbrev pub summed : Reply → ℤ
 summed (TellsSum sum) = sum
 summed _ = pos 0
@@ -35,7 +35,7 @@ abbrev pub listed : Reply → List Row
 listed (TellsRows rows) = rows
 listed _ = []
 
--- what several partitions reply together: counts and sums are added, and rows are listed one partition behind the other
+-- what several partitions reply together: counts and sums are added, and rows are listed one partition after another
 abbrev pub joined : Query → List PartReply → Answer
 joined Count replies = Counted (sum_by (λ (r : PartReply). counted r.reply) replies)
 joined Sum replies = Summed (total_by (λ (r : PartReply). summed r.reply) replies)

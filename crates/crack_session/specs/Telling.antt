@@ -37,14 +37,14 @@ marked (Some k) n short = Some k
 marked None n true = Some n
 marked None n false = None
 
--- An answer is told: a first want of room and another policy are noted, its text is written, and it is counted where that is whole.
+-- An answer is written: a first want of room and another policy are noted, its text is written, and it is counted where that is whole.
 pub record Tells {W : Type 0} (contents : W → Option (List ℕ)) (answer : Answer) (old new : Progress) (result : Result (Unit {0}) Refusal) (writer writer' : Watched W) : Type 0 where
   pub count : new.statements ≡ (if is_ok result then old.statements + 1 else old.statements)
   pub short : new.first_short ≡ marked old.first_short (old.statements + 1) (is_short_answer answer)
   pub policy : new.policy ≡ policy_after old.policy answer
   pub writes : Writes contents (answer_text answer) result writer writer'
 
--- A statement is answered at a desk, and the answer is told.
+-- A statement is answered at a desk, and the answer is written.
 pub record Responds {D W : Type 0} (bounds : D → Bounds) (splits : D → List Bound) (tables : D → Option (List PlainView)) (leads : D → Call → D → Type 0) (contents : W → Option (List ℕ)) (reading : Reading) (old new : Progress) (result : Result (Unit {0}) Refusal) (desk desk' : D) (writer writer' : Watched W) : Type 0 where
   pub answer : Answer
   pub asks : AsksDesk bounds splits tables leads (λ bounds splits tables. IsAnswer bounds splits tables reading answer) (λ splits calls. IsReadingMadeOf splits old.policy reading answer calls) desk desk'

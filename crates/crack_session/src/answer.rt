@@ -93,7 +93,7 @@ fn write_lists<W: Write>(
     write_each_list(lists, writer)
 }
 
-/// Writes the rows of several partitions, one partition behind the other.
+/// Writes the rows of several partitions, one partition after another.
 fn write_each_list<W: Write>(lists: &[PartReply], writer: &mut Watched<W>) -> Result<(), Refusal>
     ensures { Writes W.contents (flat_map list_text lists.now) result writer.old writer.new }
 {

@@ -49,7 +49,7 @@ pub trait Desk {
         // The partition is asked this command by this policy, once, and this is what comes of that.
         ensures leads { leads self.old (Asked part command policy result) self.new };
 
-    /// Makes a checkpoint of one partition, and tells how many commands it accepted since the last one: its rows are kept as they are, and
+    /// Makes a checkpoint of one partition, and returns how many commands it accepted since the last one: its rows are kept as they are, and
     /// what it was asked no more. It isn't kept itself. Refused with 5 where there is no such partition, and with 8 where no memory is
     /// found; nothing has changed then.
     fn checkpoint(&mut self, part: u32) -> Result<u64, Refusal>

@@ -193,7 +193,7 @@ impl LineReader {
 }
 
 /// Finds the next line of a reader, and says whether there is one. Nothing is read while a line is there,
-/// and what is written is handed on before each read.
+/// and what is written is flushed before each read.
 pub fn next_line<R: Read, W: Write>(
     input: &mut LineReader,
     reader: &mut Watched<R>,
@@ -204,7 +204,7 @@ pub fn next_line<R: Read, W: Write>(
         ahead input.old (R.remaining (device reader.old)) ≡ Some u →
         IsNextLine u found input.new.line (ahead input.new (R.remaining (device reader.new)))) }
     ensures falls { IfOk result (λ found. found ≡ true → left_of input.new < left_of input.old) }
-    // A line without a line feed is the last one, and nothing is read behind it.
+    // A line without a line feed is the last one, and nothing is read after it.
     ensures last { IfOk result (λ found. found ≡ true → (u : List ℕ) →
         ahead input.old (R.remaining (device reader.old)) ≡ Some u → has_feed u ≡ false → input.new.ended ≡ true) }
     ensures goes_on { OnErr result (input.old.ended ≡ false) }
@@ -215,7 +215,7 @@ pub fn next_line<R: Read, W: Write>(
     ensures bytes { Keeps (W.contents (device writer.old)) (W.contents (device writer.new)) }
     ensures unfailed { OnOk result ((has_failed reader.new ≡ has_failed reader.old)
         × (has_failed writer.new ≡ has_failed writer.old)) }
-    // Where there is an error, the bytes that were taken are the begin of a line, as far as they are known.
+    // Where there is an error, the bytes that were taken are the beginning of a line, as far as they are known.
     ensures begun { IfErr result (λ _. (u : List ℕ) →
         ahead input.old (R.remaining (device reader.old)) ≡ Some u →
         IsBegun u (R.remaining (device reader.new))) }

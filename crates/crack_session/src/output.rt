@@ -1,4 +1,4 @@
-//! What is written is handed on.
+//! What is written is flushed.
 ghost use Rattle.std.specs.Prelude.{◌≡◌, true, IfErr, OnOk};
 ghost use Rattle.std.specs.Io.KnownBytes.{Keeps};
 ghost use Rattle.crack_row.specs.Devices.{device, has_failed};

@@ -48,7 +48,7 @@ impl PartReply {
         }
     }
 
-    /// The sum that it tells.
+    /// The sum that it carries.
     fn summed(&self) -> i128
         ensures { result ≡ summed self.now.reply }
     {
@@ -100,7 +100,7 @@ impl ReplyList {
     }
 }
 
-/// What replies say together: counts and sums are added, and rows are listed one partition behind the other.
+/// What replies say together: counts and sums are added, and rows are listed one partition after another.
 pub fn joined(query: Query, replies: Vec<PartReply>) -> Answer
     requires small { All (λ (r : PartReply). IsSmall r.reply) replies.items }
     requires few { length replies.items ≤ 64 }

@@ -81,7 +81,7 @@ impl Progress {
         }
     }
 
-    /// Notes another policy, and the first want of room, at the statement behind those that are answered.
+    /// Notes another policy, and the first want of room, at the statement after those that are answered.
     fn note(&mut self, answer: &Answer)
         requires { self.old.statements + 1 < 2 ^ 64 }
         ensures { self.new ≡ record self.old { first_short = marked self.old.first_short (self.old.statements + 1) (is_short_answer answer.now); policy = policy_after self.old.policy answer.now } }
@@ -186,7 +186,7 @@ fn tell_reply<W: Write>(
     }
 }
 
-/// Tells a refusal. It stands apart, so that where a reply is told no room for an answer is cleared.
+/// Writes a refusal. It stands apart, so that where a reply is written no room for an answer is cleared.
 #[inline(never)]
 fn tell_refusal<W: Write>(
     refusal: Refusal,
@@ -219,7 +219,7 @@ fn tell<W: Write>(
     }
 }
 
-/// Ends a session, once what is written is handed on.
+/// Ends a session, once what is written is flushed.
 fn finish<W: Write>(writer: &mut Watched<W>, progress: Progress, how: How) -> Result<End, Fault>
     ensures end { IfOk result (λ end. end ≡ record { how = how; statements = progress.statements; first_short = progress.first_short }) }
     ensures fault { IfErr result (λ fault. fault ≡ record { refusal = Refusal.WriteFault; done = progress.statements; first_short = progress.first_short }) }
@@ -237,7 +237,7 @@ fn finish<W: Write>(writer: &mut Watched<W>, progress: Progress, how: How) -> Re
 /// is `quit`; what was read beyond that is dropped. An insert goes to the partition that holds its key, a delete or update to the one that
 /// its row number names, a layout to the one that it names. A range is asked of each partition that holds a part of it, in rising order: counts and
 /// sums are added, and rows are listed partition by partition, without a copy. The first refusal is the reply. A checkpoint is of the partition that it names. The desk is asked by `policy` until a statement names another.
-/// What is written is handed on by a flush before each read and at the end: behind a buffer that holds the replies
+/// What is written is flushed before each read and at the end: after a buffer that holds the replies
 /// to one read there is at most one write more than reads. Rows and pieces are written one at a time.
 /// Takes no memory but what the desk takes, and for the replies of several partitions to one statement; none for a line, so it is
 /// never cut off by 8.
@@ -248,7 +248,7 @@ pub fn serve<D: Desk, R: Read, W: Write>(
     reader: &mut Watched<R>,
     writer: &mut Watched<W>,
 ) -> Result<End, Fault>
-    // However the session went, its statements are counted and its end is told.
+    // However the session went, its statements are counted and its end is returned.
     ensures counted { IfOk result (λ end. (bytes : List ℕ) → R.remaining (device reader.old) ≡ Some bytes →
         CountsStatements bytes end) }
     // What is answered and written, and the desk afterwards.
@@ -277,7 +277,7 @@ pub fn serve<D: Desk, R: Read, W: Write>(
     // Where it isn't cut off, no device has failed.
     ensures unfailed { OnOk result ((has_failed reader.new ≡ has_failed reader.old)
         × (has_failed writer.new ≡ has_failed writer.old)) }
-    // It is cut off only where a device failed, or behind the last read that it may make, each of which brought a byte.
+    // It is cut off only where a device failed, or after the last read that it may make, each of which brought a byte.
     ensures causes { IfErr result (λ fault. ((fault.refusal ≡ Refusal.WriteFault)
         × (has_failed writer.new ≡ true))
         ⊎ ((fault.refusal ≡ Refusal.ReadFault)

@@ -1,4 +1,4 @@
-//! How often a session reads, writes and hands on.
+//! How often a session reads, writes and flushes.
 use crate::log::{Log, Logged};
 use crate::session::{ends, session};
 use crack_core::Core;
@@ -66,7 +66,7 @@ fn log_it(rt: &impl Abort, alloc: Global, input: &[u8], most: usize, room: usize
     drop(desk);
 }
 
-/// What is written is handed on before each read and at the end, and so is buffered to at most a write for each read.
+/// What is written is flushed before each read and at the end, and so is buffered to at most a write for each read.
 #[test]
 fn writes_are_as_few_as_reads(rt: HostRuntime) -> Result<(), Fail> {
     let input = insert_often(rt.alloc())?;
@@ -108,7 +108,7 @@ fn quit_it(rt: &impl Abort, alloc: Global, log: &Log) {
     assert!(rt; !reader.failed());
 }
 
-/// Behind `quit` nothing is read, and what is written is handed on: there is one read, with a flush before it and one
+/// After `quit` nothing is read, and what is written is flushed: there is one read, with a flush before it and one
 /// at the end.
 #[test]
 fn quit_reads_no_more_and_hands_on(rt: HostRuntime) {

@@ -100,7 +100,7 @@ row_read ks ms kinds rs p k row left lt k_is row_is left_is noted =
     let b : p < length kinds = omega (arith, noted.counts, long, lt) in
     row_noted (map told ks) ms kinds rs p (told k) row left (read_told ks p k lt k_is) (slice_get_read ms (length ms) p row refl a row_is) (slice_get_read kinds (length kinds) p left refl b left_is) noted
 
--- the totals that a caller tells
+-- the totals that a caller gives
 pub kept_at : (ks : List Kept) (i : ℕ) (k : Kept) → All IsKept (map told ks) → i < length ks → k ≡ get_or ks i k → IsKept (told k)
 kept_at [] i k all lt read = absurd (omega arith)
 kept_at (x ∷ xs) zero k all lt read = let h = All-head IsKept (told x) (map told xs) all in let e : x ≡ k = sym read in subst (λ (y : Kept). IsKept (told y)) e h

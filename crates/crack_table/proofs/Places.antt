@@ -56,7 +56,7 @@ part_of kept p n place is = found (slice_get kept p) refl is
     found None here is = cc
     found (Some k) here is = (k, here, is)
 
--- a partition as its caller tells it
+-- a partition as its caller gives it
 pub read_told : (ks : List Kept) (i : ℕ) (k : Kept) → i < length ks → k ≡ get_or ks i k → slice_get (map told ks) i ≡ Some (told k)
 read_told [] i k lt read = absurd (omega arith)
 read_told (x ∷ xs) zero k lt read = rw read refl

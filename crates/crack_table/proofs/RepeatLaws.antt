@@ -214,7 +214,7 @@ module _ (limits : Limits) (splits : List Bound) (final : ℕ → Option Past) (
           let there : stepped limits step (Ok n.entry.reply) now part ≡ Some way.0 = rw way.1 (ap Some (after-other limits part step n.entry.reply way.0 differs)) in
           (way.0, there, record { rest = way.2.rest; base = way.2.base; tails = way.2.tails; coming = sym (asked-other part step steps differs) ∙ way.2.coming })
 
-  -- what is said of the steps behind it is said of these
+  -- what is said of the steps after it is said of these
   said-on : (now : ℕ → Option Past) (step : Step) (steps : List Step) (results : List (Result Reply Refusal)) (n : Next final now step steps) (part : ℕ) (tail : List Reply) (cur : Past) (rest : List Reply) → now part ≡ Some cur → ((cur' : Past) → stepped limits step (Ok n.entry.reply) now part ≡ Some cur' → tail ≡ map said cur'.tail ++ (replies_at part steps results ++ rest)) → tail ≡ map said cur.tail ++ (replies_at part (step ∷ steps) (Ok n.entry.reply ∷ results) ++ rest)
   said-on now step steps results n part tail cur rest is behind = ⊎_elim own else_where (cases_eq part step.part)
     where

@@ -124,7 +124,7 @@ none_read ks kinds i k lt long read counted =
     let l : length (map told (take i ks)) ≡ length kinds = simp (length-map, length-take) (omega arith) in
     rw (take_more ks i k lt, ← read, map-append) (none_counted (map told (take i ks)) kinds (told k) l counted)
 
--- where none is left, just as many came as were told
+-- where none is left, just as many came as were given
 left_none : (o : Option ℕ) (wanted came : ℕ) → LeftIs o wanted came → o ≡ Some 0 → came ≡ wanted
 left_none None wanted came is none = cc
 left_none (Some n) wanted came is none = let e : n ≡ 0 = cc in omega (arith, e, is)

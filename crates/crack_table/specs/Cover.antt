@@ -11,7 +11,7 @@ use Rattle.crack_core.specs.declared.receipt.Receipt.{Receipt}
 use Rattle.crack_core.specs.Receipts.{entry_of, entries_of}
 use Rattle.crack_table.specs.declared.kept.Kept.{Kept}
 
--- what a cover is told of a partition: how many of its commands are folded, how many of these placed a row and how many took one out, and
+-- what a cover is given of a partition: how many of its commands are folded, how many of these placed a row and how many took one out, and
 -- the entries since, in order
 pub record KeptState : Type 0 where
   pub folded : ℕ
@@ -19,7 +19,7 @@ pub record KeptState : Type 0 where
   pub gone : ℕ
   pub tail : List Entry
 
--- what it is told by a caller
+-- what it is given by a caller
 abbrev pub told : Kept → KeptState
 told kept = record { folded = kept.folded; placed = kept.inserted; gone = kept.deleted; tail = kept.tail.now }
 
@@ -65,7 +65,7 @@ MetBelow receipts part kept bound = (position : ℕ) (place : Place) → positio
 abbrev pub folded_entries : List Receipt → ℕ → ℕ → List Entry
 folded_entries receipts part folded = entries_of (filter (λ r. (r.part == part) && nat_lt r.position folded) receipts)
 
--- as many of these placed a row, and took one out, as the partition tells
+-- as many of these placed a row, and took one out, as the partition says
 abbrev pub IsCounted : List Receipt → ℕ → KeptState → Type 0
 IsCounted receipts part kept = (inserted (folded_entries receipts part kept.folded) ≡ kept.placed) × (deleted (folded_entries receipts part kept.folded) ≡ kept.gone)
 

@@ -42,14 +42,14 @@ MarkIsAt _ _ named = ⊥
 abbrev pub Marked : List KeptState → List (List Naming) → List Receipt → Type 0
 Marked kept marks receipts = (part position : ℕ) → MarkIsAt (place_in kept part position) (at marks part position) (filter (names part position) receipts)
 
--- how many are still to come, after one more that counts or doesn't; nothing where more came than were told
+-- how many are still to come, after one more that counts or doesn't; nothing where more came than were given
 abbrev pub left_after : Bool → Option ℕ → Option ℕ
 left_after false left = left
 left_after true None = None
 left_after true (Some zero) = None
 left_after true (Some (suc left)) = Some left
 
--- so many are still to come of those told, or more came
+-- so many are still to come of those given, or more came
 abbrev pub LeftIs : Option ℕ → ℕ → ℕ → Type 0
 LeftIs (Some left) told came = left + came ≡ told
 LeftIs None told came = told < came
@@ -99,7 +99,7 @@ is_late_at (Some last) position = nat_le position last
 abbrev pub pair_cmp : ℕ × ℕ → ℕ × ℕ → Ordering
 pair_cmp x y = ordering_then (nat_cmp x.0 y.0) (nat_cmp x.1 y.1)
 
--- the look-up tells the last position of each worker in each partition
+-- the look-up gives the last position of each worker in each partition
 abbrev pub Tracks : (ℕ × ℕ → Option ℕ) → List Receipt → Type 0
 Tracks last done = (r : Receipt) → list_any (λ earlier. is_late earlier r) done ≡ is_late_at (last (r.worker, r.part)) r.position
 

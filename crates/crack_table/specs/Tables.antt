@@ -26,7 +26,7 @@ pub record TableState : Type 0 where
 abbrev pub AreNew : List BookState → Type 0
 AreNew books = (number : ℕ) (book : BookState) → slice_get books number ≡ Some book → (book.worker ≡ number) × (book.receipts ≡ [])
 
--- a refusal as a worker is given it: a full history with this limit, since nothing outside of the lock tells the partition's own
+-- a refusal as a worker is given it: a full history with this limit, since nothing outside of the lock knows the partition's own
 abbrev pub with_limit : ℕ → Refusal → Refusal
 with_limit limit (HistoryFull entries) = HistoryFull limit
 with_limit limit e = e
@@ -52,14 +52,14 @@ pub record AsksTable (table : TableState) (may_refuse : ℕ → Type 0) (part : 
   pub room : result ≡ Err GateGaveUp → 0 < new.room
   pub nowhere : length table.splits < part → (result ≡ Err NoSuchPartition) × (new ≡ old)
 
--- A worker looks at one partition: it is told a layout of ends of its own, or refused where there is no such partition, and for want of memory.
+-- A worker looks at one partition: it is given a layout of ends of its own, or refused where there is no such partition, and for want of memory.
 pub record LooksAt (table : TableState) (part : ℕ) (result : Result Layout Refusal) : Type 0 where
   pub equations : IfOk result (λ layout. (ends : Range) × IsLayout ends layout)
   pub there : OnOk result (part ≤ length table.splits)
   pub nowhere : length table.splits < part → result ≡ Err NoSuchPartition
   pub err : part ≤ length table.splits → IfErr result (λ e. e ≡ OutOfMemory)
 
--- A worker folds one partition: it is told how many entries went, or refused where there is no such partition, and for want of memory.
+-- A worker folds one partition: it is given how many entries went, or refused where there is no such partition, and for want of memory.
 pub record FoldsAt (table : TableState) (part : ℕ) (result : Result ℕ Refusal) : Type 0 where
   pub there : OnOk result (part ≤ length table.splits)
   pub nowhere : length table.splits < part → result ≡ Err NoSuchPartition

@@ -25,7 +25,7 @@ pub(crate) struct Notes {
 }
 
 /// Whether the receipts, read as one list, cover what is kept of the partitions: each place is named by exactly one receipt, which has the
-/// entry that stands there, if it isn't folded; as many receipts of folded places placed a row, and took one out, as the partition tells;
+/// entry that stands there, if it isn't folded; as many receipts of folded places placed a row, and took one out, as the partition says;
 /// no receipt names another place; and one worker's receipts in one partition name rising places in the order of the list.
 /// Refused with 16 at the least place (partition first) that fails. Of one partition the folded places go first, then their totals, which
 /// fail at the last of these places, and then the entries that stand. Where all of them are met it is the place that the first stranger in

@@ -40,9 +40,9 @@ pub struct GatherRefused {
 }
 
 /// Ends a table whose workers all come back: their receipts are found to be the entries of the histories, one by one, and to name each place
-/// that is folded once, with as many of each kind as the partition tells.
+/// that is folded once, with as many of each kind as the partition says.
 /// Refused with 15, one bit for each missing number, where a worker of the table isn't there; then with 16 at the first partition that isn't
-/// the table's; then as `cover` is; and behind 15 with 8 wherever it finds no memory. The table and the workers are then handed back.
+/// the table's; then as `cover` is; and after 15 with 8 wherever it finds no memory. The table and the workers are then handed back.
 /// O(entries + folded places + receipts), but for a logarithm of the workers and partitions.
 pub fn gather(alloc: Global, table: Table, workers: Vec<Worker>) -> Result<Closed, GatherRefused>
     ensures all { OnOk result (missing_below workers.items table.workers ≡ 0) }

@@ -1,4 +1,4 @@
-//! What a cover is told of a partition.
+//! What a cover is given of a partition.
 ghost use Rattle.std.specs.Prelude.{◌≡◌, ◌+◌, length, None, Some, IfOk, IfErr, IsTrue, ◌↔◌, MatchOption};
 ghost use Rattle.std.specs.Bool.{Decides};
 ghost use Rattle.crack_core.specs.Receipts.{entry_of};

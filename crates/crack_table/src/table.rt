@@ -16,7 +16,7 @@ use std::marker::Model;
 use std::sync::Mutex;
 
 /// Partitions, each under a lock of its own. Many threads may share it, and its workers ask it.
-/// Contracts see with what it was opened; nothing is known of what stands behind a lock but its partition's own fact.
+/// Contracts see with what it was opened; nothing is known of what follows a lock but its partition's own fact.
 #[derive(Drop)]
 pub struct Table {
     pub(crate) locks: Vec<Mutex<Partition>>,

@@ -78,7 +78,7 @@ impl Worker {
         with_table_limit(answered, table.limits.history)
     }
 
-    /// Folds the history of partition `part` of a table into its base, under its lock, which it may wait for, and tells how many entries
+    /// Folds the history of partition `part` of a table into its base, under its lock, which it may wait for, and returns how many entries
     /// went: for all workers its rows stay as they are, and its history begins anew. It cracks and merges nothing, and isn't kept.
     /// Refused with 5 where there is no such partition, and with 8 where it finds no memory; nothing has changed then. It holds this one
     /// lock, for the time that `Partition::checkpoint` takes.
@@ -113,7 +113,7 @@ pub fn note_folded<G: Gate>(gate: &G, part: u32, folded: u64) {
     }
 }
 
-/// What came of asking, with the table's limit where it tells of a full history: a lock tells nothing of its partition's own.
+/// What came of asking, with the table's limit where it reports a full history: a lock says nothing of its partition's own.
 pub fn with_table_limit(answered: Result<Reply, Refusal>, limit: u64) -> Result<Reply, Refusal>
     ensures { MatchResult answered (λ reply. result ≡ Ok reply) (λ e. result ≡ Err (with_limit limit e)) }
 {
@@ -123,7 +123,7 @@ pub fn with_table_limit(answered: Result<Reply, Refusal>, limit: u64) -> Result<
     }
 }
 
-/// A refusal with the table's limit where it tells of a full history: a lock tells nothing of its partition's own.
+/// A refusal with the table's limit where it reports a full history: a lock says nothing of its partition's own.
 fn with_limit(refusal: Refusal, limit: u64) -> Refusal
     ensures { result ≡ with_limit limit refusal }
 {

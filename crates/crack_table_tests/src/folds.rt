@@ -1,4 +1,4 @@
-//! What one worker is told under small limits, with checkpoints amid its commands.
+//! What one worker is answered under small limits, with checkpoints amid its commands.
 use crate::values::{ask, ask_by, insert, splits};
 use crack_commands::{write_folded, write_layout, write_refusal, write_reply};
 use crack_gates::{Due, totals};
@@ -46,7 +46,7 @@ fn count_all() -> Turn {
     Turn::Ask(Command::Count(KeyRange::all()))
 }
 
-/// Writes what a worker is told at one turn.
+/// Writes what a worker is answered at one turn.
 fn tell<R: Wait, W: Write>(
     rt: &R,
     worker: &mut Worker,
@@ -70,7 +70,7 @@ fn tell<R: Wait, W: Write>(
     }
 }
 
-/// What a worker is told at these turns, as a text; nothing where it can't be written.
+/// What a worker is answered at these turns, as a text; nothing where it can't be written.
 fn told<R: Wait>(
     rt: &R,
     alloc: Global,

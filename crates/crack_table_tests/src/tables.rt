@@ -190,7 +190,7 @@ fn refused_with_a_stranger(alloc: Global, table: Table) -> Result<(Refusal, Tabl
     }
 }
 
-/// Behind the locks stands again, in its order, what was taken out: the table's own worker comes to its account.
+/// After the locks stands again, in its order, what was taken out: the table's own worker comes to its account.
 #[test]
 fn a_table_that_a_stranger_was_refused_is_gathered_by_its_own_worker(
     rt: HostRuntime,

@@ -39,7 +39,7 @@ pub chain_fresh : (cs : List Cell) (log : List Event) (e : Event) → Chain cs l
 chain_fresh cs [] e c none = (tt, tt)
 chain_fresh cs (d ∷ log) e c none = (every_append (λ (z : Event). z.owner ≡ d.owner → Home cs d.next) log (e ∷ []) c.0 ((λ o. absurd (none.0 (sym o))), tt), chain_fresh cs log e c.1 none.1)
 
--- an event behind those whose cells are at home, as far as they are its owner's
+-- an event after those whose cells are at home, as far as they are its owner's
 pub chain_push : (cs : List Cell) (log : List Event) (e : Event) → Chain cs log → Every (λ (d : Event). e.owner ≡ d.owner → Home cs d.next) log → Chain cs (log ++ e ∷ [])
 chain_push cs [] e c all = (tt, tt)
 chain_push cs (d ∷ log) e c all = (every_append (λ (z : Event). z.owner ≡ d.owner → Home cs d.next) log (e ∷ []) c.0 (all.0, tt), chain_push cs log e c.1 all.1)

@@ -81,7 +81,7 @@ given_stays cs k x p j h = home_set (slice_set cs k (x, true)) p.key j p.value (
 pub given_length : (cs : List Cell) (k x : ℕ) (p : Nib) → length (given_home cs k x p) ≡ length cs
 given_length cs k x p = length_set (slice_set cs k (x, true)) p.key (p.value, true) ∙ length_set cs k (x, true)
 
--- an owner whose last seen event names the pen's cell has no other behind it
+-- an owner whose last seen event names the pen's cell has no other after it
 pub is_alone : (cs : List Cell) (log : List Event) (owner key : ℕ) → Chain cs log → (Home cs key → ⊥) → IsAlone owner key log
 is_alone cs log owner key chain away xs d rest is own named =
     let c : Chain cs (xs ++ d ∷ rest) = subst (Chain cs) (is ∙ append_assoc xs (d ∷ []) rest) chain in
