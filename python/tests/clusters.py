@@ -24,6 +24,8 @@ wants_cluster = unittest.skipIf(cluster is None, "numpy or dask.distributed isn'
 wants_pandas = unittest.skipIf(importlib.util.find_spec("pandas") is None, "pandas isn't installed")
 SECONDS = 300
 CONFIG = {
+    # (a local cluster gives up a place whose worker was killed twice within this time)
+    "distributed.deploy.lost-worker-timeout": "1 hour",
     "distributed.comm.timeouts.connect": "60s",
     "distributed.comm.retry.count": 0,
     "distributed.logging": {"distributed": "critical"},
