@@ -182,13 +182,15 @@ class Storm:
         self.seed = numbers.randrange(MOST)
         self.policy = numbers.choice(POLICIES)
         self.limits = LIMITS[seed % len(LIMITS)]
+        # (half of the servers keep receipts)
+        self.audit = ["--audit"] if seed % 2 else []
         self.clients = []
         # how many entries were folded by checkpoints that were due
         self.due = 0
 
     def words(self):
         """The options of its server."""
-        return ["--sessions", str(self.sessions), "--quiet", "--policy", self.policy, *self.limits.words()]
+        return ["--sessions", str(self.sessions), "--quiet", *self.audit, "--policy", self.policy, *self.limits.words()]
 
     def run(self):
         """Runs it. What it came to, as numbers by their names."""

@@ -79,7 +79,7 @@ class Hour(Storm):
         self.policy = numbers.choice(["complete", "auto"])
 
     def words(self):
-        return ["--until-eof", "--policy", self.policy, *self.limits.words()]
+        return ["--until-eof", *self.audit, "--policy", self.policy, *self.limits.words()]
 
     def visit(self, server, peak):
         looking = Connection(server.port)

@@ -82,6 +82,25 @@ class Servers(fixtures.Case):
                 it.talk(f"insert 3 30 | row 0.1\n{ALL} | count 2")
                 it.end()
 
+    def test_an_audit(self):
+        """A server whose workers keep receipts answers as one whose workers keep none, with the same totals."""
+        for words in [], ["--audit"]:
+            with serving(self.program, (9, 4, 1, 3), 2, 2, "--limit", "3", *words, "100") as port, Client(port) as one, Client(port) as two:
+                one.ask("insert 7 70", "row 0.0")
+                two.ask("insert 107 -7", "row 1.0")
+                two.ask("insert 8 80", "row 0.1")
+                one.ask("update 0.1 9 90", "changed")
+                two.ask("delete 0.0", "refused 6 3")
+                one.ask("checkpoint 0", "folded 3")
+                two.ask("delete 0.0", "gone 7 70")
+                one.ask("select 0 200", "rows 2", "0.1 9 90", "1.0 107 -7")
+                two.ask("insert 10 1", "row 0.2")
+                one.ask("layout 2", "refused 5")
+                one.ask("count 0 50", "refused 6 3")
+                one.ask("delete 1.7", "none")
+                one.end()
+                two.end()
+
     def test_one_is_silent(self):
         """A client that sends nothing holds its own worker alone."""
         with serving(self.program, (21, 10, 0, 10), 2, 12) as port, Client(port) as silent:

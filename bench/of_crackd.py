@@ -18,6 +18,7 @@ from programs import (
     over_tcp,
     processor_seconds,
     resident,
+    served_memory,
     session_seconds,
 )
 
@@ -174,6 +175,12 @@ def measure_memory(table, _runs):
         table.count(f"bytes of each of {sizes.PART_ROWS} rows, {what}", each, HELD[what][-1])
 
 
+def measure_served(table, _runs):
+    early, late = sizes.SERVED
+    before, after = served_memory.after(CRACKD, sizes.SERVED_LIMIT, early, late - early)
+    table.numbers(f"bytes of a server after {late} commands, beside after {early}", after, before, 1.05)
+
+
 MEASURES = {
     "session": [measure_session],
     "tcp": [measure_tcp],
@@ -182,4 +189,5 @@ MEASURES = {
     "instructions": [measure_instructions],
     "splits": [measure_splits],
     "memory": [measure_memory],
+    "served": [measure_served],
 }

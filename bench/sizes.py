@@ -29,6 +29,8 @@ MOST_PART_ROWS = 998_000
 # statements that each wait for the reply to the last one, and counts of one key each
 TURNS, LOOKUPS = 20_000, 10_000
 EVERYTHING = f"0 {2**64}"
+# of a server whose clients count at full speed: how long its histories are, and after how many commands its memory is read
+SERVED_LIMIT, SERVED = 65_536, (3_000_000, 30_000_000)
 # as crack_bench_workers has them: partitions of each worker, how far apart the numbers lie at which the workers begin, and how wide a sum's range is
 PARTS_EACH, APART, SUM_WIDTH = 2, 50_000_000, PART_WIDTH // 100
 
@@ -37,6 +39,8 @@ def shrink():
     """Makes all of them so small that a run takes a minute: it shows that everything runs and answers the same, and its figures mean nothing."""
     small = {
         "STEPS": 10_000,
+        "SERVED_LIMIT": 2_184,
+        "SERVED": (100_000, 1_000_000),
         "CELLS": 1000,
         "ROWS": 10_000,
         "LINES": 2000,

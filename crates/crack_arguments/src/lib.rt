@@ -60,6 +60,8 @@ pub struct Service {
     pub idle: Option<u32>,
     /// Whether nothing is written to standard error but a refusal.
     pub is_quiet: bool,
+    /// Whether its workers keep a receipt of each reply, which are held against the histories at the end.
+    pub is_audited: bool,
 }
 
 /// The names that a policy goes by.
@@ -183,6 +185,13 @@ fn quiet_option<'a>(alloc: Global) -> Arg<'a> {
         .help("Writes nothing to standard error but a refusal")
 }
 
+fn audit_option<'a>(alloc: Global) -> Arg<'a> {
+    Arg::new(alloc, "audit")
+        .long("audit")
+        .action(ArgAction::SetTrue)
+        .help("Keeps a receipt of each reply, and compares all at the end")
+}
+
 fn words_option<'a>(alloc: Global) -> Arg<'a> {
     Arg::new(alloc, "words")
         .long("words")
@@ -240,7 +249,8 @@ fn serve_command<'a>(alloc: Global) -> Result<Command<'a>, AllocError> {
     .arg(sessions_option(alloc))?
     .arg(until_eof_option(alloc))?
     .arg(idle_option(alloc))?
-    .arg(quiet_option(alloc))
+    .arg(quiet_option(alloc))?
+    .arg(audit_option(alloc))
 }
 
 fn csv_command<'a>(alloc: Global) -> Result<Command<'a>, AllocError> {
@@ -365,6 +375,7 @@ fn service_of(alloc: Global, matches: &ArgMatches<'_>) -> Result<Service, Argume
         sessions: sessions_of(matches)?,
         idle: idle_of(matches)?,
         is_quiet: matches.get_flag("quiet"),
+        is_audited: matches.get_flag("audit"),
         table: staffed_of(alloc, matches)?,
     })
 }

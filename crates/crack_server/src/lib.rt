@@ -8,11 +8,13 @@ mod reporting;
 pub mod server;
 pub mod tickets;
 mod totals;
+pub mod witnessed;
 
 pub use batch::run_batch;
 pub use host::{Alone, Host, Notice};
 pub use server::{Terms, run_server, run_service};
 pub use tickets::Ending;
+pub use witnessed::run_witnessed_service;
 
 /// How many bytes the input of a batch may have.
 pub const MOST_INPUT_BYTES: u64 = 67108864;

@@ -1,6 +1,8 @@
 //! The end of a run: its workers are gathered, and its totals written.
 use crack_row::Refusal;
 use crack_table::{Closed, Table, Worker, gather};
+use crack_witness::{Asker, Naming};
+use crack_witness_table::{Gathered, WitnessedTable};
 use std::alloc::Global;
 use std::io::Write;
 
@@ -28,6 +30,33 @@ pub(crate) fn totals_of(
                 held,
                 parts,
             } = closed;
+            drop(parts);
+            Ok(Totals {
+                accepted,
+                inserted,
+                deleted,
+                held,
+            })
+        }
+        Err(refused) => Err(refused.refusal),
+    }
+}
+
+/// Gathers the workers of a table that witnesses its replies. Refused as its `gather` is.
+pub(crate) fn witnessed_totals_of<J: Naming>(
+    alloc: Global,
+    table: WitnessedTable<J>,
+    askers: Vec<Asker<J>>,
+) -> Result<Totals, Refusal> {
+    match crack_witness_table::gather(alloc, table, askers) {
+        Ok(gathered) => {
+            let Gathered {
+                accepted,
+                inserted,
+                deleted,
+                held,
+                parts,
+            } = gathered;
             drop(parts);
             Ok(Totals {
                 accepted,

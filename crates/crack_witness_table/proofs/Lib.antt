@@ -1,3 +1,4 @@
 mod Causes
 mod Hiring
 mod Partitions
+pub mod Crosses

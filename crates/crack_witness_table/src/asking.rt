@@ -16,7 +16,8 @@ use crack_witness::{Asker, Naming, Witnessed};
 
 /// Asks the gate until it says yes, and then the partition, which is to have number `part`, for the worker. The partition stays borrowed from the
 /// gate's first turn to the reply, so its lock can't be let go in between. What comes of asking the partition, which may be a refusal, comes
-/// as the value. Refused with 7 where the gate says no at each turn: worker and partition are then as they were.
+/// as the value, and `folded` is set to how many entries a checkpoint folded that was due. Refused with 7 where the gate says no at each turn:
+/// worker and partition are then as they were.
 pub(crate) fn ask_behind<J: Naming, G: Gate>(
     gate: &G,
     asker: &mut Asker<J>,
@@ -24,6 +25,7 @@ pub(crate) fn ask_behind<J: Naming, G: Gate>(
     witnessed: &mut Witnessed<J>,
     command: Command,
     policy: Policy,
+    folded: &mut u64,
 ) -> Result<Result<Reply, Refusal>, Refusal>
     ensures cause { IfErr result (λ e. e ≡ Refusal.GateGaveUp) }
     ensures turns { OnErr result ((turn : ℕ) → turn < 1000 → G.may_refuse gate.now part turn) }
@@ -38,6 +40,7 @@ pub(crate) fn ask_behind<J: Naming, G: Gate>(
     ensures legal { IfOk result (λ answered. OnOk answered (AreHistories asker.new.seen)) }
     ensures whole { IfOk result (λ answered. OnOk answered ((witnessed.old.part ≡ part) × (asker.new.seen ≡ witnessed.new.log))) }
     ensures kept { IfOk result (λ answered. IfOk answered (λ reply. witnessed.new.held.past ≡ with_entry (upkept witnessed.old.held.limits witnessed.old.held.past) (record { worker = asker.old.worker; command = command; reply = reply }))) }
+    ensures folds { OnOk result (witnessed.new.held.past.base.folded ≡ witnessed.old.held.past.base.folded + folded.new) }
     ensures opened { (witnessed.new.held.keys ≡ witnessed.old.held.keys) × (witnessed.new.held.limits ≡ witnessed.old.held.limits) × (witnessed.new.part ≡ witnessed.old.part) }
     ensures seen { IsPrefix asker.old.seen asker.new.seen × IsPrefix witnessed.old.log witnessed.new.log }
     ensures worker { asker.new.worker ≡ asker.old.worker }
@@ -46,5 +49,8 @@ pub(crate) fn ask_behind<J: Naming, G: Gate>(
     ensures err { IfOk result (λ answered. OnErr answered ((asker.new ≡ asker.old) × (witnessed.new.log ≡ witnessed.old.log) × (witnessed.new.held.past ≡ witnessed.old.held.past))) }
 {
     pass(gate, part)?;
-    Ok(asker.ask(witnessed, part, command, policy))
+    let before = witnessed.partition().folded();
+    let answered = asker.ask(witnessed, part, command, policy);
+    *folded = witnessed.partition().folded() - before;
+    Ok(answered)
 }

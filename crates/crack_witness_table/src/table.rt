@@ -9,7 +9,7 @@ ghost use Rattle.crack_witness_table.specs.Asking.{AsksWitnessed};
 use crate::asking::ask_behind;
 use crack_row::{Bound, Command, Layout, Limits, Policy, Refusal, Reply};
 use crack_table::Gate;
-use crack_table::worker::with_table_limit;
+use crack_table::worker::{note_folded, with_table_limit};
 use crack_witness::{Asker, Naming, Witnessed};
 use std::marker::Model;
 use std::sync::{Mutex, Wait};
@@ -85,7 +85,18 @@ impl<J: Naming> WitnessedTable<J> {
             return Err(Refusal::NoSuchPartition);
         };
         let mut witnessed = lock.lock(rt);
-        let answered = ask_behind(gate, asker, part, &mut witnessed, command, policy)?;
+        let mut folded = 0;
+        let answered = ask_behind(
+            gate,
+            asker,
+            part,
+            &mut witnessed,
+            command,
+            policy,
+            &mut folded,
+        )?;
+        drop(witnessed);
+        note_folded(gate, part, folded);
         with_table_limit(answered, self.limits.history)
     }
 

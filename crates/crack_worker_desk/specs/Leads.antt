@@ -6,12 +6,21 @@ use Rattle.crack_core.specs.declared.receipt.Receipt.{Receipt}
 use Rattle.crack_core.specs.Receipts.{BookState}
 use Rattle.crack_session.specs.Calls.{Call, Asked, Checkpointed, Looked}
 use Rattle.crack_table.specs.Tables.{TableState, AsksTable, FoldsAt, LooksAt}
+use Rattle.crack_witness.specs.Witnesses.{AskerState}
+use Rattle.crack_witness_table.specs.Asking.{AsksWitnessed}
 
 -- what a call does to the worker's book: an answer is a receipt more, and nothing else changes its receipts
 abbrev pub worker_leads : TableState → (ℕ → ℕ → Type 0) → BookState → Call → BookState → Type 0
 worker_leads table may_refuse old (Asked part command policy outcome) new = AsksTable table (may_refuse part) part command outcome old new
 worker_leads table may_refuse old (Checkpointed part outcome) new = FoldsAt table part outcome × (new ≡ old)
 worker_leads table may_refuse old (Looked part outcome) new = LooksAt table part outcome × (new ≡ old)
+
+-- what a call does to a worker that keeps no receipts: an answer stands at the end of its partition's one history, as the worker then sees it, and
+-- nothing else changes what it has seen
+abbrev pub witnessed_leads : (ℕ → ℕ) → TableState → (ℕ → ℕ → Type 0) → AskerState → Call → AskerState → Type 0
+witnessed_leads owner table may_refuse old (Asked part command policy outcome) new = AsksWitnessed owner table (may_refuse part) part command outcome old new
+witnessed_leads owner table may_refuse old (Checkpointed part outcome) new = FoldsAt table part outcome × (new ≡ old)
+witnessed_leads owner table may_refuse old (Looked part outcome) new = LooksAt table part outcome × (new ≡ old)
 
 -- the commands that calls answered: the partition of each, the command and its reply
 abbrev pub answered : List Call → List (ℕ × Command × Reply)

@@ -1,14 +1,20 @@
 //! The program `crackd`: reads its command line, and does what it asks for.
 #![tactic(auto)]
+ghost use Rattle.crack_witness.specs.Witnesses.{AreNames};
 
 use crack_arguments::{ArgumentsError, Opening, Request, Service, Staffed, asks_for_words};
 use crack_core::Core;
 use crack_csv::{export_csv, load_csv};
 use crack_row::{Policy, Refusal, Upkeep, Watched};
-use crack_server::{Ending, Host, Notice, REPLY_BYTES, Terms, run_batch, run_service};
+use crack_server::{
+    Ending, Host, Notice, REPLY_BYTES, Terms, run_batch, run_service, run_witnessed_service,
+};
 use crack_session::serve;
 use crack_table::{OpenGate, Table};
+use crack_witness::Naming;
+use crack_witness_table::UnnamedTable;
 use std::io::{BufWriter, ErrorKind, Write};
+use std::marker::Brand;
 use std::net::{Ipv4Addr, Net, TcpListener, TcpStream};
 use std::process::ExitCode;
 use std::sync::Wait;
@@ -102,8 +108,59 @@ fn batch<H: Threads + Wait + Sync>(
     )
 }
 
-/// Has workers serve connections to a port.
+/// Has workers serve connections to a port. They keep receipts where an audit is asked for.
 fn serve_port<H: Threads + Wait + Net<Listener = TcpListener, Stream = TcpStream> + Sync>(
+    handle: &H,
+    rt: &HostRuntime,
+    service: &Service,
+) -> Result<(), Refusal> {
+    if service.is_audited {
+        return serve_audited(handle, rt, service);
+    }
+    let Staffed { opening, workers } = &service.table;
+    let splits = opening.splits.as_slice();
+    let table = UnnamedTable::open(rt.alloc(), splits, opening.limits, *workers)?;
+    serve_named::<Brand, H>(handle, rt, service, table)
+}
+
+/// Has the workers of a table serve connections, once its book has its name.
+fn serve_named<
+    J: Naming + Send + Sync,
+    H: Threads + Wait + Net<Listener = TcpListener, Stream = TcpStream> + Sync,
+>(
+    handle: &H,
+    rt: &HostRuntime,
+    service: &Service,
+    table: UnnamedTable,
+) -> Result<(), Refusal>
+    requires { AreNames J.book J.owner table.opened }
+{
+    let (table, askers) = table.named::<J>(rt.alloc())?;
+    let mut writer = rt.stdout();
+    let host = console(handle, rt, service);
+    match listen(&host, &mut writer) {
+        Ok(listener) => run_witnessed_service(
+            handle,
+            rt.alloc(),
+            &listener,
+            table,
+            askers,
+            terms_of(service),
+            &OpenGate,
+            &host,
+            &mut rt.stdin(),
+            &mut writer,
+        ),
+        Err(refusal) => {
+            drop(askers);
+            drop(table);
+            Err(refusal)
+        }
+    }
+}
+
+/// Has workers with books serve connections.
+fn serve_audited<H: Threads + Wait + Net<Listener = TcpListener, Stream = TcpStream> + Sync>(
     handle: &H,
     rt: &HostRuntime,
     service: &Service,
@@ -116,13 +173,7 @@ fn serve_port<H: Threads + Wait + Net<Listener = TcpListener, Stream = TcpStream
         *workers,
     )?;
     let mut writer = rt.stdout();
-    let terms = terms_of(service);
-    let host = Console {
-        handle,
-        rt,
-        port: service.port,
-        is_quiet: service.is_quiet,
-    };
+    let host = console(handle, rt, service);
     match listen(&host, &mut writer) {
         Ok(listener) => run_service(
             handle,
@@ -130,7 +181,7 @@ fn serve_port<H: Threads + Wait + Net<Listener = TcpListener, Stream = TcpStream
             &listener,
             table,
             workers,
-            terms,
+            terms_of(service),
             &OpenGate,
             &host,
             &mut rt.stdin(),
@@ -170,6 +221,20 @@ struct Console<'a, H: Net<Listener = TcpListener, Stream = TcpStream>> {
     rt: &'a HostRuntime,
     port: u16,
     is_quiet: bool,
+}
+
+/// The console of a server.
+fn console<'a, H: Net<Listener = TcpListener, Stream = TcpStream>>(
+    handle: &'a H,
+    rt: &'a HostRuntime,
+    service: &Service,
+) -> Console<'a, H> {
+    Console {
+        handle,
+        rt,
+        port: service.port,
+        is_quiet: service.is_quiet,
+    }
 }
 
 impl<'a, H: Net<Listener = TcpListener, Stream = TcpStream>> Host for Console<'a, H> {
