@@ -125,7 +125,12 @@ fn desks_of<'a, Rt: Wait, G: Gate>(
 
 /// Has a worker at each desk serve sessions on a thread of its own. No ticket is given out before all threads are started: where one can't be,
 /// there are none, and the others end at once.
-pub(crate) fn serve_desks<Rt: Threads + Wait + Sync, D: Desk + Send + Drop, H: Host + Sync, I: Read>(
+pub(crate) fn serve_desks<
+    Rt: Threads + Wait + Sync,
+    D: Desk + Send + Drop,
+    H: Host + Sync,
+    I: Read,
+>(
     rt: &Rt,
     alloc: Global,
     listener: &TcpListener,

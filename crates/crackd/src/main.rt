@@ -1,5 +1,6 @@
 //! The program `crackd`: reads its command line, and does what it asks for.
 #![tactic(auto)]
+
 ghost use Rattle.crack_witness.specs.Witnesses.{AreNames};
 
 use crack_arguments::{ArgumentsError, Opening, Request, Service, Staffed, asks_for_words};
@@ -127,12 +128,7 @@ fn serve_port<H: Threads + Wait + Net<Listener = TcpListener, Stream = TcpStream
 fn serve_named<
     J: Naming + Send + Sync,
     H: Threads + Wait + Net<Listener = TcpListener, Stream = TcpStream> + Sync,
->(
-    handle: &H,
-    rt: &HostRuntime,
-    service: &Service,
-    table: UnnamedTable,
-) -> Result<(), Refusal>
+>(handle: &H, rt: &HostRuntime, service: &Service, table: UnnamedTable) -> Result<(), Refusal>
     requires { AreNames J.book J.owner table.opened }
 {
     let (table, askers) = table.named::<J>(rt.alloc())?;
