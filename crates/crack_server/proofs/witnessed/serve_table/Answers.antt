@@ -9,6 +9,6 @@ serve_desks-requires-send-D g c κs within =
     let runtime = c.type_bounds.sync-Rt in
     let gate = c.type_bounds.sync-G in
     let name = c.type_bounds.send-J in
-    let table = table-sync g.row.J g.J.Naming name in
-    let worker = asker-send g.row.J g.J.Naming name in
+    let table = table-sync _ g.J.Naming name in
+    let worker = asker-send _ g.J.Naming name in
     search (sendable, crosses) depth 40
