@@ -133,7 +133,7 @@ fn serve_named<
 {
     let (table, askers) = table.named::<J>(rt.alloc())?;
     let mut writer = rt.stdout();
-    let host = console(handle, rt, service);
+    let host = console_of(handle, rt, service);
     match listen(&host, &mut writer) {
         Ok(listener) => run_witnessed_service(
             handle,
@@ -169,7 +169,7 @@ fn serve_audited<H: Threads + Wait + Net<Listener = TcpListener, Stream = TcpStr
         *workers,
     )?;
     let mut writer = rt.stdout();
-    let host = console(handle, rt, service);
+    let host = console_of(handle, rt, service);
     match listen(&host, &mut writer) {
         Ok(listener) => run_service(
             handle,
@@ -219,8 +219,8 @@ struct Console<'a, H: Net<Listener = TcpListener, Stream = TcpStream>> {
     is_quiet: bool,
 }
 
-/// The console of a server.
-fn console<'a, H: Net<Listener = TcpListener, Stream = TcpStream>>(
+/// The console of a server on these terms.
+fn console_of<'a, H: Net<Listener = TcpListener, Stream = TcpStream>>(
     handle: &'a H,
     rt: &'a HostRuntime,
     service: &Service,
