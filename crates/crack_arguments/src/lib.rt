@@ -189,7 +189,7 @@ fn audit_option<'a>(alloc: Global) -> Arg<'a> {
     Arg::new(alloc, "audit")
         .long("audit")
         .action(ArgAction::SetTrue)
-        .help("Keeps a receipt of each reply, and compares all at the end")
+        .help("Keeps a receipt of each reply, compared at the end")
 }
 
 fn words_option<'a>(alloc: Global) -> Arg<'a> {
