@@ -67,10 +67,9 @@ fn first_to_carry(store: &mut Store, range: KeyRange, ceiling: Option<Bound>) ->
     Some(first)
 }
 
-/// Carries all pending insertions of a range at once, of which `first` is the first; whether it did so. Where no bound stands and the range has
-/// all keys they are put after the column's last row, and elsewhere they are carried in bulk, but under a ceiling, which may be in the
-/// way, one after the other. Where it finds no memory for all of them, it carries none. O(pending insertions), and O(pieces) for each
-/// that is carried.
+/// Carries all pending insertions of a range at once, of which `first` is the first; whether it did so. It does so only where the range has all
+/// keys: where no bound stands they are put after the column's last row, else they are carried in bulk, but not under a ceiling. Where
+/// it finds no memory for all of them, it carries none. O(pending insertions), and O(pieces) for each that is carried.
 pub(crate) fn carry_at_once(
     store: &mut Store,
     range: KeyRange,

@@ -33,7 +33,7 @@ impl Store {
     /// leaves; whether it did so. It doesn't for a single row, nor where a doomed row may be in the way, nor where it finds no memory for
     /// all of them: all is then as it was. Room is made for all of them at once.
     /// O(pending insertions), and for each that it carries O(pieces) without a wait for memory; O(bounds); for each of a few doomed rows
-    /// O(rows that it carries + log bounds).
+    /// O(rows that it carries + log bounds). Where the list has holes, its rows are counted by O(pending insertions) for each row of the range.
     pub fn carry_in_bulk(&mut self, range: KeyRange, first: usize) -> bool
         requires { Finds range (keys_at self.old.cells self.old.pending_in) 0 (Some first) }
         ensures carried { IsTrue result → SameButRoom (carried_in_bulk None range self.old) self.new }
