@@ -1,7 +1,8 @@
 """Types, ghost members and calls of src/ as items, with what they cite.
 
-A type is its text, without attributes and comments; where it has a model, what clauses see is the model's value. A ghost member is one statement of
-a trait or of a block `impl`: of a model each is an item, else those of a block are one. A call is its clauses: it cites what they name, and the types
+A type is its text, without attributes and comments; where it has a model, what clauses see is the model's value, and a field that nobody else sees and
+that the model doesn't read is left out. A ghost member is one statement of a trait or of a block `impl`: of a model each is an item, else those of a
+block are one. A call is its clauses: it cites what they name, and the types
 and traits of its signature.
 """
 
@@ -18,6 +19,7 @@ READ = ("Value", "view")
 CLAUSE = re.compile(r"^\s*(requires|ensures)\*?\s+(\w*)")
 VARIANT = re.compile(r"(?m)^    \w+")
 PARAMETER = re.compile(r"\b(\w+): ")
+HIDDEN = re.compile(r"^    (?:pub\([a-z]+\) )?(\w+): ")
 
 
 @dataclasses.dataclass(frozen=True)
@@ -53,16 +55,25 @@ def text_of(lines):
     return "\n".join(line for _, line in lines)
 
 
+def unread(source, span, model):
+    """The numbers of the lines of a span, from 1, that have fields which nobody else sees and the members of a model don't read, and their comments."""
+    read = {name for it in model for name in re.findall(r"\.(\w+)", text_of(it.lines))}
+    found = [at for at in span if (field := HIDDEN.match(source.lines[at])) and field[1] not in read]
+    return {at + 1 for at in found} | {number for at in found for number, _ in source.remarks(range(at, at + 1))}
+
+
 def type_items(source, names, models):
     """The types and constants of a file. One that has a model cites the model's members, else the types of its fields."""
     found = []
     for at, (_, keyword, name) in source.types().items():
         span, item = source.whole(at, ("}", ";")), source.named(name)
         text = text_of(source.said(span)).partition(name)[2]
-        cites = models.get(item) or types_cited(VARIANT.sub("", text) if keyword == "enum" else text, source.scope) - {item}
+        model = models.get(item, ())
+        cites = {it.name for it in model} or types_cited(VARIANT.sub("", text) if keyword == "enum" else text, source.scope) - {item}
         kind = "constant" if keyword in ("const", "static") else "type"
         if keyword != "trait":
-            lines, beside = source.said(span), source.remarks(span)
+            hidden = unread(source, span, model) if model else set()
+            lines, beside = (tuple(it for it in these if it[0] not in hidden) for these in (source.said(span), source.remarks(span)))
             found.append(definitions.Item(item, kind, source.crate, source.path, lines, beside, frozenset(cites), item in names.public))
     return found
 
@@ -193,7 +204,7 @@ def items_of(files, names):
             items = ghost_items(source, block, names)
             found += items
             if block.trait == "Model":
-                models[source.named(block.owner)] = {it.name for it in items if it.name.rpartition("::")[2] in READ}
+                models[source.named(block.owner)] = [it for it in items if it.name.rpartition("::")[2] in READ]
     for source in files:
         found += [*type_items(source, names, models), *ghost_fields(source, names), *calls_of(source, blocks[source.path], names)]
     return found

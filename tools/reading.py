@@ -2,7 +2,7 @@
 
 A table there whose last column is headed `Its calls` names calls in it by their paths, row by row; in brackets after one stand the names of
 those of its clauses that carry the promise, where not all do. What callers have to see to is read in any case. A type is read with the value and the
-view of its model, and with the types of the fields that these read; a trait's ghost members with those that each type has of it.
+view of its model, and with the types of the fields that these read; a trait's ghost members with those that each public type has of it.
 """
 
 import collections
@@ -35,7 +35,7 @@ class Reading:
         self.had = collections.defaultdict(set)
         traits = {it.name for it in items if it.kind == "trait"}
         for it in items:
-            if it.kind == "ghost" and not is_left_out(it.crate):
+            if it.kind == "ghost" and it.is_public and not is_left_out(it.crate):
                 for trait in it.cites & traits:
                     self.had[trait].add(it.name)
 

@@ -72,7 +72,7 @@ ghost use Rattle.a.specs.Other.{size as other_size};
 
 mod inside;
 
-pub use inside::Shelf;
+pub use inside::{Scale, Shelf};
 
 /// How many places it has.
 pub const PLACES: u64 = 8;
@@ -96,6 +96,7 @@ fn first(shelf: &Shelf) -> u64
     "src/inside.rt": """/// What stands on it.
 pub struct Shelf {
     things: Vec<Thing>,
+    /// Where to look first.
     hint: Hint,
 }
 
@@ -114,6 +115,25 @@ impl Model for Shelf {
 struct Thing(u64);
 
 struct Hint(u64);
+
+pub trait Scale {
+    ghost weight : ℕ → ℕ;
+
+    fn weigh(&self) -> u64
+        ensures value { result ≡ weight 0 };
+}
+
+impl Scale for Shelf {
+    ghost use Rattle.a.specs.Sizes.{in_grams};
+
+    ghost weight = { in_grams };
+}
+
+impl Scale for Hint {
+    ghost use Rattle.a.specs.Scales.{in_ounces};
+
+    ghost weight = { in_ounces };
+}
 """,
     "specs/Sizes.antt": """-- How much stands on a shelf.
 use Rattle.std.specs.Prelude.{ℕ, List, [], ◌∷◌}
@@ -136,6 +156,9 @@ pub data IsThing : ℕ → Type 0 where
 abbrev pub count : List ℕ → ℕ
 count size = fold suc 0 size
 
+abbrev pub in_grams : ℕ → ℕ
+in_grams size = size
+
 abbrev pub stray : ℕ
 stray = 0
 """,
@@ -150,6 +173,12 @@ use Rattle.a.specs.Sizes.{count}
 
 abbrev pub AreLight : List ℕ → Type 0
 AreLight xs = count xs ≤ 8
+""",
+    "specs/Scales.antt": """-- What private clauses alone cite.
+use Rattle.std.specs.Prelude.{ℕ}
+
+abbrev pub in_ounces : ℕ → ℕ
+in_ounces size = size
 """,
 }
 
@@ -270,9 +299,20 @@ class Reading(unittest.TestCase):
         path.write_text(path.read_text().replace(trust.PRIVATE, "-- Weights."))
         self.assertEqual([it.name for it in list(trust.misplaced(self.shelf).values())[1]], ["a.Keeps.AreLight"])
 
+    def test_a_trait_is_read_with_what_public_types_have_of_it(self):
+        names = [it.name for it in self.shelf.read_for({"a::inside::Scale::weigh": frozenset()})]
+        self.assertEqual([it for it in names if " as Scale" in it], ["a::inside::Shelf as Scale"])
+        self.assertNotIn("a.Scales.in_ounces", names)
+
     def test_types_are_counted_beside(self):
         items = self.shelf.read_for({"a::put": frozenset()})
-        self.assertEqual((trust.count(items), trust.count(items, trust.BESIDE)), (sum(len(it.lines) for it in items if it.kind not in trust.BESIDE), 6))
+        counted = sum(len(it.lines) for it in items if it.kind not in trust.BESIDE)
+        self.assertEqual((trust.count(items), trust.count(items, trust.BESIDE)), (counted, 5))
+
+    def test_of_a_type_with_a_model_no_field_is_read_that_the_model_does_not_read(self):
+        shelf = self.shelf.items["a::inside::Shelf"]
+        self.assertEqual([line for _, line in shelf.lines], ["pub struct Shelf {", "    things: Vec<Thing>,", "}"])
+        self.assertEqual([line for _, line in shelf.beside], ["/// What stands on it."])
 
     def test_each_promise_names_its_calls(self):
         promises = reading.roots_in((crates.TOP / "docs" / "PROOFS.md").read_text())

@@ -5,7 +5,8 @@ use Rattle.std.proofs.lemmas.Bool.{cases_Bool}
 use Rattle.std.proofs.lemmas.List.Elements.{All-head, All-tail, All-push, All-take, All-drop}
 use Rattle.crack_index.specs.declared.mark.Mark.{Mark}
 use Rattle.crack_bulk.specs.Pieces.{Pieces, last, below, cut}
-use Rattle.crack_bulk.specs.Queues.{Event, comes, turns, stopped, is_below, any_row, after, next, reached, outcome, one_at_a_time, outcomes}
+use Rattle.crack_bulk.specs.Queues.{Event, comes, turns, stopped, is_below, any_row, after, next}
+use Rattle.crack_bulk.proofs.OneByOne.{reached, outcome, one_at_a_time, outcomes}
 
 module _ {X : Type 0} where
   -- of each row of the pieces this holds

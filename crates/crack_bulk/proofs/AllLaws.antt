@@ -16,7 +16,8 @@ use Rattle.crack_state.specs.Steps.{lifted, pushed_on, SameButRoom}
 use Rattle.crack_state.specs.Merge.{outside_of}
 use Rattle.crack_state.proofs.StepLaws.{IsIntact-lifted, IsIntact-pushed_on, IsIntact-room}
 use Rattle.crack_state.proofs.BuryLaws.{live_rows-buried}
-use Rattle.crack_bulk.specs.Queues.{Event, comes, turns, stopped, outcome}
+use Rattle.crack_bulk.specs.Queues.{Event, comes, turns, stopped}
+use Rattle.crack_bulk.proofs.OneByOne.{outcome}
 use Rattle.crack_bulk.specs.Carried.{is_over, is_doomed, ends_with, inside_of, arrivals, carried_in_bulk, pieces_of}
 use Rattle.crack_bulk.proofs.Carried.{Leads}
 use Rattle.crack_bulk.proofs.AgreeLaws.{OfComing, OfEnd, outcome-ends}

@@ -2,7 +2,8 @@
 use Rattle.std.proofs.Common.{◌≡◌, ℕ, Bool, List, [], ◌∷◌, refl, ap, ◌∙◌}
 use Rattle.crack_row.specs.declared.InnerBound.{InnerBound}
 use Rattle.crack_bulk.specs.Pieces.{Pieces, last, below}
-use Rattle.crack_bulk.specs.Queues.{Event, stopped, is_below, any_row, after, next, reached, outcome, one_at_a_time, outcomes, left, passed, in_bulk, bulk_outcomes}
+use Rattle.crack_bulk.specs.Queues.{Event, stopped, is_below, any_row, after, next, left, passed, in_bulk, bulk_outcomes}
+use Rattle.crack_bulk.proofs.OneByOne.{reached, outcome, one_at_a_time, outcomes}
 
 module _ {X : Type 0} (key : X → ℕ) (stops : X → Bool) where
   -- what has ended below leaves the pieces above as they are

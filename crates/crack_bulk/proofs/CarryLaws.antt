@@ -12,8 +12,10 @@ use Rattle.crack_index.specs.declared.mark.Mark.{Mark}
 use Rattle.crack_index.specs.Marks.{next_mark, raised, end_of}
 use Rattle.crack_state.specs.State.{State, Carried, greatest}
 use Rattle.crack_state.specs.Steps.{raise_next, more, IsBelow, pushed_on, appended, buried, returned}
-use Rattle.crack_bulk.specs.Pieces.{Pieces, last, below, column_of, marks_of, AreDivided}
-use Rattle.crack_bulk.specs.Queues.{Event, comes, turns, stopped, reached, outcome}
+use Rattle.crack_bulk.specs.Pieces.{Pieces, last, below, column_of, marks_of}
+use Rattle.crack_bulk.proofs.Divided.{AreDivided}
+use Rattle.crack_bulk.specs.Queues.{Event, comes, turns, stopped}
+use Rattle.crack_bulk.proofs.OneByOne.{reached, outcome}
 use Rattle.crack_bulk.specs.Carried.{is_over, is_doomed, ends_with, moved_by, carried_with}
 use Rattle.crack_bulk.proofs.Carried.{Leads, buries, evicts, ends, goes_on}
 use Rattle.crack_bulk.proofs.BulkLaws.{reached-stopped, outcome-stopped}

@@ -13,7 +13,8 @@ use Rattle.crack_index.specs.Marks.{Rising, next_mark, last_mark, start_of, end_
 use Rattle.crack_state.specs.State.{State, IsIntact}
 use Rattle.crack_state.specs.Steps.{piece_start, piece_end}
 use Rattle.crack_state.proofs.CellLaws.{stands_there}
-use Rattle.crack_bulk.specs.Pieces.{cut, AreDivided}
+use Rattle.crack_bulk.specs.Pieces.{cut}
+use Rattle.crack_bulk.proofs.Divided.{AreDivided}
 use Rattle.crack_bulk.specs.Carried.{is_doomed, ends_with, pieces_of}
 use Rattle.crack_bulk.proofs.Sifts.{count_below, OfMet}
 use Rattle.crack_bulk.proofs.CutLaws.{IsCut-intact}

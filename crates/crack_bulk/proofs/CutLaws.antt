@@ -9,7 +9,8 @@ use Rattle.crack_index.specs.declared.mark.Mark.{Mark}
 use Rattle.crack_index.specs.Marks.{Rising}
 use Rattle.crack_index.proofs.MarkLaws.{Rising-head, Rising-tail}
 use Rattle.crack_state.specs.State.{State, IsIntact}
-use Rattle.crack_bulk.specs.Pieces.{Pieces, last, below, column_of, marks_of, cut, AreDivided}
+use Rattle.crack_bulk.specs.Pieces.{Pieces, last, below, column_of, marks_of, cut}
+use Rattle.crack_bulk.proofs.Divided.{AreDivided}
 use Rattle.crack_bulk.specs.Carried.{pieces_of}
 
 module _ {X : Type 0} where

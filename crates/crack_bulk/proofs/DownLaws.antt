@@ -4,7 +4,8 @@ use Rattle.std.specs.List.{All}
 use Rattle.std.proofs.lemmas.Bool.{cases_Bool, lt-ltb, le-ltb, ltb-true, ltb-false}
 use Rattle.std.proofs.lemmas.List.Elements.{All-nil, All-cons, All-head, All-tail, All-weaker}
 use Rattle.crack_row.specs.declared.InnerBound.{InnerBound}
-use Rattle.crack_bulk.specs.Pieces.{Pieces, last, below, AreDivided}
+use Rattle.crack_bulk.specs.Pieces.{Pieces, last, below}
+use Rattle.crack_bulk.proofs.Divided.{AreDivided}
 use Rattle.crack_bulk.specs.Queues.{Event, comes, turns, stopped, is_below, any_row, left, passed, in_bulk, bulk_outcomes}
 use Rattle.crack_bulk.proofs.Placed.{reaching, turners, met_by, survivors, placed, pass_over, going, placed_all, sifted_down}
 use Rattle.crack_bulk.proofs.PlacedLaws.{met-own, survivors-own, pass_over-placed}

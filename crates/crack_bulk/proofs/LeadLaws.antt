@@ -15,7 +15,8 @@ use Rattle.crack_state.proofs.BuryLaws.{IsIntact-buried, doomed_stands}
 use Rattle.crack_state.proofs.PullLaws.{IsIntact-returned}
 use Rattle.crack_state.proofs.StepLaws.{IsIntact-pushed_on, IsIntact-appended}
 use Rattle.crack_bulk.specs.Pieces.{column_of, marks_of}
-use Rattle.crack_bulk.specs.Queues.{Event, comes, turns, stopped, reached, outcome}
+use Rattle.crack_bulk.specs.Queues.{Event, comes, turns, stopped}
+use Rattle.crack_bulk.proofs.OneByOne.{reached, outcome}
 use Rattle.crack_bulk.specs.Carried.{pieces_of, is_over, is_doomed, ends_with, ended_so}
 use Rattle.crack_bulk.proofs.Carried.{Leads, buries, evicts, ends, goes_on}
 use Rattle.crack_bulk.proofs.CarryLaws.{landed, Leads-reached}

@@ -1,3 +1,5 @@
+pub mod Divided
+pub mod OneByOne
 pub mod Sifts
 pub mod Carried
 pub mod Placed

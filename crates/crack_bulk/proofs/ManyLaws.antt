@@ -11,7 +11,8 @@ use Rattle.crack_index.specs.declared.mark.Mark.{Mark}
 use Rattle.crack_state.specs.State.{State, IsIntact, greatest}
 use Rattle.crack_state.specs.Steps.{more, lifted}
 use Rattle.crack_bulk.specs.Pieces.{column_of, marks_of}
-use Rattle.crack_bulk.specs.Queues.{Event, comes, turns, stopped, reached, outcome, one_at_a_time, outcomes}
+use Rattle.crack_bulk.specs.Queues.{Event, comes, turns, stopped}
+use Rattle.crack_bulk.proofs.OneByOne.{reached, outcome, one_at_a_time, outcomes}
 use Rattle.crack_bulk.specs.Carried.{pieces_of, is_doomed, ends_with, ended_so, ended_by, put_in_by}
 use Rattle.crack_bulk.proofs.AgreeLaws.{Each, OfComing, Agrees, Each-cut, one_at_a_time-agree, outcomes-agree}
 use Rattle.crack_bulk.proofs.CutLaws.{cut-joined, IsCut-intact}

@@ -6,7 +6,8 @@ use Rattle.std.proofs.lemmas.List.Elements.{All-head, All-tail, All-weaker}
 use Rattle.crack_row.specs.declared.InnerBound.{InnerBound}
 use Rattle.crack_index.specs.declared.mark.Mark.{Mark}
 use Rattle.crack_index.specs.Marks.{next_mark, raised}
-use Rattle.crack_bulk.specs.Pieces.{Pieces, last, below, marks_of, AreDivided}
+use Rattle.crack_bulk.specs.Pieces.{Pieces, last, below, marks_of}
+use Rattle.crack_bulk.proofs.Divided.{AreDivided}
 
 -- the mark of a bound at a place
 abbrev pub mark_at : InnerBound → ℕ → Mark

@@ -6,7 +6,8 @@ use Rattle.std.proofs.lemmas.List.{length_push}
 use Rattle.std.proofs.lemmas.List.Elements.{All-nil, All-cons, All-head, All-tail, All-take}
 use Rattle.std.proofs.lemmas.List.Sums.{sum_by-cons}
 use Rattle.crack_row.specs.declared.InnerBound.{InnerBound}
-use Rattle.crack_bulk.specs.Pieces.{Pieces, last, below, marks_of, AreDivided}
+use Rattle.crack_bulk.specs.Pieces.{Pieces, last, below, marks_of}
+use Rattle.crack_bulk.proofs.Divided.{AreDivided}
 use Rattle.crack_bulk.specs.Queues.{Event, comes, turns, stopped, is_below, any_row, left, passed, in_bulk, bulk_outcomes}
 use Rattle.crack_column.specs.Sifts.{turned_once, one_if_some, below_bound, queued, made_way}
 use Rattle.crack_bulk.proofs.Sifts.{sifted, all_made_way, count_below, OfMet, risen}

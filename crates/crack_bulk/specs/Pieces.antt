@@ -1,6 +1,5 @@
 -- The pieces of a cracked column, and what they are of its rows and marks.
-use Rattle.std.specs.Prelude.{ℕ, ◌+◌, ◌-◌, ◌<◌, ◌≤◌, List, [], ◌∷◌, ◌++◌, length, take, drop}
-use Rattle.std.specs.List.{All}
+use Rattle.std.specs.Prelude.{ℕ, ◌+◌, ◌-◌, List, [], ◌∷◌, ◌++◌, length, take, drop}
 use Rattle.crack_row.specs.declared.InnerBound.{InnerBound}
 use Rattle.crack_index.specs.declared.mark.Mark.{Mark}
 
@@ -26,8 +25,3 @@ module _ {X : Type 0} where
   abbrev pub cut : ℕ → List Mark → List X → Pieces X
   cut place [] rows = last rows
   cut place (m ∷ ms) rows = below (take (m.position - place) rows) m.bound (cut m.position ms (drop (m.position - place) rows))
-
-  -- the key of each row lies between the bounds of its piece; the first piece begins at this bound
-  abbrev pub AreDivided : (X → ℕ) → ℕ → Pieces X → Type 0
-  AreDivided key low (last rows) = All (λ x. low ≤ key x) rows
-  AreDivided key low (below rows bound pieces) = All (λ x. (low ≤ key x) × (key x < bound.0)) rows × (low ≤ bound.0) × AreDivided key bound.0 pieces

@@ -44,26 +44,6 @@ module _ {X : Type 0} (key : X → ℕ) (stops : X → Bool) where
   next own (turns moved) rows = onward moved rows
   next own (stopped moved y) rows = stopped moved y
 
-  -- what one event leaves of the pieces that it reaches, one after the other
-  abbrev pub reached : Event X → Pieces X → Pieces X
-  reached e (last rows) = last (after any_row e rows)
-  reached e (below rows bound pieces) = below (after (is_below bound) e rows) bound (reached (next (is_below bound) e rows) pieces)
-
-  -- how it has ended
-  abbrev pub outcome : Event X → Pieces X → Event X
-  outcome e (last rows) = next any_row e rows
-  outcome e (below rows bound pieces) = outcome (next (is_below bound) e rows) pieces
-
-  -- what one event after the other leaves
-  abbrev pub one_at_a_time : List (Event X) → Pieces X → Pieces X
-  one_at_a_time [] pieces = pieces
-  one_at_a_time (e ∷ es) pieces = one_at_a_time es (reached e pieces)
-
-  -- how each has ended
-  abbrev pub outcomes : List (Event X) → Pieces X → List (Event X)
-  outcomes [] pieces = []
-  outcomes (e ∷ es) pieces = outcome e pieces ∷ outcomes es (reached e pieces)
-
   -- what is left of one piece by all events that reach it
   abbrev pub left : (X → Bool) → List (Event X) → List X → List X
   left own [] rows = rows

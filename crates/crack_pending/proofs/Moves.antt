@@ -6,8 +6,12 @@ use Rattle.std.proofs.lemmas.List.{get_or-set_same, get_or-set_other, get_or_def
 use Rattle.crack_arena.specs.Arena.{Handle, no_handle}
 use Rattle.crack_pending.specs.Spots.{kept}
 use Rattle.crack_pending.specs.Keeps.{place_at, HasRow, LeadBack, StandApart, AreCovered}
-use Rattle.crack_pending.specs.Inside.{AreApart}
 use Rattle.crack_pending.proofs.Kept.{place_at-more, place_at-few, length-kept, kept-at, kept-at_place, spot_of, Stands-within}
+
+-- no two handles name the same cell
+abbrev pub AreApart : List Handle → Type 0
+AreApart handles =
+    (j k : ℕ) → j < length handles → k < length handles → (slice_index_or handles j no_handle).slot ≡ (slice_index_or handles k no_handle).slot → j ≡ k
 
 -- so far the rows of the first spots have moved to the front, and the spots after are as they were
 pub record AreMoved {X : Type 0} (stands : List Bool) (old new : List X) (spot low : ℕ) : Type 0 where

@@ -1,5 +1,5 @@
 -- What private clauses alone cite.
-use Rattle.std.specs.Prelude.{◌≡◌, ◌≢◌, ℕ, ◌<◌, ◌≤◌, Bool, List, length, ◌⊎◌, slice_index, slice_index_or}
+use Rattle.std.specs.Prelude.{◌≡◌, ◌≢◌, ℕ, ◌<◌, ◌≤◌, Bool, List, ◌⊎◌, slice_index, slice_index_or}
 use Rattle.crack_row.specs.Ranges.{Range, IsIn}
 use Rattle.crack_row.specs.declared.Row.{Row}
 use Rattle.crack_arena.specs.Arena.{Cell, Handle, no_handle}
@@ -31,11 +31,6 @@ pub record IsHit (range : Range) (cells : List (Cell Row)) (handles : List Handl
   pub stands_there : HasRow stands spot
   pub holds : IsIn range (key_at cells (slice_index_or handles spot no_handle))
   pub before : IsMissed range cells handles stands from spot
-
--- no two handles name the same cell
-abbrev pub AreApart : List Handle → Type 0
-AreApart handles =
-    (j k : ℕ) → j < length handles → k < length handles → (slice_index_or handles j no_handle).slot ≡ (slice_index_or handles k no_handle).slot → j ≡ k
 
 -- the row at the spot has the handle of this slot
 pub record IsSpotWith (handles : List Handle) (stands : List Bool) (slot spot : ℕ) : Type 0 where

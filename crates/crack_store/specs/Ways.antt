@@ -1,4 +1,5 @@
--- What goes along on a walk over the bounds keeps of the hand, and does at a place. No public clause cites this module.
+-- What private clauses alone cite.
+-- What goes along on a walk over the bounds keeps of the hand, and does at a place.
 use Rattle.std.specs.Prelude.{◌≡◌, ◌≢◌, ⊤, ◌<◌, ◌≤◌, ℕ, Bool, true, false, Option, Some, None, length}
 use Rattle.crack_row.specs.declared.Bound.{Bound}
 use Rattle.crack_arena.specs.Arena.{times, slots}
