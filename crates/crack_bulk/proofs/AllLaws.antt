@@ -25,10 +25,10 @@ use Rattle.crack_bulk.proofs.BulkLaws.{one_at_a_time-in_bulk, outcomes-in_bulk}
 use Rattle.crack_bulk.proofs.LeadLaws.{StaysAs, IsIntact-Leads, StaysAs-Leads, carried_at, Leads-at}
 use Rattle.crack_bulk.proofs.ManyLaws.{with_room, evicted_of, bulk_from, pending-carried, bulk_from-first, bulk_from-none}
 
-All-left : {X : Type 0} (P : X → Type 0) (xs ys : List X) → All P (xs ++ ys) → All P xs
+pub All-left : {X : Type 0} (P : X → Type 0) (xs ys : List X) → All P (xs ++ ys) → All P xs
 All-left P xs ys all = λ k d h. rw (get_or_append_left xs ys d k h) at (all k d (omega (arith, h, length-append xs ys)))
 
-All-right : {X : Type 0} (P : X → Type 0) (xs ys : List X) → All P (xs ++ ys) → All P ys
+pub All-right : {X : Type 0} (P : X → Type 0) (xs ys : List X) → All P (xs ++ ys) → All P ys
 All-right P xs ys all = λ k d h. rw (get_or-append-add xs ys k d) at (all (length xs + k) d (omega (arith, h, length-append xs ys)))
 
 -- two tests that agree on all of these keep the same
@@ -36,13 +36,13 @@ filter-agree : {X : Type 0} (p q : X → Bool) (xs : List X) → All (λ x. p x 
 filter-agree p q [] all = refl
 filter-agree p q (x ∷ xs) all = rw (All-head (λ y. p y ≡ q y) x xs all, filter-agree p q xs (All-tail (λ y. p y ≡ q y) x xs all)) refl
 
-remove_at : (p : List Handle) (y : Handle) (ys : List Handle) → remove (p ++ y ∷ ys) (length p) ≡ p ++ ys
+pub remove_at : (p : List Handle) (y : Handle) (ys : List Handle) → remove (p ++ y ∷ ys) (length p) ≡ p ++ ys
 remove_at p y ys =
     let none : length p - length p ≡ 0 = omega arith in
     remove-append_right p (y ∷ ys) (length p) (length p) refl (omega arith) ∙ rw none refl
 
 -- a key is in the range, or not
-inside_or : (r : Range) (key : ℕ) → IsIn r key ⊎ (¬ IsIn r key)
+pub inside_or : (r : Range) (key : ℕ) → IsIn r key ⊎ (¬ IsIn r key)
 inside_or r key = elim (cases_lt key r.low) [
   | inl l ↦ inr (λ inside. omega (arith, l, inside.0))
   | inr l ↦ elim (cases_lt key r.high) [
@@ -53,14 +53,14 @@ inside_or r key = elim (cases_lt key r.low) [
 
 module _ (r : Range) (key : Handle → ℕ) where
   -- the row's key isn't in the range
-  abbrev IsOutside : Handle → Type 0
+  abbrev pub IsOutside : Handle → Type 0
   IsOutside h = ¬ IsIn r (key h)
 
   -- none of these is in the range, from a place on
-  abbrev NoneFrom : ℕ → List Handle → Type 0
+  abbrev pub NoneFrom : ℕ → List Handle → Type 0
   NoneFrom from hs = (k : ℕ) (d : Handle) → from ≤ k → k < length hs → IsOutside (get_or hs k d)
 
-  found_next : (passed rest : List Handle) (h : Handle) (from : ℕ) → from ≤ length passed → NoneFrom from passed → IsIn r (key h) → Finds r (map key (passed ++ h ∷ rest)) from (Some (length passed))
+  pub found_next : (passed rest : List Handle) (h : Handle) (from : ℕ) → from ≤ length passed → NoneFrom from passed → IsIn r (key h) → Finds r (map key (passed ++ h ∷ rest)) from (Some (length passed))
   found_next passed rest h from order none inside =
       let all = passed ++ h ∷ rest in
       let within : length passed < length all = omega (arith, length-append passed (h ∷ rest)) in
@@ -71,7 +71,7 @@ module _ (r : Range) (key : Handle → ℕ) where
         before = λ k from_on up_to. rw (get_or-map key all k no_handle 0 (omega (arith, up_to, within)), get_or_append_left passed (h ∷ rest) no_handle k up_to) (none k no_handle from_on up_to);
       }
 
-  found_none : (passed back : List Handle) (from : ℕ) → NoneFrom from passed → All IsOutside back → Finds r (map key (passed ++ back)) from None
+  pub found_none : (passed back : List Handle) (from : ℕ) → NoneFrom from passed → All IsOutside back → Finds r (map key (passed ++ back)) from None
   found_none passed back from none outside = λ k from_on up_to.
       let all = passed ++ back in
       let within : k < length all = omega (arith, up_to, length-map all key) in
@@ -80,7 +80,7 @@ module _ (r : Range) (key : Handle → ℕ) where
         | inr l ↦ rw (get_or-append_right passed back (length passed) k no_handle refl l) (outside (k - length passed) no_handle (omega (arith, l, within, length-append passed back)))
       ])
 
-  none_on : (passed : List Handle) (h : Handle) (from : ℕ) → NoneFrom from passed → IsOutside h → NoneFrom from (passed ++ h ∷ [])
+  pub none_on : (passed : List Handle) (h : Handle) (from : ℕ) → NoneFrom from passed → IsOutside h → NoneFrom from (passed ++ h ∷ [])
   none_on passed h from none outside = λ k d from_on up_to. elim (cases_lt k (length passed)) [
     | inl l ↦ rw (get_or_append_left passed (h ∷ []) d k l) (none k d from_on l)
     | inr l ↦ rw (get_or_push passed h d k (omega (arith, l, up_to, length_push passed h))) outside
@@ -105,7 +105,7 @@ evicted_outside ceiling r t (stopped moved y) high end = elim (cases_Bool (is_do
 ]
 
 -- keys that are the same leave the same of a filter by them
-keys_same : (r : Range) (cells cells' : List (Cell Row)) (hs : List Handle) → All (λ h. key_at cells' h ≡ key_at cells h) hs → (inside_of cells' r hs ≡ inside_of cells r hs) × (outside_of cells' r hs ≡ outside_of cells r hs)
+pub keys_same : (r : Range) (cells cells' : List (Cell Row)) (hs : List Handle) → All (λ h. key_at cells' h ≡ key_at cells h) hs → (inside_of cells' r hs ≡ inside_of cells r hs) × (outside_of cells' r hs ≡ outside_of cells r hs)
 keys_same r cells cells' hs same =
     (filter-agree (λ h. is_in r (key_at cells' h)) (λ h. is_in r (key_at cells h)) hs (λ k d h. ap (is_in r) (same k d h)), filter-agree (λ h. not (is_in r (key_at cells' h))) (λ h. not (is_in r (key_at cells h))) hs (λ k d h. ap (λ n. not (is_in r n)) (same k d h)))
 

@@ -5,6 +5,7 @@ pub mod Carried
 pub mod Placed
 pub mod AgreeLaws
 pub mod AllLaws
+pub mod AllPulledLaws
 pub mod BeyondLaws
 pub mod BulkLaws
 pub mod CarryLaws
@@ -12,10 +13,14 @@ pub mod ClearLaws
 pub mod CountLaws
 pub mod CutLaws
 pub mod DownLaws
+pub mod DrawLaws
+pub mod Draws
 pub mod LeadLaws
 pub mod ManyLaws
 pub mod PieceLaws
 pub mod PlacedLaws
+pub mod PullLaws
+pub mod PulledLaws
 pub mod SiftLaws
 pub mod SiftedLaws
 pub mod StepsDown

@@ -66,13 +66,13 @@ module _ {X : Type 0} (key : X → ℕ) where
     pub pairs : AllPairs InOrder ms
     pub behind : All (λ m. place ≤ m.position) ms
 
-  AreFrom-tail : (place : ℕ) (n : Mark) (ns : List Mark) → AreFrom place (n ∷ ns) → AreFrom n.position ns
+  pub AreFrom-tail : (place : ℕ) (n : Mark) (ns : List Mark) → AreFrom place (n ∷ ns) → AreFrom n.position ns
   AreFrom-tail place n ns are = record {
     pairs = λ i j d h k. are.pairs (suc i) (suc j) d (omega arith) (omega arith);
     behind = λ k d h. (are.pairs zero (suc k) d (omega arith) (omega arith)).positions;
   }
 
-  last_behind : (n m : Mark) (ns : List Mark) → AllPairs InOrder (n ∷ (ns ++ m ∷ [])) → InOrder n m
+  pub last_behind : (n m : Mark) (ns : List Mark) → AllPairs InOrder (n ∷ (ns ++ m ∷ [])) → InOrder n m
   last_behind n m ns pairs =
       let same : get_or (ns ++ m ∷ []) (length ns) m ≡ m = get_last ns in
       rw same at (pairs zero (suc (length ns)) m (omega arith) (omega (arith, length-append ns (m ∷ []))))
@@ -112,7 +112,7 @@ module _ {X : Type 0} (key : X → ℕ) where
       rw (twice, first, next, ← over) (omega (arith, rest))
 
   -- from the highest mark down
-  snoc-front : (place : ℕ) (ms : List Mark) (m : Mark) → AreFrom place (ms ++ m ∷ []) → AreFrom place ms
+  pub snoc-front : (place : ℕ) (ms : List Mark) (m : Mark) → AreFrom place (ms ++ m ∷ []) → AreFrom place ms
   snoc-front place ms m are = record {
     pairs = λ i j d h k. rw (in_front ms i d (omega (arith, h, k)), in_front ms j d k) at (are.pairs i j d h (omega (arith, k, length-append ms (m ∷ []))));
     behind = λ k d h. rw (in_front ms k d h) at (are.behind k d (omega (arith, h, length-append ms (m ∷ []))));

@@ -1,3 +1,4 @@
 pub mod Pieces
 pub mod Queues
 pub mod Carried
+pub mod Pulled

@@ -5,3 +5,4 @@ pub mod Labels
 pub mod Tickets
 pub mod Keeps
 pub mod Sifts
+pub mod Drains
