@@ -20,9 +20,11 @@ use Rattle.crack_plain.specs.Plain.{PlainView, PlainState, accepted_of, checkpoi
 use Rattle.crack_core.specs.declared.asking.Query.{Query}
 use Rattle.crack_core.specs.Routes.{keys_of_part}
 use Rattle.crack_part.specs.Refusals.{is_key_in}
-use Rattle.crack_part.specs.Upkeep.{is_automatic, is_due, upkept_table, is_full as shuts}
+use Rattle.crack_part.specs.Upkeep.{is_automatic, is_due, is_full as shuts}
+use Rattle.crack_part.proofs.UpkeepLaws.{upkept_table}
 use Rattle.crack_core.specs.Steps.{bounds_of, reply_unless, MayLackCell, IsOutcome, IsOutcomeAt, IsFoldOutcome, fresh_table, table_after, tables_after, tables_folded, expected}
-use Rattle.crack_core.specs.Asking.{lasting_bounds, lasting, lasting_after, Asks, is_full, AsksInTurn, replies, refuses, asking, counted, summed}
+use Rattle.crack_core.specs.Inside.{is_full}
+use Rattle.crack_core.specs.Asking.{lasting_bounds, lasting, lasting_after, Asks, AsksInTurn, replies, refuses, asking, counted, summed}
 
 -- a table that was just folded
 abbrev folded_table : PlainState → ℕ → PlainView

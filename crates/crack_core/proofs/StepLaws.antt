@@ -26,9 +26,9 @@ use Rattle.crack_core.specs.declared.step.Done.TheVariants.{Replied}
 use Rattle.crack_core.specs.Routes.{keys_of_part}
 use Rattle.crack_core.specs.Opening.{AreParts}
 use Rattle.crack_part.specs.Refusals.{is_key_in, table_of, stopped_by, lacks_cell, refusal_of}
-use Rattle.crack_part.specs.Upkeep.{upkept, upkept_table}
+use Rattle.crack_part.specs.Upkeep.{upkept}
 use Rattle.crack_part.proofs.RefusalLaws.{if_refused}
-use Rattle.crack_part.proofs.UpkeepLaws.{table_of-upkept, accepted_in-upkept}
+use Rattle.crack_part.proofs.UpkeepLaws.{upkept_table, table_of-upkept, accepted_in-upkept}
 use Rattle.crack_core.specs.Steps.{Bounds, bounds_of, reply_unless, MayLackCell, IsOutcome, IsOutcomeAt, fresh_table, table_after, tables_after, tables_of, pasts_of, accepted_by}
 use Rattle.crack_core.specs.Jobs.{performed, past_after, past_at, KeepsJobs}
 

@@ -1,5 +1,5 @@
 -- What is answered where a full history is folded first: one command, and what is asked of a range over all partitions.
-use Rattle.std.specs.Prelude.{◌≡◌, ◌⊎◌, ℕ, ℤ, pos, Bool, true, false, List, [], ◌∷◌, ◌++◌, map, Option, None, Some, Result, Ok, Err, IfOk, IfErr, nat_le, slice_get, slice_set, slice_index_or, sum_by, if◌then◌else◌}
+use Rattle.std.specs.Prelude.{◌≡◌, ◌⊎◌, ℕ, ℤ, pos, Bool, false, List, [], ◌∷◌, ◌++◌, map, Option, None, Some, Result, Ok, Err, IfOk, IfErr, nat_le, slice_get, slice_set, slice_index_or, sum_by, if◌then◌else◌}
 use Rattle.crack_row.specs.Ranges.{Range}
 use Rattle.crack_row.specs.Rows.{total_by}
 use Rattle.crack_row.specs.declared.Bound.{Bound}
@@ -13,7 +13,7 @@ use Rattle.crack_row.specs.declared.command.Command.TheVariants.{Insert, Delete,
 use Rattle.crack_row.specs.declared.command.Reply.{Reply}
 use Rattle.crack_row.specs.declared.command.Reply.TheVariants.{Placed, Gone, Changed, NoRow, Counted, Summed}
 use Rattle.crack_row.specs.declared.refusal.Refusal.{Refusal}
-use Rattle.crack_row.specs.declared.refusal.Refusal.TheVariants.{HistoryFull, OutOfMemory, LifeOver}
+use Rattle.crack_row.specs.declared.refusal.Refusal.TheVariants.{OutOfMemory, LifeOver}
 use Rattle.crack_plain.specs.Plain.{PlainView, accepted_of, checkpointed}
 use Rattle.crack_core.specs.Routes.{keys_of_part, route, parts_of}
 use Rattle.crack_core.specs.Steps.{Bounds, expected, IsOutcomeAt, fresh_table, table_after}
@@ -44,11 +44,6 @@ lasting_after tables part command (Err e) = tables
 pub record Asks (limits : Limits) (splits : List Bound) (part : ℕ) (command : Command) (outcome : Result Reply Refusal) (old new : List PlainView) : Type 0 where
   pub comes_out : IsLastingOutcome limits splits old part command outcome
   pub leaves : new ≡ lasting_after old part command outcome
-
--- whether a full history refused
-abbrev pub is_full : Result Reply Refusal → Bool
-is_full (Err (HistoryFull entries)) = true
-is_full _ = false
 
 -- what comes out of a command, by what comes of its reply
 abbrev pub replied : {X : Type 0} → (X → Reply) → Result X Refusal → Result Reply Refusal

@@ -1,6 +1,7 @@
 pub mod Asking
 pub mod Bulk
 pub mod Cores
+pub mod Inside
 pub mod Jobs
 pub mod Listing
 pub mod Opening

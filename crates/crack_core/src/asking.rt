@@ -8,8 +8,9 @@ ghost use Rattle.crack_row.specs.declared.Serial.{Serial};
 ghost use Rattle.crack_row.specs.declared.command.Command.TheVariants.{Insert, Delete, Update};
 ghost use Rattle.crack_plain.specs.Plain.{PlainState, IsSmall, reply_to};
 ghost use Rattle.crack_core.specs.Steps.{tables_of};
-ghost use Rattle.crack_core.specs.Asking.{Asks, lasting, is_full, Inserts, Deletes, Updates, Counts, Sums, asking};
+ghost use Rattle.crack_core.specs.Asking.{Asks, lasting, Inserts, Deletes, Updates, Counts, Sums, asking};
 ghost use Rattle.crack_core.specs.Asking.{AsksInTurn, counted, summed, gone_reply, changed_reply};
+ghost use Rattle.crack_core.specs.Inside.{is_full};
 
 use crate::{Core, Step};
 use crack_row::{Command, Key, KeyRange, Payload, Policy, Refusal, Reply, Row, RowNo, Serial};

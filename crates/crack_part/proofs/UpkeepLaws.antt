@@ -1,14 +1,18 @@
 -- What follows of a checkpoint that is made where it is due.
-use Rattle.std.specs.Prelude.{◌≡◌, ◌<◌, ◌≤◌, Bool, true, false, cond, ◌&&◌, not, List, [], ◌∷◌, length, nat_le}
+use Rattle.std.specs.Prelude.{◌≡◌, ◌<◌, ◌≤◌, Bool, true, false, cond, ◌&&◌, not, List, [], ◌∷◌, length, nat_le, if◌then◌else◌}
 use Rattle.std.proofs.Common.{arith, ap, refl, sym, ◌∙◌}
 use Rattle.std.proofs.lemmas.Bool.{true≢false, le-leb, lt-leb}
 use Rattle.crack_row.specs.declared.limit.Limits.{Limits}
 use Rattle.crack_row.specs.declared.command.Entry.{Entry}
 use Rattle.crack_plain.specs.Past.{Base, Past, base_after, folded, with_entry, state_after, accepted_in}
-use Rattle.crack_plain.specs.Plain.{after}
+use Rattle.crack_plain.specs.Plain.{PlainView, after, checkpointed}
 use Rattle.crack_plain.proofs.PastLaws.{state_after-push}
 use Rattle.crack_part.specs.Refusals.{table_of}
-use Rattle.crack_part.specs.Upkeep.{is_automatic, is_full, is_due, upkept, upkept_table}
+use Rattle.crack_part.specs.Upkeep.{is_automatic, is_full, is_due, upkept}
+
+-- the plain table to which the next command is added: folded, where a checkpoint is due
+abbrev pub upkept_table : Limits → PlainView → PlainView
+upkept_table limits table = if is_due limits table.since then checkpointed table else table
 
 -- where there is room, none is due
 pub upkept-room : (limits : Limits) (past : Past) → length past.tail < limits.history → upkept limits past ≡ past

@@ -4,7 +4,6 @@ use Rattle.crack_row.specs.declared.limit.Limits.{Limits}
 use Rattle.crack_row.specs.declared.limit.Upkeep.{Upkeep}
 use Rattle.crack_row.specs.declared.limit.Upkeep.TheVariants.{OnRequest, Automatic}
 use Rattle.crack_plain.specs.Past.{Past, folded}
-use Rattle.crack_plain.specs.Plain.{PlainView, checkpointed}
 
 -- whether checkpoints are made where they are due, unasked
 abbrev pub is_automatic : Upkeep → Bool
@@ -22,7 +21,3 @@ is_due limits entries = nat_le limits.history entries && is_automatic limits.upk
 -- the past to which the next command is added: folded, where a checkpoint is due
 abbrev pub upkept : Limits → Past → Past
 upkept limits past = if is_due limits (length past.tail) then folded past else past
-
--- the same of a plain table
-abbrev pub upkept_table : Limits → PlainView → PlainView
-upkept_table limits table = if is_due limits table.since then checkpointed table else table

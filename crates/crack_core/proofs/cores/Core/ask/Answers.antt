@@ -1,6 +1,6 @@
 use Rattle.std.proofs.Common.{◌≡◌, arith, ◌∙◌}
 use Rattle.std.specs.Prelude.{true, false}
-use Rattle.crack_core.specs.Asking.{is_full}
+use Rattle.crack_core.specs.Inside.{is_full}
 use Rattle.crack_core.specs.Steps.{tables_of}
 use Rattle.crack_core.proofs.AskLaws.{asked-folded, asked-short, asked-plain, full-leaves, not-full-is}
 use Rattle.crack_core.proofs.cores.Core.ask.Goals as goal
