@@ -8,7 +8,8 @@ use Rattle.crack_arena.specs.Arena.{Handle, no_handle, place_in}
 use Rattle.crack_index.specs.declared.mark.Mark.{Mark}
 use Rattle.crack_column.specs.Sifts.{one_if_some}
 use Rattle.crack_column.specs.Drains.{turned_back, drained_once, without, one_unless_last}
-use Rattle.crack_bulk.specs.Pieces.{Pieces, last, below, column_of, marks_of, cut, AreDivided}
+use Rattle.crack_bulk.specs.Pieces.{Pieces, last, below, column_of, marks_of, cut}
+use Rattle.crack_bulk.proofs.Divided.{AreDivided}
 use Rattle.crack_bulk.specs.Pulled.{ends_above, pulled, all_drawn, slot_of}
 use Rattle.crack_bulk.proofs.Draws.{fallen, upward, pulled_down, drawn_down}
 use Rattle.crack_bulk.proofs.StepsDown.{AreFrom, AreFrom-tail, last_behind, snoc-front}
