@@ -20,7 +20,7 @@ use Rattle.crack_arena.proofs.Times.{times-nil, times-append, times_head}
 use Rattle.crack_state.proofs.PullLaws.{IsIntact-lifted_last}
 use Rattle.crack_bulk.specs.Pieces.{Pieces, last, below}
 use Rattle.crack_bulk.specs.Carried.{pieces_of, inside_of}
-use Rattle.crack_bulk.specs.Pulled.{any_doomed, ends_above, pulled, all_drawn, slot_of, pulled_from, pulled_in_bulk}
+use Rattle.crack_bulk.specs.Pulled.{any_doomed, ends_above, pulled, all_drawn, itself, pulled_from, pulled_in_bulk}
 use Rattle.crack_bulk.proofs.AllLaws.{All-right, remove_at, inside_or, keys_same, IsOutside, NoneFrom, found_next, found_none, none_on}
 use Rattle.crack_bulk.proofs.CutLaws.{cut-joined, IsCut-intact}
 use Rattle.crack_bulk.proofs.Draws.{Draws}
@@ -30,19 +30,19 @@ use Rattle.crack_bulk.proofs.SiftedLaws.{min_and}
 -- One pull, and then the others
 
 module _ (key : Handle → ℕ) where
-  pulled-cons : (low : ℕ) (d : Handle) (ds : List Handle) (pieces : Pieces Handle) → pulled key slot_of low ds (pulled key slot_of low (d ∷ []) pieces) ≡ pulled key slot_of low (d ∷ ds) pieces
+  pulled-cons : (low : ℕ) (d : Handle) (ds : List Handle) (pieces : Pieces Handle) → pulled key itself low ds (pulled key itself low (d ∷ []) pieces) ≡ pulled key itself low (d ∷ ds) pieces
   pulled-cons low d ds (last rows) = refl
-  pulled-cons low d ds (below rows bound pieces) = ap (below (drained key slot_of low (ends_above key slot_of bound) (d ∷ ds) rows) bound) (pulled-cons bound.0 d ds pieces)
+  pulled-cons low d ds (below rows bound pieces) = ap (below (drained key itself low (ends_above key itself bound) (d ∷ ds) rows) bound) (pulled-cons bound.0 d ds pieces)
 
-  drawn-cons : (low : ℕ) (d : Handle) (ds : List Handle) (pieces : Pieces Handle) → all_drawn key slot_of low (d ∷ []) pieces + all_drawn key slot_of low ds (pulled key slot_of low (d ∷ []) pieces) ≡ all_drawn key slot_of low (d ∷ ds) pieces
+  drawn-cons : (low : ℕ) (d : Handle) (ds : List Handle) (pieces : Pieces Handle) → all_drawn key itself low (d ∷ []) pieces + all_drawn key itself low ds (pulled key itself low (d ∷ []) pieces) ≡ all_drawn key itself low (d ∷ ds) pieces
   drawn-cons low d ds (last rows) = omega arith
   drawn-cons low d ds (below rows bound pieces) = omega (arith, drawn-cons bound.0 d ds pieces)
 
-  pulled-none : (low : ℕ) (pieces : Pieces Handle) → pulled key slot_of low [] pieces ≡ pieces
+  pulled-none : (low : ℕ) (pieces : Pieces Handle) → pulled key itself low [] pieces ≡ pieces
   pulled-none low (last rows) = refl
   pulled-none low (below rows bound pieces) = ap (below rows bound) (pulled-none bound.0 pieces)
 
-  drawn-none : (low : ℕ) (pieces : Pieces Handle) → all_drawn key slot_of low [] pieces ≡ 0
+  drawn-none : (low : ℕ) (pieces : Pieces Handle) → all_drawn key itself low [] pieces ≡ 0
   drawn-none low (last rows) = refl
   drawn-none low (below rows bound pieces) = omega (arith, drawn-none bound.0 pieces)
 
@@ -51,23 +51,23 @@ module _ (key key' : Handle → ℕ) where
   abbrev Same : Handle → Type 0
   Same h = key h ≡ key' h
 
-  drained-agree : (low : ℕ) (own own' : Handle → Bool) (ds : List Handle) (rows : List Handle) → All Same ds → ((h : Handle) → Same h → own h ≡ own' h) → (drained key slot_of low own ds rows ≡ drained key' slot_of low own' ds rows) × (drawn key slot_of low own ds rows ≡ drawn key' slot_of low own' ds rows)
+  drained-agree : (low : ℕ) (own own' : Handle → Bool) (ds : List Handle) (rows : List Handle) → All Same ds → ((h : Handle) → Same h → own h ≡ own' h) → (drained key itself low own ds rows ≡ drained key' itself low own' ds rows) × (drawn key itself low own ds rows ≡ drawn key' itself low own' ds rows)
   drained-agree low own own' [] rows same owns = (refl, refl)
   drained-agree low own own' (d ∷ ds) rows same owns =
       let first = All-head Same d ds same in
       let here = owns d first in
-      let left : List Handle = drained_once key' slot_of low own' d rows in
-      let once : drained_once key slot_of low own d rows ≡ left = rw (first, here) refl in
-      let count : drawn_once key slot_of low own d rows ≡ drawn_once key' slot_of low own' d rows = rw (first, here) refl in
+      let left : List Handle = drained_once key' itself low own' d rows in
+      let once : drained_once key itself low own d rows ≡ left = rw (first, here) refl in
+      let count : drawn_once key itself low own d rows ≡ drawn_once key' itself low own' d rows = rw (first, here) refl in
       let rest = drained-agree low own own' ds left (All-tail Same d ds same) owns in
-      (ap (drained key slot_of low own ds) once ∙ rest.0, rw (count, once) (ap (λ n. drawn_once key' slot_of low own' d rows + n) rest.1))
+      (ap (drained key itself low own ds) once ∙ rest.0, rw (count, once) (ap (λ n. drawn_once key' itself low own' d rows + n) rest.1))
 
-  pulled-agree : (low : ℕ) (ds : List Handle) (pieces : Pieces Handle) → All Same ds → (pulled key slot_of low ds pieces ≡ pulled key' slot_of low ds pieces) × (all_drawn key slot_of low ds pieces ≡ all_drawn key' slot_of low ds pieces)
+  pulled-agree : (low : ℕ) (ds : List Handle) (pieces : Pieces Handle) → All Same ds → (pulled key itself low ds pieces ≡ pulled key' itself low ds pieces) × (all_drawn key itself low ds pieces ≡ all_drawn key' itself low ds pieces)
   pulled-agree low ds (last rows) same =
-      let here = drained-agree low (any_doomed key slot_of) (any_doomed key' slot_of) ds rows same (λ h one. refl) in
+      let here = drained-agree low (any_doomed key itself) (any_doomed key' itself) ds rows same (λ h one. refl) in
       (ap last here.0, here.1)
   pulled-agree low ds (below rows bound pieces) same =
-      let here = drained-agree low (ends_above key slot_of bound) (ends_above key' slot_of bound) ds rows same (λ h one. ap (λ n. ltb n bound.0) one) in
+      let here = drained-agree low (ends_above key itself bound) (ends_above key' itself bound) ds rows same (λ h one. ap (λ n. ltb n bound.0) one) in
       let rest = pulled-agree bound.0 ds pieces same in
       (rw (here.0, rest.0) refl, rw (here.1, rest.1) refl)
 
@@ -76,14 +76,14 @@ pulled_from-first d ds s same =
     let key = key_at s.cells in
     let t = pulled_from (d ∷ []) s in
     let P = pieces_of s in
-    let P1 = pulled key slot_of 0 (d ∷ []) P in
+    let P1 = pulled key itself 0 (d ∷ []) P in
     let cut : pieces_of t ≡ P1 = cut-joined 0 P1 in
     let agree = pulled-agree (key_at t.cells) key 0 ds (pieces_of t) same in
-    let pieces : pulled (key_at t.cells) slot_of 0 ds (pieces_of t) ≡ pulled key slot_of 0 (d ∷ ds) P = agree.0 ∙ ap (pulled key slot_of 0 ds) cut ∙ pulled-cons key 0 d ds P in
-    let counts : all_drawn (key_at t.cells) slot_of 0 ds (pieces_of t) ≡ all_drawn key slot_of 0 ds P1 = agree.1 ∙ ap (all_drawn key slot_of 0 ds) cut in
-    let n1 : ℕ = all_drawn key slot_of 0 (d ∷ []) P in
-    let n2 : ℕ = all_drawn key slot_of 0 ds P1 in
-    let both : min (min (s.tally.pulled + n1) greatest + n2) greatest ≡ min (s.tally.pulled + all_drawn key slot_of 0 (d ∷ ds) P) greatest =
+    let pieces : pulled (key_at t.cells) itself 0 ds (pieces_of t) ≡ pulled key itself 0 (d ∷ ds) P = agree.0 ∙ ap (pulled key itself 0 ds) cut ∙ pulled-cons key 0 d ds P in
+    let counts : all_drawn (key_at t.cells) itself 0 ds (pieces_of t) ≡ all_drawn key itself 0 ds P1 = agree.1 ∙ ap (all_drawn key itself 0 ds) cut in
+    let n1 : ℕ = all_drawn key itself 0 (d ∷ []) P in
+    let n2 : ℕ = all_drawn key itself 0 ds P1 in
+    let both : min (min (s.tally.pulled + n1) greatest + n2) greatest ≡ min (s.tally.pulled + all_drawn key itself 0 (d ∷ ds) P) greatest =
     min_and s.tally.pulled n1 n2 ∙ ap (λ n. min (s.tally.pulled + n) greatest) (drawn-cons key 0 d ds P) in
     let room : (s.column_room + 1) + length ds ≡ s.column_room + suc (length ds) = omega arith in
     rw (pieces, counts) (rw (both, room) refl)

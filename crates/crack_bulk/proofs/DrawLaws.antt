@@ -5,13 +5,13 @@ use Rattle.std.proofs.Math.Nat.{min-eq_left, min-eq_right}
 use Rattle.std.proofs.lemmas.Bool.{cases_lt, lt-ltb, le-ltb, lt-leb, le-leb, ne_eqb, eq-eqb}
 use Rattle.std.proofs.lemmas.List.{append-nil, append_assoc, length-append, length-set, length-drop, length-take-le, length_push, get_or_append_left, get_or_push, get_or_default, get_or-take, get_or-drop, set-append_left, set-append_right, set_at, set_split, take_at, drop_at, take_all, take_more, take-append-drop, take-append-le, drop-append-le, drop_all, map-append}
 use Rattle.std.proofs.lemmas.List.Elements.{All-head, All-tail, All-nil, All-cons, All-push}
-use Rattle.crack_arena.specs.Arena.{Handle, StandsAt, no_handle, place_in}
+use Rattle.crack_arena.specs.Arena.{Handle, StandsAt, no_handle, same_handle}
 use Rattle.crack_arena.specs.Rows.{key_at}
-use Rattle.crack_arena.proofs.Places.{place_in-is}
+use Rattle.std.proofs.lemmas.List.Sums.{position_or_len_is}
 use Rattle.crack_index.specs.declared.mark.Mark.{Mark}
 use Rattle.crack_index.specs.Marks.{next_mark, last_mark, start_of, end_of, lowered, lowered_at}
 use Rattle.crack_column.specs.Sifts.{one_if_some}
-use Rattle.crack_column.specs.Drains.{turned_back, without, one_unless_last}
+use Rattle.crack_column.specs.Drains.{place_of, turned_back, without, one_unless_last}
 use Rattle.crack_state.specs.State.{State, Carried, greatest}
 use Rattle.crack_state.specs.Steps.{more, pulled_back, exchanged, buried}
 use Rattle.crack_bulk.proofs.Draws.{Draws, reaches, exchanges, draws, drawn_with, fallen, upward, pulled_down, drawn_down}
@@ -34,29 +34,29 @@ pub record IsOnlyAt (d : Handle) (hs : List Handle) (i : ℕ) : Type 0 where
   pub is : get_or hs i no_handle ≡ d
   pub only : (k : ℕ) → k < length hs → (get_or hs k no_handle).slot ≡ d.slot → k ≡ i
 
-pub place-only : (d : Handle) (hs : List Handle) (i : ℕ) → IsOnlyAt d hs i → place_in hs d.slot ≡ i
+pub place-only : (d : Handle) (hs : List Handle) (i : ℕ) → IsOnlyAt d hs i → place_of d hs ≡ i
 place-only d hs i at =
-    place_in-is hs d.slot i no_handle at.within (ap (λ (h : Handle). h.slot) at.is) (λ k less same. let e : k ≡ i = at.only k (omega (arith, less, at.within)) same in absurd (omega (arith, e, less)))
+    position_or_len_is (λ h. same_handle h d) hs i no_handle (omega (arith, at.within)) (λ k less. rw (ne_eqb (get_or hs k no_handle).slot d.slot (λ same. let e : k ≡ i = at.only k (omega (arith, less, at.within)) same in absurd (omega (arith, e, less)))) refl) (λ within. rw (at.is, eq-eqb d.slot d.slot refl, eq-eqb d.generation d.generation refl) refl)
 
 -- what is left where the last takes the place of a row
-without-last : (d : Handle) (rows : List Handle) (z : Handle) (i : ℕ) → IsOnlyAt d (rows ++ z ∷ []) i → without d.slot (rows ++ z ∷ []) ≡ take (length rows) (set (rows ++ z ∷ []) i z)
+without-last : (d : Handle) (rows : List Handle) (z : Handle) (i : ℕ) → IsOnlyAt d (rows ++ z ∷ []) i → without d (rows ++ z ∷ []) ≡ take (length rows) (set (rows ++ z ∷ []) i z)
 without-last d rows z i at =
     let short : length (rows ++ z ∷ []) - 1 ≡ length rows = omega (arith, length_push rows z) in
     let same : get_or (rows ++ z ∷ []) (length rows) no_handle ≡ z = get_or_push rows z no_handle (length rows) refl in
     rw (short, same, place-only d (rows ++ z ∷ []) i at) refl
 
-without-before : (d : Handle) (rows : List Handle) (z : Handle) (i : ℕ) → IsOnlyAt d (rows ++ z ∷ []) i → i < length rows → without d.slot (rows ++ z ∷ []) ≡ set rows i z
+without-before : (d : Handle) (rows : List Handle) (z : Handle) (i : ℕ) → IsOnlyAt d (rows ++ z ∷ []) i → i < length rows → without d (rows ++ z ∷ []) ≡ set rows i z
 without-before d rows z i at before =
     without-last d rows z i at ∙ ap (take (length rows)) (set-append_left rows (z ∷ []) i z before) ∙ take_at (set rows i z) (z ∷ []) (length rows) (length-set rows i z)
 
-without-itself : (d : Handle) (rows : List Handle) (z : Handle) (i : ℕ) → IsOnlyAt d (rows ++ z ∷ []) i → i ≡ length rows → without d.slot (rows ++ z ∷ []) ≡ rows
+without-itself : (d : Handle) (rows : List Handle) (z : Handle) (i : ℕ) → IsOnlyAt d (rows ++ z ∷ []) i → i ≡ length rows → without d (rows ++ z ∷ []) ≡ rows
 without-itself d rows z i at last =
     without-last d rows z i at ∙ ap (take (length rows)) (set_at rows z [] z i (sym last)) ∙ take_at rows (z ∷ []) (length rows) refl
 
-one-before : (d : Handle) (rows : List Handle) (z : Handle) (i : ℕ) → IsOnlyAt d (rows ++ z ∷ []) i → i < length rows → one_unless_last d.slot (rows ++ z ∷ []) ≡ 1
+one-before : (d : Handle) (rows : List Handle) (z : Handle) (i : ℕ) → IsOnlyAt d (rows ++ z ∷ []) i → i < length rows → one_unless_last d (rows ++ z ∷ []) ≡ 1
 one-before d rows z i at before = rw (place-only d (rows ++ z ∷ []) i at, lt-ltb (i + 1) (length (rows ++ z ∷ [])) (omega (arith, before, length_push rows z))) refl
 
-one-itself : (d : Handle) (rows : List Handle) (z : Handle) (i : ℕ) → IsOnlyAt d (rows ++ z ∷ []) i → i ≡ length rows → one_unless_last d.slot (rows ++ z ∷ []) ≡ 0
+one-itself : (d : Handle) (rows : List Handle) (z : Handle) (i : ℕ) → IsOnlyAt d (rows ++ z ∷ []) i → i ≡ length rows → one_unless_last d (rows ++ z ∷ []) ≡ 0
 one-itself d rows z i at last = rw (place-only d (rows ++ z ∷ []) i at, le-ltb (i + 1) (length (rows ++ z ∷ [])) (omega (arith, last, length_push rows z))) refl
 
 IsOnlyAt-drop : (d : Handle) (all : List Handle) (i p : ℕ) → p ≤ i → IsOnlyAt d all i → IsOnlyAt d (drop p all) (i - p)
@@ -81,7 +81,7 @@ IsOnlyAt-take d all i p before few at =
     }
 
 -- what is left of a part from a place on
-without-part : (d : Handle) (rows : List Handle) (z : Handle) (i p : ℕ) → p ≤ length rows → p ≤ i → IsOnlyAt d (rows ++ z ∷ []) i → (without d.slot (rows ++ z ∷ []) ≡ take p (rows ++ z ∷ []) ++ without d.slot (drop p (rows ++ z ∷ []))) × (one_unless_last d.slot (rows ++ z ∷ []) ≡ one_unless_last d.slot (drop p (rows ++ z ∷ [])))
+without-part : (d : Handle) (rows : List Handle) (z : Handle) (i p : ℕ) → p ≤ length rows → p ≤ i → IsOnlyAt d (rows ++ z ∷ []) i → (without d (rows ++ z ∷ []) ≡ take p (rows ++ z ∷ []) ++ without d (drop p (rows ++ z ∷ []))) × (one_unless_last d (rows ++ z ∷ []) ≡ one_unless_last d (drop p (rows ++ z ∷ [])))
 without-part d rows z i p few from at =
     let front : take p (rows ++ z ∷ []) ≡ take p rows = take-append-le p rows (z ∷ []) few in
     let back : drop p (rows ++ z ∷ []) ≡ drop p rows ++ z ∷ [] = drop-append-le p rows (z ∷ []) few in
@@ -92,12 +92,12 @@ without-part d rows z i p few from at =
       | inl before ↦
           let put : set rows i z ≡ take p rows ++ set (drop p rows) (i - p) z = ap (λ hs. set hs i z) (sym whole) ∙ set-append_right (take p rows) (drop p rows) p i z (length-take-le p rows few) from in (
             without-before d rows z i at before ∙ put ∙ rw (front, back, without-before d (drop p rows) z (i - p) part (omega (arith, long, before, from))) refl,
-            one-before d rows z i at before ∙ sym (ap (one_unless_last d.slot) back ∙ one-before d (drop p rows) z (i - p) part (omega (arith, long, before, from))),
+            one-before d rows z i at before ∙ sym (ap (one_unless_last d) back ∙ one-before d (drop p rows) z (i - p) part (omega (arith, long, before, from))),
           )
       | inr behind ↦
           let last : i ≡ length rows = omega (arith, behind, at.within, length_push rows z) in (
             without-itself d rows z i at last ∙ sym whole ∙ rw (front, back, without-itself d (drop p rows) z (i - p) part (omega (arith, long, last))) refl,
-            one-itself d rows z i at last ∙ sym (ap (one_unless_last d.slot) back ∙ one-itself d (drop p rows) z (i - p) part (omega (arith, long, last))),
+            one-itself d rows z i at last ∙ sym (ap (one_unless_last d) back ∙ one-itself d (drop p rows) z (i - p) part (omega (arith, long, last))),
           )
     ]
 
@@ -189,7 +189,7 @@ module _ (s : State) (d : Handle) where
   key h = key_at s.cells h
 
   -- the row is in hand, or stands in the own piece of the hand
-  here : (rows suf : List Handle) (marks : List Mark) (z : Handle) (n i : ℕ) → IsOnlyAt d (rows ++ z ∷ []) i → start_of (last_mark (key z) marks) ≤ i → length rows ≤ end_of (length (rows ++ suf)) (next_mark (key z) marks) → Draws d (drawn_with s (rows ++ suf) marks n z) (buried (drawn_with s (without d.slot (rows ++ z ∷ []) ++ suf) marks (n + one_unless_last d.slot (rows ++ z ∷ [])) d))
+  here : (rows suf : List Handle) (marks : List Mark) (z : Handle) (n i : ℕ) → IsOnlyAt d (rows ++ z ∷ []) i → start_of (last_mark (key z) marks) ≤ i → length rows ≤ end_of (length (rows ++ suf)) (next_mark (key z) marks) → Draws d (drawn_with s (rows ++ suf) marks n z) (buried (drawn_with s (without d (rows ++ z ∷ []) ++ suf) marks (n + one_unless_last d (rows ++ z ∷ [])) d))
   here rows suf marks z n i at from to = elim (cases_lt i (length rows)) [
     | inl before ↦
         let c = drawn_with s (rows ++ suf) marks n z in
@@ -198,16 +198,16 @@ module _ (s : State) (d : Handle) where
         let within : i < length (rows ++ suf) = omega (arith, before, length-append rows suf) in
         let stands_by : (e : Handle) → get_or (rows ++ suf) i e ≡ d = λ e. get_or_append_left rows suf e i before ∙ sym (get_or_append_left rows (z ∷ []) e i before) ∙ get_or_default (rows ++ z ∷ []) i e no_handle at.within ∙ at.is in
         let stands : StandsAt (rows ++ suf) i d = record { within = within; is = sym (stands_by d) } in
-        let column : set (rows ++ suf) i z ≡ without d.slot (rows ++ z ∷ []) ++ suf = set-append_left rows suf i z before ∙ ap (λ hs. hs ++ suf) (sym (without-before d rows z i at before)) in
+        let column : set (rows ++ suf) i z ≡ without d (rows ++ z ∷ []) ++ suf = set-append_left rows suf i z before ∙ ap (λ hs. hs ++ suf) (sym (without-before d rows z i at before)) in
         let one = one-before d rows z i at before in
-        let same : exchanged i c ≡ drawn_with s (without d.slot (rows ++ z ∷ []) ++ suf) marks (n + one_unless_last d.slot (rows ++ z ∷ [])) d = rw (stands_by z, column, more-min s.tally.pulled n, one) refl in
+        let same : exchanged i c ≡ drawn_with s (without d (rows ++ z ∷ []) ++ suf) marks (n + one_unless_last d (rows ++ z ∷ [])) d = rw (stands_by z, column, more-min s.tally.pulled n, one) refl in
         subst (λ (x : Carried). Draws d c (buried x)) same (exchanges c i apart stands from (omega (arith, before, to)))
     | inr behind ↦
         let c = drawn_with s (rows ++ suf) marks n z in
         let last : i ≡ length rows = omega (arith, behind, at.within, length_push rows z) in
         let is : z ≡ d = sym (get_or_push rows z no_handle i (sym last)) ∙ at.is in
         let none : n + 0 ≡ n = omega arith in
-        let same : c ≡ drawn_with s (without d.slot (rows ++ z ∷ []) ++ suf) marks (n + one_unless_last d.slot (rows ++ z ∷ [])) d = rw (without-itself d rows z i at last, one-itself d rows z i at last, none, is) refl in
+        let same : c ≡ drawn_with s (without d (rows ++ z ∷ []) ++ suf) marks (n + one_unless_last d (rows ++ z ∷ [])) d = rw (without-itself d rows z i at last, one-itself d rows z i at last, none, is) refl in
         subst (λ (x : Carried). Draws d c (buried x)) same (reaches c is)
   ]
 
@@ -238,7 +238,7 @@ module _ (s : State) (d : Handle) where
       (omega (arith, one.place, long), rw (get_or_push rows z no_handle (length rows) refl) at (one.keys (length rows) (omega (arith, long))))
 
   -- no mark is left below
-  draws-lowest : (rows suf : List Handle) (upper : List Mark) (z : Handle) (n i : ℕ) → AreBetween key [] upper (rows ++ z ∷ []) → IsOnlyAt d (rows ++ z ∷ []) i → Leads (rows ++ suf) upper n z (without d.slot (rows ++ z ∷ []) ++ suf) upper (n + one_unless_last d.slot (rows ++ z ∷ []))
+  draws-lowest : (rows suf : List Handle) (upper : List Mark) (z : Handle) (n i : ℕ) → AreBetween key [] upper (rows ++ z ∷ []) → IsOnlyAt d (rows ++ z ∷ []) i → Leads (rows ++ suf) upper n z (without d (rows ++ z ∷ []) ++ suf) upper (n + one_unless_last d (rows ++ z ∷ []))
   draws-lowest rows suf upper z n i are at =
       let over = over-hand [] rows upper z are in
       here rows suf upper z n i at (rw (last_mark-none (key z) upper (λ k e h. (over k e h).1)) (omega arith)) (ends-behind (key z) (length (rows ++ suf)) (length rows) upper over (omega (arith, length-append rows suf)))
@@ -305,9 +305,9 @@ module _ (s : State) (d : Handle) where
         let ends : length rows ≤ end_of (length (rows ++ suf)) (next_mark (key z) M) = rw (next_mark-skips (key z) (upward ms ++ m ∷ []) upper (lows-to (key z) above)) (ends-behind (key z) (length (rows ++ suf)) (length rows) upper over (omega (arith, length-append rows suf))) in
         let done = here rows suf M z n i at (rw next from) ends in
         let marks : M ≡ map (fallen (key d)) (upward (m ∷ ms)) ++ upper = ap (λ ns. ns ++ upper) (sym (fallen-low (key d) (upward ms ++ m ∷ []) (lows-to (key d) low))) in
-        let column : without d.slot all ++ suf ≡ pulled_down key d (m ∷ ms) all ++ suf = ap (λ hs. hs ++ suf) (rw (le-ltb (key d) m.bound.0 low) part.0) in
-        let count : n + one_unless_last d.slot all ≡ n + drawn_down key d (m ∷ ms) all = ap (λ k. n + k) (rw (le-ltb (key d) m.bound.0 low) part.1) in
-        leads-same c (without d.slot all ++ suf) (pulled_down key d (m ∷ ms) all ++ suf) M (map (fallen (key d)) (upward (m ∷ ms)) ++ upper) (n + one_unless_last d.slot all) (n + drawn_down key d (m ∷ ms) all) column marks count done
+        let column : without d all ++ suf ≡ pulled_down key d (m ∷ ms) all ++ suf = ap (λ hs. hs ++ suf) (rw (le-ltb (key d) m.bound.0 low) part.0) in
+        let count : n + one_unless_last d all ≡ n + drawn_down key d (m ∷ ms) all = ap (λ k. n + k) (rw (le-ltb (key d) m.bound.0 low) part.1) in
+        leads-same c (without d all ++ suf) (pulled_down key d (m ∷ ms) all ++ suf) M (map (fallen (key d)) (upward (m ∷ ms)) ++ upper) (n + one_unless_last d all) (n + drawn_down key d (m ∷ ms) all) column marks count done
 
     -- it is of a lower one: the hand goes before the piece, and the row that stood there comes into hand
     draws-on : Down ms → i < m.position → Done M

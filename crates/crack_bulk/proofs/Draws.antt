@@ -41,12 +41,12 @@ upward (m ∷ ms) = upward ms ++ m ∷ []
 module _ (key : Handle → ℕ) (d : Handle) where
   -- of the marks the highest comes first: what the pull of a doomed row leaves of these rows
   abbrev pub pulled_down : List Mark → List Handle → List Handle
-  pulled_down [] rows = without d.slot rows
+  pulled_down [] rows = without d rows
   pulled_down (m ∷ ms) rows =
-      cond (nat_lt (key d) m.bound.0) (pulled_down ms (take m.position rows) ++ turned_back (drop m.position rows)) (take m.position rows ++ without d.slot (drop m.position rows))
+      cond (nat_lt (key d) m.bound.0) (pulled_down ms (take m.position rows) ++ turned_back (drop m.position rows)) (take m.position rows ++ without d (drop m.position rows))
 
   -- and how many of them it pulls
   abbrev pub drawn_down : List Mark → List Handle → ℕ
-  drawn_down [] rows = one_unless_last d.slot rows
+  drawn_down [] rows = one_unless_last d rows
   drawn_down (m ∷ ms) rows =
-      cond (nat_lt (key d) m.bound.0) (drawn_down ms (take m.position rows) + one_if_some (drop m.position rows)) (one_unless_last d.slot (drop m.position rows))
+      cond (nat_lt (key d) m.bound.0) (drawn_down ms (take m.position rows) + one_if_some (drop m.position rows)) (one_unless_last d (drop m.position rows))

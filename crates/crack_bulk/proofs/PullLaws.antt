@@ -17,7 +17,7 @@ use Rattle.crack_state.proofs.OwnedLaws.{times-places, once-most}
 use Rattle.crack_state.proofs.PullLaws.{IsIntact-pulled_back, IsIntact-exchanged}
 use Rattle.crack_bulk.specs.Pieces.{column_of, marks_of, cut}
 use Rattle.crack_bulk.specs.Carried.{pieces_of}
-use Rattle.crack_bulk.specs.Pulled.{pulled, all_drawn, slot_of, pulled_from}
+use Rattle.crack_bulk.specs.Pulled.{pulled, all_drawn, itself, pulled_from}
 use Rattle.crack_bulk.proofs.CutLaws.{IsCut-intact}
 use Rattle.crack_bulk.proofs.Draws.{Draws, reaches, exchanges, draws, drawn_with, fallen, upward, pulled_down, drawn_down}
 use Rattle.crack_bulk.proofs.DrawLaws.{IsOnlyAt, AreBetween, leads-same, draws-down}
@@ -133,16 +133,16 @@ Draws-at place s within intact =
     let cuts = IsCut-intact s [] intact in
     let are : AreFrom key 0 (upward falling) = rw up (record { pairs = intact.rising; behind = λ k e h. omega arith }) in
     let down = pulled_down-is key d falling s.column are in
-    let column : pulled_down key d falling (rows ++ z ∷ []) ++ [] ≡ column_of (pulled key slot_of 0 (d ∷ []) P) =
-    append-nil (pulled_down key d falling (rows ++ z ∷ [])) ∙ ap (pulled_down key d falling) all ∙ down.0 ∙ ap (λ ms. column_of (pulled key slot_of 0 (d ∷ []) (cut 0 ms s.column))) up in
+    let column : pulled_down key d falling (rows ++ z ∷ []) ++ [] ≡ column_of (pulled key itself 0 (d ∷ []) P) =
+    append-nil (pulled_down key d falling (rows ++ z ∷ [])) ∙ ap (pulled_down key d falling) all ∙ down.0 ∙ ap (λ ms. column_of (pulled key itself 0 (d ∷ []) (cut 0 ms s.column))) up in
     let inside : i < length (column_of P) = omega (arith, ap length cuts.column, at.within) in
     let same : key (get_or (column_of P) i no_handle) ≡ key d = ap (λ hs. key (get_or hs i no_handle)) (sym cuts.column) ∙ ap key at.is in
-    let marks : map (fallen (key d)) (upward falling) ++ [] ≡ marks_of 0 (pulled key slot_of 0 (d ∷ []) P) =
+    let marks : map (fallen (key d)) (upward falling) ++ [] ≡ marks_of 0 (pulled key itself 0 (d ∷ []) P) =
     append-nil (map (fallen (key d)) (upward falling)) ∙ ap (map (fallen (key d))) (up ∙ cuts.marks) ∙ sym (marks_of-pulled key d 0 0 i P (omega arith) inside same cuts.divided) in
-    let count : 0 + drawn_down key d falling (rows ++ z ∷ []) ≡ all_drawn key slot_of 0 (d ∷ []) P =
-    let counted : drawn_down key d falling (rows ++ z ∷ []) ≡ all_drawn key slot_of 0 (d ∷ []) P = ap (drawn_down key d falling) all ∙ down.1 ∙ ap (λ ms. all_drawn key slot_of 0 (d ∷ []) (cut 0 ms s.column)) up in
+    let count : 0 + drawn_down key d falling (rows ++ z ∷ []) ≡ all_drawn key itself 0 (d ∷ []) P =
+    let counted : drawn_down key d falling (rows ++ z ∷ []) ≡ all_drawn key itself 0 (d ∷ []) P = ap (drawn_down key d falling) all ∙ down.1 ∙ ap (λ ms. all_drawn key itself 0 (d ∷ []) (cut 0 ms s.column)) up in
     omega (arith, counted) in
-    let column_to : List Handle = column_of (pulled key slot_of 0 (d ∷ []) P) in
-    let marks_to : List Mark = marks_of 0 (pulled key slot_of 0 (d ∷ []) P) in
-    let done = leads-same b d (lifted_last s) (pulled_down key d falling (rows ++ z ∷ []) ++ []) column_to (map (fallen (key d)) (upward falling) ++ []) marks_to (0 + drawn_down key d falling (rows ++ z ∷ [])) (all_drawn key slot_of 0 (d ∷ []) P) column marks count in
+    let column_to : List Handle = column_of (pulled key itself 0 (d ∷ []) P) in
+    let marks_to : List Mark = marks_of 0 (pulled key itself 0 (d ∷ []) P) in
+    let done = leads-same b d (lifted_last s) (pulled_down key d falling (rows ++ z ∷ []) ++ []) column_to (map (fallen (key d)) (upward falling) ++ []) marks_to (0 + drawn_down key d falling (rows ++ z ∷ [])) (all_drawn key itself 0 (d ∷ []) P) column marks count in
     done (subst (λ (c : Carried). Draws d c (buried (drawn_with b (pulled_down key d falling (rows ++ z ∷ []) ++ []) (map (fallen (key d)) (upward falling) ++ []) (0 + drawn_down key d falling (rows ++ z ∷ [])) d))) begun led)

@@ -11,8 +11,8 @@ use Rattle.crack_state.specs.Steps.{buried}
 use Rattle.crack_bulk.specs.Pieces.{Pieces, last, below, column_of, marks_of}
 use Rattle.crack_bulk.specs.Carried.{pieces_of, inside_of}
 
--- `key` and `slot` of each doomed row
-module _ {D : Type 0} (key slot : D → ℕ) where
+-- `key` and handle of each doomed row
+module _ {D : Type 0} (key : D → ℕ) (handle : D → Handle) where
   -- each doomed row that isn't of a lower piece is of the last one
   abbrev pub any_doomed : D → Bool
   any_doomed d = true
@@ -23,17 +23,17 @@ module _ {D : Type 0} (key slot : D → ℕ) where
 
   -- piece by piece: what is left of each by the pulls of all doomed rows of it and of the pieces below
   abbrev pub pulled : ℕ → List D → Pieces Handle → Pieces Handle
-  pulled low ds (last rows) = last (drained key slot low any_doomed ds rows)
-  pulled low ds (below rows bound pieces) = below (drained key slot low (ends_above bound) ds rows) bound (pulled bound.0 ds pieces)
+  pulled low ds (last rows) = last (drained key handle low any_doomed ds rows)
+  pulled low ds (below rows bound pieces) = below (drained key handle low (ends_above bound) ds rows) bound (pulled bound.0 ds pieces)
 
   -- and how many rows are pulled
   abbrev pub all_drawn : ℕ → List D → Pieces Handle → ℕ
-  all_drawn low ds (last rows) = drawn key slot low any_doomed ds rows
-  all_drawn low ds (below rows bound pieces) = drawn key slot low (ends_above bound) ds rows + all_drawn bound.0 ds pieces
+  all_drawn low ds (last rows) = drawn key handle low any_doomed ds rows
+  all_drawn low ds (below rows bound pieces) = drawn key handle low (ends_above bound) ds rows + all_drawn bound.0 ds pieces
 
--- the number of a handle's cell
-abbrev pub slot_of : Handle → ℕ
-slot_of h = h.slot
+-- a handle is the doomed row's own
+abbrev pub itself : Handle → Handle
+itself h = h
 
 -- so many rows more were pulled
 abbrev pub pulled_by : ℕ → MergeReport → MergeReport
@@ -47,11 +47,11 @@ buried_all (h ∷ hs) s = buried_all hs (buried (record { store = s; hand = h })
 -- what the pulls of these doomed rows leave
 abbrev pub pulled_from : List Handle → State → State
 pulled_from hs s =
-    let pieces = pulled (key_at s.cells) slot_of 0 hs (pieces_of s) in
+    let pieces = pulled (key_at s.cells) itself 0 hs (pieces_of s) in
     buried_all hs (record s {
       column = column_of pieces;
       marks = marks_of 0 pieces;
-      tally = pulled_by (all_drawn (key_at s.cells) slot_of 0 hs (pieces_of s)) s.tally;
+      tally = pulled_by (all_drawn (key_at s.cells) itself 0 hs (pieces_of s)) s.tally;
       column_room = s.column_room + length hs;
     })
 

@@ -4,10 +4,11 @@ ghost use Rattle.crack_row.specs.Layouts.{AreJoined};
 ghost use Rattle.crack_index.specs.Heights.{least, most};
 ghost use Rattle.crack_index.specs.Walks.{Climbs, Descends};
 ghost use Rattle.crack_index.specs.Raises.{Raises};
+ghost use Rattle.crack_index.specs.Places.{Places};
 ghost use Rattle.crack_index.specs.Marks.{Rising, Fits, HasBound, position_of, next_mark, last_mark, first_behind, last_before, added, raised, lowered, lowered_at, piece_at, pieces_from};
 
 use crate::tree::{self, Link, Node};
-use crate::{Mark, Raiser, Visitor, raising, walk};
+use crate::{Mark, Placer, Raiser, Visitor, lowering, raising, walk};
 use crack_row::{InnerBound, Key, KeyRange, PieceSize, Refusal};
 use std::alloc::Global;
 use std::marker::Model;
@@ -303,5 +304,16 @@ impl CrackerIndex {
         ensures rising { Rising self.new.marks }
     {
         raising::raise_down(&mut self.root, most, visitor)
+    }
+    /// Walks over the bounds from the lowest up: the visitor is given each, and says at which place it stands then. None goes before the one
+    /// below it. The place of the last, or 0 where there is none. O(bounds). Takes no memory.
+    pub fn place_each<V: Placer>(&mut self, visitor: &mut V) -> usize
+        requires { V.is_ready visitor.old }
+        ensures places { Places V.places 0 self.old.marks visitor.old self.new.marks visitor.new result }
+        ensures ready { V.is_ready visitor.new }
+        ensures room { self.new.room ≡ self.old.room }
+        ensures rising { Rising self.new.marks }
+    {
+        lowering::place_up(&mut self.root, 0, visitor)
     }
 }

@@ -3,6 +3,7 @@
 #![tactic(auto)]
 
 pub mod index;
+mod lowering;
 pub mod mark;
 mod raising;
 mod tree;
@@ -11,4 +12,4 @@ mod walk;
 
 pub use index::{CrackerIndex, Piece};
 pub use mark::Mark;
-pub use visitor::{Raiser, Visitor};
+pub use visitor::{Placer, Raiser, Visitor};

@@ -36,3 +36,19 @@ pub trait Raiser {
         ensures rises { rises self.old mark result self.new }
         ensures ready { is_ready self.new };
 }
+
+/// What goes along on a walk over the bounds of an index from the lowest up, and says where each of them stands then. It has no part of the
+/// index, and so calls none.
+pub trait Placer {
+    /// When it may be told a bound.
+    ghost is_ready: { Self → Type 0 };
+
+    /// What it leaves that is told a bound: from the first state, at this mark, with this place, the second.
+    ghost places: { Self → Mark → ℕ → Self → Type 0 };
+
+    /// Does what is to be done at the bound, and says at which place it stands then.
+    fn place(&mut self, mark: Mark) -> usize
+        requires { is_ready self.old }
+        ensures places { places self.old mark result self.new }
+        ensures ready { is_ready self.new };
+}

@@ -1,0 +1,44 @@
+//! A walk over the marks of a tree from the lowest up, on which each goes where a visitor says.
+ghost use Rattle.std.specs.Prelude.{◌≡◌, ◌∷◌, [], length};
+ghost use Rattle.crack_index.specs.Marks.{Rising};
+ghost use Rattle.crack_index.specs.Keeps.{height_of};
+ghost use Rattle.crack_index.specs.Places.{Places};
+ghost use Rattle.crack_index.specs.Trees.{marks_of};
+
+use crate::tree::{Link, Node};
+use crate::{Mark, Placer};
+
+/// Places the marks of a tree from the lowest up, each where the visitor says, but none before the one below it and `least`.
+/// The place of the last. O(marks).
+pub(crate) fn place_up<V: Placer>(link: &mut Link, least: usize, visitor: &mut V) -> usize
+    requires ready { V.is_ready visitor.old }
+    ensures places { Places V.places least (marks_of link.old) visitor.old (marks_of link.new) visitor.new result }
+    ensures rising { Rising (marks_of link.old) → Rising (marks_of link.new) }
+    ensures length { length (marks_of link.new) ≡ length (marks_of link.old) }
+    ensures height { height_of link.new ≡ height_of link.old }
+    ensures ready { V.is_ready visitor.new }
+{
+    let Some(node) = link else {
+        return least;
+    };
+    let Node {
+        mark,
+        left,
+        right,
+        ..
+    } = &mut **node;
+    let below = place_up(left, least, visitor);
+    let here = place_mark(mark, below, visitor);
+    place_up(right, here, visitor)
+}
+
+/// Places one mark where the visitor says, but not before `least`. Where it stands then.
+fn place_mark<V: Placer>(mark: &mut Mark, least: usize, visitor: &mut V) -> usize
+    requires ready { V.is_ready visitor.old }
+    ensures places { Places V.places least (mark.old ∷ []) visitor.old (mark.new ∷ []) visitor.new result }
+    ensures ready { V.is_ready visitor.new }
+{
+    let here = visitor.place(*mark).max(least);
+    mark.position = here;
+    here
+}
