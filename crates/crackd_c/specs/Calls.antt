@@ -65,30 +65,34 @@ bounds_at splits = map (λ (split : ℕ). record { 0 = split }) splits
 abbrev pub rows_of : CoreState → List PlainView
 rows_of core = lasting (tables_of core.parts)
 
--- a call on a table comes out by what is asked of its rows: its status is 0, and this is the answer; or it is the number of a refusal, and nothing
--- else is written
-abbrev pub ComesOut : {X : Type 0} → (Result X Refusal → List PlainView → List PlainView → Type 0) → CoreState → CoreState → ℕ → X → Type 0 → Type 0
-ComesOut asked old new status answer unwritten = (refusal : Option Refusal) × (status ≡ status_of refusal) × asked (comes_to answer refusal) (rows_of old) (rows_of new) × (refusal ≢ None → unwritten)
+-- a handle still holds its table, which has the splits and the limits that it was opened with
+abbrev pub StaysOpen : Handle → Handle → Type 0
+StaysOpen old new = (new.is_open ≡ true) × (new.core.splits ≡ old.core.splits) × (new.core.limits ≡ old.core.limits)
+
+-- a call on a table, which stays open, comes out by what is asked of its rows: its status is 0, and this is the answer; or it is the number of a
+-- refusal, and nothing else is written
+abbrev pub ComesOut : {X : Type 0} → (Result X Refusal → List PlainView → List PlainView → Type 0) → Handle → Handle → ℕ → X → Type 0 → Type 0
+ComesOut asked old new status answer unwritten = StaysOpen old new × ((refusal : Option Refusal) × (status ≡ status_of refusal) × asked (comes_to answer refusal) (rows_of old.core) (rows_of new.core) × (refusal ≢ None → unwritten))
 
 -- a row is taken out: 1 is written, and what the row was; or 0, where it wasn't there
-abbrev pub TakesOut : CoreState → CoreState → RowNo → ℕ → (Option Row → Type 0) → Type 0 → Type 0
-TakesOut old new row status written unwritten = (refusal : Option Refusal) × (went : Option Row) × (status ≡ status_of refusal) × Deletes old.limits old.splits row (comes_to went refusal) (rows_of old) (rows_of new) × MatchOption refusal (written went) (λ e. unwritten)
+abbrev pub TakesOut : Handle → Handle → RowNo → ℕ → (Option Row → Type 0) → Type 0 → Type 0
+TakesOut old new row status written unwritten = StaysOpen old new × ((refusal : Option Refusal) × (went : Option Row) × (status ≡ status_of refusal) × Deletes old.core.limits old.core.splits row (comes_to went refusal) (rows_of old.core) (rows_of new.core) × MatchOption refusal (written went) (λ e. unwritten))
 
 -- a row gets another key and payload: 1 is written, or 0, where it isn't there
-abbrev pub Rewrites : CoreState → CoreState → RowNo → Key → Payload → ℕ → ℕ → Type 0 → Type 0
-Rewrites old new row key payload status found unwritten = (refusal : Option Refusal) × (is : Bool) × (status ≡ status_of refusal) × Updates old.limits old.splits row key payload (comes_to is refusal) (rows_of old) (rows_of new) × MatchOption refusal (found ≡ flag is) (λ e. unwritten)
+abbrev pub Rewrites : Handle → Handle → RowNo → Key → Payload → ℕ → ℕ → Type 0 → Type 0
+Rewrites old new row key payload status found unwritten = StaysOpen old new × ((refusal : Option Refusal) × (is : Bool) × (status ≡ status_of refusal) × Updates old.core.limits old.core.splits row key payload (comes_to is refusal) (rows_of old.core) (rows_of new.core) × MatchOption refusal (found ≡ flag is) (λ e. unwritten))
 
 -- a list of so many calls on a table went so: its status is 0, or the number of the refusal at which it stopped, and so many were done
-abbrev pub GoesOn : Call → ℕ → CoreState → CoreState → ℕ → ℕ → Type 0
-GoesOn call count old new status done = (progress : Progress) × (status ≡ status_of progress.refusal) × (done ≡ progress.done) × Went call count (rows_of old) progress (rows_of new)
+abbrev pub GoesOn : Call → ℕ → Handle → Handle → ℕ → ℕ → Type 0
+GoesOn call count old new status done = StaysOpen old new × ((progress : Progress) × (status ≡ status_of progress.refusal) × (done ≡ progress.done) × Went call count (rows_of old.core) progress (rows_of new.core))
 
 -- a partition's layout is written, or why there is none
 abbrev pub Shows : CoreState → ℕ → ℕ → Totals → List ℕ → List ℕ → Type 0 → Type 0
 Shows core part status totals lows sizes unwritten = (outcome : Result Layout Refusal) × IsLayoutOutcome (keys_of_part core.splits part) (slice_get (tables_of core.parts) part) outcome × MatchResult outcome (λ layout. (status ≡ 0) × (totals ≡ totals_in layout) × PiecesIn layout.pieces lows sizes) (λ e. (status ≡ code_of e) × unwritten)
 
 -- the history of a partition is folded, and how many entries went is written
-abbrev pub FoldsOne : CoreState → CoreState → ℕ → ℕ → ℕ → Type 0 → Type 0
-FoldsOne old new part status folded unwritten = (outcome : Result ℕ Refusal) × IsFoldOutcome (slice_get (tables_of old.parts) part) outcome × (tables_of new.parts ≡ tables_folded (tables_of old.parts) part outcome) × MatchResult outcome (λ count. (status ≡ 0) × (folded ≡ count)) (λ e. (status ≡ code_of e) × unwritten)
+abbrev pub FoldsOne : Handle → Handle → ℕ → ℕ → ℕ → Type 0 → Type 0
+FoldsOne old new part status folded unwritten = StaysOpen old new × ((outcome : Result ℕ Refusal) × IsFoldOutcome (slice_get (tables_of old.core.parts) part) outcome × (tables_of new.core.parts ≡ tables_folded (tables_of old.core.parts) part outcome) × MatchResult outcome (λ count. (status ≡ 0) × (folded ≡ count)) (λ e. (status ≡ code_of e) × unwritten))
 
 -- a handle holds a table that was just opened
 abbrev pub IsFresh : Handle → List ℕ → Limits → Type 0
@@ -97,7 +101,3 @@ IsFresh handle splits limits = (handle.is_open ≡ true) × (handle.core.splits 
 -- a table is opened with these splits and limits, without rows, or this is why not
 abbrev pub Opens : Handle → Handle → List ℕ → Limits → ℕ → Type 0
 Opens old new splits limits status = (refusal : Option Refusal) × (status ≡ status_of refusal) × MatchOption refusal (IsFresh new splits limits) (λ e. (MayFault (bounds_at splits) limits e ⊎ (e ≡ OutOfMemory)) × (new ≡ old))
-
--- a handle still holds its table, which has the splits and the limits that it was opened with
-abbrev pub StaysOpen : Handle → Handle → Type 0
-StaysOpen old new = (new.is_open ≡ true) × (new.core.splits ≡ old.core.splits) × (new.core.limits ≡ old.core.limits)

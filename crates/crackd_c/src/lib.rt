@@ -6,7 +6,7 @@ ghost use Rattle.crack_core.specs.Asking.{Inserts};
 ghost use Rattle.crack_core.specs.Bulk.{CountsKeys, SumsKeys, joined, InsertsAt, DeletesAt, UpdatesAt, CountsAt, SumsAt};
 ghost use Rattle.crack_core.specs.Listing.{SelectsKeys};
 ghost use Rattle.crack_core.specs.Steps.{accepted_by};
-ghost use Rattle.crackd_c.specs.Calls.{policy_at, AreEqual, ComesOut, TakesOut, Rewrites, GoesOn, Shows, FoldsOne, Opens, StaysOpen};
+ghost use Rattle.crackd_c.specs.Calls.{policy_at, AreEqual, ComesOut, TakesOut, Rewrites, GoesOn, Shows, FoldsOne, Opens};
 
 pub mod handle;
 pub mod opening;
@@ -76,8 +76,7 @@ pub extern "C" fn crackd_insert(
     serial: &mut u64,
 ) -> u32
     ensures closed { handle.old.is_open ≡ false → (result ≡ CLOSED) × (handle.new ≡ handle.old) × (part.new ≡ part.old) × (serial.new ≡ serial.old) }
-    ensures open { handle.old.is_open ≡ true → StaysOpen handle.old handle.new }
-    ensures inserts { handle.old.is_open ≡ true → ComesOut (Inserts handle.old.core.limits handle.old.core.splits (record { 0 = key }) (record { 0 = payload })) handle.old.core handle.new.core result (record { part = part.new; serial = record { 0 = serial.new } }) ((part.new ≡ part.old) × (serial.new ≡ serial.old)) }
+    ensures inserts { handle.old.is_open ≡ true → ComesOut (Inserts handle.old.core.limits handle.old.core.splits (record { 0 = key }) (record { 0 = payload })) handle.old handle.new result (record { part = part.new; serial = record { 0 = serial.new } }) ((part.new ≡ part.old) × (serial.new ≡ serial.old)) }
 {
     if !handle.is_open() {
         return CLOSED;
@@ -106,8 +105,7 @@ pub extern "C" fn crackd_delete(
     payload: &mut i64,
 ) -> u32
     ensures closed { handle.old.is_open ≡ false → (result ≡ CLOSED) × (handle.new ≡ handle.old) × (gone.new ≡ gone.old) × (key.new ≡ key.old) × (payload.new ≡ payload.old) }
-    ensures open { handle.old.is_open ≡ true → StaysOpen handle.old handle.new }
-    ensures deletes { handle.old.is_open ≡ true → TakesOut handle.old.core handle.new.core (record { part = part; serial = record { 0 = serial } }) result (λ went. MatchOption went ((gone.new ≡ 0) × (key.new ≡ key.old) × (payload.new ≡ payload.old)) (λ row. (gone.new ≡ 1) × (key.new ≡ row.key.0) × (payload.new ≡ row.payload.0))) ((gone.new ≡ gone.old) × (key.new ≡ key.old) × (payload.new ≡ payload.old)) }
+    ensures deletes { handle.old.is_open ≡ true → TakesOut handle.old handle.new (record { part = part; serial = record { 0 = serial } }) result (λ went. MatchOption went ((gone.new ≡ 0) × (key.new ≡ key.old) × (payload.new ≡ payload.old)) (λ row. (gone.new ≡ 1) × (key.new ≡ row.key.0) × (payload.new ≡ row.payload.0))) ((gone.new ≡ gone.old) × (key.new ≡ key.old) × (payload.new ≡ payload.old)) }
 {
     if !handle.is_open() {
         return CLOSED;
@@ -142,8 +140,7 @@ pub extern "C" fn crackd_update(
     found: &mut u8,
 ) -> u32
     ensures closed { handle.old.is_open ≡ false → (result ≡ CLOSED) × (handle.new ≡ handle.old) × (found.new ≡ found.old) }
-    ensures open { handle.old.is_open ≡ true → StaysOpen handle.old handle.new }
-    ensures updates { handle.old.is_open ≡ true → Rewrites handle.old.core handle.new.core (record { part = part; serial = record { 0 = serial } }) (record { 0 = key }) (record { 0 = payload }) result found.new (found.new ≡ found.old) }
+    ensures updates { handle.old.is_open ≡ true → Rewrites handle.old handle.new (record { part = part; serial = record { 0 = serial } }) (record { 0 = key }) (record { 0 = payload }) result found.new (found.new ≡ found.old) }
 {
     if !handle.is_open() {
         return CLOSED;
@@ -174,9 +171,8 @@ pub extern "C" fn crackd_count(
     count: &mut u64,
 ) -> u32
     ensures closed { handle.old.is_open ≡ false → (result ≡ CLOSED) × (handle.new ≡ handle.old) × (count.new ≡ count.old) }
-    ensures open { handle.old.is_open ≡ true → StaysOpen handle.old handle.new }
     ensures stranger { handle.old.is_open ≡ true → policy_at policy ≡ None → (result ≡ NO_SUCH_POLICY) × (handle.new ≡ handle.old) × (count.new ≡ count.old) }
-    ensures counts { handle.old.is_open ≡ true → IsSome (policy_at policy) → ComesOut (CountsKeys handle.old.core.limits handle.old.core.splits first last) handle.old.core handle.new.core result count.new (count.new ≡ count.old) }
+    ensures counts { handle.old.is_open ≡ true → IsSome (policy_at policy) → ComesOut (CountsKeys handle.old.core.limits handle.old.core.splits first last) handle.old handle.new result count.new (count.new ≡ count.old) }
 {
     if !handle.is_open() {
         return CLOSED;
@@ -204,9 +200,8 @@ pub extern "C" fn crackd_sum(
     high: &mut i64,
 ) -> u32
     ensures closed { handle.old.is_open ≡ false → (result ≡ CLOSED) × (handle.new ≡ handle.old) × (low.new ≡ low.old) × (high.new ≡ high.old) }
-    ensures open { handle.old.is_open ≡ true → StaysOpen handle.old handle.new }
     ensures stranger { handle.old.is_open ≡ true → policy_at policy ≡ None → (result ≡ NO_SUCH_POLICY) × (handle.new ≡ handle.old) × (low.new ≡ low.old) × (high.new ≡ high.old) }
-    ensures sums { handle.old.is_open ≡ true → IsSome (policy_at policy) → ComesOut (SumsKeys handle.old.core.limits handle.old.core.splits first last) handle.old.core handle.new.core result (joined low.new high.new) ((low.new ≡ low.old) × (high.new ≡ high.old)) }
+    ensures sums { handle.old.is_open ≡ true → IsSome (policy_at policy) → ComesOut (SumsKeys handle.old.core.limits handle.old.core.splits first last) handle.old handle.new result (joined low.new high.new) ((low.new ≡ low.old) × (high.new ≡ high.old)) }
 {
     if !handle.is_open() {
         return CLOSED;
@@ -239,10 +234,9 @@ pub extern "C" fn crackd_select(
     found: &mut u64,
 ) -> u32
     ensures closed { handle.old.is_open ≡ false → (result ≡ CLOSED) × (handle.new ≡ handle.old) × (parts.new ≡ parts.old) × (serials.new ≡ serials.old) × (keys.new ≡ keys.old) × (payloads.new ≡ payloads.old) × (found.new ≡ found.old) }
-    ensures open { handle.old.is_open ≡ true → StaysOpen handle.old handle.new }
     ensures lengths { handle.old.is_open ≡ true → (AreEqual (length parts.old) (length serials.old ∷ length keys.old ∷ length payloads.old ∷ []) → ⊥) → (result ≡ LENGTHS_DIFFER) × (handle.new ≡ handle.old) × (parts.new ≡ parts.old) × (serials.new ≡ serials.old) × (keys.new ≡ keys.old) × (payloads.new ≡ payloads.old) × (found.new ≡ found.old) }
     ensures stranger { handle.old.is_open ≡ true → AreEqual (length parts.old) (length serials.old ∷ length keys.old ∷ length payloads.old ∷ []) → policy_at policy ≡ None → (result ≡ NO_SUCH_POLICY) × (handle.new ≡ handle.old) × (parts.new ≡ parts.old) × (serials.new ≡ serials.old) × (keys.new ≡ keys.old) × (payloads.new ≡ payloads.old) × (found.new ≡ found.old) }
-    ensures selects { handle.old.is_open ≡ true → AreEqual (length parts.old) (length serials.old ∷ length keys.old ∷ length payloads.old ∷ []) → IsSome (policy_at policy) → ComesOut (SelectsKeys handle.old.core.limits handle.old.core.splits parts.new serials.new keys.new payloads.new first last) handle.old.core handle.new.core result found.new ((parts.new ≡ parts.old) × (serials.new ≡ serials.old) × (keys.new ≡ keys.old) × (payloads.new ≡ payloads.old) × (found.new ≡ found.old)) }
+    ensures selects { handle.old.is_open ≡ true → AreEqual (length parts.old) (length serials.old ∷ length keys.old ∷ length payloads.old ∷ []) → IsSome (policy_at policy) → ComesOut (SelectsKeys handle.old.core.limits handle.old.core.splits parts.new serials.new keys.new payloads.new first last) handle.old handle.new result found.new ((parts.new ≡ parts.old) × (serials.new ≡ serials.old) × (keys.new ≡ keys.old) × (payloads.new ≡ payloads.old) × (found.new ≡ found.old)) }
 {
     if !handle.is_open() {
         return CLOSED;
@@ -300,8 +294,7 @@ pub extern "C" fn crackd_layout(
 #[unsafe(no_mangle)]
 pub extern "C" fn crackd_checkpoint(handle: &mut Handle, part: u32, folded: &mut u64) -> u32
     ensures closed { handle.old.is_open ≡ false → (result ≡ CLOSED) × (handle.new ≡ handle.old) × (folded.new ≡ folded.old) }
-    ensures open { handle.old.is_open ≡ true → StaysOpen handle.old handle.new }
-    ensures folds { handle.old.is_open ≡ true → FoldsOne handle.old.core handle.new.core part result folded.new (folded.new ≡ folded.old) }
+    ensures folds { handle.old.is_open ≡ true → FoldsOne handle.old handle.new part result folded.new (folded.new ≡ folded.old) }
 {
     if !handle.is_open() {
         return CLOSED;
@@ -340,9 +333,8 @@ pub extern "C" fn crackd_insert_many(
     done: &mut u64,
 ) -> u32
     ensures closed { handle.old.is_open ≡ false → (result ≡ CLOSED) × (handle.new ≡ handle.old) × (parts.new ≡ parts.old) × (serials.new ≡ serials.old) × (done.new ≡ done.old) }
-    ensures open { handle.old.is_open ≡ true → StaysOpen handle.old handle.new }
     ensures lengths { handle.old.is_open ≡ true → (AreEqual (length keys.now) (length payloads.now ∷ length parts.old ∷ length serials.old ∷ []) → ⊥) → (result ≡ LENGTHS_DIFFER) × (handle.new ≡ handle.old) × (parts.new ≡ parts.old) × (serials.new ≡ serials.old) × (done.new ≡ done.old) }
-    ensures inserts { handle.old.is_open ≡ true → AreEqual (length keys.now) (length payloads.now ∷ length parts.old ∷ length serials.old ∷ []) → GoesOn (InsertsAt handle.old.core.limits handle.old.core.splits keys.now payloads.now parts.new serials.new) (length keys.now) handle.old.core handle.new.core result done.new }
+    ensures inserts { handle.old.is_open ≡ true → AreEqual (length keys.now) (length payloads.now ∷ length parts.old ∷ length serials.old ∷ []) → GoesOn (InsertsAt handle.old.core.limits handle.old.core.splits keys.now payloads.now parts.new serials.new) (length keys.now) handle.old handle.new result done.new }
 {
     if !handle.is_open() {
         return CLOSED;
@@ -365,9 +357,8 @@ pub extern "C" fn crackd_delete_many(
     done: &mut u64,
 ) -> u32
     ensures closed { handle.old.is_open ≡ false → (result ≡ CLOSED) × (handle.new ≡ handle.old) × (gone.new ≡ gone.old) × (done.new ≡ done.old) }
-    ensures open { handle.old.is_open ≡ true → StaysOpen handle.old handle.new }
     ensures lengths { handle.old.is_open ≡ true → (AreEqual (length parts.now) (length serials.now ∷ length gone.old ∷ []) → ⊥) → (result ≡ LENGTHS_DIFFER) × (handle.new ≡ handle.old) × (gone.new ≡ gone.old) × (done.new ≡ done.old) }
-    ensures deletes { handle.old.is_open ≡ true → AreEqual (length parts.now) (length serials.now ∷ length gone.old ∷ []) → GoesOn (DeletesAt handle.old.core.limits handle.old.core.splits parts.now serials.now gone.new) (length parts.now) handle.old.core handle.new.core result done.new }
+    ensures deletes { handle.old.is_open ≡ true → AreEqual (length parts.now) (length serials.now ∷ length gone.old ∷ []) → GoesOn (DeletesAt handle.old.core.limits handle.old.core.splits parts.now serials.now gone.new) (length parts.now) handle.old handle.new result done.new }
 {
     if !handle.is_open() {
         return CLOSED;
@@ -392,9 +383,8 @@ pub extern "C" fn crackd_update_many(
     done: &mut u64,
 ) -> u32
     ensures closed { handle.old.is_open ≡ false → (result ≡ CLOSED) × (handle.new ≡ handle.old) × (found.new ≡ found.old) × (done.new ≡ done.old) }
-    ensures open { handle.old.is_open ≡ true → StaysOpen handle.old handle.new }
     ensures lengths { handle.old.is_open ≡ true → (AreEqual (length parts.now) (length serials.now ∷ length keys.now ∷ length payloads.now ∷ length found.old ∷ []) → ⊥) → (result ≡ LENGTHS_DIFFER) × (handle.new ≡ handle.old) × (found.new ≡ found.old) × (done.new ≡ done.old) }
-    ensures updates { handle.old.is_open ≡ true → AreEqual (length parts.now) (length serials.now ∷ length keys.now ∷ length payloads.now ∷ length found.old ∷ []) → GoesOn (UpdatesAt handle.old.core.limits handle.old.core.splits parts.now serials.now keys.now payloads.now found.new) (length parts.now) handle.old.core handle.new.core result done.new }
+    ensures updates { handle.old.is_open ≡ true → AreEqual (length parts.now) (length serials.now ∷ length keys.now ∷ length payloads.now ∷ length found.old ∷ []) → GoesOn (UpdatesAt handle.old.core.limits handle.old.core.splits parts.now serials.now keys.now payloads.now found.new) (length parts.now) handle.old handle.new result done.new }
 {
     if !handle.is_open() {
         return CLOSED;
@@ -423,10 +413,9 @@ pub extern "C" fn crackd_count_many(
     done: &mut u64,
 ) -> u32
     ensures closed { handle.old.is_open ≡ false → (result ≡ CLOSED) × (handle.new ≡ handle.old) × (counts.new ≡ counts.old) × (done.new ≡ done.old) }
-    ensures open { handle.old.is_open ≡ true → StaysOpen handle.old handle.new }
     ensures lengths { handle.old.is_open ≡ true → (AreEqual (length firsts.now) (length lasts.now ∷ length counts.old ∷ []) → ⊥) → (result ≡ LENGTHS_DIFFER) × (handle.new ≡ handle.old) × (counts.new ≡ counts.old) × (done.new ≡ done.old) }
     ensures stranger { handle.old.is_open ≡ true → AreEqual (length firsts.now) (length lasts.now ∷ length counts.old ∷ []) → policy_at policy ≡ None → (result ≡ NO_SUCH_POLICY) × (handle.new ≡ handle.old) × (counts.new ≡ counts.old) × (done.new ≡ done.old) }
-    ensures counts { handle.old.is_open ≡ true → AreEqual (length firsts.now) (length lasts.now ∷ length counts.old ∷ []) → IsSome (policy_at policy) → GoesOn (CountsAt handle.old.core.limits handle.old.core.splits firsts.now lasts.now counts.new) (length firsts.now) handle.old.core handle.new.core result done.new }
+    ensures counts { handle.old.is_open ≡ true → AreEqual (length firsts.now) (length lasts.now ∷ length counts.old ∷ []) → IsSome (policy_at policy) → GoesOn (CountsAt handle.old.core.limits handle.old.core.splits firsts.now lasts.now counts.new) (length firsts.now) handle.old handle.new result done.new }
 {
     if !handle.is_open() {
         return CLOSED;
@@ -454,10 +443,9 @@ pub extern "C" fn crackd_sum_many(
     done: &mut u64,
 ) -> u32
     ensures closed { handle.old.is_open ≡ false → (result ≡ CLOSED) × (handle.new ≡ handle.old) × (lows.new ≡ lows.old) × (highs.new ≡ highs.old) × (done.new ≡ done.old) }
-    ensures open { handle.old.is_open ≡ true → StaysOpen handle.old handle.new }
     ensures lengths { handle.old.is_open ≡ true → (AreEqual (length firsts.now) (length lasts.now ∷ length lows.old ∷ length highs.old ∷ []) → ⊥) → (result ≡ LENGTHS_DIFFER) × (handle.new ≡ handle.old) × (lows.new ≡ lows.old) × (highs.new ≡ highs.old) × (done.new ≡ done.old) }
     ensures stranger { handle.old.is_open ≡ true → AreEqual (length firsts.now) (length lasts.now ∷ length lows.old ∷ length highs.old ∷ []) → policy_at policy ≡ None → (result ≡ NO_SUCH_POLICY) × (handle.new ≡ handle.old) × (lows.new ≡ lows.old) × (highs.new ≡ highs.old) × (done.new ≡ done.old) }
-    ensures sums { handle.old.is_open ≡ true → AreEqual (length firsts.now) (length lasts.now ∷ length lows.old ∷ length highs.old ∷ []) → IsSome (policy_at policy) → GoesOn (SumsAt handle.old.core.limits handle.old.core.splits firsts.now lasts.now lows.new highs.new) (length firsts.now) handle.old.core handle.new.core result done.new }
+    ensures sums { handle.old.is_open ≡ true → AreEqual (length firsts.now) (length lasts.now ∷ length lows.old ∷ length highs.old ∷ []) → IsSome (policy_at policy) → GoesOn (SumsAt handle.old.core.limits handle.old.core.splits firsts.now lasts.now lows.new highs.new) (length firsts.now) handle.old handle.new result done.new }
 {
     if !handle.is_open() {
         return CLOSED;

@@ -12,4 +12,4 @@ returns-in-Err-clause-inserts c is_open =
     let same : c.core.result.now ≡ table = c.core.ensures.value ∙ ap (λ (h : Handle). h.core) c.is_open.ensures.1 in
     let payload_is : c.from_number-2.result.0 ≡ c.args.payload = omega (arith, ints, c.from_number-2.ensures) in
     let inserts = inserts-by table.limits table.splits c.args.key c.args.payload c.from_number.result c.from_number-2.result (Err c.in-Err.refusal) (rows_of table) (rows_of c.insert.new.self) c.from_number.ensures payload_is (rw same at c.in-Err.ensures.inserts) in
-    (Some c.in-Err.refusal, search rules, inserts, search rules)
+    (search rules, (Some c.in-Err.refusal, search rules, inserts, search rules))
