@@ -1,10 +1,12 @@
 pub mod Cracking
 pub mod Divisions
+mod DrainLaws
 mod HeldLaws
 mod LabelLaws
 mod Passes
 mod SiftLaws
 mod Sifting
+mod SwapLaws
 pub mod Remembering
 mod TicketLaws
 mod Thirds

@@ -1,7 +1,10 @@
 -- What pulls leave of a piece: each doomed row of a lower piece turns it back, and each of its own is taken out.
-use Rattle.std.specs.Prelude.{ℕ, ◌+◌, ◌-◌, Bool, cond, nat_lt, List, [], ◌∷◌, ◌++◌, length, take, drop, slice_index_or, slice_set}
-use Rattle.std.specs.List.{position_or_len}
+use Rattle.std.specs.Prelude.{◌≡◌, ℕ, ◌+◌, ◌-◌, Bool, true, cond, nat_lt, Option, Some, None, List, [], ◌∷◌, ◌++◌, length, take, drop, slice_index_or, slice_set}
+use Rattle.std.specs.List.{between, position_or_len}
 use Rattle.crack_arena.specs.Arena.{Handle, no_handle, same_handle}
+use Rattle.crack_row.specs.declared.InnerBound.{InnerBound}
+use Rattle.crack_column.specs.declared.draining.Doomed.{Doomed}
+use Rattle.crack_column.specs.Column.{Column}
 use Rattle.crack_column.specs.Sifts.{one_if_some}
 
 -- the last goes before the first
@@ -38,3 +41,33 @@ module _ {D : Type 0} (key : D → ℕ) (handle : D → Handle) where
   abbrev pub drawn : ℕ → (D → Bool) → List D → List Handle → ℕ
   drawn low own [] rows = 0
   drawn low own (d ∷ ds) rows = drawn_once low own d rows + drawn low own ds (drained_once low own d rows)
+
+-- a key is below a bound, if there is one
+abbrev pub is_under : Option InnerBound → ℕ → Bool
+is_under None key = true
+is_under (Some bound) key = nat_lt key bound.0
+
+-- how many of the doomed rows are below a bound
+abbrev pub count_below : ℕ → List Doomed → ℕ
+count_below bound [] = 0
+count_below bound (d ∷ ds) = cond (nat_lt d.key bound) 1 0 + count_below bound ds
+
+-- its key, and its handle
+abbrev pub doomed_key : Doomed → ℕ
+doomed_key d = d.key
+
+abbrev pub doomed_handle : Doomed → Handle
+doomed_handle d = d.handle
+
+-- what is left by the pulls of doomed rows of a piece whose keys lie between these bounds
+abbrev pub left_by : ℕ → Option InnerBound → List Doomed → List Handle → List Handle
+left_by low high ds rows = drained doomed_key doomed_handle low (λ d. is_under high d.key) ds rows
+
+-- doomed rows were pulled out of the piece from `from` up to `to`: what they left of it stands from `start` up to the place `end`, so many of its
+-- rows were pulled, and what stands before `start` and from `to` on is as it was
+pub record Drains (low : ℕ) (high : Option InnerBound) (ds : List Doomed) (start from to : ℕ) (old new : Column) (end pulled : ℕ) : Type 0 where
+  pub front : take start new.handles ≡ take start old.handles
+  pub piece : between start end new.handles ≡ left_by low high ds (between from to old.handles)
+  pub behind : drop to new.handles ≡ drop to old.handles
+  pub end_is : end ≡ start + length (left_by low high ds (between from to old.handles))
+  pub pulled_is : pulled ≡ drawn doomed_key doomed_handle low (λ d. is_under high d.key) ds (between from to old.handles)

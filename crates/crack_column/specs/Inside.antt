@@ -1,5 +1,5 @@
 -- What private clauses alone cite.
-use Rattle.std.specs.Prelude.{◌≡◌, ℕ, ◌+◌, ◌-◌, ◌≤◌, List, ◌++◌, length, map, take, drop, All, slice_index, slice_index_or, slice_set}
+use Rattle.std.specs.Prelude.{◌≡◌, ℕ, ◌+◌, ◌-◌, ◌≤◌, List, ◌++◌, length, map, take, drop, All, cond, nat_lt, Option, slice_index, slice_index_or, slice_set}
 use Rattle.std.specs.List.{between}
 use Rattle.std.specs.List.Sorted.{IsPermutation}
 use Rattle.crack_arena.specs.Arena.{Cell, Handle}
@@ -11,6 +11,9 @@ use Rattle.crack_column.specs.Column.{Memory, memory_at, Agrees, IsDividedAt}
 use Rattle.crack_column.specs.Tickets.{memory_of, tag_handle}
 use Rattle.crack_column.specs.Keeps.{remembered_key, unread_in}
 use Rattle.crack_column.specs.Sifts.{below_bound, queued, made_way}
+use Rattle.crack_column.specs.Drains.{drained_once, drawn_once, is_under, doomed_key, doomed_handle}
+use Rattle.crack_column.specs.declared.draining.Doomed.{Doomed}
+use Rattle.crack_row.specs.declared.InnerBound.{InnerBound}
 
 -- what the tag remembers is right of its handle's row
 abbrev pub Knows : List (Cell Row) → List ℕ → Tag → Type 0
@@ -74,3 +77,13 @@ pub record SiftsTags (bound start from to : ℕ) (tags tags' : List Tag) (below 
   pub are : tags' ≡ take start tags ++ (below_bound remembered_key bound (between from to tags) ++ queued remembered_key bound (between from to tags) (between start from tags)) ++ drop to tags
   pub below_is : below ≡ length (below_bound remembered_key bound (between from to tags))
   pub moved_is : moved ≡ made_way remembered_key bound (between from to tags) (between start from tags)
+
+-- what stands at two places changes places
+abbrev pub swapped : {X : Type 0} → X → ℕ → ℕ → List X → List X
+swapped d one other xs = slice_set (slice_set xs one (slice_index_or xs other d)) other (slice_index_or xs one d)
+
+-- the pull of one doomed row left this of the piece from `start` up to `end`, so many of whose rows it pulled
+pub record DrainsOnce (low : ℕ) (high : Option InnerBound) (d : Doomed) (start end : ℕ) (handles handles' : List Handle) (start' end' pulled : ℕ) : Type 0 where
+  pub piece : between start' end' handles' ≡ drained_once doomed_key doomed_handle low (λ e. is_under high e.key) d (between start end handles)
+  pub turned : start' + cond (nat_lt d.key low) 1 0 ≡ start
+  pub pulled_is : pulled ≡ drawn_once doomed_key doomed_handle low (λ e. is_under high e.key) d (between start end handles)

@@ -2,12 +2,14 @@
 #![tactic(auto)]
 
 pub mod column;
+pub mod draining;
 pub mod held;
 pub mod remembered;
 mod tag;
 mod tags;
 
 pub use column::CrackerColumn;
+pub use draining::Doomed;
 pub use held::HeldColumn;
 pub use remembered::Remembered;
 

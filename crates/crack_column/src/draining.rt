@@ -1,0 +1,126 @@
+//! Pulls of doomed rows out of a piece, one after the other, as far as they reach it.
+ghost use Rattle.std.specs.Prelude.{◌≡◌, ◌-◌, ◌<◌, ◌≤◌, length, take, drop};
+ghost use Rattle.crack_arena.specs.Arena.{no_handle};
+ghost use Rattle.crack_column.specs.Column.{nothing, StillRemembers};
+ghost use Rattle.crack_column.specs.Drains.{is_under, count_below, Drains};
+ghost use Rattle.crack_column.specs.Inside.{swapped, DrainsOnce};
+
+use crate::CrackerColumn;
+use crack_arena::Handle;
+use crack_row::{InnerBound, KeyNumber, Row};
+
+/// A doomed row that is to be pulled out of a column.
+#[derive(Clone, Copy, PartialEq, Eq, Debug)]
+pub struct Doomed {
+    pub key: KeyNumber,
+    pub handle: Handle<Row>,
+}
+
+impl CrackerColumn {
+    /// Pulls doomed rows out of the piece from the place `from` up to and without `to`, one after the other, as far as their pulls reach
+    /// it: one below its bound `low` puts its last row before its first, into the gap of so many places that the rows taken out of the pieces
+    /// below have left; one of its own makes place for its last row. It begins where the gap began then, and where it ends the rows
+    /// taken out follow. Where it ends, and how many of its rows were pulled.
+    /// In place, without memory. O(doomed rows), and O(to - from) for each of its own; reads no row, and the arena not at all.
+    pub fn drain(
+        &mut self,
+        gap: usize,
+        from: usize,
+        to: usize,
+        low: KeyNumber,
+        high: Option<InnerBound>,
+        doomed: &[Doomed],
+    ) -> (usize, usize)
+        requires gap { gap ≤ from }
+        requires order { from ≤ to }
+        requires within { to ≤ length self.old.handles }
+        ensures drains { count_below low doomed.now ≡ gap → Drains low high doomed.now (from - gap) from to self.old self.new result.0 result.1 }
+        ensures end { (from - gap ≤ result.0) × (result.0 ≤ to) }
+        ensures few { result.1 ≤ length doomed.now }
+        ensures length { length self.new.handles ≡ length self.old.handles }
+        ensures room { self.new.room ≡ self.old.room }
+        ensures aside { self.new.aside ≡ self.old.aside }
+        ensures remembered { StillRemembers self.old self.new }
+    {
+        let first = from - gap;
+        let (mut start, mut end, mut pulled) = (from, to, 0);
+        'doomed: for i in 0..doomed.len() {
+            let (from, to, more) = self.drain_once(first, start, end, low, high, doomed[i]);
+            start = from;
+            end = to;
+            pulled += more;
+        }
+        (end, pulled)
+    }
+
+    /// One pull of them, for a piece that begins at the place `start` and ends before `end`, with a gap from `first` up to it. Where it begins and
+    /// ends then, and how many of its rows were pulled.
+    fn drain_once(
+        &mut self,
+        first: usize,
+        start: usize,
+        end: usize,
+        low: KeyNumber,
+        high: Option<InnerBound>,
+        doomed: Doomed,
+    ) -> (usize, usize, usize)
+        requires gap { first ≤ start }
+        requires order { start ≤ end }
+        requires within { end ≤ length self.old.handles }
+        ensures drains { (doomed.key < low → first < start) → DrainsOnce low high doomed start end self.old.handles self.new.handles result.0 result.1 result.2 }
+        ensures gap { first ≤ result.0 }
+        ensures order { result.0 ≤ result.1 }
+        ensures end { result.1 ≤ end }
+        ensures few { result.2 ≤ 1 }
+        ensures front { take first self.new.handles ≡ take first self.old.handles }
+        ensures behind { drop end self.new.handles ≡ drop end self.old.handles }
+        ensures length { length self.new.handles ≡ length self.old.handles }
+        ensures room { self.new.room ≡ self.old.room }
+        ensures aside { self.new.aside ≡ self.old.aside }
+        ensures remembered { StillRemembers self.old self.new }
+    {
+        if doomed.key < low {
+            if first == start {
+                return (start, end, 0);
+            }
+            self.swap(start - 1, end - 1);
+            return (start - 1, end - 1, (start < end) as usize);
+        }
+        if start == end || !is_below(doomed.key, high) {
+            return (start, end, 0);
+        }
+        match self.place_between(start, end - 1, doomed.handle) {
+            Some(place) => {
+                self.swap(place, end - 1);
+                (start, end - 1, 1)
+            }
+            None => (start, end - 1, 0),
+        }
+    }
+
+    /// The rows at two places change places. O(1), and no generation is read.
+    fn swap(&mut self, one: usize, other: usize)
+        requires one { one < length self.old.handles }
+        requires other { other < length self.old.handles }
+        ensures after { self.new ≡ record self.old {
+          handles = swapped no_handle one other self.old.handles;
+          remembered = swapped nothing one other self.old.remembered;
+        } }
+        ensures remembered { StillRemembers self.old self.new }
+    {
+        let here = self.tags.get(one);
+        let there = self.tags.get(other);
+        self.tags.set(one, there);
+        self.tags.set(other, here);
+    }
+}
+
+/// Whether a key is below a bound, if there is one.
+fn is_below(key: KeyNumber, bound: Option<InnerBound>) -> bool
+    ensures { result ≡ is_under bound key }
+{
+    match bound {
+        Some(bound) => key < bound.number(),
+        None => true,
+    }
+}
