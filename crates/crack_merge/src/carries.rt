@@ -1,7 +1,6 @@
 //! The carry, and the carries of a range.
 ghost use Rattle.std.specs.Prelude.{◌≡◌, ◌<◌, ◌≤◌, None, Some, [], length, IsTrue, IsFalse, IfSome, IfNone, IfOk, IfErr};
 ghost use Rattle.crack_arena.specs.Rows.{keys_at};
-ghost use Rattle.crack_bulk.specs.Carried.{carried_in_bulk};
 ghost use Rattle.crack_pending.specs.Pending.{Finds};
 ghost use Rattle.crack_state.specs.State.{IsIntact};
 ghost use Rattle.crack_state.specs.Merge.{outside_of};
@@ -15,8 +14,8 @@ use crack_store::{CarryEnd, Carrying, Store};
 /// Carries the pending insertions of a range, each as far as to the ceiling, in the order of arrival; passes over the others once. The ceiling
 /// lies at or above the range's high end, so no row that is evicted is one of these again.
 /// O(1) for each pending row that it passes, and O(log bounds) and the pieces on its way for each that it carries. Where no bound stands and
-/// the range has all keys, it is one loop, with room made once for all; where it has all keys, there is no ceiling and no doomed row is in the
-/// way, the rows are carried in bulk, which goes once through the pieces for all of them.
+/// the range has all keys, it is one loop, with room made once for all; where there is no ceiling and no doomed row is in the way, the rows are
+/// carried in bulk, which goes once through the pieces for all of them.
 /// Refused with 8 where it finds no memory; the rows that it had carried stay where they are.
 pub fn carry_range(
     mut store: Store,
@@ -67,9 +66,9 @@ fn first_to_carry(store: &mut Store, range: KeyRange, ceiling: Option<Bound>) ->
     Some(first)
 }
 
-/// Carries all pending insertions of a range at once, of which `first` is the first; whether it did so. It does so only where the range has all
-/// keys: where no bound stands they are put after the column's last row, else they are carried in bulk, but not under a ceiling. Where
-/// it finds no memory for all of them, it carries none. O(pending insertions), and O(pieces) for each that is carried.
+/// Carries all pending insertions of a range at once, of which `first` is the first; whether it did so. Where no bound stands and the range has
+/// all keys, they are put after the column's last row, else they are carried in bulk, but not under a ceiling. Where it finds no
+/// memory for all of them, it carries none. O(pending insertions), and O(pieces) for each that is carried.
 pub(crate) fn carry_at_once(
     store: &mut Store,
     range: KeyRange,
@@ -87,29 +86,8 @@ pub(crate) fn carry_at_once(
     }
     match ceiling {
         Some(_) => false,
-        None => carry_many(store, range, first),
+        None => store.carry_in_bulk(range, first),
     }
-}
-
-/// Carries all pending insertions of a range in bulk, of which `first` is the first; whether it did so. It doesn't where the range lacks keys
-/// of the partition, since to count its rows is a pass of its own there, nor where more rows are pending than the column has.
-fn carry_many(store: &mut Store, range: KeyRange, first: usize) -> bool
-    requires { Finds range (keys_at store.old.cells store.old.pending_in) 0 (Some first) }
-    ensures carried { IsTrue result → SameButRoom (carried_in_bulk None range store.old) store.new }
-    ensures left { IsTrue result → store.new.pending_in ≡ outside_of store.old.cells range store.old.pending_in }
-    ensures same { IsFalse result → SameButRoom store.old store.new }
-{
-    if !is_worth_bulk(store, range) {
-        return false;
-    }
-    store.carry_in_bulk(range, first)
-}
-
-/// Whether the range has all keys of the partition, and the column at least as many rows as are pending. O(1).
-fn is_worth_bulk(store: &Store, range: KeyRange) -> bool {
-    let keys = store.keys();
-    let is_whole = range.low() <= keys.low() && range.high() >= keys.high();
-    is_whole && store.pending_in() <= store.column_len()
 }
 
 /// Whether no bound stands and the range has all keys. O(1).

@@ -25,15 +25,21 @@ use crack_row::{KeyRange, Row};
 /// The fewest rows that are carried in bulk: for one row the walk over all bounds isn't worth it.
 const FEWEST: usize = 2;
 
+/// More bounds than these are many: the walk over them isn't worth it for fewer than `FEWEST_OVER_MANY` rows.
+const MANY_BOUNDS: usize = 64;
+
+/// The fewest rows that are carried in bulk where many bounds stand.
+const FEWEST_OVER_MANY: usize = 8;
+
 /// The most doomed rows that are looked for: of more one is likely to be in the way.
 const MOST_DOOMED: usize = 64;
 
 impl Store {
     /// Carries all pending insertions of a range in bulk, of which `first` is the first, and leaves what the carry of one after the other
-    /// leaves; whether it did so. It doesn't for a single row, nor where a doomed row may be in the way, nor where it finds no memory for
+    /// leaves; whether it did so. It doesn't for few rows, nor where a doomed row may be in the way, nor where it finds no memory for
     /// all of them: all is then as it was. Room is made for all of them at once.
     /// O(pending insertions), and for each that it carries O(pieces) without a wait for memory; O(bounds); for each of a few doomed rows
-    /// O(rows that it carries + log bounds). Where the list has holes, its rows are counted by O(pending insertions) for each row of the range.
+    /// O(rows that it carries + log bounds).
     pub fn carry_in_bulk(&mut self, range: KeyRange, first: usize) -> bool
         requires { Finds range (keys_at self.old.cells self.old.pending_in) 0 (Some first) }
         ensures carried { IsTrue result → SameButRoom (carried_in_bulk None range self.old) self.new }
@@ -41,8 +47,8 @@ impl Store {
         ensures live { live_rows self.new ≡ live_rows self.old }
         ensures same { IsFalse result → SameButRoom self.old self.new }
     {
-        let count = count_in(&self.inside.pending_in, range, first, &self.inside.arena);
-        if count < FEWEST || !is_clear(&self.inside, count) {
+        let count = count_in(&mut self.inside.pending_in, range, first, &self.inside.arena);
+        if is_few(&self.inside, count) || !is_clear(&self.inside, count) {
             return false;
         }
         if self.inside.column.reserve(count).is_err() {
@@ -54,18 +60,25 @@ impl Store {
 }
 
 /// How many rows of a list have their key in the range, of which `first` is the first.
-fn count_in(rows: &PendingIn, range: KeyRange, first: usize, arena: &Arena<Row>) -> usize
-    requires few { length rows.now.handles ≤ 2 ^ 32 }
-    requires keys { RemembersKeys arena.now.cells rows.now.handles rows.now.keys }
-    requires first { Finds range (keys_at arena.now.cells rows.now.handles) 0 (Some first) }
-    ensures { result ≡ length (inside_of arena.now.cells range rows.now.handles) }
+fn count_in(rows: &mut PendingIn, range: KeyRange, first: usize, arena: &Arena<Row>) -> usize
+    requires few { length rows.old.handles ≤ 2 ^ 32 }
+    requires keys { RemembersKeys arena.now.cells rows.old.handles rows.old.keys }
+    requires first { Finds range (keys_at arena.now.cells rows.old.handles) 0 (Some first) }
+    ensures counts { result ≡ length (inside_of arena.now.cells range rows.old.handles) }
+    ensures same { rows.new ≡ rows.old }
 {
     let (mut count, mut from) = (0, first);
-    'rows: while let Some(place) = rows.next_in(range, from, arena) {
+    'rows: while let Some(place) = rows.seek_in(range, from, arena) {
         count += 1;
         from = place + 1;
     }
     count
+}
+
+/// Whether so many rows are too few for a walk over all bounds. O(1).
+fn is_few(inside: &Inside, count: usize) -> bool {
+    let fewest = if MANY_BOUNDS < inside.index.len() { FEWEST_OVER_MANY } else { FEWEST };
+    count < fewest
 }
 
 /// Whether no doomed row stands where carries of so many rows could meet it: among as many first rows of its piece. Where many rows are doomed,

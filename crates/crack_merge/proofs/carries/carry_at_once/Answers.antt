@@ -21,4 +21,4 @@ returns-then-is_appendable-clause-left c = λ done.
     ap (λ (x : State). x.pending_in) (c.append_at_once.ensures.all done).same ∙ sym (none_outside c.args.range c.args.store.now (can.low yes) (can.high yes) can.intact)
 
 pub returns-in-None-clause-all : goal.returns-in-None-clause-all
-returns-in-None-clause-all c = λ done. rw c.in-None.is (CarriesAll-in_bulk None c.args.range c.args.store.now c.carry_many.new.store c.args.first tt c.is_appendable.ensures.intact c.requires.first (c.carry_many.ensures.carried done))
+returns-in-None-clause-all c = λ done. rw c.in-None.is (CarriesAll-in_bulk None c.args.range c.args.store.now c.carry_in_bulk.new.self c.args.first tt c.is_appendable.ensures.intact c.requires.first (c.carry_in_bulk.ensures.carried done))
