@@ -5,12 +5,12 @@ from __future__ import annotations
 import collections
 import concurrent.futures
 import os
-import pathlib
 import typing
 import unittest
 
-HERE = pathlib.Path(__file__).resolve().parent
-FOLDERS = [HERE, HERE.parent / "tools"]
+from fixtures import TOP
+
+FOLDERS = [TOP / "acceptance", TOP / "tools"]
 # a module whose checks take longest, so that they begin first
 LONGEST = "test_memory"
 

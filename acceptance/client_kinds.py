@@ -4,16 +4,19 @@ Each is a function of a `Guest`, which has keys of its own, a seed, and a port t
 stands in its `own` afterwards.
 """
 
+from __future__ import annotations
+
 import contextlib
 import random
 import re
 import socket
 import threading
 import time
+import typing
 
-from client_rows import said_in
-from fixtures import SECONDS, Client, Wrong, expect
-from plain_session import LEAST_PAYLOAD, POLICIES
+from client_rows import Own
+from fixtures import SECONDS, Client, expect
+from plain_session import LEAST_PAYLOAD, POLICIES, RANGES, read_line
 
 # how long a client waits for a worker and its reply
 PATIENT_SECONDS = 2 * SECONDS
@@ -32,58 +35,36 @@ STATEMENTS = {"insert": 40, "delete": 12, "update": 12, "count": 12, "sum": 8, "
 STATEMENTS |= {"checkpoint": 2, "policy": 2, "no statement": 2, "bad range": 1}
 
 
-def text_of(statements):
-    return "".join(f"{it}\n" for it in statements)
-
-
-def end_of(head):
-    """How many lines a reply has that begins so."""
-    words = head.split()
-    return 1 + int(words[-1]) if words[:1] in (["rows"], ["layout"]) else 1
-
-
 class Connection(Client):
-    """A connection whose replies are read one by one."""
+    """A connection of a client that waits long for a worker."""
 
-    def __init__(self, port, room=None):
+    def __init__(self, port: int, room: int | None = None) -> None:
         super().__init__(port, PATIENT_SECONDS, room)
-
-    def reply(self):
-        """The lines of the next reply. Wrong where the server closed the connection before it came whole."""
-        lines = [self.lines.readline()]
-        lines += [self.lines.readline() for _ in range(end_of(lines[0]) - 1)]
-        if not lines[-1].endswith("\n"):
-            raise Wrong(f"the replies broke off at {lines[-1]!r}")
-        return [it[:-1] for it in lines]
-
-    def ends_sending(self):
-        self.socket.shutdown(socket.SHUT_WR)
 
 
 class Guest:
     """A client of a server, with keys of its own."""
 
-    def __init__(self, port, own, seed, visits, seconds, others_gone):
+    def __init__(self, port: int, own: Own, seed: int, visits: int, seconds: int, others_gone: threading.Event) -> None:
         self.port, self.own, self.visits, self.seconds, self.others_gone = port, own, visits, seconds, others_gone
         self.numbers, self.payload = random.Random(seed), 0
 
-    def connect(self, room=None):
+    def connect(self, room: int | None = None) -> Connection:
         return Connection(self.port, room)
 
-    def insert(self):
-        """An insert of an own key. No two have one payload, so that each row shows whose it is; half of the clients'
-        are below 0."""
+    def insert(self) -> str:
+        """An insert of an own key. No two have one payload, so that each row shows whose it is."""
         self.payload += 1
         key = self.numbers.randrange(self.own.low, self.own.high)
         return f"insert {key} {LEAST_PAYLOAD + self.own.low + self.payload}"
 
-    def inserts(self, most):
+    def inserts(self, most: int) -> list[str]:
         return [self.insert() for _ in range(self.numbers.randrange(1, most + 1))]
 
-    def all_own(self, kind="count"):
+    def all_own(self, kind: str = "count") -> str:
         return f"{kind} {self.own.low} {self.own.high}"
 
-    def read(self, connection, statements):
+    def read(self, connection: Connection, statements: list[str]) -> list[str]:
         """Takes the replies to statements that were sent. Those that a full history refused."""
         refused = []
         for statement in statements:
@@ -93,41 +74,38 @@ class Guest:
                 refused.append(statement)
         return refused
 
-    def ask_once(self, connection, statements):
+    def ask_once(self, connection: Connection, statements: list[str]) -> list[str]:
         """Sends statements at once, cut anywhere, and takes their replies. Those that a full history refused."""
-        text = text_of(statements)
+        text = "".join(f"{it}\n" for it in statements)
         cuts = sorted(self.numbers.randrange(len(text) + 1) for _ in range(self.numbers.randrange(4)))
         for low, high in zip([0, *cuts], [*cuts, len(text)]):
             connection.send(text[low:high])
         return self.read(connection, statements)
 
-    def ask(self, connection, statement):
-        self.ask_all(connection, [statement])
-
-    def ask_all(self, connection, statements):
+    def ask(self, connection: Connection, *statements: str) -> None:
         """The same. Those that a full history refused are sent again after checkpoints."""
+        left = list(statements)
         for _ in range(ROUNDS):
-            statements = self.ask_once(connection, statements)
-            parts = {part for it in statements for part in self.own.parts_asked(said_in(it))}
-            if not statements:
+            left = self.ask_once(connection, left)
+            parts = {part for it in left for part in self.own.parts_asked(read_line(it.encode()))}
+            if not left:
                 return
             self.ask_once(connection, [f"checkpoint {part}" for part in sorted(parts)])
 
-    def end(self, connection):
+    def end(self, connection: Connection) -> None:
         """Ends a session by a `quit`, or by sending nothing more."""
         if self.numbers.random() < 0.5:
             self.ask(connection, "quit")
         else:
-            connection.ends_sending()
+            connection.sends_no_more()
         connection.is_at_end()
 
 
-def any_statement(guest):
+def any_statement(guest: Guest) -> str:
     """A statement of any kind, of own rows alone."""
     numbers, own = guest.numbers, guest.own
-    low, high = sorted(
-        numbers.choice([numbers.randrange(own.low, own.high), own.low, own.high]) for _ in range(2)
-    )
+    ends = [numbers.choice([numbers.randrange(own.low, own.high), own.low, own.high]) for _ in range(2)]
+    low, high = sorted(ends)
     part, serial = numbers.choice(own.given or [(own.session.part_of(own.low).number, 10**15)])
     (kind,) = numbers.choices(list(STATEMENTS), list(STATEMENTS.values()))
     match kind:
@@ -137,7 +115,7 @@ def any_statement(guest):
             return f"delete {part}.{serial}"
         case "update":
             return f"update {part}.{serial} {guest.insert().removeprefix('insert ')}"
-        case "count" | "sum" | "select":
+        case it if it in RANGES:
             return f"{kind} {low} {high}"
         case "checkpoint" if own.folds:
             return f"checkpoint {part if numbers.random() < 0.9 else len(own.session.parts)}"
@@ -150,44 +128,44 @@ def any_statement(guest):
     return f"count {high + 1} {low}"
 
 
-def honest(guest):
+def honest(guest: Guest) -> None:
     """Asks all kinds of statements of its own rows, in one session or in several, one after the other."""
     for _ in range(guest.visits):
         with guest.connect() as it:
             guest.ask(it, guest.all_own("select"))
             for _ in range(guest.numbers.randrange(1, 8)):
-                guest.ask_all(it, [any_statement(guest) for _ in range(guest.numbers.randrange(1, 12))])
+                guest.ask(it, *(any_statement(guest) for _ in range(guest.numbers.randrange(1, 12))))
             guest.ask(it, guest.all_own("sum"))
             guest.end(it)
 
 
-def closes(guest):
+def closes(guest: Guest) -> None:
     """Connects and closes."""
     with guest.connect():
         pass
 
 
-def resets(guest):
+def resets(guest: Guest) -> None:
     """Sends inserts, reads some of the replies, and resets the connection."""
     statements = guest.inserts(200) if guest.numbers.random() < 0.8 else []
     read = guest.numbers.randrange(len(statements) + 1)
     with guest.connect() as it:
-        it.send(text_of(statements))
+        it.send_all(statements)
         guest.read(it, statements[:read])
         guest.own.unread = statements[read:]
         it.reset()
 
 
-def half_a_line(guest):
-    """Sends a front of a line after whole ones, and leaves: it waits for the replies, closes, or resets the
-    connection."""
+def half_a_line(guest: Guest) -> None:
+    """Sends a front of a line after whole ones, and leaves: it waits for the replies, closes, or resets."""
     statements, last = guest.inserts(20), guest.insert()
     last = last[: guest.numbers.randrange(1, len(last))]
     with guest.connect() as it:
-        it.send(text_of(statements) + last)
+        it.send_all(statements)
+        it.send(last)
         how = guest.numbers.choice(["waits", "closes", "resets"])
         if how == "waits":
-            it.ends_sending()
+            it.sends_no_more()
             guest.read(it, [*statements, last])
             it.is_at_end()
             return
@@ -196,10 +174,10 @@ def half_a_line(guest):
             it.reset()
 
 
-def slow(guest):
+def slow(guest: Guest) -> None:
     """Sends its last bytes one a second."""
     statements = [*guest.inserts(20), guest.insert(), guest.all_own(), "quit"]
-    text = text_of(statements)
+    text = "".join(f"{it}\n" for it in statements)
     with guest.connect() as it:
         it.send(text[: -guest.seconds])
         for byte in text[-guest.seconds :]:
@@ -209,41 +187,40 @@ def slow(guest):
         it.is_at_end()
 
 
-def silent(guest):
+def silent(guest: Guest) -> None:
     """Says nothing until all others have gone, and then asks as an honest client does."""
     with guest.connect() as it:
         guest.others_gone.wait()
-        guest.ask_all(it, guest.inserts(20))
+        guest.ask(it, *guest.inserts(20))
         guest.ask(it, guest.all_own("select"))
         guest.end(it)
 
 
 class Sending(threading.Thread):
-    """Sends a text for as long as the connection takes it, and counts the bytes that it took."""
+    """Sends statements for as long as the connection takes them, and counts the bytes that it took."""
 
-    def __init__(self, connection, statements):
+    def __init__(self, connection: Connection, statements: list[str]) -> None:
         super().__init__()
-        self.socket, self.text, self.sent = connection.socket, text_of(statements), 0
+        self.socket, self.text, self.sent = connection.socket, "".join(f"{it}\n" for it in statements), 0
         self.start()
 
-    def run(self):
+    def run(self) -> None:
         given = memoryview(self.text.encode())
         with contextlib.suppress(OSError):
             while self.sent < len(given):
                 self.sent += self.socket.send(given[self.sent : self.sent + 65536])
 
-    def taken(self):
+    def taken(self) -> list[str]:
         """The lines that the connection took, the last one whole or not, once no more is sent."""
         self.join()
         return self.text[: self.sent].split("\n")
 
 
-def reads_nothing(guest):
-    """Has large lists written to it and reads none of them, so that its worker can't go on. Then it closes, resets, or
-    reads all of them."""
+def reads_nothing(guest: Guest) -> None:
+    """Has large lists written to it and reads none, so that its worker can't go on; then leaves, or reads all."""
     with guest.connect(FEW_BYTES) as it:
         for _ in range(LISTED // 200):
-            guest.ask_all(it, [guest.insert() for _ in range(200)])
+            guest.ask(it, *(guest.insert() for _ in range(200)))
         statements = [one for _ in range(LISTINGS) for one in (guest.insert(), guest.all_own("select"))]
         sending = Sending(it, statements)
         sending.join(PATIENCE)
@@ -258,9 +235,8 @@ def reads_nothing(guest):
         guest.own.unread = sending.taken()
 
 
-def random_bytes(guest):
-    """Sends random bytes of which no line is a statement. It reads the replies, each a refusal, or resets the
-    connection."""
+def random_bytes(guest: Guest) -> None:
+    """Sends random bytes of which no line is a statement. It reads the replies, each a refusal, or resets."""
     numbers = guest.numbers
     size = numbers.randrange(1, 30_000)
     text = numbers.randbytes(size) if numbers.random() < 0.5 else bytes(numbers.choices(FEW, k=size))
@@ -270,18 +246,18 @@ def random_bytes(guest):
         if numbers.random() < 0.2:
             it.reset()
             return
-        it.ends_sending()
+        it.sends_no_more()
         cut = [line.removesuffix(b"\r") for line in lines]
         answered = [line for line in cut if line.strip(b" ") or len(line) > 200]
         expect("refusals of random bytes", "refused 1\n" * len(answered), it.lines.read())
 
 
-def floods(guest):
+def floods(guest: Guest) -> None:
     """Sends 64 MB without a line feed, which are one bad line, or leaves amid them."""
     numbers = guest.numbers
     chunk = numbers.choice([b"x", b" ", b"insert 1 1 ", b"\0", b"\r"]) * CHUNK
     with guest.connect() as it:
-        guest.ask_all(it, guest.inserts(20))
+        guest.ask(it, *guest.inserts(20))
         for number in range(FLOODED // CHUNK):
             it.socket.sendall(chunk[:CHUNK])
             if number > 8 and numbers.random() < 0.005:
@@ -293,9 +269,8 @@ def floods(guest):
         guest.end(it)
 
 
-def pipelines(guest):
-    """Sends 200,000 statements at once. It reads while it writes, and gets each reply in order; or it resets the
-    connection after some of them."""
+def pipelines(guest: Guest) -> None:
+    """Sends 200,000 statements at once, and reads while it writes; or resets the connection after some of them."""
     statements = [guest.insert() for _ in range(PIPELINED)]
     statements[PIPELINED // 10] = guest.all_own()
     statements[PIPELINED // 5] = guest.all_own("sum")
@@ -310,20 +285,26 @@ def pipelines(guest):
         guest.own.unread = sending.taken()[read:]
 
 
-# each kind with how many of a hundred sessions it has, and how many there are at most of those that take long or send
-# much
+class Kind(typing.NamedTuple):
+    """A kind of clients, its share of a hundred sessions, and how many there are at most of one that takes long."""
+
+    visit: typing.Callable[[Guest], None]
+    share: int
+    most: int | None = None
+
+
 KINDS = [
-    (honest, 48, None),
-    (closes, 14, None),
-    (resets, 14, None),
-    (half_a_line, 12, None),
-    (random_bytes, 12, None),
-    (silent, 4, 12),
-    (slow, 3, 10),
-    (reads_nothing, 2, 12),
-    (floods, 1, 4),
-    (pipelines, 1, 4),
+    Kind(honest, 48),
+    Kind(closes, 14),
+    Kind(resets, 14),
+    Kind(half_a_line, 12),
+    Kind(random_bytes, 12),
+    Kind(silent, 4, 12),
+    Kind(slow, 3, 10),
+    Kind(reads_nothing, 2, 12),
+    Kind(floods, 1, 4),
+    Kind(pipelines, 1, 4),
 ]
-TAKE_LONG = {silent, slow, reads_nothing, pipelines, floods}
+TAKE_LONG = {it.visit for it in KINDS if it.most}
 # those that may be gone before a worker has come to them
 ABRUPT = {closes, resets, half_a_line, random_bytes}

@@ -9,77 +9,79 @@ for their causes is held against what all clients were answered. A checkpoint fo
 each entry once: what all checkpoints report comes to all that was accepted.
 """
 
+from __future__ import annotations
+
 import bisect
 import collections
 
-from compare import HEAD, misfit_of_layout, numbers_of
+import compare
+from compare import misfit_of_layout, numbers_of
 from fixtures import Wrong, expect
-from plain_session import MOST_CELLS, MOST_ENTRIES, MOST_LIFE, Limits, Session, read_line
+from plain_session import MOST_CELLS, MOST_ENTRIES, MOST_LIFE, RANGES, Limits, Part, Said, Session, read_line
 
 BYTES_OF_A_COMMAND, BYTES_OF_A_LISTED_ROW, BYTES_OF_A_SESSION = 330, 60, 100_000
 FULL, NO_CELL, OVER = 6, 9, 10
-RANGES = ("count", "sum", "select")
+Number = tuple[int, int]
+Row = tuple[int, int]
+Counts = dict[str, int]
 
 
-def said_in(statement):
-    """What a statement says; one that would be refused is told by its text."""
+def said_in(statement: str) -> Said:
     return read_line(statement.encode())
 
 
 class Own:
-    """The rows of one client, whose keys are from `low` to below `high`. `folds` says whether it asks for
-    checkpoints."""
+    """The rows of one client, with the keys from `low` to below `high`; `folds`: it asks for checkpoints."""
 
-    def __init__(self, splits, low, high, limits=Limits(), folds=True):
+    def __init__(self, splits: list[int], low: int, high: int, limits: Limits = Limits(), folds: bool = True) -> None:
         self.low, self.high, self.limits, self.folds = low, high, limits, folds
         # (what bounds the partitions of all is held elsewhere)
         self.session = Session(splits)
-        self.given = []
+        self.given: list[Number] = []
         # by partition: rows that went, and entries that checkpoints folded
         self.gone, self.folded = collections.Counter(), collections.Counter()
         # which refusals came of which partition alone
-        self.refused = set()
+        self.refused: set[tuple[int, int]] = set()
         self.listed = 0
         # statements that were sent, in order, and whose replies weren't read
-        self.unread = []
+        self.unread: list[str] = []
 
     @property
-    def rows(self):
+    def rows(self) -> dict[Number, Row]:
         """The rows by partition and serial."""
         return {(part.number, serial): row for part in self.session.parts for serial, row in part.rows.items()}
 
     @property
-    def kept(self):
+    def kept(self) -> collections.Counter:
         """By partition: commands that were accepted."""
         return collections.Counter({part.number: part.kept for part in self.session.parts})
 
     @property
-    def untold(self):
+    def untold(self) -> collections.Counter:
         """By partition: commands that may have been accepted besides."""
         return collections.Counter({part.number: part.untold for part in self.session.parts if part.untold})
 
     @property
-    def accepted(self):
+    def accepted(self) -> int:
         return sum(self.kept.values())
 
     @property
-    def inserted(self):
+    def inserted(self) -> int:
         return len(self.given)
 
     @property
-    def deleted(self):
+    def deleted(self) -> int:
         return sum(self.gone.values())
 
-    def parts_asked(self, said):
+    def parts_asked(self, said: Said) -> list[int]:
         """The numbers of the partitions that a command asks in turn, where a key isn't outside."""
         parts = self.session.parts_of(said)
         if said[0] in ("layout", "checkpoint") or (said[0] == "update" and parts and not parts[0].has(said[1][2])):
             return []
         return [part.number for part in parts]
 
-    def take(self, statement, lines):
-        """Holds a reply against the own rows, and does to them what the statement says. Wrong where it isn't the right
-        one."""
+    def take(self, statement: str, lines: list[str]) -> None:
+        """Holds a reply against the own rows, and does to them what the statement says."""
         said = said_in(statement)
         asked = self.parts_asked(said)
         is_over = len(asked) == 1 and (OVER, asked[0]) in self.refused
@@ -102,7 +104,7 @@ class Own:
             if lines[0].startswith("gone "):
                 self.gone[asked[0]] += 1
 
-    def refusal_of(self, said, asked, lines):
+    def refusal_of(self, said: Said, asked: list[int], lines: list[str]) -> int | None:
         """The number of a refusal for a limit that may come; None where it is none of these."""
         if not asked or len(lines) != 1:
             return None
@@ -117,14 +119,14 @@ class Own:
         found = right.get(lines[0])
         return found if may_come.get(found) else None
 
-    def fold(self, statement, part, lines):
+    def fold(self, statement: str, part: int, lines: list[str]) -> None:
         """Holds the reply to a checkpoint, which reports how many entries went, of all clients together."""
         folded = numbers_of(lines[0], ["folded"]) if len(lines) == 1 else None
         if folded is None or folded[0] > self.limits.history:
             raise Wrong(f"{statement}: wanted at most {self.limits.history} entries, got {lines}")
         self.folded[part] += folded[0]
 
-    def take_number(self, statement, part, lines):
+    def take_number(self, statement: str, part: Part, lines: list[str]) -> None:
         """Takes the number of a row from the reply. It is the partition's, and greater than those before it."""
         serial = lines[0].removeprefix(f"row {part.number}.")
         if serial == lines[0] or not serial.isdecimal() or int(serial) < part.next:
@@ -132,18 +134,19 @@ class Own:
         part.next = int(serial)
         self.given.append((part.number, part.next))
 
-    def look_at(self, statement, number, lines):
+    def look_at(self, statement: str, number: int, lines: list[str]) -> None:
         """Holds a layout against its equations. It has at least the own rows of its partition."""
-        part, head = self.session.parts[number], numbers_of(lines[0], HEAD)
+        part, head = self.session.parts[number], numbers_of(lines[0], compare.HEAD)
         misfit, taken = misfit_of_layout(lines, part, head[1] if head else -1)
         if misfit or taken != len(lines) or head[1] < len(part.rows):
             raise Wrong(f"{statement}: {misfit or f'{len(part.rows)} rows are own'}: {lines[:3]}")
 
-    def front(self, standing, closed=()):
-        """What became of the statements whose replies weren't read, given the rows that stand within the own keys, but
-        for those in partitions that are closed, whose rows nobody can read: by partition the least and the greatest
-        number of commands that were accepted of them, and the most rows that their selects listed. Where limits are
-        small any of them may have been refused."""
+    def front(self, standing: dict[Number, Row], closed=()) -> tuple[collections.Counter, collections.Counter, int]:
+        """What became of the statements whose replies weren't read, given the own rows that stand, but for closed ones.
+
+        By partition the least and the greatest number of commands that were accepted of them, and the most rows that
+        their selects listed. Where limits are small any of them may have been refused.
+        """
         own = {number: row for number, row in self.rows.items() if number[0] not in closed}
         expect("own rows", own, {number: row for number, row in standing.items() if number in own})
         found = collections.defaultdict(collections.deque)
@@ -173,7 +176,7 @@ class Own:
             raise Wrong(f"{self.low} to {self.high}: rows that no front of what was sent leaves: {left}")
         return least, most, listed
 
-    def keep(self, part, number, row):
+    def keep(self, part: Part, number: Number, row: Row) -> None:
         """Keeps a row that stands though its reply wasn't read."""
         if number[1] < part.next:
             raise Wrong(f"the row {row} has the number {number}, below the next one of its client {part.next}")
@@ -183,16 +186,18 @@ class Own:
 
 
 class Account:
-    """What stands once all clients have gone: all rows by partition and serial, for each partition how many rows it was
-    given, and for each whose life is over, so that nobody reads its rows, how many it has."""
+    """What stands once all have gone: the rows, how many each partition was given, and how many closed ones have.
 
-    def __init__(self, splits):
+    In those that are closed, whose life is over, nobody reads the rows.
+    """
+
+    def __init__(self, splits: list[int]) -> None:
         self.splits, self.rows, self.given, self.closed = splits, {}, [0] * (len(splits) + 1), {}
         # what the look itself asked: commands that were accepted, rows that it was given, and entries that it folded
         self.asked = self.inserted = 0
         self.folded = collections.Counter()
 
-    def read_rows(self, lines):
+    def read_rows(self, lines: list[str]) -> None:
         """Takes the lines of a select of all keys, or of those of partitions in turn."""
         expect("lines of all rows", f"rows {len(lines) - 1}", lines[0])
         before = max(self.rows, default=(0, -1))
@@ -206,7 +211,7 @@ class Account:
             self.rows[number] = (key, payload)
             before = number
 
-    def of_owners(self, owners):
+    def of_owners(self, owners: list[Own]) -> list[dict[Number, Row]]:
         """The rows of each owner, in order. Wrong where a row is nobody's."""
         lows = [it.low for it in owners]
         parted = [{} for _ in owners]
@@ -217,14 +222,13 @@ class Account:
             parted[at][number] = row
         return parted
 
-    def rows_of(self, part):
+    def rows_of(self, part: int) -> int:
         """How many rows a partition has."""
         return self.closed.get(part, sum(number[0] == part for number in self.rows))
 
 
-def check_numbers(account, clients):
-    """Each number of a row was given once. In a closed partition some may be those of inserts whose replies weren't
-    read."""
+def check_numbers(account: Account, clients: list[Own]) -> None:
+    """Each number of a row was given once; in a closed partition some to inserts whose replies weren't read."""
     given = sorted(number for client in clients for number in client.given)
     if not account.closed:
         right = [(part, it) for part, count in enumerate(account.given) for it in range(count)]
@@ -240,9 +244,8 @@ def check_numbers(account, clients):
             raise Wrong(f"partition {part} was given {count} rows, and {missing} of them to nobody")
 
 
-def check_causes(account, clients, least, most):
-    """Limits hold, and refusals come for their causes: no partition has accepted more than its life, and one whose life
-    was over just so many; one that was full, or had no cell, as many as its limit at least."""
+def check_causes(account: Account, clients: list[Own], least: dict[int, int], most: dict[int, int]) -> None:
+    """No partition has accepted more than its life, and one that refused for a limit as many as that, at least."""
     refused, limits = set().union(*(client.refused for client in clients)), clients[0].limits
     causes = {FULL: limits.history, NO_CELL: limits.cells, OVER: limits.life}
     for part in range(len(account.given)):
@@ -253,10 +256,8 @@ def check_causes(account, clients, least, most):
             raise Wrong(f"partition {part} accepted {most[part]} at most, and refused with {early or OVER}: {limits}")
 
 
-def come_to(account, clients):
-    """Holds the clients' rows against all that stands: the counts that the totals have to agree with. Wrong where a row
-    is lost, changed or nobody's, or a number was given twice, or a limit was passed, or reported before it was
-    reached."""
+def come_to(account: Account, clients: list[Own]) -> Counts:
+    """Holds the clients' rows against all that stands: the counts that the totals have to agree with."""
     clients = sorted(clients, key=lambda it: it.low)
     least, most, listed = collections.Counter(), collections.Counter(), 0
     for client, standing in zip(clients, account.of_owners(clients)):
@@ -269,23 +270,18 @@ def come_to(account, clients):
     inserted = sum(account.given) if account.closed else sum(client.inserted for client in clients)
     deleted = sum(client.deleted for client in clients)
     expect("rows held", inserted - deleted, len(account.rows) + sum(account.closed.values()))
-    return {
-        "least": sum(least.values()),
-        "most": sum(most.values()),
-        "inserted": inserted,
-        "deleted": deleted,
-        "listed": listed,
-    }
+    counts = {"least": sum(least.values()), "most": sum(most.values())}
+    return counts | {"inserted": inserted, "deleted": deleted, "listed": listed}
 
 
-def check_folded(accepted, folded):
+def check_folded(accepted: int, folded: int) -> None:
     """Each command that was accepted was folded once, since the last checkpoint of each partition came at the end."""
     expect("entries that checkpoints folded", accepted, folded)
 
 
-def check_totals(line, counts):
+def check_totals(line: str, counts: Counts) -> int:
     """Holds the totals line against what the clients' statements come to. The number of accepted commands."""
-    totals = numbers_of(line.removesuffix("\n"), ["accepted", "inserted", "deleted", "held"])
+    totals = numbers_of(line.removesuffix("\n"), compare.TOTALS)
     if totals is None:
         raise Wrong(f"no totals line: {line!r}")
     accepted, *rest = totals
@@ -296,6 +292,6 @@ def check_totals(line, counts):
     return accepted
 
 
-def most_bytes(accepted, listed, sessions):
+def most_bytes(accepted: int, listed: int, sessions: int) -> int:
     """How many bytes a server may take beyond those of its start, after so many sessions."""
     return BYTES_OF_A_COMMAND * accepted + BYTES_OF_A_LISTED_ROW * listed + BYTES_OF_A_SESSION * sessions

@@ -9,16 +9,20 @@ full; of three seeds two have small limits. The server has to end by itself once
 the same clients again; in which order a server comes to them it doesn't say.
 """
 
+from __future__ import annotations
+
 import concurrent.futures
 import pathlib
 import random
 import threading
 import time
+import typing
 
-from client_kinds import ABRUPT, KINDS, TAKE_LONG, Connection, Guest, honest, silent
+from client_kinds import ABRUPT, KINDS, TAKE_LONG, Connection, Guest, Kind, honest, silent
 from client_rows import Account, Own, check_folded, check_totals, come_to, most_bytes
 from fixtures import FAULTS, MOST_WORKERS, SECONDS, Server, Wrong, expect
 from plain_session import MOST, MOST_LIFE, POLICIES, Limits
+from served_memory import bytes_of
 
 SEED, SESSIONS, SLOW_SECONDS = 1, 400, 8
 MOST_SESSIONS, MOST_SECONDS = 3000, 40
@@ -31,34 +35,25 @@ LIMITS = [Limits(500, life=4000), Limits(), Limits(500, 1500)]
 # block that was given back, as the one of a folded history is, and what grows in smaller blocks leaves holes, which
 # aren't what the server asks for. Without checkpoints nothing is given back.
 MAPPED_FROM = {"MALLOC_MMAP_THRESHOLD_": "131072"}
+Visit = typing.Callable[[Guest], None]
 
 
 class Peak(threading.Thread):
     """Looks again and again at the most memory that a process has taken, until it ends."""
 
-    def __init__(self, number):
+    def __init__(self, process: int) -> None:
         super().__init__(daemon=True)
-        self.status = pathlib.Path(f"/proc/{number}/status")
-        self.first = self.bytes = self.of("VmRSS")
-        self.often = threading.Event()
+        self.process, self.often = process, threading.Event()
+        self.first = self.bytes = bytes_of(process, "VmRSS")
         self.start()
 
-    def of(self, name):
-        """The bytes that the process's status has under this name; 0 once it has ended."""
-        try:
-            text = self.status.read_text()
-        except (FileNotFoundError, ProcessLookupError):
-            return 0
-        found = [line.split() for line in text.splitlines() if line.startswith(f"{name}:")]
-        return int(found[0][1]) * 1024 if found else 0
-
-    def run(self):
-        while it := self.of("VmHWM"):
+    def run(self) -> None:
+        while it := bytes_of(self.process, "VmHWM"):
             self.bytes = max(self.bytes, it)
             time.sleep(0.002 if self.often.is_set() else 0.05)
 
 
-def waiting(port):
+def waiting(port: int) -> int:
     """How many connections wait for a worker that accepts them."""
     for line in pathlib.Path("/proc/net/tcp").read_text().splitlines()[1:]:
         words = line.split()
@@ -68,9 +63,8 @@ def waiting(port):
     return 0
 
 
-def wait_for_a_place(port):
-    """Waits until few connections wait. One that goes before a worker came to it may be lost where too many do, and the
-    server has a session less."""
+def wait_for_a_place(port: int) -> None:
+    """Waits until few connections wait: where too many do one that goes may be lost, and the server lacks a session."""
     end = time.monotonic() + SECONDS
     while waiting(port) > WAITING:
         if time.monotonic() > end:
@@ -78,26 +72,25 @@ def wait_for_a_place(port):
         time.sleep(0.005)
 
 
-def planned(numbers, sessions, workers, of=KINDS[1:]):
-    """The kinds of a run, each with its number of sessions, honest ones beside these: those that take long first, of
-    each fewer than half as many as there are workers."""
+def planned(numbers: random.Random, sessions: int, workers: int, of: list[Kind] = KINDS[1:]) -> list[tuple[Visit, int]]:
+    """The kinds of a run, those that take long first, each with its number of sessions, honest ones beside these."""
     kinds, left = [], sessions
-    for kind, share, most in of:
-        count = max(1, round(sessions * share / 100))
-        count = min(count, most or count, (workers - 1) // 2 if kind in TAKE_LONG else count)
-        kinds += [(kind, 1)] * count
+    for kind in of:
+        count = max(1, round(sessions * kind.share / 100))
+        # (fewer than half of the workers are held by each kind)
+        count = min(count, kind.most or count, (workers - 1) // 2 if kind.most else count)
+        kinds += [(kind.visit, 1)] * count
         left -= count
     while left > 0:
         visits = min(left, numbers.randrange(1, 4))
         kinds.append((honest, visits))
         left -= visits
-    first = [it for it in kinds if it[0] in TAKE_LONG]
     rest = [it for it in kinds if it[0] not in TAKE_LONG]
     numbers.shuffle(rest)
-    return first + rest
+    return [it for it in kinds if it[0] in TAKE_LONG] + rest
 
 
-def visit(guest, kind):
+def visit(guest: Guest, kind: Visit) -> str | None:
     """Runs a client. What is wrong, or None."""
     try:
         if kind in ABRUPT:
@@ -108,52 +101,52 @@ def visit(guest, kind):
     return None
 
 
+def results(visits: list[concurrent.futures.Future]) -> None:
+    """Waits for clients. Wrong where something is wrong with one."""
+    faults = [it.result() for it in visits if it.result()]
+    if faults:
+        raise Wrong("\n    ".join(faults[:5]))
+
+
 class Look:
     """A last look at all partitions, by a session that is alone: what it learns stands in an account."""
 
-    def __init__(self, connection, account, clients, limits):
+    def __init__(self, connection: Connection, account: Account, clients: list[Own], limits: Limits) -> None:
         self.connection, self.account, self.clients, self.limits = connection, account, clients, limits
         self.ends = [0, *account.splits, MOST]
         self.parts = range(len(account.given))
 
-    def ask(self, statement):
-        self.connection.send(f"{statement}\n")
-        return self.connection.reply()
-
-    def fold(self):
-        """Folds each history."""
-        for part in self.parts:
-            (line,) = self.ask(f"checkpoint {part}")
-            self.account.folded[part] += int(line.removeprefix("folded "))
-
-    def take(self):
-        """Reads all rows after checkpoints, so that no history is full, learns how many rows each partition was given,
-        and folds once more."""
+    def take(self) -> None:
+        """Reads all rows, and learns how many each partition was given, after checkpoints, so that none is full."""
         self.fold()
         if self.limits.life == MOST_LIFE:
-            self.account.read_rows(self.ask(f"select 0 {MOST}"))
+            self.account.read_rows(self.connection.answer(f"select 0 {MOST}"))
             self.account.asked += len(self.parts)
         else:
             for part in self.parts:
                 self.read_part(part)
         self.fold()
-        for part in self.parts:
-            self.account.given[part] = self.given(part)
+        self.account.given = [self.given(part) for part in self.parts]
         self.fold()
 
-    def read_part(self, part):
+    def fold(self) -> None:
+        """Folds each history."""
+        for part in self.parts:
+            (line,) = self.connection.answer(f"checkpoint {part}")
+            self.account.folded[part] += int(line.removeprefix("folded "))
+
+    def read_part(self, part: int) -> None:
         """Reads the rows of a partition. Where its life is over its layout says how many there are."""
-        lines = self.ask(f"select {self.ends[part]} {self.ends[part + 1]}")
+        lines = self.connection.answer(f"select {self.ends[part]} {self.ends[part + 1]}")
         if lines == ["refused 10"]:
-            self.account.closed[part] = int(self.ask(f"layout {part}")[0].split(" ")[3])
+            self.account.closed[part] = int(self.connection.answer(f"layout {part}")[0].split(" ")[3])
         else:
             self.account.read_rows(lines)
             self.account.asked += 1
 
-    def given(self, part):
-        """How many rows a partition was given: the number of one more; where it takes none, those that it has and those
-        that went."""
-        (line,) = self.ask(f"insert {self.ends[part]} 0") if part not in self.account.closed else [""]
+    def given(self, part: int) -> int:
+        """How many rows a partition was given: the number of one more, or those that it has and those that went."""
+        (line,) = self.connection.answer(f"insert {self.ends[part]} 0") if part not in self.account.closed else [""]
         if line.startswith(f"row {part}."):
             self.account.asked += 1
             self.account.inserted += 1
@@ -165,8 +158,10 @@ class Look:
 
 
 class Storm:
-    """A server, and clients of all kinds that a seed gives. Of the sessions one for each worker is kept for a last
-    look; the slow clients send `seconds` bytes, one a second; `folds` says whether honest ones ask for checkpoints."""
+    """A server, and clients that a seed gives; of the sessions one for each worker is kept for a last look.
+
+    The slow clients send `seconds` bytes, one a second; `folds` says whether honest ones ask for checkpoints.
+    """
 
     def __init__(self, program, seed=SEED, sessions=SESSIONS, workers=MOST_WORKERS, seconds=SLOW_SECONDS, folds=True):
         self.program, self.workers, self.sessions = program, workers, sessions
@@ -184,57 +179,31 @@ class Storm:
         self.limits = LIMITS[seed % len(LIMITS)]
         # (half of the servers keep receipts)
         self.audit = ["--audit"] if seed % 2 else []
-        self.clients = []
+        self.clients: list[Own] = []
         # how many entries were folded by checkpoints that were due
         self.due = 0
 
-    def words(self):
+    def words(self) -> list[str]:
         """The options of its server."""
         return ["--sessions", str(self.sessions), "--quiet", *self.audit, "--policy", self.policy, *self.limits.words()]
 
-    def run(self):
+    def run(self) -> dict[str, object]:
         """Runs it. What it came to, as numbers by their names."""
         before = time.monotonic()
         words = [*self.words(), *map(str, self.splits)]
         with Server(self.program, self.workers, *words, environment=MAPPED_FROM if self.folds else {}) as server:
-            peak = Peak(server.process.pid)
-            account = self.visit(server, peak)
+            peak, account = Peak(server.process.pid), Account(self.splits)
+            self.visit(server, account, peak)
             status, wrote, complained = server.ended()
             self.check_end(status, complained)
         peak.join()
         return self.hold(account, wrote, peak) | {"seconds": round(time.monotonic() - before, 1)}
 
-    def visit(self, server, peak):
-        """Has all clients come. What stands once they have gone."""
+    def visit(self, server: Server, account: Account, peak: Peak) -> None:
+        """Has all clients come, and sees what stands once they have gone, by as many as are served at once."""
         self.visit_all(server.port)
-        return self.look(server.port, peak)
-
-    def check_end(self, status, complained):
-        """Holds how the server ended."""
-        expect("status and standard error", (0, ""), (status, complained))
-
-    def visit_all(self, port):
-        """Has all clients come, as many at a time as there are workers and some more, and the silent ones speak once
-        the others have gone."""
-        others_gone = threading.Event()
-        with concurrent.futures.ThreadPoolExecutor(self.workers + min(self.workers, BACKLOG)) as pool:
-            visits = []
-            for number, ((kind, times), low) in enumerate(zip(self.plan, self.lows)):
-                own = Own(self.splits, low, low + self.width, self.limits, self.folds)
-                guest = Guest(port, own, self.seed + number, times, self.seconds, others_gone)
-                self.clients.append(own)
-                visits.append((kind, pool.submit(visit, guest, kind)))
-            concurrent.futures.wait([it for kind, it in visits if kind is not silent])
-            others_gone.set()
-            faults = [it.result() for _, it in visits if it.result()]
-        if faults:
-            raise Wrong("\n    ".join(faults[:5]))
-
-    def look(self, port, peak):
-        """What stands once all have gone. So many connections as there are workers are served at once, so no worker is
-        at an earlier one; one of them takes a look."""
-        account = Account(self.splits)
-        last = [Connection(port) for _ in range(self.workers)]
+        # (so no worker is at an earlier session)
+        last = [Connection(server.port) for _ in range(self.workers)]
         for it in last:
             it.send("nonsense\n")
         for it in last:
@@ -244,9 +213,28 @@ class Storm:
         for it in last:
             with it:
                 it.end()
-        return account
 
-    def hold(self, account, wrote, peak):
+    def check_end(self, status: int, complained: str) -> None:
+        """Holds how the server ended."""
+        expect("status and standard error", (0, ""), (status, complained))
+
+    def guest(self, port: int, low: int, seed: int, visits: int, others_gone: threading.Event) -> Guest:
+        """A client with the keys from this one on."""
+        self.clients.append(Own(self.splits, low, low + self.width, self.limits, self.folds))
+        return Guest(port, self.clients[-1], seed, visits, self.seconds, others_gone)
+
+    def visit_all(self, port: int) -> None:
+        """Has all clients come, few more at a time than workers; the silent ones speak once the others have gone."""
+        others_gone, visits = threading.Event(), []
+        with concurrent.futures.ThreadPoolExecutor(self.workers + min(self.workers, BACKLOG)) as pool:
+            for number, ((kind, times), low) in enumerate(zip(self.plan, self.lows)):
+                guest = self.guest(port, low, self.seed + number, times, others_gone)
+                visits.append((kind, pool.submit(visit, guest, kind)))
+            concurrent.futures.wait([it for kind, it in visits if kind is not silent])
+            others_gone.set()
+            results([it for _, it in visits])
+
+    def hold(self, account: Account, wrote: str, peak: Peak) -> dict[str, object]:
         """Holds rows, totals and memory against what the clients were answered."""
         counts = come_to(account, self.clients)
         for name in ("least", "most"):
@@ -263,18 +251,13 @@ class Storm:
         return figures | {"bytes": took, "most": most}
 
 
-def storm(program, *given, **how):
-    """Runs a server among the clients of a seed: what they come to."""
-    return Storm(program, *given, **how).run()
-
-
-def fault(program, seed):
+def fault(program: str, seed: int) -> None:
     """A run of a size that the seed draws."""
     numbers = random.Random(seed)
     workers = numbers.choice([4, 8, 32, MOST_WORKERS])
-    storm(program, seed, workers + numbers.randrange(250, 500), workers, numbers.randrange(1, 20))
+    Storm(program, seed, workers + numbers.randrange(250, 500), workers, numbers.randrange(1, 20)).run()
 
 
-def whole_fault(program, seed):
+def whole_fault(program: str, seed: int) -> None:
     """A run of many sessions."""
-    storm(program, seed, MOST_SESSIONS, MOST_WORKERS, MOST_SECONDS)
+    Storm(program, seed, MOST_SESSIONS, MOST_WORKERS, MOST_SECONDS).run()

@@ -1,5 +1,4 @@
-"""Holds what a session wrote against the lists of plain_session.py, also where some statements may have been refused
-for want of memory.
+"""Holds what a session wrote against the lists of plain_session.py, also where some statements found no memory.
 
 Each statement that is answered `refused 8` must be one that asks a partition, and one that nothing else refuses before;
 the lists then never see it. (A range over several partitions may have been answered in part: that is kept in their
@@ -14,16 +13,16 @@ from __future__ import annotations
 
 import dataclasses
 
-from plain_session import NO_CELL, Part, Said, Session
+from plain_session import NO_CELL, RANGES, Part, Said, Session
 
 SHORT = "refused 8"
 HEAD = ["layout", "rows", "column", "out", "in", "cells", "free", "pieces"]
+TOTALS = ["accepted", "inserted", "deleted", "held"]
 
 
 @dataclasses.dataclass
 class Seen:
-    """What was found: what is wrong, or None; how many statements were answered `refused 8`; the lines that each
-    statement was answered; and what the replies say of the totals."""
+    """What is wrong, or None; how many statements found no memory; the answers; and what they say of the totals."""
 
     wrong: str | None = None
     short: int = 0
@@ -44,23 +43,21 @@ class Seen:
             self.deleted += answer[0].startswith("gone")
 
 
-def is_number(word: str) -> bool:
-    """Whether a word is a number as they are written: decimal digits, without zeros before them."""
+def numbers_in(words: list[str]) -> list[int] | None:
+    """The numbers that words are, written as they are: decimal digits, without zeros before them."""
     # (int() would take signs and more)
-    return word.isascii() and word.isdecimal() and str(int(word)) == word
+    are_all = all(it.isascii() and it.isdecimal() and str(int(it)) == it for it in words)
+    return [int(it) for it in words] if are_all else None
 
 
 def numbers_of(line: str, names: list[str]) -> list[int] | None:
     """The numbers of a line after these names, each name before its number; None where the line has another form."""
     words = line.split(" ")
-    if len(words) != 2 * len(names) or words[::2] != names or not all(map(is_number, words[1::2])):
-        return None
-    return [int(word) for word in words[1::2]]
+    return numbers_in(words[1::2]) if len(words) == 2 * len(names) and words[::2] == names else None
 
 
 def misfit_of_layout(lines: list[str], part: Part, rows: int) -> tuple[str | None, int]:
-    """What is wrong with the layout at the front of the lines of a partition that has so many rows, and how many lines
-    it has."""
+    """What is wrong with the layout at the front of lines, of a partition with so many rows; and how long it is."""
     head = numbers_of(lines[0], HEAD) if lines else None
     if head is None:
         return "no head line", 1
@@ -68,10 +65,10 @@ def misfit_of_layout(lines: list[str], part: Part, rows: int) -> tuple[str | Non
     low, sizes = part.low, 0
     for line in lines[1 : pieces + 1]:
         kind, *words = line.split(" ")
-        is_piece = kind == "piece" and len(words) == 3 and all(map(is_number, words))
-        if not is_piece or int(words[0]) != low or int(words[1]) < low:
+        piece = numbers_in(words)
+        if kind != "piece" or not piece or len(piece) != 3 or piece[0] != low or piece[1] < low:
             return f"the pieces don't join at {line!r}", pieces + 1
-        low, sizes = int(words[1]), sizes + int(words[2])
+        low, sizes = piece[1], sizes + piece[2]
     if len(lines) <= pieces or low != part.high:
         return f"the pieces end at {low}", pieces + 1
     is_right = number == part.number and sizes == column and column + pending + free == cells
@@ -108,12 +105,11 @@ def answer_of(session: Session, said: Said, line: str) -> list[str] | Part:
 def held(
     session: Session, said: Said, lines: list[str], at: int, seen: Seen, may_be_first: bool
 ) -> tuple[str | None, int]:
-    """Holds the answer that begins at this line against the list's: what is wrong or None, and how many lines it has.
-    At a desk where a want of memory may come first it may do so even where another refusal is due."""
+    """What is wrong with the answer that begins at this line, and how long it is; see `compare`."""
     line, parts = lines[at] if at < len(lines) else "", len(session.parts_of(said))
     if line == SHORT:
         seen.short += 1
-        seen.accepted_most += parts - 1 if said[0] in ("count", "sum", "select") else 0
+        seen.accepted_most += parts - 1 if said[0] in RANGES else 0
         if not parts or (session.is_refused_without_memory(said) and not may_be_first):
             return f"{SHORT} where no memory is asked for", 1
         session.leave_without_memory(said)
@@ -128,16 +124,17 @@ def held(
 
 def lines_of(wrote: bytes) -> list[str] | None:
     """The lines of a text; None where it is none, or its last line has no end."""
-    if wrote and not wrote.endswith(b"\n") or not wrote.isascii():
-        return None
-    return wrote.decode("ascii").split("\n")[:-1]
+    is_text = wrote.isascii() and wrote[-1:] in (b"", b"\n")
+    return wrote.decode("ascii").split("\n")[:-1] if is_text else None
 
 
 def compare(
     said: list[Said], wrote: bytes, session: Session | None = None, short: int = 0, may_be_first: bool = False
 ) -> Seen:
-    """Compares what a session wrote with what was said in it. At most `short` statements may be answered
-    `refused 8`."""
+    """Compares what a session wrote with what was said in it: `short` statements at most found no memory.
+
+    Where that `may_be_first` it may come before another refusal that is due as well, as it does at a desk.
+    """
     session, seen, lines, at = session or Session(), Seen(), lines_of(wrote), 0
     if lines is None:
         seen.wrong = f"no lines of text: {wrote[-80:]!r}"

@@ -1,34 +1,33 @@
-"""What the checks stand on: the programs, a server and its clients, a child that ends, one that is given its input in
-pieces, and one to which memory is refused.
+"""What checks stand on: the program, a server and its clients, a child that ends, and one that is refused memory.
 
-A module of checks ends with `fixtures.main()`: `python3 acceptance/test_NAME.py [PROGRAM] [WORD ..]` runs it on that
-program, or on the checkout's, with the words that unittest takes (-k WORD: those whose name has the word).
+`python3 -m unittest acceptance.test_NAME` runs a module of checks on the program of this checkout, or on the one that
+CRACKD names; `-k WORD` runs those whose name has the word.
 """
 
 from __future__ import annotations
 
 import atexit
+import concurrent.futures
 import contextlib
 import functools
 import os
 import pathlib
+import re
 import shutil
 import socket
 import struct
 import subprocess
-import sys
 import tempfile
 import threading
 import typing
 import unittest
-
-from plain_session import MOST  # noqa: F401 (most checks name it)
 
 TOP = pathlib.Path(__file__).resolve().parent.parent
 CRATES = TOP / "crates"
 # how long a child or a server may take, and how often another port is tried
 SECONDS, TRIES, MOST_WORKERS = 60, 5, 64
 COMPILERS = ["cc", "gcc", "clang", "tcc"]
+PORT_IS_TAKEN = "crackd: refused 17\n"
 Ended = tuple[int, typing.Any, typing.Any]
 
 
@@ -47,10 +46,15 @@ def expect(what: object, wanted: object, got: object) -> None:
 
 
 def built(name: str = "crackd", top: pathlib.Path | None = None) -> str:
-    """The path of a program, of this checkout or of another; that of this one's `crackd` may be given by the
-    environment."""
+    """The path of a program, of this checkout or of another; CRACKD may name that of this one's `crackd`."""
     own = (top or TOP) / "crates" / name / "out" / name
     return str(pathlib.Path(os.environ.get("CRACKD", own) if name == "crackd" and not top else own).resolve())
+
+
+def sections(name: str) -> dict[str, str]:
+    """The sections of a text of this folder, which begin with lines `---- NAME`, without its comments."""
+    text = re.sub(r"^#.*\n", "", (TOP / "acceptance" / name).read_text(encoding="utf-8"), flags=re.MULTILINE)
+    return dict(it.strip().split("\n", 1) for it in f"\n{text}".split("\n---- ")[1:])
 
 
 class Case(unittest.TestCase):
@@ -65,11 +69,10 @@ class Case(unittest.TestCase):
         if not os.path.exists(self.program):
             self.skipTest(f"{self.needs} isn't built")
 
-    def assert_right(self, *faults: str | None) -> None:
+    def assert_right(self, fault: str | None) -> None:
         """Fails where a fault is reported."""
-        for fault in faults:
-            if fault is not None:
-                self.fail(fault)
+        if fault is not None:
+            self.fail(fault)
 
 
 def add(of: type[unittest.TestCase], name: str, check: typing.Callable, *given: object) -> None:
@@ -84,15 +87,8 @@ def add_seeds(of: type[Case], seeds: typing.Iterable[int], fault: typing.Callabl
         add(of, f"seed {seed:02}", lambda self, seed: self.assert_right(fault(self.program, seed)), seed)
 
 
-def main() -> None:
-    """Runs the checks of the module that is the program."""
-    if len(sys.argv) > 1 and os.path.isfile(sys.argv[1]):
-        os.environ["CRACKD"] = sys.argv.pop(1)
-    unittest.main(module="__main__")
-
-
 def ran(command: typing.Iterable[object], given: str | bytes | None = b"", seconds: float = SECONDS, **how) -> Ended:
-    """Runs a child to its end: its status, what it wrote, and what it complained; as text, if it is given a text."""
+    """Runs a child to its end: its status, and what it wrote and complained; as text, if it is given a text."""
     streams = {} if {"stdout", "stderr"} & how.keys() else {"capture_output": True}
     source = {} if "stdin" in how else {"input": given}
     words = list(map(str, command))
@@ -102,8 +98,7 @@ def ran(command: typing.Iterable[object], given: str | bytes | None = b"", secon
 
 @contextlib.contextmanager
 def watched(command: list[str], seconds: float = SECONDS, **how) -> typing.Iterator[subprocess.Popen]:
-    """A child with pipes for all that it reads and writes, as far as nothing else is said. It is killed where it hasn't
-    ended in time."""
+    """A child with pipes for all that it reads and writes, which is killed where it hasn't ended in time."""
     pipes = dict.fromkeys(["stdin", "stdout", "stderr"], subprocess.PIPE)
     child = subprocess.Popen(command, **{**pipes, **how})
     watch = threading.Timer(seconds, child.kill)
@@ -115,27 +110,35 @@ def watched(command: list[str], seconds: float = SECONDS, **how) -> typing.Itera
         watch.cancel()
 
 
-def write_pieces(target: typing.IO[bytes], given: bytes, piece: int) -> threading.Thread:
-    """Writes bytes to a pipe in pieces of so many, on a thread of its own, and closes it."""
+@contextlib.contextmanager
+def side_by_side(work: typing.Callable[[], object]) -> typing.Iterator[None]:
+    """Has a function run on a thread of its own in the meantime, and waits for its end."""
+    thread = threading.Thread(target=work)
+    thread.start()
+    try:
+        yield
+    finally:
+        thread.join()
 
-    def write() -> None:
-        # (a session that has ended reads no more)
-        with contextlib.suppress(BrokenPipeError), target:
-            for at in range(0, len(given), piece):
-                os.write(target.fileno(), given[at : at + piece])
 
-    writer = threading.Thread(target=write)
-    writer.start()
-    return writer
+def all_at_once(work: typing.Callable, *given: typing.Sequence) -> list:
+    """What a function returns for each of what is given, each on a thread of its own."""
+    with concurrent.futures.ThreadPoolExecutor(len(given[0])) as pool:
+        return list(pool.map(work, *given))
+
+
+def write_pieces(target: typing.IO[bytes], given: bytes, piece: int) -> None:
+    """Writes bytes to a pipe in pieces of so many, and closes it."""
+    # (a session that has ended reads no more)
+    with contextlib.suppress(BrokenPipeError), target:
+        for at in range(0, len(given), piece):
+            os.write(target.fileno(), given[at : at + piece])
 
 
 def fed(command: list[str], given: bytes, piece: int = 65536) -> Ended:
-    """Runs a child that is given these bytes in pieces of so many: its status, what it wrote, and what it
-    complained."""
-    with watched(command) as it:
-        writer = write_pieces(it.stdin, given, piece)
+    """Runs a child that is given bytes in pieces of so many: its status, what it wrote, and what it complained."""
+    with watched(command) as it, side_by_side(lambda: write_pieces(it.stdin, given, piece)):
         wrote, complained = it.stdout.read(), it.stderr.read()
-        writer.join()
     return it.returncode, wrote, complained
 
 
@@ -146,12 +149,11 @@ def free_port() -> int:
 
 
 class Server:
-    """A server that listens, and its port. Where another program took the port in the meantime, it is tried again. It
-    is killed at the end, if it is there. Its standard error goes to a file, so that it may write as much as it wants
-    before anybody reads that. With `may_end` it may end before it listens."""
+    """A server that listens, and its port; it is killed at the end if it is there. With `may_end` it needn't listen."""
 
     def __init__(self, program: str, workers: int, *words: str, environment={}, may_end: bool = False) -> None:
         pipes = {"stdin": subprocess.PIPE, "stdout": subprocess.PIPE, "env": {**os.environ, **environment}}
+        # (another program may take the port in the meantime; and the server may complain before anybody reads that)
         for _ in range(TRIES):
             self.port, self.log = free_port(), tempfile.TemporaryFile("a+", encoding="ascii")
             command = [program, "serve", "--port", str(self.port), "--workers", str(workers), *words]
@@ -161,7 +163,7 @@ class Server:
             if self.listens:
                 return
             self.last = self.ended()
-            if self.last[2] != "crackd: refused 17\n":
+            if self.last[2] != PORT_IS_TAKEN:
                 break
             self.__exit__()
         if not may_end:
@@ -177,11 +179,6 @@ class Server:
         for pipe in (self.process.stdin, self.process.stdout, self.log):
             pipe.close()
 
-    def complained(self) -> str:
-        """What it has written to standard error."""
-        self.log.seek(0)
-        return self.log.read()
-
     def close(self) -> None:
         """Ends the server's input."""
         self.process.stdin.close()
@@ -192,11 +189,11 @@ class Server:
             status = self.process.wait(SECONDS)
         except subprocess.TimeoutExpired as error:
             raise Wrong("the server didn't end") from error
-        return status, self.process.stdout.read(), self.complained()
+        self.log.seek(0)
+        return status, self.process.stdout.read(), self.log.read()
 
     def wait(self, totals: typing.Sequence[object], *notes: str) -> None:
-        """Waits for the server's end. Its totals and its lines on standard error are as they must be, these in any
-        order."""
+        """Waits for the server's end, which must have these totals, and these lines on standard error in any order."""
         status, wrote, complained = self.ended()
         expect("totals", "accepted {} inserted {} deleted {} held {}\n".format(*totals), wrote)
         expect("standard error", sorted(notes), sorted(complained.splitlines()))
@@ -210,8 +207,7 @@ class Server:
 
 @contextlib.contextmanager
 def serving_any(program: str, workers: int, sessions: int, *words: str) -> typing.Iterator[tuple[int, list]]:
-    """A server's port, and a list that must have its totals once the clients have ended: it must then end by itself,
-    with these."""
+    """The port of a server that must end by itself, and a list that must have its totals once the clients ended."""
     totals: list = []
     with Server(program, workers, "--sessions", str(sessions), "--quiet", *words) as it:
         yield it.port, totals
@@ -247,21 +243,37 @@ class Client:
     def send(self, text: str) -> None:
         self.socket.sendall(text.encode())
 
-    def ask(self, statement: str, *wanted: str) -> None:
-        """Sends one statement, and waits for its reply."""
-        self.send(statement + "\n")
-        for line in wanted:
-            expect(statement, line + "\n", self.lines.readline())
+    def send_all(self, statements: typing.Iterable[str]) -> None:
+        self.send("".join(f"{it}\n" for it in statements))
 
-    def talk(self, text: str) -> None:
-        """Asks the statements of a text, a line each, `STATEMENT | REPLY`, with a further `|` before each further line
-        of a reply."""
-        for line in text.strip().splitlines():
-            self.ask(*map(str.strip, line.split("|")))
+    def sends_no_more(self) -> None:
+        self.socket.shutdown(socket.SHUT_WR)
 
     def reset(self) -> None:
         """Has the connection end by a reset once it is closed."""
         self.socket.setsockopt(socket.SOL_SOCKET, socket.SO_LINGER, struct.pack("ii", 1, 0))
+
+    def reply(self) -> list[str]:
+        """The lines of the next reply. Wrong where the server closed the connection before it came whole."""
+        lines = [self.lines.readline()]
+        lines += [self.lines.readline() for _ in range(length_of(lines[0]) - 1)]
+        if not lines[-1].endswith("\n"):
+            raise Wrong(f"the replies broke off at {lines[-1]!r}")
+        return [it[:-1] for it in lines]
+
+    def answer(self, statement: str) -> list[str]:
+        """Sends a statement: the lines of its reply."""
+        self.send(f"{statement}\n")
+        return self.reply()
+
+    def ask(self, statement: str, *wanted: str) -> None:
+        """Sends a statement, whose reply must be these lines."""
+        expect(statement, list(wanted), self.answer(statement))
+
+    def talk(self, text: str) -> None:
+        """Asks statements, each a line `STATEMENT | REPLY`, with a further `|` before each further line of a reply."""
+        for line in text.strip().splitlines():
+            self.ask(*map(str.strip, line.split("|")))
 
     def is_at_end(self) -> None:
         expect("after the last reply", "", self.lines.readline())
@@ -271,15 +283,20 @@ class Client:
         self.is_at_end()
 
 
+def length_of(head: str) -> int:
+    """How many lines a reply has that begins so."""
+    words = head.split()
+    return 1 + int(words[-1]) if words[:1] in (["rows"], ["layout"]) else 1
+
+
 @functools.cache
 def refusing_library() -> str | None:
     """The library that refuses memory, compiled from refusing.c; None where that can't be done."""
     room = tempfile.mkdtemp(prefix="crackd-refusing-")
     atexit.register(shutil.rmtree, room, ignore_errors=True)
-    made, source = pathlib.Path(room) / "refusing.so", pathlib.Path(__file__).resolve().parent / "refusing.c"
-    for compiler in COMPILERS:
-        command = [compiler, "-O2", "-shared", "-fPIC", "-o", str(made), str(source), "-ldl"]
-        if shutil.which(compiler) and subprocess.run(command, capture_output=True, check=False).returncode == 0:
+    made, source = pathlib.Path(room) / "refusing.so", TOP / "acceptance" / "refusing.c"
+    for compiler in filter(shutil.which, COMPILERS):
+        if ran([compiler, "-O2", "-shared", "-fPIC", "-o", made, source, "-ldl"])[0] == 0:
             return str(made)
     return None
 

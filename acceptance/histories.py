@@ -62,8 +62,7 @@ class Receipt(typing.NamedTuple):
 
 
 class Base(typing.NamedTuple):
-    """What a checkpoint left: how many entries went, how many of them inserted and deleted a row, and the lines of the
-    rows."""
+    """What a checkpoint left: how many entries went, inserted and deleted a row, and the lines of the rows."""
 
     folded: int = 0
     inserted: int = 0
@@ -136,8 +135,7 @@ def whole_history(printed: Printed, part: int) -> list[tuple[int, Asked]]:
 
 
 def check_bases(printed: Printed, histories: dict[int, list]) -> None:
-    """Each base is what the entries that went come to: these rows, and so many of each kind; and checkpoints reported
-    as many entries as went."""
+    """Each base is what the entries that went come to, and checkpoints reported as many entries as went."""
     counted = collections.Counter()
     for part, asked in (it for answers in printed.answers.values() for it in answers):
         if asked.is_checkpoint and not asked.is_refused:
@@ -154,23 +152,20 @@ def check_bases(printed: Printed, histories: dict[int, list]) -> None:
 
 
 def in_one_order(printed: Printed, histories: dict[int, list]) -> list[Receipt]:
-    """The receipts in an order that each worker's receipts and each history keep, where each receipt is of its
-    entry."""
+    """The receipts in an order that each worker's receipts and each history keep, where each is of its entry."""
     ahead = {worker: collections.deque(receipts) for worker, receipts in printed.receipts.items()}
-    entries = {
-        part: collections.deque(Receipt(part, place, *it) for place, it in enumerate(history))
-        for part, history in histories.items()
-    }
+    entries = [[Receipt(part, place, *it) for place, it in enumerate(of)] for part, of in histories.items()]
+    left = [collections.deque(it) for it in entries]
     order, length = [], -1
     while length < len(order):
         length = len(order)
-        for left in entries.values():
-            while left and ahead[left[0].worker] and ahead[left[0].worker][0] == left[0]:
-                order.append(ahead[left[0].worker].popleft())
-                left.popleft()
-    for left in [*entries.values(), *ahead.values()]:
-        if left:
-            raise Wrong(f"no order has {left[0]}; next are {[it[0] for it in ahead.values() if it]}")
+        for of in left:
+            while of and ahead[of[0].worker] and ahead[of[0].worker][0] == of[0]:
+                order.append(ahead[of[0].worker].popleft())
+                of.popleft()
+    for of in [*left, *ahead.values()]:
+        if of:
+            raise Wrong(f"no order has {of[0]}; next are {[it[0] for it in ahead.values() if it]}")
     return order
 
 
@@ -189,8 +184,7 @@ def check_replies(order: list[Receipt]) -> list:
 
 @dataclasses.dataclass
 class Lived:
-    """What a partition came to: its limits, how many commands it accepted, how many entries it kept, and whether it was
-    folded; how many commands were asked of it, and how many of these its gate refused."""
+    """What a partition came to: commands that it accepted, kept and was asked, and how many its gate refused."""
 
     part: int
     limits: Limits
@@ -209,8 +203,7 @@ class Lived:
             raise Wrong(f"partition {self.part}: {asked.statement!r} was answered {asked.lines!r}")
 
     def check(self, asked: Asked, was: set[str]) -> None:
-        """A refusal comes for its cause. `was` has what the worker was told before: that the history is full, as it
-        stays where nobody folds it, and that the life is over."""
+        """A refusal comes for its cause. `was` has what the worker was told before, which stays so but for a fold."""
         is_there = self.part in PARTS
         is_outside = is_there and asked.key is not None and not Session(SPLITS).parts[self.part].has(asked.key)
         is_full = self.kept == self.limits.history or (self.was_folded and self.accepted >= self.limits.history)
@@ -271,8 +264,7 @@ def check(printed: Printed, workers: int, statements: int, limits: Limits) -> tu
 
 
 def words_of(seed: int, statements: int, policy: str, workers: int = WORKERS) -> list[str]:
-    """The words of a run. By the seed histories get full once half was asked since a checkpoint, or cells may run out,
-    or lives end before all was asked."""
+    """The words of a run. By the seed histories get full, or cells may run out, or lives end before all was asked."""
     each = statements * workers // len(PARTS)
     all_limits = [Limits(each // 2 + 1), Limits(MOST_ENTRIES, each // 16 + 1)]
     limits = [*all_limits, Limits(each // 8 + 1, life=each * 3 // 4 + 1)][seed % 3]

@@ -1,79 +1,38 @@
-"""Refuses memory to the program, call by call.
+"""Refuses memory to scripts, CSV, batches, servers and the sweeps of test programs, call by call.
 
 Each call for memory of a run is refused in turn, from the first on until a run meets none that is refused: alone; with
 the three after it; with all after it; and each by chance, one in fifty. What is answered must be what the lists of
 plain_session.py answer that never saw the statements which were refused with 8, and no more statements may be refused
 than calls were. A run may also end with 8 where the program opens; one of CSV wherever it is, after a front of its
-text. A small library, refusing.c, refuses the calls; where there is no C compiler to compile it nothing is refused, and
-these checks are skipped.
+text. A small library, refusing.c, refuses the calls; where there is no C compiler these checks are skipped.
+
+Each worker of a batch has partitions of its own, so its replies are those of a list whatever the other threads do; the
+clients of a server come one after another. The totals line must be right against the replies, wherever one is printed.
 """
 
+from __future__ import annotations
+
+import contextlib
+import functools
+import itertools
+import pathlib
 import random
+import re
 import subprocess
+import typing
 
 import compare
 import fixtures
 import random_script
-from plain_session import MOST, POLICIES, Limits, Session, statements
+import run
+from plain_session import POLICIES, Limits, Part, Session, bounds_of, statements
 
 SECONDS = 20
 FOR_EVER = 2**63
 STATEMENTS = 200
 CHANCES, ONE_IN = 40, 50
 REFUSED = b"crackd: refused 8\n"
-
-ALL, EVERY_ROW = f"count 0 {MOST}", f"select 0 {MOST}"
-FOUR = f"insert 10 10; insert 20 20; insert 30 30; insert 40 40; {ALL}; count 15 25"
-THREE = f"insert 10 10; insert 20 20; insert 30 30; {ALL}; count 15 25"
-# what merges do in all their ways: evictions, a doomed row in the way, pulls, updates in place and by a new cell, and
-# all pending rows at once
-SCRIPTS = {
-    "a row is evicted and comes back": f"{FOUR}; insert 17 0; count 15 25; count 25 {MOST}; count 15 25",
-    "a doomed row is in the way": f"{THREE}; delete 0.2; insert 17 0; count 15 25; insert 99 1",
-    "a pull goes through two bounds": f"{THREE}; delete 0.0; count 0 15",
-    "a pull carries a doomed row on": f"{THREE}; delete 0.0; delete 0.2; count 0 15",
-    "rows are updated": f"insert 5 50; update 0.0 6 60; {ALL}; update 0.0 8 -80; {EVERY_ROW}",
-    "rows wait near the range and far off": f"{FOUR}; insert 17 0; insert 90 0; count 15 25",
-}
-LONG = "; ".join(f"insert {key * 7 % 5000} {key}" for key in range(4200))
-# checkpoints amid merges; of a history that is full, again and again, asked for or due; of rows whose cells were freed
-# and used again; of cells and a life that end; and of so long a history that its memory is given back
-FOLDS = {
-    "a checkpoint amid rows that come and go": (
-        Limits(),
-        f"{FOUR}; insert 17 0; count 15 25; delete 0.0; update 0.3 41 41; checkpoint 0; count 15 25; {EVERY_ROW};"
-        f"checkpoint 0; update 0.4 18 -8; insert 50 5; delete 0.5; checkpoint 0; sum 0 {MOST}",
-    ),
-    "checkpoints of a full history": (
-        Limits(3),
-        "insert 1 1; insert 2 2; count 0 9; insert 3 3; checkpoint 0; insert 3 3; delete 0.1; update 0.0 5 5; sum 0 9;"
-        "checkpoint 0; checkpoint 0; sum 0 9; select 0 9; insert 4 4; checkpoint 0; delete 0.0; select 0 9",
-    ),
-    "checkpoints that are due": (
-        Limits(3, is_automatic=True),
-        "insert 1 1; insert 2 2; count 0 9; insert 3 3; delete 0.1; update 0.0 5 5; sum 0 9; select 0 9; delete 0.1;"
-        "insert 4 4; checkpoint 0; insert 6 6; update 0.2 7 7; select 0 9; count 0 9",
-    ),
-    "checkpoints that are due, cells and a life that end": (
-        Limits(2, 3, 9, is_automatic=True),
-        "insert 1 1; insert 2 2; insert 3 3; insert 4 4; delete 0.1; insert 4 4; select 0 9; count 0 9; update 0.0 8 8;"
-        "checkpoint 0; sum 0 9; insert 5 5",
-    ),
-    "a checkpoint of cells that were used again": (
-        Limits(),
-        "insert 1 1; insert 2 2; insert 3 3; insert 4 4; delete 0.2; delete 0.0; insert 5 5; insert 6 6; insert 7 7;"
-        f"checkpoint 0; {ALL}; delete 0.3; delete 0.1; {ALL}; insert 8 8; insert 9 9; checkpoint 0; {EVERY_ROW}",
-    ),
-    "checkpoints of cells and a life that end": (
-        Limits(3, 2, 7),
-        "insert 1 1; insert 2 2; insert 3 3; checkpoint 0; insert 3 3; delete 0.1; insert 3 3; checkpoint 0;"
-        "select 0 9; update 0.0 4 4; count 0 9; checkpoint 0; count 0 9; sum 0 9; checkpoint 0; count 0 9",
-    ),
-    "a checkpoint of a long history": (
-        Limits(),
-        f"{LONG}; delete 0.7; checkpoint 0; count 100 200; checkpoint 0; layout 0; insert 1 1",
-    ),
-}
+LONG_HISTORY = "a checkpoint of a long history"
 # runs that write one text: their words, and what they are given
 TEXTS = {
     "csv": (
@@ -89,20 +48,39 @@ WAYS = {
     "all": lambda number: {"from": number, "to": FOR_EVER},
     "chance": lambda number: {"one_in": ONE_IN, "seed": number},
 }
+WORKERS, OWN_PARTS = 3, 2
+SPLITS = [100, 200, 300, 400, 500]
+LINES, SESSIONS, SESSION_LINES = 40, 3, 25
+KINDS = {"insert": 8, "delete": 3, "update": 3, "count": 2, "sum": 2, "select": 2}
+KINDS |= {"layout": 1, "checkpoint": 2, "policy": 1}
+# a test that holds whichever one of its calls for memory is refused
+SWEEP = re.compile(r"^fn (sweep_\w+)", re.MULTILINE)
+Check = typing.Callable[[bytes, int], typing.Optional[str]]
 
 
-def text_of(script, with_layouts):
-    """The bytes of statements, with a layout after each if that is wanted."""
-    after = "layout 0\n" if with_layouts else ""
-    return "".join(f"{it.strip()}\n{after}" for it in script.split(";")).encode("ascii")
+@functools.cache
+def scripts() -> dict[str, run.Case]:
+    """The scripts of merges_and_checkpoints.cases, and one with so long a history that its memory is given back."""
+    cases = {it.name.replace("-", " "): it for it in run.all_cases("merges_and_checkpoints")}
+    lines = [b"insert %d %d" % (key * 7 % 5000, key) for key in range(4200)]
+    lines += b"delete 0.7; checkpoint 0; count 100 200; checkpoint 0; layout 0; insert 1 1".split(b"; ")
+    given = b"".join(it + b"\n" for it in lines)
+    return {**cases, LONG_HISTORY: run.Case(pathlib.Path(), 0, LONG_HISTORY, ["script"], given)}
 
 
-def sweep(way, run):
-    """Refuses calls one way, number by number, until a run meets none that is refused; by chance so many times. `run`
-    is given which calls are refused, and returns what is wrong, or None, and how many were. What is wrong first."""
+def text_of(given: bytes, with_layouts: bool) -> bytes:
+    """Statements, with a layout after each if that is wanted."""
+    return given.replace(b"\n", b"\nlayout 0\n") if with_layouts else given
+
+
+def sweep(way: str, once: typing.Callable[[dict], tuple[str | None, int]]) -> str | None:
+    """Refuses calls one way, number by number, until a run meets none that is refused. What is wrong first, or None.
+
+    A run is given which calls are refused, and returns what is wrong, and how many were. By chance there are so many.
+    """
     for number in range(1, CHANCES + 1 if way == "chance" else FOR_EVER):
         try:
-            wrong, refused = run(WAYS[way](number))
+            wrong, refused = once(WAYS[way](number))
         except subprocess.TimeoutExpired as error:
             wrong, refused = str(error), 0
         if wrong:
@@ -112,9 +90,10 @@ def sweep(way, run):
     return None
 
 
-def fault_of_run(program, words, given, check, which, text=b""):
-    """Runs the program once. Where it ends with 8 a front of the text may have been written, of whole lines. What is
-    wrong, or None; and how many calls were refused."""
+def fault_of_run(
+    program: str, words: list, given: bytes, check: Check, which: dict, text: bytes = b""
+) -> tuple[str | None, int]:
+    """What is wrong with a run, or None; and how many calls were refused. One that ends with 8 wrote a front of it."""
     with fixtures.Refusing(**which) as refusing:
         how = {"env": refusing.environment(), "close_fds": False}
         status, wrote, complained = fixtures.ran([program, *words], given, SECONDS, **how)
@@ -129,22 +108,16 @@ def fault_of_run(program, words, given, check, which, text=b""):
     return check(wrote, refused), refused
 
 
-def fault_of_sweep(program, words, given, check, way, text=b""):
+def fault_of_sweep(program: str, words: list, given: bytes, check: Check, way: str, text: bytes = b"") -> str | None:
     """Sweeps one way over runs that a function checks."""
     return sweep(way, lambda which: fault_of_run(program, words, given, check, which, text))
 
 
-def sweep_script(program, words, given, way, splits=(), limits=Limits()):
-    """Sweeps one way over a session."""
-    said = statements(given)
-    check = lambda wrote, refused: compare.compare(said, wrote, Session(splits, limits), refused).wrong
-    return fault_of_sweep(program, words, given, check, way)
+def other_layout(said: list, seen: compare.Seen, whole: compare.Seen) -> int | None:
+    """Which statement is the first layout that isn't as it is where no memory is refused; None where none is.
 
-
-def other_layout(said, seen, whole):
-    """Which statement is the first layout that isn't as it is where no memory is refused, up to the first other
-    statement that is answered otherwise; None where there is none. A checkpoint changes no layout, whether it is
-    answered or refused."""
+    It is looked at up to the first other statement that is answered otherwise; a checkpoint changes no layout.
+    """
     for number, (one, got, right) in enumerate(zip(said, seen.answers, whole.answers), 1):
         if one[0] not in ("checkpoint", "layout") and got != right:
             return None
@@ -153,76 +126,214 @@ def other_layout(said, seen, whole):
     return None
 
 
-def sweep_folds(program, words, given, way, limits):
-    """Sweeps one way over a session over one partition. Layouts must be those of a run without a refusal, as far as all
-    but checkpoints is answered alike. Where calls are refused one by one, each checkpoint that folds something must
-    have been refused in some run."""
-    said, refused_once = statements(given), set()
+def sweep_script(program: str, words: list[str], given: bytes, way: str) -> str | None:
+    """Sweeps one way over a session of one partition. Where calls are refused one by one each checkpoint must be once.
+
+    Layouts must be those of a run without a refusal, as far as all but checkpoints is answered alike.
+    """
+    said, bounds, refused_once = statements(given), bounds_of(words), set()
     status, wrote, _ = fixtures.ran([program, *words], given, SECONDS)
-    whole = compare.compare(said, wrote, Session((), limits))
+    whole = compare.compare(said, wrote, Session(*bounds))
     if whole.wrong or status:
         return f"where no memory is refused: status {status}, {whole.wrong}"
 
-    def check(wrote, refused):
-        seen = compare.compare(said, wrote, Session((), limits), refused)
+    def check(wrote: bytes, refused: int) -> str | None:
+        seen = compare.compare(said, wrote, Session(*bounds), refused)
         refused_once.update(number for number, lines in enumerate(seen.answers) if lines == [compare.SHORT])
         other = other_layout(said, seen, whole)
         return seen.wrong or (other and f"statement {other}: another layout than where no memory is refused")
 
     wrong = fault_of_sweep(program, words, given, check, way)
-    never = [
-        number + 1
-        for number, (one, lines) in enumerate(zip(said, whole.answers))
-        if one[0] == "checkpoint" and lines != ["folded 0"] and number not in refused_once
-    ]
-    if wrong is None and way == "alone" and never:
+    folds = [at for at, one in enumerate(said) if one[0] == "checkpoint" and whole.answers[at] != ["folded 0"]]
+    never = [at + 1 for at in folds if at not in refused_once]
+    if not wrong and way == "alone" and never:
         wrong = f"statement {never[0]}: this checkpoint was never refused"
     return wrong
 
 
-def fault_of_named(program, name, policy, way):
-    """Sweeps one way over a script of `SCRIPTS` under a policy, without layouts and with, which find no memory either
-    where it never comes again."""
-    given = [text_of(SCRIPTS[name], it) for it in ([False] if way == "all" else [False, True])]
-    found = [sweep_script(program, ["script", "--policy", policy], it, way) for it in given]
+def fault_of_script(program: str, name: str, policy: str, way: str) -> str | None:
+    """Sweeps one way over a script under a policy, with layouts where it is short and memory comes again."""
+    it = scripts()[name]
+    is_short, folds = it.given.count(b"\n") < STATEMENTS, b"checkpoint" in it.given
+    words = ["script", "--policy", policy, *it.words[1:]]
+    with_layouts = [False] if way == "all" or not is_short else [True] if folds else [False, True]
+    found = (sweep_script(program, words, text_of(it.given, each), way) for each in with_layouts)
     return next(filter(None, found), None)
 
 
-def fault_of_folds(program, name, policy, way):
-    """Sweeps one way over a script of `FOLDS` under a policy, with a layout after each statement of a short one that
-    finds memory again."""
-    limits, script = FOLDS[name]
-    given = text_of(script, way != "all" and script.count(";") < STATEMENTS)
-    return sweep_folds(program, ["script", "--policy", policy, *limits.words()], given, way, limits)
-
-
-def fault_of_text(program, words, given, way):
+def fault_of_text(program: str, words: list[str], given: bytes, way: str) -> str | None:
     """Sweeps one way over a run that writes one text, or a front of it where it ends with 8."""
     text = fixtures.ran([program, *words], given, SECONDS)[1]
     check = lambda wrote, _: None if wrote == text else f"wanted {text[:200]!r}, got {wrote[:200]!r}"
     return fault_of_sweep(program, words, given, check, way, text)
 
 
-def random_session(seed):
-    """The words of the command line, the bytes of a session, its splits and its limits, drawn by a seed. Where limits
-    are small there is one partition: of a range over several that is refused with 8 it is never reported which have
-    kept their part."""
+def fault_of_random(program: str, seed: int, way: str) -> str | None:
+    """Sweeps one way over the random script of a seed."""
     numbers = random.Random(seed)
     most = numbers.choice(random_script.KEYS)
     splits = random_script.random_splits(numbers, most, numbers.choice([0, 1, 3, 8, 15]))
+    # (of a range over several partitions that is refused with 8 it is never reported which have kept their part)
     small = [Limits(STATEMENTS // 2), Limits(STATEMENTS // 10, 20, STATEMENTS // 2)]
     limits = Limits() if splits else numbers.choice([Limits(), *small])
     words = ["script", "--policy", numbers.choice(POLICIES), *limits.words(), *map(str, splits)]
-    return words, random_script.random_text(numbers, Session(splits, limits), STATEMENTS, most), splits, limits
+    given = random_script.random_text(numbers, Session(splits, limits), STATEMENTS, most)
+    said = statements(given)
+    check = lambda wrote, refused: compare.compare(said, wrote, Session(splits, limits), refused).wrong
+    return fault_of_sweep(program, words, given, check, way)
 
 
-def fault_of_random(program, seed, way):
-    """Sweeps one way over the random script of a seed."""
-    words, given, splits, limits = random_session(seed)
-    return sweep_script(program, words, given, way, splits, limits)
+def own_statement(numbers: random.Random, parts: list[Part]) -> str:
+    """A random statement that asks nothing but these neighbouring partitions."""
+    low, high = parts[0].low, parts[-1].high
+    part, key = numbers.choice(parts), numbers.randrange(low, min(high, low + 300))
+    payload = random_script.random_payload(numbers)
+    first, last = sorted(numbers.choice([low, key, parts[-1].low, high]) for _ in range(2))
+    row = f"{part.number}.{numbers.randrange(part.next + 2)}"
+    near = min(max(key, part.low), part.high - 1)
+    (kind,) = numbers.choices(list(KINDS), list(KINDS.values()))
+    words = {
+        "insert": f"{key} {payload}",
+        "delete": row,
+        "update": f"{row} {near} {payload}",
+        "layout": part.number,
+        "checkpoint": part.number,
+        "policy": numbers.choice(POLICIES),
+    }
+    # (an empty range at the end of these partitions would ask the one after them)
+    return f"{kind} {words.get(kind, f'{first if first < high else low} {last}')}"
 
 
-def fault(program, seed):
+def worker_texts(seed: int) -> list[bytes]:
+    """The statements of each worker of a batch, drawn by a seed."""
+    numbers, texts = random.Random(seed), []
+    for worker in range(WORKERS):
+        session = Session(SPLITS)
+        own = session.parts[OWN_PARTS * worker : OWN_PARTS * (worker + 1)]
+        texts.append(random_script.drawn(session, LINES, lambda: own_statement(numbers, own)))
+    return texts
+
+
+def batch_text(texts: list[bytes]) -> bytes:
+    """The lines of a batch whose workers have these statements, one worker's between the others'."""
+    rounds = itertools.zip_longest(*(text.splitlines(keepends=True) for text in texts))
+    return b"".join(b"%d %s" % (worker, line) for lines in rounds for worker, line in enumerate(lines) if line)
+
+
+def fault_of_totals(line: str, seen: list[compare.Seen]) -> str | None:
+    """What is wrong with a totals line, beside what was seen of all sessions; or None."""
+    totals = compare.numbers_of(line, compare.TOTALS)
+    names = ["inserted", "deleted", "accepted", "accepted_most"]
+    inserted, deleted, least, most = (sum(getattr(it, name) for it in seen) for name in names)
+    if totals and least <= totals[0] <= most and totals[1:] == [inserted, deleted, inserted - deleted]:
+        return None
+    return f"totals {line!r}, where replies say {least} to {most}, {inserted}, {deleted}, {inserted - deleted}"
+
+
+def fault_of_batch_output(texts: list[bytes], wrote: bytes, refused: int) -> str | None:
+    """What is wrong with what a batch wrote, or None."""
+    heads = [f"worker {it}" for it in range(len(texts))]
+    lines = compare.lines_of(wrote) or [""]
+    begins = [at for at, line in enumerate(lines) if line.startswith("worker ")]
+    if [lines[at] for at in begins] != heads:
+        return f"no workers, but {lines[:2]} .. {lines[-2:]}"
+    seen = []
+    for head, text, at, end in zip(heads, texts, begins, [*begins[1:], len(lines) - 1]):
+        part = "".join(f"{line}\n" for line in lines[at + 1 : end]).encode("ascii")
+        seen.append(compare.compare(statements(text), part, Session(SPLITS), refused, may_be_first=True))
+        if seen[-1].wrong:
+            return f"{head}: {seen[-1].wrong}"
+    if sum(it.short for it in seen) > refused:
+        return f"more statements were refused with 8 than the {refused} calls"
+    return fault_of_totals(lines[-1], seen)
+
+
+def fault_of_batch(program: str, seed: int, way: str) -> str | None:
+    """Sweeps one way over the batch of a seed. Where all calls are refused from one on, it must end with 8."""
+    texts = worker_texts(seed)
+    words = ["batch", "--workers", WORKERS, "--policy", POLICIES[seed % len(POLICIES)], *SPLITS]
+
+    def check(wrote: bytes, refused: int) -> str | None:
+        if refused and way == "all":
+            return "it didn't end with 8, though no memory came again"
+        return fault_of_batch_output(texts, wrote, refused)
+
+    return fault_of_sweep(program, words, batch_text(texts), check, way)
+
+
+def exchanged(port: int, given: bytes) -> bytes:
+    """What a server answers to a session's bytes, up to its end; what came until then, where it breaks off."""
+    got = b""
+    with contextlib.suppress(OSError), fixtures.Client(port, SECONDS) as it:
+        it.socket.sendall(given)
+        it.sends_no_more()
+        while more := it.socket.recv(65536):
+            got += more
+    return got
+
+
+def fault_of_served(texts: list[bytes], got: list[bytes], ended: fixtures.Ended, refused: int) -> str | None:
+    """What is wrong with what a server's sessions were answered, and with how it ended; or None."""
+    session, seen, (status, wrote, complained) = Session(SPLITS), [], ended
+    for number, (text, replies) in enumerate(zip(texts, got)):
+        # (a session that finds no memory for its replies ends before it has answered, as one does whose server ends)
+        if replies or not refused:
+            seen.append(compare.compare(statements(text), replies, session, refused, may_be_first=True))
+            if seen[-1].wrong:
+                return f"session {number}: {seen[-1].wrong}"
+    if (status, complained) == (1, REFUSED.decode()) and refused:
+        return f"it ended with 8, and wrote {wrote!r}" if wrote else None
+    if (status, complained) != (0, "") or not got:
+        return f"status {status}, standard error {complained!r}, {len(got)} sessions"
+    return fault_of_totals(wrote.removesuffix("\n"), seen)
+
+
+def fault_of_server(program: str, seed: int, way: str) -> str | None:
+    """Sweeps one way over the server of a seed, which must always end by itself."""
+    numbers, session = random.Random(seed), Session(SPLITS)
+    draw = lambda: own_statement(numbers, session.parts)
+    texts = [random_script.drawn(session, SESSION_LINES, draw) for _ in range(SESSIONS)]
+    words = ["--sessions", str(SESSIONS), "--policy", POLICIES[seed % len(POLICIES)], "--quiet", *map(str, SPLITS)]
+
+    def once(which: dict) -> tuple[str | None, int]:
+        with fixtures.Refusing(**which) as refusing:
+            how = {"environment": refusing.environment(), "may_end": True}
+            with fixtures.Server(program, 2, *words, **how) as server:
+                got = [exchanged(server.port, text) for text in texts if server.listens]
+                ended = server.ended() if server.listens else server.last
+            refused = refusing.counted()[1]
+        return fault_of_served(texts, got, ended, refused), refused
+
+    return sweep(way, once)
+
+
+def sweeps_of(crates: pathlib.Path) -> typing.Iterator[tuple[str, str]]:
+    """The crates whose tests have sweeps, each with the names of these."""
+    for path in sorted(crates.glob("*_tests/src/*.rt")):
+        for name in SWEEP.findall(path.read_text(encoding="utf-8")):
+            yield path.parts[-3], f"{path.stem}::{name}"
+
+
+def fault_of_test(built: str, name: str) -> str | None:
+    """Refuses each call of a test alone. What is wrong first, or None."""
+
+    def once(which: dict) -> tuple[str | None, int]:
+        with fixtures.Refusing(**which) as refusing:
+            status, *wrote = fixtures.ran([built, name], b"", SECONDS, env=refusing.environment())
+            refused = refusing.counted()[1]
+        return (f"status {status}, {b''.join(wrote)[-300:]!r}" if status else None), refused
+
+    return sweep("alone", once)
+
+
+def fault(program: str, seed: int) -> str | None:
     """What is wrong with a sweep over the random script of a seed, which draws the way as well; or None."""
     wrong = fault_of_random(program, seed, list(WAYS)[seed % len(WAYS)])
     return wrong and f"memory, script of seed {seed}, {wrong}"
+
+
+def workers_fault(program: str, seed: int) -> str | None:
+    """What is wrong with a sweep over the batch or the server of a seed, which draws the way as well; or None."""
+    check, way = [fault_of_batch, fault_of_server][seed % 2], ["alone", "all", "chance"][seed // 2 % 3]
+    wrong = check(program, seed, way)
+    return wrong and f"memory, {check.__name__.removeprefix('fault_of_')} of seed {seed}, {wrong}"

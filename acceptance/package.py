@@ -1,10 +1,11 @@
-#!/usr/bin/env python3
 """Runs the tests of the Python package, over a server of the program and in the process: package.py PROGRAM
 
 They run by an interpreter that has numpy and Dask, or else numpy, where there is one: this one, or that of the system.
 Prints what unittest does, and last 'package: N passed, M failed'; tests that are skipped, and why, are printed, and
 counted nowhere.
 """
+
+from __future__ import annotations
 
 import functools
 import os
@@ -23,7 +24,7 @@ SECONDS = 1800
 
 
 @functools.cache
-def interpreter():
+def interpreter() -> str:
     """The first interpreter that has numpy and Dask, or else numpy, or else this one."""
     for modules in MODULES:
         wanted = f"import sys, {modules}; sys.exit(sys.version_info < (3, 10))"
@@ -33,12 +34,12 @@ def interpreter():
     return sys.executable
 
 
-def run(program):
+def run(program: str | pathlib.Path) -> tuple[int, int]:
     """Runs all tests. How many passed, and how many failed. A run that fails and says nothing is one failure."""
-    environment = {**os.environ, "CRACKD": str(pathlib.Path(program).resolve())}
-    how = {"env": environment, "stdout": subprocess.PIPE, "stderr": subprocess.STDOUT, "text": True}
+    how = {"env": {**os.environ, "CRACKD": str(pathlib.Path(program).resolve())}, "stdout": subprocess.PIPE}
     try:
-        ran = subprocess.run([interpreter(), str(PACKAGE / "tests")], timeout=SECONDS, check=False, **how)
+        command = [interpreter(), str(PACKAGE / "tests")]
+        ran = subprocess.run(command, timeout=SECONDS, check=False, stderr=subprocess.STDOUT, text=True, **how)
         status, output = ran.returncode, ran.stdout
     except subprocess.TimeoutExpired:
         status, output = 1, "the tests didn't end\n"

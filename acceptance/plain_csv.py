@@ -1,46 +1,37 @@
-"""CSV as docs/SPECIFICATION.md and RFC 4180 have it, read byte by byte.
+"""CSV as docs/SPECIFICATION.md and RFC 4180 have it.
 
 Fields stand between commas; a field that begins with a quote goes on to the next quote that isn't doubled, and what
 stands after that quote belongs to the field; a line feed or a carriage return ends a record; a line without anything is
 none.
 """
 
-import plain_session
-from plain_session import MOST, Limits, Refused, Session
+from __future__ import annotations
+
+import re
+import typing
+
+from plain_session import FIELDS, MOST, Limits, Refused, Session, values
 
 HEADER = b"key,payload\n"
 MARK = b"\xef\xbb\xbf"
-# no field of a record has begun; one begins here; in one; in one that is quoted; after a quote of that
-BEFORE, BEGUN, PLAIN, QUOTED, CLOSED = range(5)
+# what is quoted of a field, the rest of it, and what ends it
+FIELD = re.compile(rb'(?:"([^"]*(?:""[^"]*)*)(?:"|\Z))?([^,\r\n]*)([,\r\n]|\Z)')
 
 
-def records(given):
+def records(given: bytes) -> list[list[bytes]]:
     """The records of these bytes, each as the list of its fields."""
-    found, fields, field, state = [], [], bytearray(), BEFORE
-    for byte in [*given.removeprefix(MARK), "end"]:
-        if state == QUOTED and byte not in (0x22, "end"):
-            field.append(byte)
-        elif byte == 0x22 and state == QUOTED:
-            state = CLOSED
-        elif byte == 0x22 and state == CLOSED:
-            field.append(byte)
-            state = QUOTED
-        elif byte == 0x22 and state in (BEFORE, BEGUN):
-            state = QUOTED
-        elif byte in (0x0A, 0x0D, "end"):
-            if state != BEFORE:
-                found.append([*fields, bytes(field)])
-            fields, field, state = [], bytearray(), BEFORE
-        elif byte == 0x2C:
-            fields.append(bytes(field))
-            field, state = bytearray(), BEGUN
-        else:
-            field.append(byte)
-            state = PLAIN
+    found, fields = [], []
+    for it in FIELD.finditer(given.removeprefix(MARK)):
+        quoted, rest, end = it.groups(b"")
+        if fields or it[0] != end or end == b",":
+            fields.append(quoted.replace(b'""', b'"') + rest)
+        if fields and end != b",":
+            found.append(fields)
+            fields = []
     return found
 
 
-def exported(given, splits=(), limits=Limits()):
+def exported(given: bytes, splits: typing.Iterable[int] = (), limits: Limits = Limits()) -> tuple[int, bytes, bytes]:
     """The status, what is exported, and the complaint: the number of the first record that is no row, or what is
     refused where a partition is at a limit."""
     wrote, session = b"", Session(splits, limits)
@@ -48,7 +39,7 @@ def exported(given, splits=(), limits=Limits()):
         for number, fields in enumerate(records(given), 1):
             if number == 1 and fields == [b"key", b"payload"]:
                 continue
-            row = plain_session.numbers(fields, [plain_session.key, plain_session.payload])
+            row = values(fields, FIELDS["insert"])
             if row is None:
                 raise Refused(f"refused 19 {number}")
             session.part_of(row[0]).insert(*row)

@@ -15,12 +15,24 @@ from __future__ import annotations
 import bisect
 import typing
 
-# the end of all keys, and the ends of payloads
+# the ends of keys and payloads; a range may end at the first number above all keys
 MOST, LEAST_PAYLOAD, MOST_PAYLOAD = 2**64, -(2**63), 2**63 - 1
-GREATEST_PART, GREATEST_SERIAL, LINE_BYTES = 2**32 - 1, 2**64 - 1, 200
+LINE_BYTES, DIGITS = 200, 20
 MOST_ENTRIES, MOST_CELLS, MOST_LIFE = 1000000, 1048576, 1099511627776
 POLICIES = ["complete", "gradual", "ripple", "auto"]
+RANGES = ("count", "sum", "select")
 BLANK, NO_CELL = "blank", "refused 9"
+# the least and the greatest number that may stand in a field, and the fields of each statement
+KEY, PAYLOAD, PART, SERIAL = (0, MOST - 1), (LEAST_PAYLOAD, MOST_PAYLOAD), (0, 2**32 - 1), (0, 2**64 - 1)
+END = (0, 10**DIGITS)
+FIELDS = {
+    "insert": [KEY, PAYLOAD],
+    "delete": [PART, SERIAL],
+    "update": [PART, SERIAL, KEY, PAYLOAD],
+    **dict.fromkeys(RANGES, [END, END]),
+    **dict.fromkeys(["layout", "checkpoint"], [PART]),
+    "quit": [],
+}
 Said = typing.Union[str, tuple[str, list]]
 
 
@@ -42,6 +54,18 @@ class Limits(typing.NamedTuple):
         return ["--limit", str(self.history), "--cells", str(self.cells), "--life", str(self.life), *upkeep]
 
 
+def bounds_of(words: typing.Sequence[str]) -> tuple[list[int], Limits]:
+    """The splits and the limits of a command line."""
+    names, bounds, splits = {"--limit": "history", "--cells": "cells", "--life": "life"}, {}, []
+    words = " ".join(words).replace("=", " ").split(" ")
+    for before, word in zip(words, words[1:]):
+        if before in names:
+            bounds[names[before]] = int(word)
+        elif word.isdecimal() and before != "--workers":
+            splits.append(int(word))
+    return splits, Limits(**bounds, is_automatic="--auto-checkpoint" in words)
+
+
 def lines(given: bytes) -> list[bytes]:
     """The lines of a session's input, without what ends them."""
     cut = given.split(b"\n")
@@ -50,74 +74,38 @@ def lines(given: bytes) -> list[bytes]:
     return [it[:-1] if it.endswith(b"\r") else it for it in cut]
 
 
-def number(word: bytes, most: int | None = None) -> int | None:
-    """The number of 1 to 20 digits that a word is, of at most `most`; None where it is none."""
+def value(word: bytes, least: int, most: int) -> int | None:
+    """The number in a field: digits, with a `-` before them where there are numbers below 0; None where it is none."""
     # (int() would take spaces, signs and underscores as well)
-    value = int(word) if len(word) <= 20 and word.isdigit() else None
-    return None if value is None or (most is not None and value > most) else value
+    digits = word.removeprefix(b"-") if least < 0 else word
+    is_number = digits.isdigit() and len(digits) <= DIGITS
+    return int(word) if is_number and least <= int(word) <= most else None
 
 
-def row_number(word: bytes) -> tuple[int, int] | None:
-    """The partition and the serial of a row number."""
-    part, dot, serial = word.partition(b".")
-    both = number(part, GREATEST_PART), number(serial, GREATEST_SERIAL)
-    return both if dot and None not in both else None
-
-
-def key(word: bytes) -> int | None:
-    return number(word, MOST - 1)
-
-
-def part_number(word: bytes) -> int | None:
-    return number(word, GREATEST_PART)
-
-
-def payload(word: bytes) -> int | None:
-    """The payload that a word is: a number, or one directly after a `-`."""
-    size = number(word.removeprefix(b"-"))
-    value = size if size is None or not word.startswith(b"-") else -size
-    return value if value is not None and LEAST_PAYLOAD <= value <= MOST_PAYLOAD else None
-
-
-def policy(word: bytes) -> str | None:
-    name = word.decode("latin-1")
-    return name if name in POLICIES else None
-
-
-def numbers(words: list[bytes], kinds: typing.Sequence[typing.Callable]) -> list | None:
-    """What words are, each of its kind; None where one is none, or there are more or fewer words."""
-    found = [kind(word) for word, kind in zip(words, kinds)]
-    if len(words) != len(kinds) or None in found:
-        return None
-    # (a row number, which comes first, is two)
-    return [*found[0], *found[1:]] if found and isinstance(found[0], tuple) else found
-
-
-# the words of each statement
-GRAMMAR = {
-    b"insert": [key, payload],
-    b"delete": [row_number],
-    b"update": [row_number, key, payload],
-    **dict.fromkeys([b"count", b"sum", b"select"], [number, number]),
-    **dict.fromkeys([b"layout", b"checkpoint"], [part_number]),
-    b"policy": [policy],
-    b"quit": [],
-}
+def values(words: list[bytes], fields: list[tuple[int, int]]) -> list[int] | None:
+    """The numbers in fields; None where one is none, or there are more words or fewer."""
+    found = [value(word, *it) for word, it in zip(words, fields)]
+    return None if len(words) != len(fields) or None in found else found
 
 
 def read_line(line: bytes) -> Said:
     """What a line says: `BLANK`, the text of a refusal, or a kind and its numbers."""
     words = [it for it in line.split(b" ") if it]
-    if len(line) > LINE_BYTES:
-        return "refused 1"
-    if not words:
+    if not words and len(line) <= LINE_BYTES:
         return BLANK
-    found = numbers(words[1:], GRAMMAR[words[0]]) if words[0] in GRAMMAR else None
+    kind, *names = [it.decode("latin-1") for it in words] if len(line) <= LINE_BYTES else [""]
+    if kind == "policy" and len(names) == 1 and names[0] in POLICIES:
+        return kind, names
+    if kind in ("delete", "update"):
+        # (one without a row number has one field too few, or one that is empty)
+        row = words[1].split(b".") if len(words) > 1 else []
+        words[1:2] = row if len(row) == 2 else [b"", b""]
+    found = values(words[1:], FIELDS[kind]) if kind in FIELDS else None
     if found is None:
         return "refused 1"
-    if GRAMMAR[words[0]] == [number, number] and not found[0] <= found[1] <= MOST:
+    if kind in RANGES and not found[0] <= found[1] <= MOST:
         return "refused 2"
-    return words[0].decode("ascii"), found
+    return kind, found
 
 
 def statements(given: bytes) -> list[Said]:
@@ -162,21 +150,30 @@ class Part:
     def has(self, key: int) -> bool:
         return self.low <= key < self.high
 
-    def is_full(self) -> bool:
-        """Whether the history has as many entries as it may."""
-        return self.kept == self.limits.history
+    def is_shut(self) -> bool:
+        """Whether its history is full, and no checkpoint is made that is due."""
+        return self.kept == self.limits.history and not self.limits.is_automatic
 
-    def test(self) -> None:
-        """Refuses a command where no more is accepted."""
-        if self.is_full() and not self.limits.is_automatic:
+    def is_over(self) -> bool:
+        return self.folded + self.kept == self.limits.life
+
+    def has_no_cell(self) -> bool:
+        """Whether it is known that there is no cell for one row more."""
+        return self.has_cell is False or len(self.rows) + self.waiting >= self.limits.cells
+
+    def test(self, key: int | None = None) -> None:
+        """Refuses a command that brings this key, or none, where no more is accepted."""
+        if key is not None and not self.has(key):
+            raise Refused("refused 4")
+        if self.is_shut():
             raise Refused(f"refused 6 {self.kept}")
-        if self.folded + self.kept == self.limits.life:
+        if self.is_over():
             raise Refused("refused 10")
 
     def keep(self) -> None:
         """Counts a command that is answered, after the checkpoint that is due."""
         self.test()
-        if self.is_full():
+        if self.kept == self.limits.history:
             self.checkpoint()
         self.kept += 1
         self.has_cell = None
@@ -186,15 +183,9 @@ class Part:
         self.folded += count
         return [f"folded {count}"]
 
-    def has_no_cell(self) -> bool:
-        """Whether it is known that there is no cell for one row more."""
-        return self.has_cell is False or len(self.rows) + self.waiting >= self.limits.cells
-
     def lack_cell(self, serial: int | None, key: int) -> None:
         """An insert, or an update of a serial, that is refused with 9, if it may be."""
-        if not self.has(key):
-            raise Refused("refused 4")
-        self.test()
+        self.test(key)
         if self.has_cell or len(self.rows) + len(self.doomed) < self.limits.cells:
             raise Refused(f"no {NO_CELL}: there is a cell")
         if serial is not None and (serial not in self.rows or serial in self.fresh):
@@ -238,9 +229,7 @@ class Part:
         return ["gone {} {}".format(*self.take(serial))] if serial in self.rows else ["none"]
 
     def update(self, serial: int, key: int, payload: int) -> list[str]:
-        if not self.has(key):
-            raise Refused("refused 4")
-        self.test()
+        self.test(key)
         if serial in self.settled and self.has_no_cell():
             raise Refused(NO_CELL)
         self.keep()
@@ -263,9 +252,9 @@ class Part:
 
     def answer(self, kind: str, numbers: list[int]) -> list[str]:
         """The lines of the answer to a statement that asks this partition, as far as a range is its own."""
-        if kind in ("delete", "update", "checkpoint"):
-            return getattr(self, kind)(*numbers[1:])
-        return self.insert(*numbers) if kind == "insert" else told(kind, self.between(*numbers))
+        if kind in RANGES:
+            return told(kind, self.between(*numbers))
+        return getattr(self, kind)(*(numbers if kind == "insert" else numbers[1:]))
 
 
 class Session:
@@ -285,11 +274,9 @@ class Session:
         if isinstance(said, str) or said[0] in ("policy", "quit"):
             return []
         kind, numbers = said
-        if kind in ("delete", "update", "layout", "checkpoint"):
-            return self.parts[numbers[0] : numbers[0] + 1]
-        if kind == "insert" or numbers[0] == numbers[1]:
-            return [self.part_of(numbers[0])]
-        return [part for part in self.parts if part.low < numbers[1] and numbers[0] < part.high]
+        if kind in RANGES and numbers[0] != numbers[1]:
+            return [part for part in self.parts if part.low < numbers[1] and numbers[0] < part.high]
+        return [self.part_of(numbers[0])] if kind in ("insert", *RANGES) else self.parts[numbers[0] : numbers[0] + 1]
 
     def answer(self, said: Said) -> list[str] | Part:
         """The lines that what was said is answered, or the partition whose layout is to be reported."""
@@ -299,7 +286,7 @@ class Session:
         try:
             if not parts:
                 raise Refused("refused 5")
-            if kind in ("count", "sum", "select"):
+            if kind in RANGES:
                 return told(kind, [row for part in parts for row in part.between(*numbers)])
             return parts[0] if kind == "layout" else parts[0].answer(kind, numbers)
         except Refused as refused:
@@ -314,30 +301,31 @@ class Session:
             return [str(refused)]
 
     def is_refused_without_memory(self, said: Said) -> bool:
-        """Whether what was said is refused for a cause that goes before want of memory, in the one partition that it
-        asks."""
-        if isinstance(said, str) or said[0] in ("layout", "checkpoint") or len(self.parts_of(said)) != 1:
+        """Whether a cause that goes before want of memory refuses what was said, in the one partition that it asks."""
+        parts = self.parts_of(said)
+        if len(parts) != 1 or said[0] in ("layout", "checkpoint"):
             return False
-        (kind, numbers), (part,) = said, self.parts_of(said)
-        is_outside = kind == "update" and not part.has(numbers[2])
-        is_shut = part.is_full() and not part.limits.is_automatic
-        is_over = is_shut or part.folded + part.kept == part.limits.life
+        (kind, numbers), (part,) = said, parts
         needs_cell = kind == "insert" or (kind == "update" and numbers[1] in part.settled)
-        return is_outside or is_over or (needs_cell and part.has_no_cell())
+        is_outside = kind == "update" and not part.has(numbers[2])
+        return is_outside or part.is_shut() or part.is_over() or (needs_cell and part.has_no_cell())
 
     def leave_without_memory(self, said: Said) -> None:
         """What was said is refused for want of memory. Partitions of a range may have merged their rows, and those
         before the last one have kept it."""
-        if said[0] in ("count", "sum", "select"):
-            parts = self.parts_of(said)
-            for part in parts:
-                part.forget()
-            for part in parts[:-1]:
-                part.untold += 1
+        parts = self.parts_of(said) if said[0] in RANGES else []
+        for part in parts:
+            part.forget()
+        for part in parts[:-1]:
+            part.untold += 1
+
+
+def text_of(lines: typing.Iterable[str]) -> bytes:
+    """The bytes of lines."""
+    return "".join(f"{it}\n" for it in lines).encode("ascii")
 
 
 def replies(given: bytes, splits: typing.Iterable[int] = ()) -> bytes:
     """The text of the replies to a session without layouts."""
     session = Session(splits)
-    found = [session.answer(said) for said in statements(given)]
-    return "".join(f"{line}\n" for answer in found for line in answer).encode("ascii")
+    return text_of(line for it in statements(given) for line in session.answer(it))

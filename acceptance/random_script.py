@@ -6,11 +6,14 @@ refused with 6. Keys and ends of ranges are often splits, or beside one, or at a
 either sign. Checkpoints stand amid the other statements.
 """
 
+from __future__ import annotations
+
 import random
+import typing
 
 import compare
 import fixtures
-from plain_session import LEAST_PAYLOAD, MOST, MOST_CELLS, MOST_ENTRIES, MOST_LIFE, MOST_PAYLOAD, POLICIES
+from plain_session import LEAST_PAYLOAD, MOST, MOST_ENTRIES, MOST_PAYLOAD, POLICIES, RANGES
 from plain_session import Limits, Part, Session, read_line, statements
 
 # where numbers of 31, 32, 63 and 64 bits end: one that is held in too few bits, or with another sign, is another one
@@ -27,7 +30,7 @@ KINDS = {"insert": 300, "delete": 120, "update": 120, "count": 120, "sum": 90, "
 KINDS |= {"checkpoint": 30, "policy": 20, "other part": 10, "bad range": 10, "bad line": 10}
 
 
-def random_bound(numbers, splits, most):
+def random_bound(numbers: random.Random, splits: list[int], most: int) -> int:
     """A number up to one above `most`, often a split or beside one, or at a limit."""
     drawn = numbers.random()
     if splits and drawn < 0.4:
@@ -37,7 +40,7 @@ def random_bound(numbers, splits, most):
     return numbers.randrange(most + 2)
 
 
-def random_splits(numbers, most, count):
+def random_splits(numbers: random.Random, most: int, count: int) -> list[int]:
     """So many splits up to `most`, rising, some of them at limits."""
     found = {it for it in numbers.sample(EDGES, min(count // 2, len(EDGES))) if 1 <= it <= most}
     while len(found) < count:
@@ -45,19 +48,19 @@ def random_splits(numbers, most, count):
     return sorted(found)
 
 
-def random_payload(numbers):
+def random_payload(numbers: random.Random) -> int:
     """A payload of any length, often at a limit; half of them are below 0."""
     drawn = numbers.choice(EDGES) if numbers.random() < 0.4 else numbers.getrandbits(numbers.randrange(1, 64))
     return min(max(numbers.choice([-1, 1]) * drawn, LEAST_PAYLOAD), MOST_PAYLOAD)
 
 
-def payload_text(numbers, payload):
+def payload_text(numbers: random.Random, payload: int) -> str:
     """How a payload may be typed: 0 with a sign as well, and any with zeros before its digits."""
     sign = "-" if payload < 0 or payload == 0 and numbers.random() < 0.5 else ""
     return sign + str(abs(payload)).rjust(numbers.choice([0, 0, 0, 20]), "0")
 
 
-def bad_lines(key, serial, low):
+def bad_lines(key: int, serial: int, low: int) -> list[str]:
     """Lines that are no statements: words that are none, and numbers and signs past the limits."""
     words = [f"insert {key}", f"Delete 0.{serial}", f"delete {serial}", f"sum {low}", "rows", "checkpoint"]
     payloads = [str(MOST_PAYLOAD + 1), str(LEAST_PAYLOAD - 1), "+1", "- 1", "--1", "-", "-" + "0" * 21, "1-"]
@@ -66,7 +69,7 @@ def bad_lines(key, serial, low):
     return [*words, *(f"insert {key} {it}" for it in payloads), *keys, *rows]
 
 
-def random_statement(numbers, session, most):
+def random_statement(numbers: random.Random, session: Session, most: int) -> str:
     """A statement. Keys are at most `most`."""
     bound = lambda: random_bound(numbers, session.splits, most)
     key, payload = min(bound(), most), payload_text(numbers, random_payload(numbers))
@@ -83,7 +86,7 @@ def random_statement(numbers, session, most):
             return f"delete {part.number}.{serial}"
         case "update":
             return f"update {part.number}.{serial} {near} {payload}"
-        case "count" | "sum" | "select":
+        case it if it in RANGES:
             return f"{kind} {low} {high}"
         case "layout" | "checkpoint":
             return f"{kind} {part.number}"
@@ -94,12 +97,12 @@ def random_statement(numbers, session, most):
             return numbers.choice([*of_rows, f"layout {other}", f"checkpoint {other}"])
         case "bad range":
             ends = numbers.choice([f"{high + 1} {high}", f"{low} {MOST + 1}"])
-            return f"{numbers.choice(['count', 'sum', 'select'])} {ends}"
+            return f"{numbers.choice(RANGES)} {ends}"
         case _:
             return numbers.choice(bad_lines(key, serial, low))
 
 
-def drawn(session, many, draw):
+def drawn(session: Session, many: int, draw: typing.Callable[[], str]) -> bytes:
     """A text of so many statements, each drawn once those before it were answered in the session."""
     text = b""
     for _ in range(many):
@@ -109,38 +112,28 @@ def drawn(session, many, draw):
     return text
 
 
-def random_text(numbers, session, many, most):
+def random_text(numbers: random.Random, session: Session, many: int, most: int) -> bytes:
     """A random session of so many statements."""
     return drawn(session, many, lambda: random_statement(numbers, session, most))
 
 
-def limits_of(numbers, is_tight, limit, life):
-    """The limits of histories, cells and lives: small ones where `is_tight` says so, and else only that of histories,
-    which is then this one."""
-    if not is_tight:
-        return Limits(limit)
-    return Limits(numbers.randrange(5, 60), numbers.randrange(3, 30), numbers.randrange(3 * life // 4, life))
-
-
-def is_full(answer):
-    """Whether a statement is answered that a history is full."""
-    return not isinstance(answer, Part) and answer[0].startswith("refused 6")
-
-
-def script(seed):
+def script(seed: int) -> tuple[list[str], bytes, list[int], Limits]:
     """The words of the command line, what is given, and the splits and the limits."""
     numbers, given = random.Random(seed), b""
     most, (count, small, life) = KEYS[seed % 3], SPLITS[seed // 3 % 3]
     is_tight, is_automatic = bool(seed // 9 % 2), bool(seed // 18 % 2)
     splits = random_splits(numbers, most, count)
-    limits = limits_of(numbers, is_tight, small if most == KEYS[-1] else MOST_ENTRIES, life)
-    limits = limits._replace(is_automatic=is_automatic)
+    limits = Limits(small if most == KEYS[-1] else MOST_ENTRIES, is_automatic=is_automatic)
+    if is_tight:
+        bounds = numbers.randrange(5, 60), numbers.randrange(3, 30), numbers.randrange(3 * life // 4, life)
+        limits = Limits(*bounds, is_automatic=is_automatic)
     session, policy = Session(splits, limits), numbers.choice(POLICIES)
     while given.count(b"\n") < STATEMENTS - 1:
         line = random_statement(numbers, session, most)
         given += f"{line}\n".encode("ascii")
         answer = session.answer(read_line(line.encode("ascii")))
-        if is_tight and is_full(answer) and numbers.random() < 0.2:
+        is_full = not isinstance(answer, Part) and answer[0].startswith("refused 6")
+        if is_tight and is_full and numbers.random() < 0.2:
             for part in session.parts:
                 part.checkpoint()
                 given += b"checkpoint %d\n" % part.number
@@ -148,12 +141,12 @@ def script(seed):
     return words, given + b"quit\n", splits, limits
 
 
-def misfit(given, wrote, splits, limits):
+def misfit(given: bytes, wrote: bytes, splits: typing.Iterable[int], limits: Limits) -> str | None:
     """What is wrong with what a session wrote that was given this; None where it is right."""
     return compare.compare(statements(given), wrote, Session(splits, limits)).wrong
 
 
-def fault(program, seed):
+def fault(program: str, seed: int) -> str | None:
     """What is wrong with the program's answers to the script of a seed; None where they are right."""
     words, given, splits, limits = script(seed)
     status, wrote, complained = fixtures.ran([program, *words], given, SECONDS)

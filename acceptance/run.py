@@ -1,4 +1,3 @@
-#!/usr/bin/env python3
 """Runs the program on the acceptance cases: run.py PROGRAM [WORD ..]
 
 With words only the cases whose name, or whose file's name, has one of them. A file of cases/ has the cases of a topic,
@@ -20,15 +19,18 @@ with a blank line before each:
     ! LINE              a line of standard error
     = STATUS            the exit status, where it isn't 0
     ~ TEXT              a text that the output has, where it isn't given line by line
-    @ from PATH         what is read in place of a pipe: a path of the system, or `.`, an empty folder
+    + NAME TEXT         a file where it runs
+    @ from PATH         what is read in place of a pipe: a path of the system, or `.`, a folder
     @ to PATH           what is written
     @ fits LINES WIDTH  how many lines the output has at most, and how many columns each
     # TEXT              a comment
 
 In a batch the replies of a worker's statements stand together, after `worker N`: that line is put there, for each
-worker, by the runner. In a line `\\r` is a carriage return, `\\t` a tab, `\\s` a space (at an end, where it would be
-dropped), `\\\\` a backslash, `\\xHH` a byte, `\\{N TEXT}` N times a text, and `\\c` at the end says that no line feed
-follows.
+worker, by the runner. Where `serve --workers N ..` has statements, each begins with the number of a client, which waits
+for its reply before the next one is asked; the runner adds a port, and as many sessions as there are clients. `shell`
+is the shell of the Python package. In a line `\\r` is a carriage return, `\\t` a tab, `\\n` a line feed, `\\s` a space
+(at an end, where it would be dropped), `\\\\` a backslash, `\\xHH` a byte, `\\{N TEXT}` N times a text, and `\\c` at
+the end says that no line feed follows.
 
 Prints for each case that fails its file, the first line of it that differs, what was wanted there and what came, and
 last 'acceptance: N passed, M failed'.
@@ -38,6 +40,7 @@ from __future__ import annotations
 
 import contextlib
 import dataclasses
+import itertools
 import os
 import pathlib
 import re
@@ -46,14 +49,19 @@ import sys
 import tempfile
 import typing
 
-CASES = pathlib.Path(__file__).resolve().parent / "cases"
+import fixtures
+
+CASES = fixtures.TOP / "acceptance" / "cases"
 SECONDS = 20
 LINE = re.compile(rb"[^\n]*\n|[^\n]+")
 REPEATED = re.compile(rb"\\\{(\d+) ([^}]*)\}")
 ESCAPED = re.compile(rb"\\(x[0-9a-f]{2}|.)", re.DOTALL)
-PLAIN = {b"r": b"\r", b"t": b"\t", b"s": b" ", b"\\": b"\\", b"c": b""}
+PLAIN = {b"r": b"\r", b"t": b"\t", b"n": b"\n", b"s": b" ", b"\\": b"\\", b"c": b""}
+MARKED = re.compile(r"([$<>!=~+@#])(?: (.*))?")
 REPLY = re.compile(r"(.*?)\s*(?<!\S)\|(?: (.*))?")
 DEVICE = re.compile(r"(from|to) (\S+)|fits (\d+) (\d+)")
+SHELL = [sys.executable, "-m", "crackd", "shell", "--program"]
+SHELL_ENVIRONMENT = {"PYTHONPATH": str(fixtures.TOP / "python"), "CRACKD_HISTORY": ""}
 
 
 class Misfit(Exception):
@@ -80,19 +88,19 @@ class Case:
     wanted: list[Wanted] = dataclasses.field(default_factory=list)
     complaints: list[Wanted] = dataclasses.field(default_factory=list)
     texts: list[Wanted] = dataclasses.field(default_factory=list)
+    files: dict[str, bytes] = dataclasses.field(default_factory=dict)
     status: Wanted | None = None
     source: str = ""
     target: str = ""
     fits: tuple[int, int] | None = None
 
-    def workers(self) -> int:
-        """How many workers its batch has; 0 where it is none."""
-        words = self.words or []
-        return int(words[words.index("--workers") + 1]) if "batch" in words[:2] and "--workers" in words else 0
+    def option(self, name: str) -> str | None:
+        """What stands after a word of the command line."""
+        return dict(zip(self.words, self.words[1:])).get(name)
 
     def output(self) -> list[Wanted]:
         """The lines of output, those of a batch worker by worker."""
-        workers = self.workers() if self.wanted else 0
+        workers = int(self.option("--workers") or 0) if self.wanted and "batch" in self.words[:2] else 0
         heads = [Wanted(b"worker %d\n" % it, self.line, it) for it in range(workers)]
         said = [it for it in [*heads, *self.wanted] if it.worker is not None]
         said.sort(key=lambda it: it.worker % workers if workers else 0)
@@ -100,102 +108,102 @@ class Case:
 
     def place(self, line: int) -> str:
         """A line of its file, as it is printed."""
-        return f"{self.path.relative_to(CASES.parent.parent)}:{line}"
+        return f"{self.path.relative_to(fixtures.TOP)}:{line}"
 
 
 def unescaped(text: str) -> bytes:
     """The bytes of a line, with its line feed, if it has one."""
 
     def byte(found: re.Match[bytes]) -> bytes:
-        what = found[1]
-        if what[:1] == b"x" and len(what) == 3:
-            return bytes.fromhex(what[1:].decode())
-        if what not in PLAIN:
+        if len(found[1]) == 3:
+            return bytes.fromhex(found[1][1:].decode())
+        if found[1] not in PLAIN:
             raise Misfit(f"no escape: {found[0].decode(errors='replace')!r}")
-        return PLAIN[what]
+        return PLAIN[found[1]]
 
     repeated = REPEATED.sub(lambda it: int(it[1]) * it[2], text.encode())
     return ESCAPED.sub(byte, repeated) + (b"" if text.endswith("\\c") else b"\n")
 
 
-def take_device(case: Case, text: str) -> None:
-    """Takes a line of what is read, written or fitted in."""
-    found = DEVICE.fullmatch(text)
-    if not found:
-        raise Misfit("no path and no size")
-    if found[3]:
-        case.fits = int(found[3]), int(found[4])
-    else:
-        setattr(case, {"from": "source", "to": "target"}[found[1]], found[2])
+def inputs(section: str) -> list[bytes]:
+    """The inputs of a section of cut.txt."""
+    return list(map(unescaped, fixtures.sections("cut.txt")[section].splitlines()))
 
 
-def take_statement(case: Case, text: str, number: int) -> None:
+def take_statement(to: Case, text: str, number: int) -> None:
     """Takes a statement with a line of its reply, or a further line of one."""
     found = REPLY.fullmatch(text)
     if not found:
         raise Misfit("no statement with its reply")
     statement = unescaped(found[1].strip()) if found[1].strip() else b""
-    case.given += statement
-    worker = case.wanted[-1].worker if case.wanted else None
+    to.given += statement
+    worker = to.wanted[-1].worker if to.wanted else None
     if statement:
         first = statement.split(b" ")[0].strip()
         worker = int(first) if first.isdigit() else 0
     if worker is None:
         raise Misfit("no statement is above this line of a reply")
-    case.wanted.append(Wanted(unescaped(found[2] or ""), number, worker))
+    to.wanted.append(Wanted(unescaped(found[2] or ""), number, worker))
 
 
-def take(case: Case, text: str, number: int) -> None:
-    """Takes a line of a case."""
-    kind, rest = text[:1], text[2:]
-    if kind not in "$<>!=~@#" or text[1:2] not in ("", " "):
-        take_statement(case, text, number)
-    elif kind == "$":
-        case.words = [unescaped(it)[:-1].decode() for it in rest.split()]
-    elif kind == "<":
-        case.given += unescaped(rest)
-    elif kind == "=":
-        case.status = Wanted(rest.encode(), number)
-    elif kind == "~":
-        case.texts.append(Wanted(unescaped(rest)[:-1], number))
-    elif kind == "@":
-        take_device(case, rest)
-    elif kind in ">!":
-        (case.wanted if kind == ">" else case.complaints).append(Wanted(unescaped(rest), number))
+def take(to: Case, mark: str, rest: str, number: int) -> None:
+    """Takes a line of a case that begins with a mark."""
+    device = DEVICE.fullmatch(rest)
+    match mark:
+        case "$":
+            to.words = [unescaped(it)[:-1].decode() for it in rest.split()]
+        case "<":
+            to.given += unescaped(rest)
+        case ">" | "!":
+            (to.wanted if mark == ">" else to.complaints).append(Wanted(unescaped(rest), number))
+        case "~":
+            to.texts.append(Wanted(unescaped(rest)[:-1], number))
+        case "=":
+            to.status = Wanted(rest.encode(), number)
+        case "+":
+            name, _, text = rest.partition(" ")
+            to.files[name] = unescaped(text)
+        case "@" if not device:
+            raise Misfit("no path and no size")
+        case "@" if device[3]:
+            to.fits = int(device[3]), int(device[4])
+        case "@":
+            setattr(to, {"from": "source", "to": "target"}[device[1]], device[2])
 
 
-def held(case: Case) -> Case:
+def held(it: Case) -> Case:
     """A case that is read whole. A misfit where what it says doesn't go together."""
-    place = f"{case.path.name}:{case.line}"
-    if case.words is None:
+    place = f"{it.path.name}:{it.line}"
+    if it.words is None:
         raise Misfit(f"{place}: no line with the words of the command line")
-    if bool(case.given) + bool(case.source) > 1 or bool(case.wanted) + bool(case.texts) + bool(case.target) > 1:
+    if bool(it.given) + bool(it.source) > 1 or bool(it.wanted) + bool(it.texts) + bool(it.target) > 1:
         raise Misfit(f"{place}: what is read, or what is written, is given twice")
-    return case
+    return it
 
 
 def cases_of(path: pathlib.Path) -> typing.Iterator[Case]:
     """The cases of a file. A misfit names its line."""
-    case = None
+    last = None
     for number, text in enumerate(path.read_text(encoding="utf-8").split("\n"), 1):
+        marked = MARKED.fullmatch(text)
         if text.startswith("== "):
-            if case:
-                yield held(case)
-            case = Case(path, number, text[3:].strip())
-        elif case and text.strip():
+            if last:
+                yield held(last)
+            last = Case(path, number, text[3:].strip())
+        elif last and text.strip():
             try:
-                take(case, text, number)
+                take(last, marked[1], marked[2] or "", number) if marked else take_statement(last, text, number)
             except (Misfit, ValueError) as error:
                 raise Misfit(f"{path.name}:{number}: {error}") from error
         elif text.strip() and not text.startswith("#"):
             raise Misfit(f"{path.name}:{number}: no case has begun")
-    if case:
-        yield held(case)
+    if last:
+        yield held(last)
 
 
-def all_cases(words: typing.Sequence[str] = ()) -> list[Case]:
+def all_cases(*words: str) -> list[Case]:
     """The cases of all files in their order; with words those whose name, or whose file's name, has one of them."""
-    found = [case for path in sorted(CASES.glob("*.cases")) for case in cases_of(path)]
+    found = [it for path in sorted(CASES.glob("*.cases")) for it in cases_of(path)]
     names = [it.name for it in found]
     twice = sorted({it for it in names if names.count(it) > 1})
     if twice:
@@ -203,61 +211,74 @@ def all_cases(words: typing.Sequence[str] = ()) -> list[Case]:
     return [it for it in found if not words or any(word in it.name or word in it.path.stem for word in words)]
 
 
-def ran(program: str, case: Case) -> tuple[int, bytes | None, bytes]:
+def served(program: str, of: Case) -> fixtures.Ended:
+    """What came of a server, whose clients are answered one statement after the other."""
+    lines = [it.decode().split(" ", 1) for it in of.given.splitlines()]
+    sessions = ["--sessions", str(len({number for number, _ in lines})), "--quiet"]
+    clients: dict[str, fixtures.Client] = {}
+    wrote = ""
+    with fixtures.Server(program, *of.words[2:], *sessions) as server, contextlib.ExitStack() as stack:
+        for number, statement in lines:
+            if number not in clients:
+                clients[number] = stack.enter_context(fixtures.Client(server.port, SECONDS))
+            wrote += "".join(f"{it}\n" for it in clients[number].answer(statement))
+        status, totals, complained = server.ended()
+    return status, f"{wrote}{totals}".encode(), complained.encode()
+
+
+def ran(program: str, of: Case) -> fixtures.Ended:
     """What came: the status, standard output (None where it went elsewhere) and standard error."""
+    if of.words[:2] == ["serve", "--workers"] and of.given:
+        return served(program, of)
+    command, how = [program, *of.words], {}
+    if of.words[:1] == ["shell"]:
+        command, how = [*SHELL, program, *of.words[1:]], {"env": {**os.environ, **SHELL_ENVIRONMENT}}
     with tempfile.TemporaryDirectory() as room, contextlib.ExitStack() as stack:
-
-        def opened(name: str, flags: int) -> int:
-            handle = os.open(pathlib.Path(room) / name, flags)
-            stack.callback(os.close, handle)
-            return handle
-
-        given = {"stdin": opened(case.source, os.O_RDONLY)} if case.source else {"input": case.given}
-        to = opened(case.target, os.O_WRONLY) if case.target else subprocess.PIPE
-        how = {"stdout": to, "stderr": subprocess.PIPE, "cwd": room, "timeout": SECONDS, "check": False}
-        it = subprocess.run([program, *(case.words or [])], **how, **given)
-    return it.returncode, it.stdout, it.stderr
+        for name, text in of.files.items():
+            (pathlib.Path(room) / name).write_bytes(text)
+        for stream, path, flags in [("stdin", of.source, os.O_RDONLY), ("stdout", of.target, os.O_WRONLY)]:
+            if path:
+                how[stream] = os.open(pathlib.Path(room) / path, flags)
+                stack.callback(os.close, how[stream])
+        if of.target:
+            how["stderr"] = subprocess.PIPE
+        return fixtures.ran(command, of.given, SECONDS, cwd=room, **how)
 
 
-def first_difference(case: Case, what: str, wanted: list[Wanted], wrote: bytes) -> list[str]:
+def first_difference(of: Case, what: str, wanted: list[Wanted], wrote: bytes) -> list[str]:
     """The first line that differs from what was wanted."""
     got = LINE.findall(wrote)
-    for at, it in enumerate(wanted):
-        came = got[at] if at < len(got) else b""
+    for it, came in itertools.zip_longest(wanted, got[: len(wanted)], fillvalue=b""):
         if it.text != came:
-            return [f"{case.place(it.line)}: {what}: wanted {it.text!r}, got {came or 'no more'!r}"]
+            return [f"{of.place(it.line)}: {what}: wanted {it.text!r}, got {came or 'no more'!r}"]
     more = got[len(wanted) :]
-    said = f"{case.place(case.line)}: {what}: {len(more)} lines more than are wanted, the first"
+    said = f"{of.place(of.line)}: {what}: {len(more)} lines more than are wanted, the first"
     return [f"{said} {more[0]!r}"] if more else []
 
 
-def output_faults(case: Case, wrote: bytes) -> list[str]:
+def output_faults(of: Case, wrote: bytes) -> list[str]:
     """What is wrong with the output of a case, a line each."""
-    if case.texts:
-        found = [f"{case.place(it.line)}: the output lacks {it.text!r}" for it in case.texts if it.text not in wrote]
-    else:
-        found = first_difference(case, "output", case.output(), wrote)
-    if case.fits:
-        most, width = case.fits
-        lines, place = wrote.decode().splitlines(), case.place(case.line)
-        found += [f"{place}: {len(lines)} lines, and at most {most} are allowed"] * (len(lines) > most)
-        found += [f"{place}: more than {width} columns: {it!r}" for it in lines if len(it) > width]
+    found = [f"{of.place(it.line)}: the output lacks {it.text!r}" for it in of.texts if it.text not in wrote]
+    if not of.texts:
+        found = first_difference(of, "output", of.output(), wrote)
+    if of.fits:
+        lines, place = wrote.decode().splitlines(), of.place(of.line)
+        found += [f"{place}: {len(lines)} lines, and at most {of.fits[0]} are allowed"] * (len(lines) > of.fits[0])
+        found += [f"{place}: more than {of.fits[1]} columns: {it!r}" for it in lines if len(it) > of.fits[1]]
     return found
 
 
-def faults(program: str, case: Case) -> list[str]:
+def faults(program: str, of: Case) -> list[str]:
     """What is wrong with a case, a line each."""
     try:
-        status, wrote, complained = ran(program, case)
-    except subprocess.TimeoutExpired:
-        return [f"{case.place(case.line)}: it had not ended after {SECONDS} seconds"]
-    except OSError as error:
-        return [f"{case.place(case.line)}: it could not be run: {error}"]
-    found = output_faults(case, wrote) if wrote is not None else []
-    found += first_difference(case, "standard error", case.complaints, complained)
-    wanted = case.status or Wanted(b"0", case.line)
+        status, wrote, complained = ran(program, of)
+    except fixtures.FAULTS as error:
+        return [f"{of.place(of.line)}: it could not be run to its end: {error}"]
+    found = output_faults(of, wrote) if wrote is not None else []
+    found += first_difference(of, "standard error", of.complaints, complained)
+    wanted = of.status or Wanted(b"0", of.line)
     if status != int(wanted.text):
-        found.append(f"{case.place(wanted.line)}: status: wanted {int(wanted.text)}, got {status}")
+        found.append(f"{of.place(wanted.line)}: status: wanted {int(wanted.text)}, got {status}")
     return found
 
 
@@ -265,11 +286,11 @@ def run_all(program: str | pathlib.Path, *words: str) -> tuple[int, int]:
     """Runs the cases whose name, or whose file's name, has one of the words. How many passed, and how many failed."""
     program = str(pathlib.Path(program).resolve())
     passed = failed = 0
-    for case in all_cases(words):
-        found = faults(program, case)
+    for it in all_cases(*words):
+        found = faults(program, it)
         passed, failed = passed + (not found), failed + bool(found)
         if found:
-            print(f"acceptance: {case.name} FAILED", *found, sep="\n    ")
+            print(f"acceptance: {it.name} FAILED", *found, sep="\n    ")
     if not passed and not failed:
         print(f"acceptance: no case's name has {' or '.join(map(repr, words))}")
         failed = 1

@@ -1,5 +1,8 @@
 """A program on a terminal: what is typed there, and what it shows."""
 
+from __future__ import annotations
+
+import contextlib
 import fcntl
 import os
 import pty
@@ -9,6 +12,7 @@ import signal
 import subprocess
 import termios
 import time
+import typing
 
 from fixtures import SECONDS, Wrong, expect
 
@@ -18,10 +22,9 @@ ENVIRONMENT = {**os.environ, "TERM": "dumb", "INPUTRC": "/dev/null"}
 
 
 class Terminal:
-    """A pseudo-terminal, and a program that it controls, in a folder; more of its environment may be given. What is
-    typed is shown where it `echoes`."""
+    """A pseudo-terminal, and a program that it controls, in a folder. What is typed is shown where it `echoes`."""
 
-    def __init__(self, command, folder, environment={}, stderr=None, ignored=(), echoes=True):
+    def __init__(self, command: list[str], folder: str, environment={}, stderr=None, ignored=(), echoes=True) -> None:
         self.shown = ""
         self.end, other = pty.openpty()
         if not echoes:
@@ -29,7 +32,7 @@ class Terminal:
             attributes[3] &= ~termios.ECHO
             termios.tcsetattr(other, termios.TCSANOW, attributes)
 
-        def control():
+        def control() -> None:
             # (so that a control-C reaches the program, and it is told when the terminal hangs up)
             fcntl.ioctl(0, termios.TIOCSCTTY, 0)
             for number in (signal.SIGHUP, signal.SIGINT):
@@ -40,36 +43,34 @@ class Terminal:
         self.process = subprocess.Popen(command, **how)
         os.close(other)
 
-    def __enter__(self):
+    def __enter__(self) -> typing.Any:
         return self
 
-    def __exit__(self, *_):
+    def __exit__(self, *_: object) -> None:
         self.process.kill()
         self.process.wait()
         self.hang_up()
 
-    def hang_up(self):
+    def hang_up(self) -> None:
         """Closes the terminal, if it is open."""
         if self.end is not None:
             os.close(self.end)
         self.end = None
 
-    def type(self, text):
+    def type(self, text: str) -> None:
         os.write(self.end, text.encode())
 
-    def read(self, seconds):
+    def read(self, seconds: float) -> bool:
         """Whether more was shown within this time."""
-        if not select.select([self.end], [], [], seconds)[0]:
-            return False
-        try:
-            given = os.read(self.end, 65536)
-        except OSError:
-            # (so a terminal says that its program has ended)
-            return False
+        given = b""
+        if select.select([self.end], [], [], seconds)[0]:
+            # (a terminal says by an error that its program has ended)
+            with contextlib.suppress(OSError):
+                given = os.read(self.end, 65536)
         self.shown += given.decode().replace("\r\n", "\n")
         return bool(given)
 
-    def wait_for(self, pattern):
+    def wait_for(self, pattern: str) -> re.Match[str]:
         """Waits until a pattern is shown, and forgets what was shown up to its end. The match."""
         until = time.monotonic() + SECONDS
         while not (found := re.search(pattern, self.shown)):
@@ -78,7 +79,7 @@ class Terminal:
         self.shown = self.shown[found.end() :]
         return found
 
-    def expect_end(self, status):
+    def expect_end(self, status: int) -> None:
         """The program must end with this status, and show nothing more."""
         while self.read(SECONDS):
             pass

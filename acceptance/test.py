@@ -9,6 +9,8 @@ last line stands the processor time of each crate, for its proof and its tests, 
 is the sum of all, 'N passed, M failed'; the status is 0 only where nothing failed.
 """
 
+from __future__ import annotations
+
 import contextlib
 import os
 import pathlib
@@ -17,8 +19,10 @@ import shutil
 import subprocess
 import sys
 import tempfile
+import typing
 
-TOP = pathlib.Path(__file__).resolve().parent.parent
+from fixtures import CRATES, TOP
+
 sys.path.insert(0, str(TOP / "tools"))
 
 import checks
@@ -29,23 +33,20 @@ import prove
 import rooms
 import run
 
-PROGRAM = TOP / "crates" / "crackd" / "out" / "crackd"
-HISTORIES = TOP / "crates" / "crack_histories" / "out" / "crack_histories"
+PROGRAM, HISTORIES = (CRATES / name / "out" / name for name in ("crackd", "crack_histories"))
 SUM = re.compile(r"(\d+) passed, (\d+) failed")
-# What a copy leaves out, wherever it stands, and what it leaves out of each crate.
-LEFT_OUT = {".git", "__pycache__"}
-LEFT_OUT_OF_CRATES = {"out", "must-fail"}
+# what a copy leaves out, wherever it stands, and what it leaves out of each crate
+LEFT_OUT, LEFT_OUT_OF_CRATES = {".git", "__pycache__"}, {"out", "must-fail"}
 
 
-def left_out(folder, names):
+def left_out(folder: str, names: list[str]) -> list[str]:
     """What of a folder isn't copied."""
-    at = pathlib.Path(folder).relative_to(TOP).parts
-    is_crate = len(at) == 2 and at[0] == "crates"
+    is_crate = pathlib.Path(folder).parent == CRATES
     return [it for it in names if it in LEFT_OUT or (is_crate and it in LEFT_OUT_OF_CRATES)]
 
 
 @contextlib.contextmanager
-def copied():
+def copied() -> typing.Iterator[pathlib.Path]:
     """A copy of this checkout without the edits, gone at its end."""
     with tempfile.TemporaryDirectory(prefix="crackd-test-") as room:
         top = pathlib.Path(room) / "crackd"
@@ -55,35 +56,37 @@ def copied():
         yield top
 
 
-def sums():
+def sums() -> dict[str, str]:
     """The sum of what each crate's proof rests on, by its name."""
     crates.sum_of.cache_clear()
     return {name: crates.sum_of(name) for name in crates.listed()}
 
 
-def bring_back(top, unchanged):
-    """Brings what was built in a copy back, and takes away each program that wasn't. Of the crates that are named the
-    copy has the text that stands here, so what was built of them is up to date."""
+def bring_back(top: pathlib.Path, unchanged: set[str]) -> None:
+    """Brings what was built in a copy back, and takes away each program that wasn't.
+
+    Of the crates that are named the copy has the text that stands here, so what was built of them is up to date.
+    """
     held = rooms.held(crates.listed())
     for crate in crates.listed().values():
-        target = prove.made_of(crate)
+        target, stamp = prove.made_of(crate), prove.stamp_file(crate)
         made = top / "crates" / crate.name / "out" / prove.name_in_room(crate)
         if not made.exists() and not crate.is_program:
             continue
-        prove.stamp_file(crate).unlink(missing_ok=True)
+        stamp.unlink(missing_ok=True)
         if target.is_dir():
             shutil.rmtree(target)
         target.unlink(missing_ok=True)
         if made.exists():
-            prove.stamp_file(crate).parent.mkdir(parents=True, exist_ok=True)
+            stamp.parent.mkdir(parents=True, exist_ok=True)
             shutil.move(str(made), str(target))
             if crate.name in unchanged:
-                prove.stamp_file(crate).write_text(prove.stamp_of(crate))
+                stamp.write_text(prove.stamp_of(crate))
     for it in held:
         os.close(it)
 
 
-def bring_tests_back(top):
+def bring_tests_back(top: pathlib.Path) -> None:
     """Brings the test programs that were built in a copy back, in place of those that lie here."""
     for old in TOP.glob("crates/*/out/*_tests"):
         old.unlink()
@@ -93,9 +96,8 @@ def bring_tests_back(top):
         shutil.move(str(made), str(target))
 
 
-def gate():
-    """Runs the gate on a copy. How many passed, and how many failed; a gate that fails and counts nothing as failed is
-    one failure."""
+def gate() -> tuple[int, int, list[str]]:
+    """Runs the gate on a copy. How many passed, how many failed, at least one where it does, and its times."""
     before = sums()
     with copied() as top:
         unchanged = {name for name, it in sums().items() if before[name] == it}
@@ -116,20 +118,16 @@ def gate():
         status = started.wait()
         bring_back(top, unchanged)
         bring_tests_back(top)
-    passed, failed = (int(it) for it in last.groups()) if last else (0, 1)
-    return passed, failed if failed or status == 0 else 1, sampler.lines()
+    passed, failed = map(int, last.groups()) if last else (0, 1)
+    return passed, failed if failed or status == 0 else 1, list(sampler.lines())
 
 
-def build_library():
-    """Builds the library for C and Python, which the gate proves and doesn't build. Whether that failed."""
-    command = [sys.executable, str(TOP / "tools" / "library.py")]
-    return subprocess.run(command, check=False).returncode != 0
-
-
-def test_all():
+def test_all() -> tuple[int, int]:
     """Runs everything. How many passed, and how many failed."""
     passed, failed, times = gate()
-    failed += build_library()
+    # (the gate proves the library for C and Python, and doesn't build it)
+    library = [sys.executable, str(TOP / "tools" / "library.py")]
+    failed += subprocess.run(library, check=False).returncode != 0
     os.environ["CRACKD"] = str(PROGRAM)
     if PROGRAM.exists():
         sums_of_all = [(passed, failed), run.run_all(PROGRAM), checks.run_all(), package.run(PROGRAM)]
@@ -141,11 +139,7 @@ def test_all():
     return passed, failed
 
 
-def main():
-    passed, failed = test_all()
-    print(f"{passed} passed, {failed} failed", flush=True)
-    return 1 if failed else 0
-
-
 if __name__ == "__main__":
-    sys.exit(main())
+    ended = test_all()
+    print(f"{ended[0]} passed, {ended[1]} failed", flush=True)
+    sys.exit(1 if ended[1] else 0)

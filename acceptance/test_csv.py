@@ -1,33 +1,32 @@
-#!/usr/bin/env python3
 """CSV of all kinds, cut anywhere: what is exported is what plain_csv.py exports."""
 
+from __future__ import annotations
+
 import random
+import typing
 
 import fixtures
 import random_script
+import run
 from plain_csv import HEADER, MARK, exported
 from plain_session import Limits
 
 LONG_RECORD = 64 * 2**20
 MANY_FIELDS = MANY_ROWS = 100_000
 SMALL = b"key,payload\n150,6\n50,5\n"
-# quotes, carriage returns, blank lines and byte order marks, each where it may stand and where it may not
-INPUTS = [
-    b'"key","payload"\r\n"1","2"\r\n', b'1,"2', b'1,"2"3\n4,5\n', b'"1""2",3\n', b'1,2"\n', b'"",1\n', b'""',
-    b'1,"2\n3,4\n5,6\n', b"1,2\r3,4\r\r5,6", b"\r\n\n\r1,2\r\n\r\n", b"\n\n\n", b"key,payload\rkey,payload\r",
-    b"key,payload\n\n1,2", b"payload,key\n", b"key\n", MARK + b"1,2\n", MARK + b"key,payload\n1,2\n",
-    b"1,2\n" + MARK + b"3,4\n", MARK + MARK + b"1,2\n", MARK[:2] + b"1,2\n", b"1,2,3\n", b"1\n", b"1,2\n3\n", b",\n",
-    b",,", b" 1,2\n", b"1, 2\n", b"1\t,2\n", b"1,2 \n", b"1;2\n", b"'1','2'\n", b"18446744073709551616,0\n",
-    b"18446744073709551615,9223372036854775807\n", b"0,9223372036854775808\n", b"4294967296,4294967296\n",
-    b"0,-9223372036854775808\n", b"0,-9223372036854775809\n", b"00000000000000000001,1\n",
-    b"000000000000000000001,1\n", b"-1,1\n", b"-0,1\n", b"1,+1\n", b"1,-1\n2,-0\n", b"1,-00000000000000000001\n",
-    b"1,-000000000000000000001\n", b"1,--1\n", b"1,- 1\n", b"1, -1\n", b"1,-\n", b"1,1-\n", b"1,-1.0\n",
-    b'1,"-1"\n', b'1,"-"1\n', b'1,-"1"\n', b"1,-1_0\n", b"1,\xe2\x88\x921\n", b"1,2\0\n", b"\0", b"\xff,\xfe\n",
-    b"#1,2\n", b"1,2\n\x1a",
-]  # fmt: skip
+# fields past the limits, of keys and of payloads; and what is no field of either
+PAST = [[b"18446744073709551616", b"-1"], [b"9223372036854775808", b"-9223372036854775809"]]
+NONE = [b"", b" 1", b"+1", b"- 1", b"-", b"x", b"0" * 21, b'1"2', MARK + b"1"]
 
 
-def fault_of_input(program, given, splits=(), limits=Limits(), piece=65536, wanted=None):
+def refused(record: int) -> fixtures.Ended:
+    """What comes of an input whose record of this number is none."""
+    return 1, b"", b"crackd: refused 19 %d\n" % record
+
+
+def fault_of_input(
+    program: str, given: bytes, splits=(), limits: Limits = Limits(), piece: int = 65536, wanted: typing.Any = None
+) -> str | None:
     """What is wrong with what comes of these bytes, given in pieces; or None."""
     words = ["csv", *limits.words(), *map(str, splits)]
     wanted = exported(given, splits, limits) if wanted is None else wanted
@@ -36,9 +35,8 @@ def fault_of_input(program, given, splits=(), limits=Limits(), piece=65536, want
     return None if got == wanted else f"{what}: wanted {wanted!r:.300}, got {got!r:.300}"
 
 
-def random_field(numbers, place):
-    """A key, or at another place than the first a payload, often at a limit; seldom one past the limits or none at all;
-    at times quoted."""
+def random_field(numbers: random.Random, place: int) -> bytes:
+    """A key, or at another place than the first a payload, often at a limit; seldom none; at times quoted."""
     drawn = numbers.random()
     if place:
         text = random_script.payload_text(numbers, random_script.random_payload(numbers)).encode("ascii")
@@ -46,13 +44,11 @@ def random_field(numbers, place):
         key = numbers.randrange(300) if drawn < 0.8 else numbers.choice(random_script.EDGES[:-1])
         text = (b"%d" % key).rjust(numbers.choice([0, 0, 20]), b"0")
     if drawn > 0.995:
-        past = [b"9223372036854775808", b"-9223372036854775809"] if place else [b"18446744073709551616", b"-1"]
-        none = [b"", b" 1", b"+1", b"- 1", b"-", b"x", b"0" * 21, b'1"2', MARK + b"1"]
-        text = numbers.choice([*past, *none])
+        text = numbers.choice([*PAST[min(place, 1)], *NONE])
     return b'"' + text + b'"' if numbers.random() < 0.2 else text
 
 
-def random_input(numbers):
+def random_input(numbers: random.Random) -> bytes:
     """Random records, most of them right, with or without a header."""
     given = numbers.choice([b"", HEADER, MARK, MARK + HEADER, b'"key","payload"\r\n'])
     for _ in range(numbers.randrange(400)):
@@ -62,16 +58,15 @@ def random_input(numbers):
     return given
 
 
-def changed(numbers, given):
+def changed(numbers: random.Random, given: bytes) -> bytes:
     """Bytes of which one was changed."""
     at = numbers.randrange(len(given) + 1)
     byte = numbers.choice(b'",\r\n 09-+\0') if numbers.random() < 0.7 else numbers.randrange(256)
     return given[:at] + bytes([byte]) + given[at + 1 :]
 
 
-def fault(program, seed):
-    """What is wrong with what comes of the random records of a seed, whole, cut off, and with a byte that was changed;
-    or None."""
+def fault(program: str, seed: int) -> str | None:
+    """What is wrong with what comes of the random records of a seed, whole, cut off, and changed in a byte; or None."""
     numbers = random.Random(seed)
     edges = random_script.EDGES[2:-1]
     splits = [numbers.choice([numbers.randrange(1, 300), numbers.choice(edges)]) for _ in range(numbers.randrange(4))]
@@ -89,59 +84,54 @@ def fault(program, seed):
 class Csv(fixtures.Case):
     """CSV of all kinds."""
 
-    def assert_exported(self, given, *more, **how):
+    def assert_exported(self, given: bytes, *more: typing.Any, **how: typing.Any) -> None:
         self.assert_right(fault_of_input(self.program, given, *more, **how))
 
-    def test_cut_anywhere(self):
+    def test_cut_anywhere(self) -> None:
         """A small input is cut after each byte: by the specification's own table, and as it is read here."""
         # (by the length, the number of the record that is refused, or 0, and how many rows are exported)
         ends = [(0, 0)] + [(1, 0)] * 10 + [(0, 0)] * 2 + [(2, 0)] * 4 + [(0, 1)] * 2 + [(3, 1)] * 3 + [(0, 2)] * 2
         rows = [b"150,6\n", b"50,5\n"]
         for size, (record, count) in enumerate(ends):
-            right = (0, HEADER + b"".join(rows[:count]), b"")
-            if record:
-                right = (1, b"", b"crackd: refused 19 %d\n" % record)
+            right = refused(record) if record else (0, HEADER + b"".join(rows[:count]), b"")
             self.assertEqual(exported(SMALL[:size]), right, "plain_csv.py reads CSV otherwise than by the table")
             self.assert_exported(SMALL[:size], wanted=right, piece=size % 5 + 1)
         for size in range(len(SMALL) + 1):
             self.assert_exported(SMALL[:size], [100])
 
-    def test_quotes_and_ends_of_all_kinds(self):
-        """Each of INPUTS, cut after each byte."""
-        for it in INPUTS:
+    def test_quotes_and_ends_of_all_kinds(self) -> None:
+        """Quotes, ends of lines, byte order marks and signs where they may stand and where not, cut after each byte."""
+        for it in run.inputs("csv"):
             for size in range(1, len(it) + 1):
                 self.assert_exported(it[:size])
 
-    def test_a_byte_order_mark_in_pieces(self):
+    def test_a_byte_order_mark_in_pieces(self) -> None:
         """A byte order mark is dropped however it is read."""
         for piece in [1, 2, 3, 4]:
             self.assert_exported(MARK + b"key,payload\n1,2\n", piece=piece)
 
-    def test_records_of_64_megabytes(self):
-        """A record of 64 MB is refused with its number, also one whose quote never closes; 64 MB of line feeds are no
-        record."""
-        refused = [(1, b"", b"crackd: refused 19 %d\n" % it) for it in range(4)]
+    def test_records_of_64_megabytes(self) -> None:
+        """A record of 64 MB is refused, also one whose quote never closes; 64 MB of ends of lines are no record."""
         for front, filling, wanted in [
-            (b"", b"1", refused[1]),
-            (b"1,", b"0", refused[1]),
-            (HEADER + b'1,"', b"2", refused[2]),
-            (HEADER + b'1,"', b"\n", refused[2]),
+            (b"", b"1", refused(1)),
+            (b"1,", b"0", refused(1)),
+            (HEADER + b'1,"', b"2", refused(2)),
+            (HEADER + b'1,"', b"\n", refused(2)),
             (HEADER, b"\n", (0, HEADER, b"")),
             (HEADER, b"\r", (0, HEADER, b"")),
-            (HEADER + b"1,2\n", b"\0", refused[3]),
+            (HEADER + b"1,2\n", b"\0", refused(3)),
         ]:
             self.assert_exported(front + filling * (LONG_RECORD - len(front)), wanted=wanted)
 
-    def test_very_many_fields(self):
+    def test_very_many_fields(self) -> None:
         """A record of 100,000 fields is refused with its number, first or not."""
         fields = b",".join([b"1"] * MANY_FIELDS)
         given = [(1, fields), (2, HEADER + fields + b"\n"), (3, HEADER + b"1,2\n" + fields + b"\n3,4\n")]
         for number, it in [*given, (1, b"," * MANY_FIELDS), (1, b'"",' * MANY_FIELDS)]:
-            self.assert_exported(it, wanted=(1, b"", b"crackd: refused 19 %d\n" % number))
+            self.assert_exported(it, wanted=refused(number))
 
-    def test_more_rows_than_histories_have_entries(self):
-        """A load that fills each history a hundred times is whole where checkpoints are made that are due, and refused
-        where none is."""
+    def test_more_rows_than_histories_have_entries(self) -> None:
+        """A load that fills each history a hundred times is whole where checkpoints that are due are made, only."""
         width = MANY_ROWS // 4
         rows = [(number * 7919 % MANY_ROWS, -number) for number in range(MANY_ROWS)]
         given, *parts = (
@@ -155,6 +145,3 @@ class Csv(fixtures.Case):
 
 
 fixtures.add_seeds(Csv, range(1, 21), fault)
-
-if __name__ == "__main__":
-    fixtures.main()

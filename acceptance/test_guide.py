@@ -1,11 +1,8 @@
-#!/usr/bin/env python3
-"""Runs the commands of docs/GUIDE.md and README.md on the program, a check a section, and compares what comes with what
-stands there.
+"""Runs the commands of docs/GUIDE.md and README.md, a check a section, and compares what comes with what stands there.
 
-Of a page these fenced blocks are run, by section, those of a section in one folder that has `events.csv`:
+Of a page these fenced blocks are run, those of a section in one shell, in a folder that has `events.csv`:
 
-    console   what follows a `$ ` is given to one shell a section, line by line; the lines up to the next `$ ` are what
-              it must write
+    console   what follows a `$ ` is given to the shell; the lines up to the next `$ ` are what it must write
     pycon     a session of Python, as doctest reads it
     python    a program, which must end well, followed by a block `text` if it writes something
 
@@ -17,7 +14,6 @@ a module of Python, or `library`, which is what `make lib` builds. A block of wh
 from __future__ import annotations
 
 import contextlib
-import dataclasses
 import functools
 import os
 import pathlib
@@ -26,7 +22,7 @@ import shutil
 import signal
 import subprocess
 import tempfile
-import threading
+import typing
 import unittest
 
 import fixtures
@@ -36,40 +32,41 @@ from fixtures import TOP
 PAGES = [TOP / "README.md", TOP / "docs" / "GUIDE.md"]
 SECONDS, PORT = 120, "4000"
 FENCE = re.compile(r"^```(\w*)(.*)\n((?:.*\n)*?)```$", re.MULTILINE)
+COMMAND = re.compile(r"^\$ (.*\n(?:> .*\n)*)((?:(?!\$ ).*\n)*)", re.MULTILINE)
 END = "-- end of a command --"
 
 
-@dataclasses.dataclass
-class Block:
-    """A fenced block: where it begins, its kind, what it needs, its text, and what it must write as a program."""
+class Block(typing.NamedTuple):
+    """A fenced block: where it begins, its kind, what it needs, and its commands, each with what it must write."""
 
     place: str
     kind: str
     needs: list[str]
-    text: str
-    output: str = ""
+    commands: list[tuple[str, str]]
 
-    def commands(self) -> list[tuple[str, str]]:
-        """The commands of a block `console`, each with what it must write. A line after `> ` goes on with one."""
-        parts = re.findall(r"^\$ (.*\n(?:> .*\n)*)((?:(?!\$ ).*\n)*)", self.text, re.MULTILINE)
-        return [(command.replace("\n> ", "\n").rstrip("\n"), output) for command, output in parts]
+
+def block(place: str, kind: str, needs: list[str], text: str, output: str) -> Block:
+    """A block of this text, which must write this, if it is a program. A line after `> ` goes on with a command."""
+    commands = [(text, output)]
+    if kind == "console":
+        commands = [(command.replace("\n> ", "\n").rstrip("\n"), wrote) for command, wrote in COMMAND.findall(text)]
+    return Block(place, kind, needs, commands)
 
 
 def sections(page: pathlib.Path) -> dict[str, list[Block]]:
     """The blocks that are run, by the headings of their sections."""
     found: dict[str, list[Block]] = {}
-    text = page.read_text(encoding="utf-8")
-    for part in re.split(r"^## ", text, flags=re.MULTILINE):
-        blocks: list[Block] = []
-        for fence in FENCE.finditer(part):
-            line = text[: text.index(part) + fence.start()].count("\n") + 2
-            kind, needs = fence[1], re.findall(r"needs=(\S+)", fence[2])
-            if kind in ("console", "pycon", "python"):
-                blocks.append(Block(f"{page.name}:{line}", kind, needs, fence[3]))
-            elif kind == "text" and blocks and blocks[-1].kind == "python":
-                blocks[-1].output = fence[3]
-        if blocks:
-            found[part.split("\n")[0] if part != text.split("\n## ")[0] + "\n" else ""] = blocks
+    heading, line = "", 1
+    for part in re.split(r"^(?=## )", page.read_text(encoding="utf-8"), flags=re.MULTILINE):
+        heading = part.split("\n")[0].removeprefix("## ") if part.startswith("## ") else ""
+        fences = list(FENCE.finditer(part))
+        for fence, after in zip(fences, [*fences[1:], None]):
+            output = after[3] if after and after[1] == "text" else ""
+            if fence[1] in ("console", "pycon", "python"):
+                place = f"{page.name}:{line + part[: fence.start()].count(chr(10)) + 1}"
+                one = block(place, fence[1], re.findall(r"needs=(\S+)", fence[2]), fence[3], output)
+                found.setdefault(heading, []).append(one)
+        line += part.count("\n")
     return found
 
 
@@ -78,8 +75,7 @@ def is_there(needed: str) -> bool:
     """Whether what a block needs is there."""
     if needed == "library":
         return package.LIBRARY.exists()
-    command = [package.interpreter(), "-c", f"import {needed}"]
-    return shutil.which(needed) is not None or fixtures.ran(command)[0] == 0
+    return shutil.which(needed) is not None or fixtures.ran([package.interpreter(), "-c", f"import {needed}"])[0] == 0
 
 
 def fits(wanted: str, came: str) -> bool:
@@ -87,49 +83,13 @@ def fits(wanted: str, came: str) -> bool:
     return re.fullmatch(".*".join(map(re.escape, wanted.split("..."))), came, re.DOTALL) is not None
 
 
-class Shell:
-    """One shell of a section, in a folder. It is given commands one by one."""
-
-    def __init__(self, folder: str, environment: dict[str, str]):
-        how = {"cwd": folder, "env": environment, "text": True, "start_new_session": True, "errors": "replace"}
-        pipes = {"stdin": subprocess.PIPE, "stdout": subprocess.PIPE, "stderr": subprocess.STDOUT}
-        self.process = subprocess.Popen(["bash"], **pipes, **how)
-
-    def run(self, text: str) -> str:
-        """What a command writes. What it could read is empty."""
-        timer = threading.Timer(SECONDS, self.kill)
-        timer.start()
-        wrote = ""
-        with contextlib.suppress(BrokenPipeError):
-            self.process.stdin.write(f"{{ {text}\n}} < /dev/null\necho '{END}'\n")
-            self.process.stdin.flush()
-            while not wrote.endswith(f"{END}\n") and (line := self.process.stdout.readline()):
-                wrote += line
-        timer.cancel()
-        return wrote.removesuffix(f"{END}\n") if wrote.endswith(f"{END}\n") else wrote + "(the shell has ended)\n"
-
-    def kill(self) -> None:
-        """Ends the shell's processes."""
-        with contextlib.suppress(ProcessLookupError):
-            os.killpg(self.process.pid, signal.SIGKILL)
-
-    def end(self) -> None:
-        """Ends the shell, and whatever it left."""
-        self.kill()
-        with contextlib.suppress(BrokenPipeError):
-            self.process.communicate()
-
-
-def python_wrote(block: Block, folder: str, environment: dict[str, str]) -> str:
-    """What a program or a session of Python writes; of one that ends otherwise than well also its status."""
-    name = pathlib.Path(folder) / f"block_{block.place.split(':')[1]}.py"
-    name.write_text(block.text, encoding="utf-8")
-    words = ["-m", "doctest", "-o", "ELLIPSIS"] if block.kind == "pycon" else []
-    if block.kind == "pycon":
-        name = name.rename(name.with_suffix(".txt"))
-    how = {"stdout": subprocess.PIPE, "stderr": subprocess.STDOUT, "cwd": folder, "env": environment}
-    status, wrote, _ = fixtures.ran([package.interpreter(), *words, name], "", SECONDS, **how)
-    return wrote + (f"(ended with status {status})\n" if status else "")
+def command_of(kind: str, text: str, path: pathlib.Path) -> str:
+    """The command of the shell that runs a block, which is in a file if it isn't one itself."""
+    if kind == "console":
+        return text
+    path.write_text(text, encoding="utf-8")
+    words = "-m doctest -o ELLIPSIS" if kind == "pycon" else ""
+    return f'python3 {words} {path.name} || echo "(ended with status $?)"'
 
 
 def environment_for(program: str, folder: str) -> dict[str, str]:
@@ -143,31 +103,43 @@ def environment_for(program: str, folder: str) -> dict[str, str]:
     return {**os.environ, **found, "PYTHONPATH": str(package.PACKAGE), "LC_ALL": "C.UTF-8"}
 
 
+def wrote_in_shell(commands: list[str], folder: str, environment: dict[str, str]) -> list[str]:
+    """What each command writes in one shell, where what it could read is empty."""
+    script = "".join(f"{{ {it}\n}} < /dev/null\necho '{END}'\n" for it in commands)
+    with tempfile.TemporaryFile("w+", errors="replace") as output:
+        how = {"stdin": subprocess.PIPE, "stdout": output, "stderr": subprocess.STDOUT, "start_new_session": True}
+        shell = subprocess.Popen(["bash"], cwd=folder, env=environment, text=True, **how)
+        with contextlib.suppress(subprocess.TimeoutExpired):
+            shell.communicate(script, SECONDS)
+        # (and whatever it left)
+        with contextlib.suppress(ProcessLookupError):
+            os.killpg(shell.pid, signal.SIGKILL)
+        shell.wait()
+        output.seek(0)
+        *wrote, rest = output.read().split(f"{END}\n")
+    lost = [f"{rest}(the shell has ended)\n"] + ["(the shell had ended)\n"] * len(commands)
+    return (wrote + lost)[: len(commands)]
+
+
 def run(blocks: list[Block], program: str) -> tuple[int, list[str], list[str]]:
     """Runs the blocks of a section: how many commands passed, what is wrong with the others, and what was skipped."""
-    port, faults, skipped, count = str(fixtures.free_port()), [], [], 0
+    port, skipped, faults = str(fixtures.free_port()), [], []
     with tempfile.TemporaryDirectory() as folder, tempfile.TemporaryDirectory() as bin:
-        environment = environment_for(program, bin)
         shutil.copy(TOP / "examples" / "events.csv", folder)
         (pathlib.Path(folder) / "examples").symlink_to(TOP / "examples")
-        shell = Shell(folder, environment)
-        for block in blocks:
-            missing = [it for it in block.needs if not is_there(it)]
-            if missing:
-                skipped.append(f"{block.place} skipped, since {missing[0]} isn't there")
-                continue
-            commands = block.commands() if block.kind == "console" else [(block.kind, block.output)]
-            for command, wanted in commands:
-                if block.kind == "console":
-                    command, wanted = command.replace(PORT, port), wanted.replace(PORT, port)
-                    came = shell.run(command)
-                else:
-                    came = python_wrote(block, folder, environment)
-                count += 1
-                if not fits(wanted, came):
-                    faults.append(f"{block.place}: {command}\n    wanted {wanted!r}\n    came   {came!r}")
-        shell.end()
-    return count - len(faults), faults, skipped
+        asked = []
+        for it in blocks:
+            missing = [needed for needed in it.needs if not is_there(needed)]
+            skipped += [f"{it.place} skipped, since {missing[0]} isn't there"] if missing else []
+            for command, wanted in it.commands if not missing else []:
+                path = pathlib.Path(folder) / f"block_{it.place.split(':')[1]}{'.txt' if it.kind == 'pycon' else '.py'}"
+                texts = [text.replace(PORT, port) if it.kind == "console" else text for text in (command, wanted)]
+                asked.append((f"{it.place}: {command}", command_of(it.kind, texts[0], path), texts[1]))
+        wrote = wrote_in_shell([command for _, command, _ in asked], folder, environment_for(program, bin))
+    for (what, _, wanted), came in zip(asked, wrote):
+        if not fits(wanted, came):
+            faults.append(f"{what}\n    wanted {wanted!r}\n    came   {came!r}")
+    return len(asked) - len(faults), faults, skipped
 
 
 PAGE = """# A page
@@ -220,18 +192,19 @@ class Checker(unittest.TestCase):
         self.assertEqual((sum(it[0] for it in ran), sum(len(it[1]) for it in ran)), (passed, failed), changes)
         return [line for it in ran for line in it[2]]
 
-    def test_each_command_is_run_once_and_what_lacks_something_is_skipped(self):
+    def test_each_command_is_run_once_and_what_lacks_something_is_skipped(self) -> None:
         (skipped,) = self.assert_counts(5, 0)
         self.assertEqual(skipped, "PAGE.md:35 skipped, since no-such-program isn't there")
 
-    def test_a_command_that_writes_something_else_or_fails_fails(self):
+    def test_a_command_that_writes_something_else_or_fails_fails(self) -> None:
         self.assert_counts(4, 1, "\none\n", "\ntwo\n")
         self.assert_counts(4, 1, "\n2\n```\n\n## Two", "\n3\n```\n\n## Two")
         self.assert_counts(4, 1, "\n2\n```\n\n```console", "\n3\n```\n\n```console")
         self.assert_counts(4, 1, "print(1 + 1)", "print(2)\nraise SystemExit(1)")
         self.assert_counts(4, 1, "echo one", "no-such-command")
+        self.assert_counts(1, 4, "echo one", "exit")
 
-    def test_dots_stand_for_any_text(self):
+    def test_dots_stand_for_any_text(self) -> None:
         self.assertTrue(fits("took ... ms\n", "took 1.5\n2 ms\n"))
         self.assertFalse(fits("took ... ms\n", "took 1.5 s\n"))
 
@@ -248,7 +221,3 @@ class Commands(fixtures.Case):
 for page in PAGES:
     for heading, blocks in sections(page).items():
         fixtures.add(Commands, f"{page.stem} {heading}".lower(), Commands.assert_holds, blocks)
-
-
-if __name__ == "__main__":
-    fixtures.main()

@@ -1,17 +1,18 @@
-#!/usr/bin/env python3
-"""Lines of all kinds, cut into pieces anywhere, and scripts of random statements: what is answered is what
-plain_session.py answers.
+"""Lines of all kinds, cut into pieces anywhere, and random scripts: what is answered is what plain_session.py answers.
 
 A line is made of the grammar's words, numbers at their limits, spaces, carriage returns and bytes 0 to 255, or is a
 statement in which a byte or a word was changed, put in, or taken out. A session is written in pieces, whose size is the
 seed's, so that the program's reads end anywhere. Besides, statements are cut after each byte, and a line has 64 MB.
 """
 
+from __future__ import annotations
+
 import random
 
 import fixtures
 import random_script
-from plain_session import GRAMMAR, Limits, read_line, statements
+import run
+from plain_session import FIELDS, POLICIES, RANGES, Limits, read_line, statements
 
 SESSION_LINES = 5000
 LONG_LINE = 64 * 2**20
@@ -20,36 +21,18 @@ ODD_NUMBERS = (
     b"|-1|+1|1.0|0x1|1e3|1_0|\xb2|00000000000000000001|000000000000000000001|-|-0|--1|- 1|+-1|1-|-1.0|-1_0|-\xb2|"
     b"\xe2\x88\x921|00000000000000000000|000000000000000000000|-00000000000000000000|-000000000000000000000"
 ).split(b"|")
-WORDS = [*GRAMMAR, b"complete", b"gradual", b"ripple", b"auto"]
+WORDS = [it.encode() for it in [*FIELDS, "policy", *POLICIES]]
 ODD_WORDS = b"INSERT inser inserts insert1 row refused bye none checkpoints fold \xc3\xa9 \0 # --".split(b" ")
+# what stands between words, at times; and lines of few bytes
+GAPS = [b" "] * 12 + [b"  ", b"   ", b"\t", b"", b"\r"]
+SPACES = [b"", b" ", b"\r", b"\r\r", b" \r", b"\r ", b"\0", b"\x80", b" " * 200, b" " * 201, b" " * 200 + b"\r"]
+ENDS = [b"", b"quit", b"quit\n", b"quit\nlayout 0\n", b"count 0 5", b"count 0 5\r", b"count 0 ", b"\r", b" " * 201]
 # how many bytes are written at a time
 PIECES = [1, 2, 3, 7, 199, 201, 4095, 4096, 4097, 65536]
-STATEMENTS = (
-    b"insert 7 70|  insert   007   08  |delete 0.0|update 0.0 8 80|count 0 18446744073709551616|sum 5 10|layout 0|"
-    b"select 0 18446744073709551616|checkpoint 0|policy gradual|quit|delete 4294967295.18446744073709551615|"
-    b"count 18446744073709551616 0|insert 18446744073709551615 -9223372036854775808|"
-    b"insert 8  -00000000000000000080|update 0.0 9 -0"
-).split(b"|")
-# lines at the limits of the rules, some with a question after them: `\` stands for a line feed, and each but the last
-# few ends by one
-FRESH = (
-    b"insert 1|insert 1 2 3|INSERT 1 2|insert 1 - 2|insert 1\t2|quit now|delete 0 .1|delete 4294967296.0|"
-    b"delete 0.18446744073709551616|count 000000000000000000000 5|insert 1 1\r\r|count 18446744073709551616 0|"
-    b"count 0 99999999999999999999|delete 1.0|layout 4294967295|delete 0.18446744073709551615|  insert   007   08  |\r|"
-    b"checkpoint|checkpoint x|checkpoint 0 0|checkpoint 0.0|checkpoint -0|checkpoint\t0|checkpoint 0\r\r|Checkpoint 0|"
-    b"checkpoint0|check point 0|checkpoint 4294967296|checkpoint 000000000000000000000|checkpoint 1|"
-    b"checkpoint 4294967295|checkpoint 00000000000000000000|  checkpoint   0  \r|insert 18446744073709551616 1|"
-    b"insert 1 9223372036854775808|insert 1 -9223372036854775809|insert 1 -18446744073709551616|insert 1 -2|"
-    b"insert 1 -9223372036854775808|insert 1 -0\\select 0 2|insert 1 -00000000000000000002\\select 0 2|"
-    b"insert 1 -000000000000000000002|insert 1 -|insert 1 --2|insert 1 +2|insert 1 2-|insert -1 1|insert -0 1|"
-    b"insert 1 \xe2\x88\x922|insert 1 -\xb2|insert 1 -1_0|insert 1 -\t2|insert 1 -2\r|count -1 5|count 0 -5|count -0 5|"
-    b"delete -0.0|delete 0.-0|layout -0|count 0 18446744073709551617|count 18446744073709551616 18446744073709551616|"
-    b"insert 18446744073709551615 -1\\sum 18446744073709551615 18446744073709551616"
-)
-PADDED = [(b"insert 1 1", 200), (b"insert 1 -1", 200), (b"checkpoint 0", 200), (b"checkpoint 0", 201), (b"", 201)]
+ASKED = b"\nselect 0 18446744073709551616\nsum 0 18446744073709551616\n"
 
 
-def random_number(numbers):
+def random_number(numbers: random.Random) -> bytes:
     """A number's digits, often at a limit, now and then with zeros before it, or what is none."""
     drawn = numbers.random()
     if drawn < 0.08:
@@ -58,12 +41,7 @@ def random_number(numbers):
     return text.rjust(numbers.randrange(1, 23), b"0") if drawn > 0.9 else text
 
 
-def random_payload(numbers):
-    """The same, often with a sign before it."""
-    return numbers.choice([b"", b"", b"-", b"-"]) + random_number(numbers)
-
-
-def random_row(numbers):
+def random_row(numbers: random.Random) -> bytes:
     """A row number, or what is nearly one."""
     drawn = numbers.random()
     if drawn < 0.1:
@@ -74,56 +52,57 @@ def random_row(numbers):
     return b"%d.%d" % (numbers.randrange(4), numbers.randrange(200))
 
 
-def random_words(numbers):
+def random_words(numbers: random.Random) -> list[bytes]:
     """The words of a statement, or of what is nearly one."""
+    number = lambda: random_number(numbers)
+    payload = lambda: numbers.choice([b"", b"-"]) + number()
     kind = numbers.choice(WORDS) if numbers.random() < 0.95 else numbers.choice(ODD_WORDS)
-    match kind:
-        case b"insert":
-            words = [random_number(numbers), random_payload(numbers)]
-        case b"count" | b"sum" | b"select":
-            words = [random_number(numbers), random_number(numbers)]
-        case b"delete":
+    match kind.decode("latin-1"):
+        case "insert":
+            words = [number(), payload()]
+        case it if it in RANGES:
+            words = [number(), number()]
+        case "delete":
             words = [random_row(numbers)]
-        case b"update":
-            words = [random_row(numbers), random_number(numbers), random_payload(numbers)]
-        case b"layout" | b"checkpoint":
-            words = [b"%d" % numbers.randrange(5) if numbers.random() < 0.7 else random_number(numbers)]
-        case b"policy":
+        case "update":
+            words = [random_row(numbers), number(), payload()]
+        case "layout" | "checkpoint":
+            words = [b"%d" % numbers.randrange(5) if numbers.random() < 0.7 else number()]
+        case "policy":
             words = [numbers.choice(WORDS[-3:])]
         case _:
             words = []
     if numbers.random() < 0.05:
-        more = numbers.choice([*WORDS, *ODD_WORDS, random_number(numbers)])
-        words.insert(numbers.randrange(len(words) + 1), more)
+        words.insert(numbers.randrange(len(words) + 1), numbers.choice([*WORDS, *ODD_WORDS, number()]))
     if words and numbers.random() < 0.05:
         words.pop(numbers.randrange(len(words)))
     return [kind, *words]
 
 
-def random_statement(numbers):
+def random_statement(numbers: random.Random) -> bytes:
     """A line that says something, or nearly so: its words between spaces, at times very many, or a tab."""
-    gaps = [b" "] * 12 + [b"  ", b"   ", b"\t", b"", b" " * numbers.randrange(200), b"\r"]
     line = numbers.choice([b"", b"", b"", b" "])
     for word in random_words(numbers):
-        line += word + (b" " if numbers.random() < 0.9 else numbers.choice(gaps))
+        gap = numbers.choice([*GAPS, b" " * numbers.randrange(200)])
+        line += word + (b" " if numbers.random() < 0.9 else gap)
     return line if numbers.random() < 0.2 else line.rstrip(b" ")
 
 
-def changed(numbers, line):
+def changed(numbers: random.Random, line: bytes) -> bytes:
     """A line in which one byte was changed, put in or taken out."""
     at = numbers.randrange(len(line) + 1)
     byte = b"%c" % (numbers.randrange(256) if numbers.random() < 0.5 else numbers.choice(b" \r.09\0\n-+"))
     return line[:at] + numbers.choice([byte, b""]) + line[at + numbers.randrange(2) :]
 
 
-def padded(numbers, line):
+def padded(numbers: random.Random, line: bytes) -> bytes:
     """A line that is filled up to about as many bytes as a line may have, or as a read takes."""
     size = numbers.choice([199, 200, 201, 202, 203, 4095, 4096, 4097, 4296, 5000])
     filling = numbers.choice([b" ", b"0", b"x", b"\r"])
     return numbers.choice([line.ljust(size, filling), line.rjust(size, filling)])
 
 
-def random_line(numbers):
+def random_line(numbers: random.Random) -> bytes:
     """A line of any kind, without what ends it."""
     drawn = numbers.random()
     if drawn < 0.6:
@@ -132,25 +111,20 @@ def random_line(numbers):
         return changed(numbers, random_statement(numbers))
     if drawn < 0.9:
         return padded(numbers, random_statement(numbers))
-    if drawn < 0.95:
-        return numbers.randbytes(numbers.randrange(300))
-    spaces = [b" " * 200, b" " * 201, b" " * 200 + b"\r"]
-    return numbers.choice([b"", b" ", b"\r", b"\r\r", b" \r", b"\r ", b"\0", b"\x80", *spaces])
+    return numbers.randbytes(numbers.randrange(300)) if drawn < 0.95 else numbers.choice(SPACES)
 
 
-def random_input(numbers, many):
-    """The bytes of a session of so many random lines, none of which ends it before the last, and which may break off in
-    a line."""
-    given = []
+def random_input(numbers: random.Random, many: int) -> bytes:
+    """A session of so many random lines, none of which ends it before the last, and which may break off in a line."""
+    given: list[bytes] = []
     while len(given) < many:
         line = random_line(numbers) + numbers.choice([b"\n", b"\n", b"\n", b"\r\n"])
         if ("quit", []) not in statements(line):
             given.append(line)
-    ends = [b"", b"quit", b"quit\n", b"quit\nlayout 0\n", b"count 0 5", b"count 0 5\r", b"count 0 ", b"\r", b" " * 201]
-    return b"".join(given) + numbers.choice(ends)
+    return b"".join(given) + numbers.choice(ENDS)
 
 
-def fault_of_session(program, given, splits=(), limits=Limits(), piece=65536):
+def fault_of_session(program: str, given: bytes, splits=(), limits=Limits(), piece: int = 65536) -> str | None:
     """What is wrong with what a session is answered, given in pieces of so many bytes; or None."""
     status, wrote, complained = fixtures.fed([program, "script", *limits.words(), *map(str, splits)], given, piece)
     if status or complained:
@@ -158,7 +132,7 @@ def fault_of_session(program, given, splits=(), limits=Limits(), piece=65536):
     return random_script.misfit(given, wrote, splits, limits)
 
 
-def fault(program, seed):
+def fault(program: str, seed: int) -> str | None:
     """What is wrong with what the random lines of a seed are answered, or None."""
     numbers = random.Random(seed)
     splits = sorted(numbers.sample([1, 10, 99, 100, 101, *random_script.EDGES[2:-1]], numbers.randrange(4)))
@@ -171,36 +145,37 @@ def fault(program, seed):
 class Lines(fixtures.Case):
     """Lines of all kinds."""
 
-    def assert_answered(self, given, what=None, piece=65536):
+    def assert_answered(self, given: bytes, what: object = None, piece: int = 65536) -> None:
         self.assertIsNone(fault_of_session(self.program, given, piece=piece), what or given)
 
-    def test_each_line_on_a_fresh_table(self):
-        """Each of these lines, which are at the limits of the rules, is the whole input."""
-        given = [it.replace(b"\\", b"\n") + b"\n" for it in FRESH.split(b"|")]
-        given += [line.ljust(size) + b"\n" for line, size in PADDED]
-        for it in [*given, b"insert 1 1".ljust(200) + b"\r\n", b"\r", b"checkpoint 0"]:
+    def test_each_line_on_a_fresh_table(self) -> None:
+        """Each line at the limits of words is the whole input, before a question for all rows, and without one."""
+        lines = [line for it in run.all_cases("words") for line in it.given.split(b"\n")[:-1]]
+        for it in lines:
+            for end in [b"\n", ASKED]:
+                self.assert_answered(it + end)
+        for it in [b"insert 1 1".ljust(200) + b"\r\n", b"\r", b"checkpoint 0"]:
             self.assert_answered(it)
 
-    def test_cut_anywhere(self):
-        """Statements are cut after each byte, each cut a session of its own that breaks off there, or that ends by a
-        carriage return; and all a line each."""
-        cuts = [it[:size] for it in STATEMENTS for size in range(len(it) + 1)]
+    def test_cut_anywhere(self) -> None:
+        """Statements are cut after each byte, each a session that breaks off or ends there; and all a line each."""
+        whole = run.inputs("statements")
+        cuts = [it[:size] for it in whole for size in range(len(it) + 1)]
         for cut in cuts:
             for end in [b"", b"\r"]:
                 self.assert_answered(b"insert 7 70\n" + cut + end)
-        rest = [it[size:] for it in STATEMENTS for size in range(len(it) + 1)]
+        rest = [it[size:] for it in whole for size in range(len(it) + 1)]
         kept = [it for it in [*cuts, *rest] if read_line(it) != ("quit", [])]
         self.assert_answered(b"".join(it + end for it in kept for end in [b"\n", b"\r\n"]), "all cuts", piece=1)
 
-    def test_each_byte_anywhere(self):
+    def test_each_byte_anywhere(self) -> None:
         """Each of the 256 bytes is put before, in and after a statement, and around a sign."""
         places = b"|sum 0 5, sum 0|5, sum 0 |5, sum 0 5|, insert 1 |5, insert 1 |-5, insert 1 -|5".split(b", ")
         given = [it.replace(b"|", bytes([byte])) for byte in range(256) for it in places]
         self.assert_answered(b"".join(it + b"\n" for it in given), "all bytes", piece=7)
 
-    def test_a_line_of_64_megabytes(self):
-        """A line of 64 MB is refused once, whatever stands in it and wherever it ends, and the statements before and
-        after it are answered."""
+    def test_a_line_of_64_megabytes(self) -> None:
+        """A line of 64 MB is refused once, whatever stands in it, and statements before and after it are answered."""
         for front, filling in [(b"", b"x"), (b"count 0 5", b" "), (b"insert 1 ", b"0"), (b"", b"\r"), (b"", b"\0")]:
             line = front + filling * (LONG_LINE - len(front))
             for end in [b"", b"\n", b"\ncount 0 5"]:
@@ -213,6 +188,3 @@ class RandomScripts(fixtures.Case):
 
 fixtures.add_seeds(Lines, range(1, 21), fault)
 fixtures.add_seeds(RandomScripts, random_script.SEEDS, random_script.fault)
-
-if __name__ == "__main__":
-    fixtures.main()

@@ -1,4 +1,3 @@
-#!/usr/bin/env python3
 """What run.py takes for a case, and which line of its file it names where something else comes."""
 
 import pathlib
@@ -17,6 +16,7 @@ $ batch --workers 2 100
                 | 0.0 5 -5
 > accepted 2 inserted 1 deleted 0 held 1
 ! crackd: a word\\c
++ rows.csv 1,2\\n\\c
 = 1
 """
 GIVEN = b"1 insert 150 6\r\n  \n0 select 0 11\n"
@@ -34,7 +34,7 @@ WRONG = {
 }
 
 
-def cases(text):
+def cases(text: str) -> list[run.Case]:
     """The cases of a file with this text."""
     with tempfile.TemporaryDirectory() as room:
         path = pathlib.Path(room) / "batches.cases"
@@ -43,14 +43,15 @@ def cases(text):
 
 
 class Cases(unittest.TestCase):
-    def test_a_case_is_read_byte_by_byte_and_a_batch_worker_by_worker(self):
+    def test_a_case_is_read_byte_by_byte_and_a_batch_worker_by_worker(self) -> None:
         (case,) = cases(BATCH)
         self.assertEqual((case.name, case.words, case.given), ("a-batch", ["batch", "--workers", "2", "100"], GIVEN))
         self.assertEqual(b"".join(it.text for it in case.output()), WROTE)
         self.assertEqual([it.line for it in case.output()], LINES)
         self.assertEqual((case.complaints[0].text, case.status.text), (b"crackd: a word", b"1"))
+        self.assertEqual(case.files, {"rows.csv": b"1,2\n"})
 
-    def test_the_line_that_first_differs_is_named(self):
+    def test_the_line_that_first_differs_is_named(self) -> None:
         (case,) = cases(BATCH)
         lines = WROTE.splitlines(keepends=True)
         case.path = run.CASES / "batches.cases"
@@ -64,11 +65,7 @@ class Cases(unittest.TestCase):
         (more,) = run.first_difference(case, "output", case.output(), WROTE + b"more\n")
         self.assertIn("1 lines more than are wanted, the first b'more\\n'", more)
 
-    def test_what_is_no_case_is_named_with_its_line(self):
+    def test_what_is_no_case_is_named_with_its_line(self) -> None:
         for text, line in WRONG.items():
             with self.assertRaisesRegex(run.Misfit, f"batches.cases:{line}: "):
                 cases(text)
-
-
-if __name__ == "__main__":
-    unittest.main()

@@ -1,76 +1,72 @@
-#!/usr/bin/env python3
-"""Checkpoints and small limits, where many ask one partition of a server or a batch. What must come is read off
-docs/SPECIFICATION.md.
+"""Checkpoints and small limits, where many ask one partition of a server or a batch.
 
 A checkpoint of one client empties a partition's history for all; what all checkpoints report comes to what was
-accepted, since each entry is folded once; limits hold for all clients together; and the totals are as without.
+accepted, since each entry is folded once; limits hold for all clients together; and the totals are as without. What
+must come is read off docs/SPECIFICATION.md.
 """
 
+from __future__ import annotations
+
 import threading
+import typing
 
 import fixtures
 from compare import numbers_of
 from fixtures import FAULTS, SECONDS, Client, Wrong, expect, serving
 from plain_session import MOST
-from test_server import batch
+from test_server import batch, numbered
 
 CLIENTS, LIMIT, LIFE, CELLS = 8, 50, 1000, 100
 ROWS, EACH = 300, 5
 LINES_OF_A_WORKER, OWN_LINES, WORKERS = 40, 1000, 4
+OWN_SPLITS = ["1000", "2000", "3000"]
 
 
 class Counting(Client):
-    """A client that counts what it was answered: commands that were accepted, and entries that its checkpoints
-    folded."""
+    """A client that counts commands that were accepted, and entries that its checkpoints folded."""
 
     accepted = folded = 0
 
-    def reply(self, statement):
+    def line(self, statement: str) -> str:
         """The one line of the reply to a statement."""
-        self.send(statement + "\n")
-        return self.lines.readline().removesuffix("\n")
+        (line,) = self.answer(statement)
+        return line
 
-    def fold(self, part):
+    def fold(self, part: int) -> None:
         """Asks for a checkpoint. It reports at most as many entries as a history may have."""
-        line = self.reply(f"checkpoint {part}")
+        line = self.line(f"checkpoint {part}")
         folded = numbers_of(line, ["folded"])
         if not folded or folded[0] > LIMIT:
             raise Wrong(f"checkpoint {part}: {line!r}")
         self.folded += folded[0]
 
-    def insist(self, statement, part):
+    def insist(self, statement: str, part: int) -> str:
         """The reply to a statement, which is asked again after a checkpoint for as long as the history is full."""
-        while (line := self.reply(statement)) == f"refused 6 {LIMIT}":
+        while (line := self.line(statement)) == f"refused 6 {LIMIT}":
             self.fold(part)
         self.accepted += not line.startswith("refused")
         return line
 
 
-def at_once(port, count, work):
-    """Runs so many clients at once, each on a thread with a connection of its own and its number. They are given back
-    once all have ended."""
-    clients, faults = [Counting(port) for _ in range(count)], []
-
-    def run(number):
-        try:
-            work(clients[number], number)
-            clients[number].end()
-        except (*FAULTS, threading.BrokenBarrierError) as error:
-            faults.append(f"client {number}: {error or type(error).__name__}")
-
-    threads = [threading.Thread(target=run, args=[number]) for number in range(count)]
-    for it in threads:
-        it.start()
-    for it in threads:
-        it.join()
-    for it in clients:
-        it.__exit__()
-    if faults:
-        raise Wrong("; ".join(faults[:3]))
-    return clients
+Work = typing.Callable[[Counting, int], None]
 
 
-def check_folded(port, clients, parts, accepted):
+def at_once(port: int, work: Work) -> list[Counting]:
+    """Runs all clients at once, each with a connection of its own and its number, and gives them back."""
+
+    def run(number: int) -> Counting:
+        with Counting(port) as client:
+            try:
+                work(client, number)
+                client.end()
+            except (*FAULTS, threading.BrokenBarrierError) as error:
+                raise Wrong(f"client {number}: {error or type(error).__name__}") from error
+            return client
+
+    return fixtures.all_at_once(run, range(CLIENTS))
+
+
+def check_folded(port: int, clients: list[Counting], parts: int, accepted: int) -> None:
     """Folds what is left. Each entry was folded once, and each client was answered what was accepted."""
     with Counting(port) as last:
         for part in range(parts):
@@ -80,9 +76,8 @@ def check_folded(port, clients, parts, accepted):
     expect("entries that checkpoints folded", accepted, sum(it.folded for it in [*clients, last]))
 
 
-def check_folds(lines):
-    """Holds what the worker was answered that folds all. Of its own partition it knows each number; of another no more
-    goes than was asked of it."""
+def check_folds(lines: list[str]) -> None:
+    """Holds what the worker was answered that folds all: of another partition no more goes than was asked of it."""
     folds = [int(line.removeprefix("folded ")) for line in lines if line.startswith("folded ")]
     others = [line for line in lines if not line.startswith("folded ")]
     expect("rows of worker 0", [f"row 0.{number}" for number in range(OWN_LINES)], others[:-1])
@@ -94,9 +89,8 @@ def check_folds(lines):
             raise Wrong(f"partition {part}: {sum(folds[part::WORKERS])} entries were folded of {OWN_LINES + 1} at most")
 
 
-def keep_rows(number, parts, ask):
-    """Rows of a client of this number come and go amid those of others in its partition. `ask` gives the reply to a
-    statement that asks a partition."""
+def keep_rows(number: int, parts: int, ask: typing.Callable[[str, int], str]) -> None:
+    """Rows of a client of this number come and go amid those of others in its partition."""
     part, low = number % parts, number % parts * 10_000 + number * 1000
     rows = []
     for key in range(low, low + ROWS):
@@ -112,77 +106,53 @@ def keep_rows(number, parts, ask):
 class SmallLimits(fixtures.Case):
     """Checkpoints and small limits where many ask one partition."""
 
-    def test_a_checkpoint_of_one_is_for_all(self):
-        """After a checkpoint of one client the other is answered again, over the same rows; each partition is folded
-        for itself."""
-        words = "--limit", "4", "100"
-        with serving(self.program, (8, 3, 1, 2), 2, 2, *words) as port, Client(port) as one, Client(port) as two:
-            one.talk("insert 50 5 | row 0.0")
-            two.talk("insert 60 -6 | row 0.1")
-            one.talk("count 0 100 | count 2")
-            two.talk("sum 0 100 | sum -1")
-            one.talk("count 0 100 | refused 6 4")
-            two.talk("delete 0.0 | refused 6 4")
-            one.talk("checkpoint 1 | folded 0")
-            two.talk("delete 0.0 | refused 6 4\ncheckpoint 0 | folded 4")
-            one.talk("count 0 100 | count 2\ndelete 0.0 | gone 50 5")
-            two.talk("checkpoint 0 | folded 2")
-            one.talk("checkpoint 0 | folded 0\ncheckpoint 2 | refused 5\ncheckpoint | refused 1")
-            two.talk("select 0 100 | rows 1 | 0.1 60 -6")
-            one.talk("insert 70 7 | row 0.2")
-            one.end()
-            two.end()
-
-    def assert_kept(self, words, ask, check):
+    def assert_kept(self, words: list[str], ask: typing.Callable, check: typing.Callable) -> None:
         """Clients that share two partitions are answered all that they ask, and keep their rows."""
         accepted, inserted = CLIENTS * (2 * ROWS + ROWS // 10 + 1), CLIENTS * ROWS
         totals = accepted, inserted, inserted // 10, inserted - inserted // 10
         words = ["--limit", str(LIMIT), *words, "10000"]
         with serving(self.program, totals, CLIENTS, CLIENTS + 1, *words) as port:
             work = lambda client, number: keep_rows(number, 2, lambda *given: ask(client, *given))
-            check(port, at_once(port, CLIENTS, work), accepted)
+            check(port, at_once(port, work), accepted)
 
-    def test_many_at_a_small_limit(self):
+    def test_many_at_a_small_limit(self) -> None:
         """Where histories are full again and again, and the clients ask for checkpoints."""
         self.assert_kept([], Counting.insist, lambda port, clients, accepted: check_folded(port, clients, 2, accepted))
 
-    def test_checkpoints_that_are_due(self):
-        """Where none of them asks for a checkpoint. Since the last one that was due there are as many entries as were
-        accepted beyond whole histories."""
+    def test_checkpoints_that_are_due(self) -> None:
+        """Where none asks for a checkpoint: since the last one there are those beyond whole histories."""
 
-        def check(port, _, accepted):
+        def check(port: int, _: object, accepted: int) -> None:
             with Client(port) as last:
                 for part in range(2):
                     last.ask(f"checkpoint {part}", f"folded {(accepted // 2 - 1) % LIMIT + 1}")
                 last.end()
 
-        self.assert_kept(["--auto-checkpoint"], lambda client, statement, _: client.reply(statement), check)
+        self.assert_kept(["--auto-checkpoint"], lambda client, statement, _: client.line(statement), check)
 
-    def test_a_life_ends_for_all(self):
-        """A partition answers as many commands as its life is long, to all clients together, however often it is
-        folded; layouts and checkpoints go on."""
+    def test_a_life_ends_for_all(self) -> None:
+        """A partition answers as many commands as its life is long, to all together, however often it is folded."""
 
-        def work(client, number):
+        def work(client: Counting, number: int) -> None:
             while (line := client.insist(f"count {number} {number + 1}", 0)) == "count 0":
                 if client.accepted % 7 == 0:
                     client.fold(0)
             expect("a life that is over", "refused 10", line)
             for _ in range(3):
                 client.fold(0)
-                expect("a life that is over", "refused 10", client.reply(f"insert {number} 1"))
+                client.ask(f"insert {number} 1", "refused 10")
             head = "layout 1 rows 0 column 0 out 0 in 0 cells 0 free 0 pieces 1"
             client.ask("layout 1", head, f"piece 10000 {MOST} 0")
 
         words = ["--limit", str(LIMIT), "--life", str(LIFE), "10000"]
         with serving(self.program, (LIFE, 0, 0, 0), CLIENTS, CLIENTS + 1, *words) as port:
-            check_folded(port, at_once(port, CLIENTS, work), 2, LIFE)
+            check_folded(port, at_once(port, work), 2, LIFE)
 
-    def test_cells_run_out_for_all(self):
-        """A partition has rows in as many cells as there may be, of all clients together; a row that goes before a
-        query needs it leaves its cell at once."""
+    def test_cells_run_out_for_all(self) -> None:
+        """A partition has as many cells as there may be, for all; a row that goes before a query leaves its cell."""
         meeting = threading.Barrier(CLIENTS, timeout=SECONDS)
 
-        def work(client, number):
+        def work(client: Counting, number: int) -> None:
             rows, insert = [], lambda: client.insist(f"insert {number} 1", 0)
             while (line := insert()).startswith("row "):
                 rows.append(line.removeprefix("row "))
@@ -202,13 +172,12 @@ class SmallLimits(fixtures.Case):
 
         freed, words = [], ["--limit", str(LIMIT), "--cells", str(CELLS)]
         with fixtures.serving_any(self.program, CLIENTS, CLIENTS + 1, *words) as (port, totals):
-            clients = at_once(port, CLIENTS, work)
+            clients = at_once(port, work)
             check_folded(port, clients, 1, CELLS + 2 * sum(freed))
             totals += [CELLS + 2 * sum(freed), CELLS + sum(freed), sum(freed), CELLS]
 
-    def test_a_batch_that_folds(self):
-        """Each worker folds its own partition before its history is full, so all is answered, and the totals are as
-        without."""
+    def test_a_batch_that_folds(self) -> None:
+        """Each worker folds its own partition before its history is full, so all is answered, with the same totals."""
         text, wanted, limit = "", "", LINES_OF_A_WORKER * 5 // 4
         for worker in range(WORKERS):
             wanted += f"worker {worker}\n"
@@ -225,12 +194,10 @@ class SmallLimits(fixtures.Case):
         inserted = WORKERS * OWN_LINES
         wanted += f"accepted {inserted * 5 // 4} inserted {inserted} deleted {inserted // 4} held {inserted * 3 // 4}\n"
         expect("checkpoints of all workers", inserted // LINES_OF_A_WORKER, text.count("checkpoint"))
-        words = ["--limit", limit, "1000", "2000", "3000"]
-        expect("batch", (0, wanted, ""), batch(self.program, WORKERS, text, *words))
+        expect("batch", (0, wanted, ""), batch(self.program, WORKERS, text, "--limit", limit, *OWN_SPLITS))
 
-    def test_a_batch_that_one_worker_folds(self):
-        """One worker folds the partitions of all amid its work and theirs: what they are answered and the totals are as
-        without, and no entry is folded twice."""
+    def test_a_batch_that_one_worker_folds(self) -> None:
+        """One worker folds the partitions of all amid its work and theirs: no entry is folded twice."""
         text, wanted = "", ""
         for number in range(OWN_LINES):
             text += "".join(f"{worker} insert {worker * 1000 + number} 1\n" for worker in range(WORKERS))
@@ -239,17 +206,12 @@ class SmallLimits(fixtures.Case):
         text += f"0 count 0 {MOST}\n"
         for worker in range(1, WORKERS):
             text += f"{worker} sum {worker * 1000} {worker * 1000 + 1000}\n"
-            rows = "".join(f"row {worker}.{number}\n" for number in range(OWN_LINES))
-            wanted += f"worker {worker}\n{rows}sum {OWN_LINES}\n"
+            wanted += f"worker {worker}\n{numbered(OWN_LINES, worker)}sum {OWN_LINES}\n"
         inserted = WORKERS * OWN_LINES
         # (the count asks each partition)
         wanted += f"accepted {inserted + 2 * WORKERS - 1} inserted {inserted} deleted 0 held {inserted}\n"
-        status, wrote, complained = batch(self.program, WORKERS, text, "1000", "2000", "3000")
+        status, wrote, complained = batch(self.program, WORKERS, text, *OWN_SPLITS)
         expect("status and standard error", (0, ""), (status, complained))
         at = wrote.index("worker 1\n")
         expect("what the others were answered, and the totals", wanted, wrote[at:])
         check_folds(wrote[:at].splitlines()[1:])
-
-
-if __name__ == "__main__":
-    fixtures.main()
