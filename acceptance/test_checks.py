@@ -244,16 +244,6 @@ class Comparison(fixtures.Case):
                 wrote = b"".join([*lines[:line], put, *lines[line + 1 :]])
                 self.assertIsNotNone(self.seen(self.GIVEN, wrote).wrong, put)
 
-    def test_no_more_statements_are_refused_than_calls_and_none_that_asks_nothing(self) -> None:
-        given = b"insert 1 10\npolicy ripple\nnonsense\ncount 5 1\nlayout 9\nupdate 0.0 200 1\n"
-        right = [b"row 0.0\n", b"policy ripple\n", b"refused 1\n", b"refused 2\n", b"refused 5\n", b"refused 4\n"]
-        self.assertIsNone(self.seen(given, b"".join(right), splits=[100]).wrong)
-        for at in range(len(right)):
-            wrote = b"".join([*right[:at], b"refused 8\n", *right[at + 1 :]])
-            self.assertEqual(self.seen(given, wrote, 1, splits=[100]).wrong is None, at == 0, at)
-        self.assertIsNotNone(self.seen(b"insert 1 1\n" * 2, b"refused 8\n" * 2, 1).wrong)
-        self.assertIsNotNone(self.seen(b"count 0 5\n" * 2, b"count 0\nrefused 8\n", 1, Limits(1)).wrong)
-
     def test_each_reply_of_a_script_under_small_limits_that_is_another_is_found(self) -> None:
         words, given, splits, limits = random_script.script(17)
         lines = [it.decode().rstrip("\n") for it in self.lines(given, *words)]
