@@ -281,15 +281,11 @@ def check_folded(accepted: int, folded: int) -> None:
 
 def check_totals(line: str, counts: Counts) -> int:
     """Holds the totals line against what the clients' statements come to. The number of accepted commands."""
-    totals = numbers_of(line.removesuffix("\n"), compare.TOTALS)
-    if totals is None:
-        raise Wrong(f"no totals line: {line!r}")
-    accepted, *rest = totals
-    held = counts["inserted"] - counts["deleted"]
-    expect("inserted, deleted, held", [counts["inserted"], counts["deleted"], held], rest)
-    if not counts["least"] <= accepted <= counts["most"]:
-        raise Wrong(f"accepted: wanted {counts['least']} to {counts['most']}, got {accepted}")
-    return accepted
+    names = ["least", "most", "inserted", "deleted"]
+    misfit = compare.misfit_of_totals(line.removesuffix("\n"), *(counts[it] for it in names))
+    if misfit:
+        raise Wrong(misfit)
+    return int(line.split()[1])
 
 
 def most_bytes(accepted: int, listed: int, sessions: int) -> int:

@@ -56,6 +56,14 @@ def numbers_of(line: str, names: list[str]) -> list[int] | None:
     return numbers_in(words[1::2]) if len(words) == 2 * len(names) and words[::2] == names else None
 
 
+def misfit_of_totals(line: str, least: int, most: int, inserted: int, deleted: int) -> str | None:
+    """What is wrong with a totals line, where so many commands were accepted at least and at most; or None."""
+    totals = numbers_of(line, TOTALS)
+    if totals and least <= totals[0] <= most and totals[1:] == [inserted, deleted, inserted - deleted]:
+        return None
+    return f"totals {line!r}, where replies say {least} to {most}, {inserted}, {deleted}, {inserted - deleted}"
+
+
 def misfit_of_layout(lines: list[str], part: Part, rows: int) -> tuple[str | None, int]:
     """What is wrong with the layout at the front of lines, of a partition with so many rows; and how long it is."""
     head = numbers_of(lines[0], HEAD) if lines else None

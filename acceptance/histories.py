@@ -19,6 +19,7 @@ from __future__ import annotations
 import collections
 import dataclasses
 import pathlib
+import re
 import typing
 
 from fixtures import Wrong, built, expect, ran
@@ -27,6 +28,11 @@ from plain_session import MOST_ENTRIES, POLICIES, Limits, Session, read_line
 SPLITS = [2**63, 2**64 - 1000]
 PARTS = range(len(SPLITS) + 1)
 WORKERS = 4
+# a section, which may have a base; and a statement of one, after numbers, with the lines of its reply
+SECTION = re.compile(
+    r"^(worker|receipts|partition) (\d+)(?: folded (\d+) inserted (\d+) deleted (\d+) rows (\d+))?\n", re.MULTILINE
+)
+ENTRY = re.compile(r"^((?:\d+ )+)([a-z]+ .*)\n(.*(?:\n\d+\.\d+ .*)*)\n", re.MULTILINE)
 STATEMENTS, STATEMENTS_OF_A_SOAK = 1000, 10000
 SEEDS = range(1, 11)
 # the program's gate refuses one of so many commands of a partition
@@ -74,43 +80,26 @@ class Printed:
     """What a run printed: answers and receipts of each worker, a history for each partition, and the totals."""
 
     def __init__(self, text: str) -> None:
-        self.answers, self.receipts, self.histories, self.bases, self.totals = {}, {}, {}, {}, None
-        self.lines = collections.deque(text.splitlines())
-        # how many numbers stand before a statement of a section
-        sections = {"worker": (self.answers, 1), "receipts": (self.receipts, 3), "partition": (self.histories, 1)}
-        while self.lines:
-            name, *words = self.lines[0].split(" ")
-            if name == "accepted":
-                self.totals = self.lines.popleft()
-            elif name not in sections:
-                section.append(self.asked(numbers))
-            else:
-                (found, numbers), number = sections[name], int(words[0])
-                expect(f"{name} {number}", None, found.get(number))
-                section = found[number] = []
-                self.lines.popleft()
-                if name == "partition":
-                    self.bases[number] = self.based(words[1:])
+        self.answers, self.receipts, self.histories, self.bases, self.totals = {}, {}, {}, {}, ""
+        sections = {"worker": self.answers, "receipts": self.receipts, "partition": self.histories}
+        before, *parts = SECTION.split(text)
+        expect("before the first section", "", before)
+        for name, number, *counts, body in zip(*(parts[it::7] for it in range(7))):
+            number, rows = int(number), int(counts.pop() or 0)
+            expect(f"{name} {number}", None, sections[name].get(number))
+            if name == "partition":
+                lines = body.splitlines()
+                self.bases[number] = Base(*(int(it or 0) for it in counts), lines[:rows])
+                body = "".join(f"{it}\n" for it in lines[rows:])
+            sections[name][number] = [self.entry(*it) for it in ENTRY.findall(body)]
+            self.totals = ENTRY.sub("", body)
+            if name != "partition" or number != PARTS[-1]:
+                expect(f"{name} {number}: what is no entry", "", self.totals)
 
-    def based(self, words: list[str]) -> Base:
-        """The base of a partition, whose rows stand next."""
-        if words[::2] not in ([], ["folded", "inserted", "deleted", "rows"]):
-            raise Wrong(f"no base: {words}")
-        *counts, rows = [int(it) for it in words[1::2]] or [0, 0, 0, 0]
-        return Base(*counts, self.some(rows))
-
-    def some(self, count: int) -> list[str]:
-        """So many of the next lines, as far as there are."""
-        return [self.lines.popleft() for _ in range(min(count, len(self.lines)))]
-
-    def asked(self, numbers: int) -> Receipt | tuple[int, Asked]:
-        """What was asked next, after so many numbers, and answered."""
-        *before, statement = self.lines.popleft().split(" ", numbers)
-        lines = self.some(1) or ["nothing"]
-        if lines[0].startswith("rows "):
-            lines += self.some(int(lines[0].removeprefix("rows ")))
-        asked = Asked(statement, lines)
-        return Receipt(*map(int, before), asked) if numbers == 3 else (int(before[0]), asked)
+    def entry(self, numbers: str, statement: str, lines: str) -> Receipt | tuple[int, Asked]:
+        """What was asked, after the numbers before it, and answered."""
+        before, asked = [int(it) for it in numbers.split()], Asked(statement, lines.splitlines())
+        return Receipt(*before, asked) if len(before) == 3 else (*before, asked)
 
 
 def check_receipts(printed: Printed, statements: int) -> None:
@@ -244,8 +233,7 @@ def check_refusals(printed: Printed, histories: dict[int, list], limits: Limits)
 
 def check(printed: Printed, workers: int, statements: int, limits: Limits) -> tuple[int, int]:
     """Whether all of it is right. How many entries there are, and how many of them follow one of another worker."""
-    if printed.totals is None or set(printed.histories) != set(PARTS):
-        raise Wrong("no histories")
+    expect("partitions with histories", list(PARTS), list(printed.histories))
     expect("workers", list(range(workers)), list(printed.answers))
     expect("workers with receipts", list(range(workers)), list(printed.receipts))
     check_receipts(printed, statements)
@@ -258,7 +246,7 @@ def check(printed: Printed, workers: int, statements: int, limits: Limits) -> tu
         raise Wrong(f"partitions have {rows} rows, in at most {limits.cells} cells")
     kinds = collections.Counter(it.asked.lines[0].split(" ")[0] for it in order)
     totals = f"accepted {len(order)} inserted {kinds['row']} deleted {kinds['gone']} held {sum(rows)}"
-    expect("totals", totals, printed.totals)
+    expect("totals", f"{totals}\n", printed.totals)
     follows = sum(one[0] != two[0] for history in whole.values() for one, two in zip(history, history[1:]))
     return len(order), follows
 

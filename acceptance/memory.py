@@ -222,12 +222,8 @@ def batch_text(texts: list[bytes]) -> bytes:
 
 def fault_of_totals(line: str, seen: list[compare.Seen]) -> str | None:
     """What is wrong with a totals line, beside what was seen of all sessions; or None."""
-    totals = compare.numbers_of(line, compare.TOTALS)
-    names = ["inserted", "deleted", "accepted", "accepted_most"]
-    inserted, deleted, least, most = (sum(getattr(it, name) for it in seen) for name in names)
-    if totals and least <= totals[0] <= most and totals[1:] == [inserted, deleted, inserted - deleted]:
-        return None
-    return f"totals {line!r}, where replies say {least} to {most}, {inserted}, {deleted}, {inserted - deleted}"
+    names = ["accepted", "accepted_most", "inserted", "deleted"]
+    return compare.misfit_of_totals(line, *(sum(getattr(it, name) for it in seen) for name in names))
 
 
 def fault_of_batch_output(texts: list[bytes], wrote: bytes, refused: int) -> str | None:
