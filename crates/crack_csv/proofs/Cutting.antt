@@ -23,7 +23,7 @@ use Rattle.crack_csv.specs.Exports.{header_text, record_text, rows_from, asked, 
 use Rattle.crack_csv.specs.Inside.{rows_at, IsUnsent, IsUnlisted, IsUnwritten, IsPartCut}
 use Rattle.crack_csv.proofs.Exporting.{Exporting, batch_more, keeps_appends, kept_written, replied_rows, index_there, asked-after, next_is, next_is_there, next_asked, next_rows}
 
-concat_map : {X : Type 0} (f : X → List ℕ) (xs : List X) → concat (map f xs) ≡ flat_map f xs
+pub concat_map : {X : Type 0} (f : X → List ℕ) (xs : List X) → concat (map f xs) ≡ flat_map f xs
 concat_map f [] = refl
 concat_map f (x ∷ xs) = ap (λ z. f x ++ z) (concat_map f xs)
 
@@ -43,7 +43,7 @@ batch_unsent f xs m n e failed failed' a b c grows within sent (inr (cut, is, fr
     inr (cut, is, rw (concat_map f xs, ← whole) (front_first a c _ (flat_map f (drop n xs)) until))
 
 -- after texts that are written whole, others aren't
-unsent_behind : (xs ys : List (List ℕ)) (e : Refusal) (failed failed' : Bool) (a b c : Option (List ℕ)) → Appends a b (concat xs) → AreUnsent ys e failed failed' b c → AreUnsent (xs ++ ys) e failed failed' a c
+pub unsent_behind : (xs ys : List (List ℕ)) (e : Refusal) (failed failed' : Bool) (a b c : Option (List ℕ)) → Appends a b (concat xs) → AreUnsent ys e failed failed' b c → AreUnsent (xs ++ ys) e failed failed' a c
 unsent_behind xs ys e failed failed' a b c sent (inl (short, same, count, few, wrote)) =
     let l = length-append xs ys in
     let both : concat (take (length xs + count) (xs ++ ys)) ≡ concat xs ++ concat (take count ys) = ap concat (take-append-add xs ys count) ∙ concat-append xs (take count ys) in
@@ -52,7 +52,7 @@ unsent_behind xs ys e failed failed' a b c sent (inr (cut, is, front)) =
     inr (cut, is, subst (AppendsFront a c) (sym (concat-append xs ys)) (front_then a b c (concat xs) (concat ys) sent front))
 
 -- one text alone
-one_unsent : (text : List ℕ) (e : Refusal) (failed failed' : Bool) (a b : Option (List ℕ)) → IsUnsent text e failed failed' a b → AreUnsent (text ∷ []) e failed failed' a b
+pub one_unsent : (text : List ℕ) (e : Refusal) (failed failed' : Bool) (a b : Option (List ℕ)) → IsUnsent text e failed failed' a b → AreUnsent (text ∷ []) e failed failed' a b
 one_unsent text e failed failed' a b (inl (short, same, kept)) = inl (short, same, 0, omega arith, keeps_appends a b kept)
 one_unsent text e failed failed' a b (inr (cut, is, front)) = inr (cut, is, front_first a b text [] front)
 

@@ -17,7 +17,7 @@ use Rattle.crack_csv.specs.declared.TheConstants.{MOST_RECORDS}
 use Rattle.crack_core.specs.Steps.{Bounds}
 
 -- whether a record is a header, after these others
-abbrev is_header_behind : List Fields → Fields → Bool
+abbrev pub is_header_behind : List Fields → Fields → Bool
 is_header_behind [] fields = is_header fields
 is_header_behind (first ∷ records) fields = false
 
@@ -30,7 +30,7 @@ without_header-more true first records fields = refl
 without_header-more false first records fields = refl
 
 -- after others, a record that is no header is to be inserted
-without_header-push : (records : List Fields) (fields : Fields) → is_header_behind records fields ≡ false → without_header (records ++ fields ∷ []) ≡ without_header records ++ fields ∷ []
+pub without_header-push : (records : List Fields) (fields : Fields) → is_header_behind records fields ≡ false → without_header (records ++ fields ∷ []) ≡ without_header records ++ fields ∷ []
 without_header-push [] fields e = rw e refl
 without_header-push (first ∷ records) fields e = without_header-more (is_header first) first records fields
 
@@ -49,13 +49,17 @@ AreInserted-push {bounds} {splits} {tables} records fields left' was plain bring
   left_is = brings.2 ∙ ap Some (sym (with_rows-push bounds splits tables was.rows brings.0));
 }
 
+-- a header is no record that is to be inserted, and comes first
+pub first_is_header : (records : List Fields) (fields : Fields) (number : ℕ) → length records + 1 ≡ number → (number == 1 && is_header fields) ≡ true → without_header (records ++ fields ∷ []) ≡ without_header records
+first_is_header [] fields number n header = let is : is_header fields ≡ true = rw (← n) at header in rw is refl
+first_is_header (first ∷ records) fields number n header = absurd (let other : (number == 1) ≡ false = ne_eqb number 1 (λ one. omega (arith, n, one)) in cc (rw other at header))
+
 -- a header is skipped
 AreInserted-header : {bounds : Bounds} {splits : List Bound} {tables : List PlainView} {count : ℕ} {left : Option (List PlainView)} (records : List Fields) (fields : Fields) (number : ℕ) → length records + 1 ≡ number → (number == 1 && is_header fields) ≡ true → AreInserted bounds splits tables records count left → AreInserted bounds splits tables (records ++ fields ∷ []) count left
-AreInserted-header [] fields number n header was = record { rows = was.rows; are = (let is : is_header fields ≡ true = rw (← n) at header in rw is was.are); count_is = was.count_is; left_is = was.left_is }
-AreInserted-header (first ∷ records) fields number n header was = absurd (let other : (number == 1) ≡ false = ne_eqb number 1 (λ one. omega (arith, n, one)) in cc (rw other at header))
+AreInserted-header records fields number n header was = record { rows = was.rows; are = ap (map new_row_of) (first_is_header records fields number n header) ∙ was.are; count_is = was.count_is; left_is = was.left_is }
 
 -- a record is no header unless it is the first
-no_header : (records : List Fields) (fields : Fields) (number : ℕ) → length records + 1 ≡ number → (number == 1 && is_header fields) ≡ false → is_header_behind records fields ≡ false
+pub no_header : (records : List Fields) (fields : Fields) (number : ℕ) → length records + 1 ≡ number → (number == 1 && is_header fields) ≡ false → is_header_behind records fields ≡ false
 no_header [] fields number n e = rw (← n) at e
 no_header (first ∷ records) fields number n e = refl
 

@@ -1,5 +1,5 @@
 -- What private clauses alone cite.
-use Rattle.std.specs.Prelude.{Err, ◌≡◌, ℕ, ◌+◌, ◌⊎◌, List, length, map, Option, Some, Bool, true, false, slice_get, slice_set}
+use Rattle.std.specs.Prelude.{Ok, Err, Result, ◌≡◌, ℕ, ◌+◌, ◌⊎◌, List, length, map, Option, Some, Bool, true, false, slice_get, slice_set}
 use Rattle.std.specs.List.{flat_map}
 use Rattle.std.specs.Io.KnownBytes.{Appends, Keeps}
 use Rattle.csv.specs.Writing.{default_writer, fields_written, has_written, writer_setup}
@@ -11,9 +11,14 @@ use Rattle.crack_row.specs.declared.refusal.Refusal.TheVariants.{OutOfMemory, Wr
 use Rattle.crack_plain.specs.Plain.{PlainView, rows_in}
 use Rattle.crack_commands.specs.Texts.{AppendsFront}
 use Rattle.crack_csv.specs.Exports.{record_text, asked, AreUnsent}
+use Rattle.crack_csv.specs.Asked.{insertion, listing, IsRefusedBy}
 use Rattle.crack_csv.specs.Records.{new_row_of}
 use Rattle.crack_csv.specs.Loads.{with_row}
 use Rattle.crack_row.specs.declared.command.Command.TheVariants.{Select}
+use Rattle.crack_row.specs.declared.command.Policy.{Policy}
+use Rattle.crack_row.specs.declared.command.Reply.{Reply}
+use Rattle.crack_session.specs.Calls.{Call, Calls}
+use Rattle.crack_session.specs.Queries.{listed}
 use Rattle.crack_core.specs.Routes.{keys_of_part}
 use Rattle.crack_core.specs.Steps.{Bounds, IsOutcome}
 use Rattle.crack_csv.specs.declared.record.NewRow.{NewRow}
@@ -93,3 +98,24 @@ pub record IsBehind {R : Type 0} (remaining : R → Option (List ℕ)) (reader :
   pub rest : List ℕ
   pub left : source_of remaining reader ≡ Some rest
   pub reached : Reached default_config st.StartRecord text records (reader_state reader) rest
+
+-- a record brings a row, and the partition of its key is asked to insert it, and answers
+abbrev pub AsksRow : {D : Type 0} → (D → Call → D → Type 0) → List Bound → Policy → Fields → D → D → Type 0
+AsksRow leads splits policy fields old new = (row : NewRow) × (new_row_of fields ≡ Some row) × (reply : Reply) × leads old (insertion splits policy row (Ok reply)) new
+
+-- a record isn't inserted, and only what it is refused by is asked
+abbrev pub AsksNoRow : {D : Type 0} → (D → Call → D → Type 0) → List Bound → Policy → ℕ → Fields → Refusal → D → D → Type 0
+AsksNoRow leads splits policy number fields e old new = (calls : List Call) × Calls leads old calls new × IsRefusedBy splits policy number (new_row_of fields) e calls
+
+-- a partition is asked for its rows, and this comes of it
+abbrev pub AsksPart : {D : Type 0} → (D → Call → D → Type 0) → List Bound → Policy → ℕ → Result Reply Refusal → D → D → Type 0
+AsksPart leads splits policy part outcome old new = leads old (listing splits policy part outcome) new
+
+-- a partition lists its rows, and a record for each is written
+abbrev pub AsksAndWrites : {D : Type 0} → (D → Call → D → Type 0) → List Bound → Policy → ℕ → ℕ → D → D → Option (List ℕ) → Option (List ℕ) → Type 0
+AsksAndWrites leads splits policy part count old new out out' = (reply : Reply) × AsksPart leads splits policy part (Ok reply) old new × (count ≡ length (listed reply)) × Appends out out' (flat_map record_text (listed reply))
+
+-- a partition refuses the list of its rows, or lists them, and their records aren't all written
+abbrev pub AsksAndCuts : {D : Type 0} → (D → Call → D → Type 0) → List Bound → Policy → ℕ → Refusal → D → D → Bool → Bool → Option (List ℕ) → Option (List ℕ) → Type 0
+AsksAndCuts leads splits policy part e old new failed failed' out out' = (AsksPart leads splits policy part (Err e) old new × (failed' ≡ failed) × Keeps out out')
+    ⊎ ((reply : Reply) × AsksPart leads splits policy part (Ok reply) old new × AreUnsent (map record_text (listed reply)) e failed failed' out out')

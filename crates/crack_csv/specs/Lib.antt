@@ -1,3 +1,4 @@
+pub mod Asked
 pub mod Exports
 pub mod Inside
 pub mod Loads

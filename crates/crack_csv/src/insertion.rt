@@ -1,12 +1,14 @@
 //! The insertion of a record's row.
-ghost use Rattle.std.specs.Prelude.{◌≡◌, ◌+◌, List, Some, Err, is_ok, IfErr, OnOk, if◌then◌else◌};
+ghost use Rattle.std.specs.Prelude.{◌≡◌, ◌+◌, List, Some, Ok, Err, is_ok, IfErr, OnOk, if◌then◌else◌};
 ghost use Rattle.csv.specs.Records.{fields_of};
 ghost use Rattle.crack_row.specs.declared.command.Command.TheVariants.{Insert};
 ghost use Rattle.crack_plain.specs.Plain.{PlainView};
 ghost use Rattle.crack_core.specs.Routes.{route};
 ghost use Rattle.crack_core.specs.Steps.{IsOutcomeAt};
 ghost use Rattle.crack_csv.specs.Records.{new_row_of};
-ghost use Rattle.crack_csv.specs.Inside.{BringsRow};
+ghost use Rattle.crack_row.specs.declared.command.Reply.{Reply};
+ghost use Rattle.crack_csv.specs.Asked.{insertion};
+ghost use Rattle.crack_csv.specs.Inside.{BringsRow, AsksRow, AsksNoRow};
 ghost use Rattle.crack_csv.specs.Loads.{with_row, Refuses};
 
 use crate::record::{NewRow, new_row};
@@ -32,6 +34,9 @@ pub fn insert_record<D: Desk>(
     ensures splits { D.splits desk.new ≡ D.splits desk.old }
     ensures bounds { D.bounds desk.new ≡ D.bounds desk.old }
     ensures receipts { D.receipts desk.new ≡ (if is_ok result then D.receipts desk.old + 1 else D.receipts desk.old) }
+    // Whatever is known of the rows: the partition of the row's key is asked to insert it, once and by this policy.
+    ensures asks { OnOk result (AsksRow D.leads (D.splits desk.old) policy (fields_of fields.now) desk.old desk.new) }
+    ensures asks_in_vain { IfErr result (λ e. AsksNoRow D.leads (D.splits desk.old) policy number (fields_of fields.now) e desk.old desk.new) }
 {
     match new_row(fields) {
         Some(row) => insert_row(desk, policy, row),
@@ -50,6 +55,8 @@ fn insert_row<D: Desk>(desk: &mut D, policy: Policy, row: NewRow) -> Result<(), 
     ensures splits { D.splits desk.new ≡ D.splits desk.old }
     ensures bounds { D.bounds desk.new ≡ D.bounds desk.old }
     ensures receipts { D.receipts desk.new ≡ (if is_ok result then D.receipts desk.old + 1 else D.receipts desk.old) }
+    ensures asks { OnOk result ((reply : Reply) × D.leads desk.old (insertion (D.splits desk.old) policy row (Ok reply)) desk.new) }
+    ensures asks_in_vain { IfErr result (λ e. D.leads desk.old (insertion (D.splits desk.old) policy row (Err e)) desk.new) }
 {
     let part = route(desk.splits(), row.key);
     let command = Command::Insert {

@@ -1,1 +1,3 @@
 mod Receipting
+mod Standing
+pub mod Holding

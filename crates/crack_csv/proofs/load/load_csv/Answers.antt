@@ -2,6 +2,7 @@ use Rattle.std.proofs.Common.{◌∙◌, sym, ap, refl, inl, inr, arith}
 use Rattle.csv.specs.Reading.{builder_config, builder_is_flexible, builder_names_headers, builder_trim}
 use Rattle.csv.specs.Records.{fields_of}
 use Rattle.crack_row.specs.declared.refusal.Refusal.TheVariants.{ReadFault}
+use Rattle.crack_csv.proofs.Inserting.{Inserting-start, Inserting-header, Inserting-row, Inserting-end, Inserting-unread, Inserting-refused}
 use Rattle.crack_csv.proofs.Loading.{Going-start, Going-header, Going-row, Going-end, Going-unread, Going-refused}
 use Rattle.crack_csv.proofs.load.load_csv.Goals as goal
 
@@ -12,6 +13,7 @@ records-init g c =
     let none = c.has_headers.ensures in
     record {
       going = λ bytes tables e f. Going-start _ _ _ _ tables bytes _ (rw e at from.source) from.state f;
+      inserting = λ bytes e. Inserting-start _ g.D.Desk.leads _ _ bytes _ _ (rw e at from.source) from.state;
       ready = record {
         config = from.config ∙ ap builder_config flexible ∙ ap builder_config none ∙ c.new.ensures.config;
         trim = from.trim ∙ ap builder_trim flexible ∙ ap builder_trim none ∙ c.new.ensures.trim;
@@ -35,6 +37,8 @@ returns-in-Err-clause-cut_short g c = λ bytes tables e f.
 pub records-preserved-then-is_header_at : goal.records-preserved-then-is_header_at
 records-preserved-then-is_header_at g c = record {
   going = λ bytes tables e f. Going-header c.read_next.new.reader (fields_of c.read_next.new.fields) (c.records.invariant.going bytes tables e f)
+      (c.in-Ok-true.ensures.more c.in-Ok-true.field-0-test) (sym c.is_header_at.ensures ∙ c.if-is_header_at.true);
+  inserting = λ bytes e. Inserting-header _ _ _ _ bytes _ c.read_next.new.reader (fields_of c.read_next.new.fields) (c.records.invariant.inserting bytes e)
       (c.in-Ok-true.ensures.more c.in-Ok-true.field-0-test) (sym c.is_header_at.ensures ∙ c.if-is_header_at.true);
   ready = c.in-Ok-true.ensures.ready c.in-Ok-true.field-0-test;
   few = c.records.invariant.few;
@@ -68,9 +72,29 @@ records-preserved g c = record {
       Going-row c.read_next.new.reader (fields_of c.read_next.new.fields) _ (c.records.invariant.going bytes tables e f)
       (c.in-Ok-true.ensures.more c.in-Ok-true.field-0-test) (sym c.is_header_at.ensures ∙ c.if-is_header_at.false)
       (rw (c.records.invariant.bounds, c.records.invariant.splits) at c.in-Ok.ensures.inserted);
+  inserting = λ bytes e.
+      Inserting-row _ _ _ _ bytes _ c.read_next.new.reader (fields_of c.read_next.new.fields) _ _ (c.records.invariant.inserting bytes e)
+      (c.in-Ok-true.ensures.more c.in-Ok-true.field-0-test) (sym c.is_header_at.ensures ∙ c.if-is_header_at.false) c.records.invariant.splits c.in-Ok.ensures.asks;
   ready = c.in-Ok-true.ensures.ready c.in-Ok-true.field-0-test;
   few = let few = c.records.invariant.few in let more = c.if-loaded-eq-MOST_RECORDS.false in omega (arith, few, more);
   receipts = let more = c.in-Ok.ensures.receipts in let was = c.records.invariant.receipts in omega (arith, more, was);
   splits = c.insert_record.ensures.splits ∙ c.records.invariant.splits;
   bounds = c.insert_record.ensures.bounds ∙ c.records.invariant.bounds;
 }
+
+pub returns-in-Ok-false-clause-asks : goal.returns-in-Ok-false-clause-asks
+returns-in-Ok-false-clause-asks g c = λ bytes e. Inserting-end _ _ _ _ bytes _ (c.records.invariant.inserting bytes e) (c.in-Ok-false.ensures.end c.in-Ok-false.field-0-test)
+
+pub returns-in-Err-clause-asks_in_part : goal.returns-in-Err-clause-asks_in_part
+returns-in-Err-clause-asks_in_part g c = λ bytes e. Inserting-unread _ _ _ _ bytes _ c.in-Err.refusal (c.records.invariant.inserting bytes e) c.in-Err.ensures.err
+
+pub returns-then-loaded-eq-MOST_RECORDS-clause-asks_in_part : goal.returns-then-loaded-eq-MOST_RECORDS-clause-asks_in_part
+returns-then-loaded-eq-MOST_RECORDS-clause-asks_in_part g c = λ bytes e. Inserting-unread _ _ _ _ bytes _ ReadFault (c.records.invariant.inserting bytes e) (inl refl)
+
+pub returns-in-Err-insert_record-clause-asks_in_part : goal.returns-in-Err-insert_record-clause-asks_in_part
+returns-in-Err-insert_record-clause-asks_in_part g c = λ bytes e.
+    Inserting-refused _ _ _ _ bytes _ c.in-Err-insert_record.refusal c.read_next.new.reader (fields_of c.read_next.new.fields) _ _ (c.records.invariant.inserting bytes e)
+    (c.in-Ok-true.ensures.more c.in-Ok-true.field-0-test) (sym c.is_header_at.ensures ∙ c.if-is_header_at.false) c.records.invariant.splits c.in-Err-insert_record.ensures.asks_in_vain
+
+pub returns-clause-asks_in_part : goal.returns-clause-asks_in_part
+returns-clause-asks_in_part g c = λ bytes e. Inserting-unread _ _ _ _ bytes _ ReadFault (c.records.invariant.inserting bytes e) (inl refl)

@@ -2,12 +2,14 @@ use Rattle.std.proofs.Common.{◌≡◌, ◌+◌, ◌≤◌, ℕ, List, Some}
 use Rattle.crack_plain.specs.Plain.{PlainView}
 use Rattle.crack_csv.specs.declared.TheConstants.{MOST_RECORDS}
 use Rattle.crack_csv.specs.Inside.{IsReady}
+use Rattle.crack_csv.proofs.Inserting.{Inserting}
 use Rattle.crack_csv.proofs.Loading.{Going}
 use Rattle.crack_csv.proofs.load.load_csv.Given as goal
 
 abbrev pub invariant-records : goal.invariant-records
 invariant-records g l = record {
   going : (bytes : List ℕ) (tables : List PlainView) → g.R.Read.remaining l.fn.reader ≡ Some bytes → g.D.Desk.tables l.fn.desk ≡ Some tables → Going g.R.Read.remaining l.source (g.D.Desk.bounds l.fn.desk) (g.D.Desk.splits l.fn.desk) tables bytes l.number l.loaded (g.D.Desk.tables l.desk);
+  inserting : (bytes : List ℕ) → g.R.Read.remaining l.fn.reader ≡ Some bytes → Inserting g.R.Read.remaining g.D.Desk.leads (g.D.Desk.splits l.fn.desk) l.fn.policy bytes l.fn.desk l.source l.number l.loaded l.desk;
   ready : IsReady l.source;
   few : l.loaded ≤ MOST_RECORDS;
   receipts : g.D.Desk.receipts l.desk ≡ g.D.Desk.receipts l.fn.desk + l.loaded;

@@ -1,0 +1,69 @@
+-- What a load and an export ask a desk, whatever is known of its rows.
+use Rattle.std.specs.Prelude.{◌≡◌, ℕ, ◌+◌, ◌≤◌, ◌⊎◌, Bool, true, List, [], ◌∷◌, ◌++◌, length, map, Option, None, Some, Result, Ok, Err}
+use Rattle.std.specs.List.{AllZip, concat, flat_map}
+use Rattle.std.specs.Io.KnownBytes.{Appends}
+use Rattle.csv.specs.Reading.{default_config, AreRecords, strip_bom}
+use Rattle.csv.specs.declared.parser.State.TheVariants as st
+use Rattle.crack_row.specs.declared.Bound.{Bound}
+use Rattle.crack_row.specs.declared.command.Command.TheVariants.{Insert, Select}
+use Rattle.crack_row.specs.declared.command.Policy.{Policy}
+use Rattle.crack_row.specs.declared.command.Reply.{Reply}
+use Rattle.crack_row.specs.declared.refusal.Refusal.{Refusal}
+use Rattle.crack_row.specs.declared.refusal.Refusal.TheVariants.{OutOfMemory, WriteFault, ReadFault, BadRecord}
+use Rattle.crack_core.specs.Routes.{route, keys_of_part}
+use Rattle.crack_session.specs.Calls.{Call, Asked, Calls}
+use Rattle.crack_session.specs.Queries.{listed}
+use Rattle.crack_csv.specs.declared.load.LoadFault.{LoadFault}
+use Rattle.crack_csv.specs.declared.record.NewRow.{NewRow}
+use Rattle.crack_csv.specs.Exports.{header_text, record_text, AreUnsent}
+use Rattle.crack_csv.specs.Records.{without_header, new_row_of, AreFirstOf}
+
+-- the call that asks the partition of its key to insert a row, and what came of it
+abbrev pub insertion : List Bound → Policy → NewRow → Result Reply Refusal → Call
+insertion splits policy row outcome = Asked (route splits row.key.0) (Insert row.key row.payload) policy outcome
+
+-- These calls insert the rows of so many records, in order and each once, and are answered: each record but a header brings a row.
+pub record AreInsertions (splits : List Bound) (policy : Policy) (records : List (List (List ℕ))) (count : ℕ) (calls : List Call) : Type 0 where
+  pub rows : List NewRow
+  pub are : map new_row_of (without_header records) ≡ map Some rows
+  pub count_is : length rows ≡ count
+  pub each : AllZip (λ (row : NewRow) (call : Call). (reply : Reply) × (call ≡ insertion splits policy row (Ok reply))) rows calls
+
+-- on Ok a desk is asked the insertions of all records of the bytes, and nothing else
+abbrev pub IsAskedAll : {D : Type 0} → (D → Call → D → Type 0) → List Bound → Policy → List ℕ → ℕ → D → D → Type 0
+IsAskedAll leads splits policy bytes count old new = (records : List (List (List ℕ))) × AreRecords default_config st.StartRecord (strip_bom bytes) records × (calls : List Call) × Calls leads old calls new × AreInsertions splits policy records count calls
+
+-- why the record of this number isn't inserted, and the calls for it: none where it brings no row, else the one that its partition refuses
+abbrev pub IsRefusedBy : List Bound → Policy → ℕ → Option NewRow → Refusal → List Call → Type 0
+IsRefusedBy splits policy number None e calls = (e ≡ BadRecord number) × (calls ≡ [])
+IsRefusedBy splits policy number (Some row) e calls = calls ≡ insertion splits policy row (Err e) ∷ []
+
+-- on a fault it is asked the insertions of the first records, and nothing else, or what the next record is refused by
+abbrev pub IsAskedFirst : {D : Type 0} → (D → Call → D → Type 0) → List Bound → Policy → List ℕ → LoadFault → D → D → Type 0
+IsAskedFirst leads splits policy bytes fault old new = (records : List (List (List ℕ))) × AreFirstOf (strip_bom bytes) records × (calls : List Call) × (last : List Call) × Calls leads old (calls ++ last) new × AreInsertions splits policy records fault.loaded calls
+    × (((last ≡ []) × ((fault.refusal ≡ ReadFault) ⊎ (fault.refusal ≡ OutOfMemory))) ⊎ ((fields : List (List ℕ)) × AreFirstOf (strip_bom bytes) (records ++ fields ∷ []) × (without_header (records ++ fields ∷ []) ≡ without_header records ++ fields ∷ []) × IsRefusedBy splits policy (length records + 1) (new_row_of fields) fault.refusal last))
+
+-- the call that asks a partition for all its rows, and what came of it
+abbrev pub listing : List Bound → Policy → ℕ → Result Reply Refusal → Call
+listing splits policy part outcome = Asked part (Select (keys_of_part splits part)) policy outcome
+
+-- the calls that ask the partitions from this one on, each once and in order, with these replies
+abbrev pub listings : List Bound → Policy → ℕ → List Reply → List Call
+listings splits policy part [] = []
+listings splits policy part (reply ∷ replies) = listing splits policy part (Ok reply) ∷ listings splits policy (part + 1) replies
+
+-- the header, and a record for each row that replies list
+abbrev pub lines_in : List Reply → List (List ℕ)
+lines_in replies = header_text ∷ map record_text (flat_map listed replies)
+
+-- on Ok a desk is asked for the rows of all its partitions, and nothing else; the header and their records are written
+abbrev pub IsListed : {D : Type 0} → (D → Call → D → Type 0) → List Bound → Policy → ℕ → D → D → Option (List ℕ) → Option (List ℕ) → Type 0
+IsListed leads splits policy count old new out out' = (replies : List Reply) × (length replies ≡ length splits + 1) × Calls leads old (listings splits policy 0 replies) new × (count ≡ length (flat_map listed replies)) × Appends out out' (concat (lines_in replies))
+
+-- on a refusal it is asked for the rows of the first ones, and their lines aren't all written; or they are, and the next one refuses; or there is
+-- no other, and what is written can't be flushed
+abbrev pub IsListedFirst : {D : Type 0} → (D → Call → D → Type 0) → List Bound → Policy → Refusal → D → D → Bool → Bool → Option (List ℕ) → Option (List ℕ) → Type 0
+IsListedFirst leads splits policy e old new failed failed' out out' = (replies : List Reply) × (length replies ≤ length splits + 1) × (last : List Call) × Calls leads old (listings splits policy 0 replies ++ last) new
+    × (((last ≡ []) × AreUnsent (lines_in replies) e failed failed' out out')
+    ⊎ (((last ≡ listing splits policy (length replies) (Err e) ∷ []) × (failed' ≡ failed) × Appends out out' (concat (lines_in replies)))
+    ⊎ ((last ≡ []) × (e ≡ WriteFault) × (failed' ≡ true) × (length replies ≡ length splits + 1) × Appends out out' (concat (lines_in replies)))))

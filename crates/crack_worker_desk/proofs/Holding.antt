@@ -1,0 +1,52 @@
+-- That a desk's calls are its worker's, and what is written holds of all that follows from its answers.
+use Rattle.std.proofs.Common.{◌≡◌, ℕ, ◌+◌, List, [], ◌∷◌, ◌++◌, Option, refl, sym, ap, ◌∙◌, subst, inl, inr}
+use Rattle.crack_commands.specs.Grammar.{Reading}
+use Rattle.crack_session.specs.declared.answer.Answer.{Answer}
+use Rattle.crack_session.specs.declared.session.Fault.{Fault}
+use Rattle.crack_session.specs.Calls.{Call, Calls}
+use Rattle.crack_session.specs.Written.{AreWritten, AreWrittenThen}
+use Rattle.crack_table.specs.Tables.{TableState}
+
+module _ {D G S : Type 0} (stands : TableState → G → S → Call → S → Type 0) (leads : D → Call → D → Type 0) (table : D → TableState) (gate : D → G) (worker : D → S) where
+  -- what a call does to a desk over its table, behind its gate
+  abbrev pub IsStep : Type 0
+  IsStep = (d : D) (call : Call) (e : D) → leads d call e → (table e ≡ table d) × (gate e ≡ gate d) × stands (table d) (gate d) (worker d) call (worker e)
+
+  -- the calls of a desk lead its worker from one state to another
+  abbrev pub Lead : TableState → G → D → List Call → D → Type 0
+  Lead t g old calls new = Calls (stands t g) (worker old) calls (worker new)
+
+  pub Lead-all : IsStep → (calls : List Call) (old new : D) → Calls leads old calls new → (table new ≡ table old) × (gate new ≡ gate old) × Lead (table old) (gate old) old calls new
+  Lead-all step [] old new were = (ap table were, ap gate were, ap worker were)
+  Lead-all step (call ∷ calls) old new were =
+      let one = step old call were.0 were.1 in
+      let rest = Lead-all step calls were.0 new were.2 in (
+        rest.0 ∙ one.0,
+        rest.1 ∙ one.1,
+        (worker were.0, one.2, subst (λ (g : G). Lead (table old) g were.0 calls new) one.1 (subst (λ (t : TableState). Lead t (gate were.0) were.0 calls new) one.0 rest.2)),
+      )
+
+module _ (Are Then : List Reading → List Answer → Type 0) (follows : (readings : List Reading) (answers : List Answer) → Are readings answers → Then readings answers) where
+  pub AreWritten-follows : (readings : List Reading) (out : List ℕ) (short : Option ℕ) (written : Option (List ℕ)) → AreWritten Are readings out short written → AreWritten Then readings out short written
+  AreWritten-follows readings out short written w = record {
+    answers = w.answers;
+    each = w.each;
+    are = follows readings w.answers w.are;
+    short_is = w.short_is;
+    written_is = w.written_is;
+  }
+
+  pub AreWrittenThen-follows : (bytes out : List ℕ) (fault : Fault) (written : Option (List ℕ)) → AreWrittenThen Are bytes out fault written → AreWrittenThen Then bytes out fault written
+  AreWrittenThen-follows bytes out fault written (inl w) = inl (AreWritten-follows _ out fault.first_short written w)
+  AreWrittenThen-follows bytes out fault written (inr w) = inr (record {
+    refusal_is = w.refusal_is;
+    one_more = w.one_more;
+    answers = w.answers;
+    last = w.last;
+    each = w.each;
+    are = follows _ (w.answers ++ w.last ∷ []) w.are;
+    short_is = w.short_is;
+    count = w.count;
+    cut = w.cut;
+    written_is = w.written_is;
+  })
