@@ -111,13 +111,13 @@ pub record ArePulled (r : Range) (On : ℕ → State → Type 0) (left : List Ha
 
 module _ (r : Range) (On : ℕ → State → Type 0) (onward : DrawsOn r On) where
   -- one pull of the first of them
-  record Step (t : State) (passed : List Handle) (h : Handle) (todo : List Handle) : Type 0 where
-    intact : IsIntact (pulled_from (h ∷ []) t) []
-    pending : (pulled_from (h ∷ []) t).pending_out ≡ passed ++ todo
-    draws : On (length passed) (pulled_from (h ∷ []) t)
-    same : All (λ g. key_at (pulled_from (h ∷ []) t).cells g ≡ key_at t.cells g) (passed ++ todo)
+  pub record Step (t : State) (passed : List Handle) (h : Handle) (todo : List Handle) : Type 0 where
+    pub intact : IsIntact (pulled_from (h ∷ []) t) []
+    pub pending : (pulled_from (h ∷ []) t).pending_out ≡ passed ++ todo
+    pub draws : On (length passed) (pulled_from (h ∷ []) t)
+    pub same : All (λ g. key_at (pulled_from (h ∷ []) t).cells g ≡ key_at t.cells g) (passed ++ todo)
 
-  step : (h : Handle) (todo : List Handle) (t : State) (from : ℕ) (passed : List Handle) → IsIntact t [] → t.pending_out ≡ passed ++ h ∷ todo → from ≤ length passed → NoneFrom r (key_at t.cells) from passed → On from t → IsIn r (key_at t.cells h) → Step t passed h todo
+  pub step : (h : Handle) (todo : List Handle) (t : State) (from : ℕ) (passed : List Handle) → IsIntact t [] → t.pending_out ≡ passed ++ h ∷ todo → from ≤ length passed → NoneFrom r (key_at t.cells) from passed → On from t → IsIn r (key_at t.cells h) → Step t passed h todo
   step h todo t from passed intact pending order none before inside =
       let place : ℕ = length passed in
       let within : place < length t.pending_out = rw pending (omega (arith, length-append passed (h ∷ todo))) in

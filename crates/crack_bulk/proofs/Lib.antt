@@ -15,6 +15,7 @@ pub mod CutLaws
 pub mod DownLaws
 pub mod DrawLaws
 pub mod Draws
+pub mod FallLaws
 pub mod LeadLaws
 pub mod ManyLaws
 pub mod PieceLaws
