@@ -8,5 +8,6 @@ mod RememberLemmas
 mod PointLemmas
 mod WayLemmas
 mod TakeLemmas
+mod DrainLemmas
 mod SiftLemmas
 pub mod Crosses

@@ -1,28 +1,27 @@
 -- What a walk over the bounds from the highest down leaves of a column into which rows came, and of its bounds.
-use Rattle.std.proofs.Common.{◌≡◌, ℕ, zero, suc, ◌+◌, ◌-◌, ◌<◌, ◌≤◌, false, min, List, [], ◌∷◌, ◌++◌, map, length, get_or, take, drop, reverse, Some, None, refl, sym, ap, ◌∙◌, arith}
+use Rattle.std.proofs.Common.{◌≡◌, ℕ, zero, suc, ◌+◌, ◌-◌, ◌≤◌, false, min, List, [], ◌∷◌, ◌++◌, map, length, take, drop, reverse, Some, None, refl, sym, ap, ◌∙◌, arith}
 use Rattle.std.specs.Prelude.{All, AllPairs}
 use Rattle.std.specs.List.{between}
 use Rattle.std.proofs.Math.Nat.{min-eq_left}
 use Rattle.std.proofs.lemmas.List.{append_assoc, append-nil, take-append-drop, drop-drop, drop-take, take-append-le, take_all, length-take-le, length-append, map-append, reverse-append, reverse-reverse, length-reverse, get_or-reverse}
-use Rattle.std.proofs.lemmas.List.Elements.{All-nil, All-cons, All-head, All-tail}
+use Rattle.std.proofs.lemmas.List.Elements.{All-head, All-tail}
 use Rattle.std.proofs.Math.Seq.{drop-append_seam}
 use Rattle.crack_row.specs.Ranges.{Range}
 use Rattle.crack_row.specs.declared.Row.{Row}
-use Rattle.crack_arena.specs.Arena.{Cell, Handle, times}
+use Rattle.crack_arena.specs.Arena.{Cell, Handle}
 use Rattle.crack_arena.specs.Rows.{key_at, keys_at}
-use Rattle.crack_column.specs.Column.{Column, Remembers}
+use Rattle.crack_column.specs.Column.{Remembers}
 use Rattle.crack_column.specs.Sifts.{below_bound, queued, made_way, AreRead}
 use Rattle.crack_index.specs.declared.mark.Mark.{Mark}
 use Rattle.crack_index.specs.Marks.{InOrder, Rising}
 use Rattle.crack_index.specs.Raises.{Raises, higher}
 use Rattle.crack_pending.specs.Pending.{Finds}
-use Rattle.crack_state.specs.State.{State, IsIntact, greatest, live_rows}
+use Rattle.crack_state.specs.State.{State, IsIntact, greatest}
 use Rattle.crack_state.specs.Steps.{SameButRoom}
 use Rattle.crack_state.proofs.StepLaws.{IsIntact-room}
-use Rattle.crack_bulk.specs.Pieces.{column_of, cut}
 use Rattle.crack_bulk.specs.Carried.{inside_of, carried_in_bulk, pieces_of}
 use Rattle.crack_bulk.proofs.Carried.{carried_by_sifting}
-use Rattle.crack_bulk.proofs.Sifts.{sifted, all_made_way, count_below, risen}
+use Rattle.crack_bulk.proofs.Sifts.{all_made_way, count_below, risen}
 use Rattle.crack_bulk.proofs.SiftLaws.{count-below_bound}
 use Rattle.crack_bulk.proofs.SiftedLaws.{GoThrough, carried-sifting, min_and}
 use Rattle.crack_bulk.proofs.StepsDown.{sifted_from, made_way_from, queued-lowest, made_way-lowest, sifted_from-none, made_way_from-none, sifted_down-is}

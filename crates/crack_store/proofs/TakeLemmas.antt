@@ -1,17 +1,16 @@
 -- What is inside a range of a list of pending rows, and what is left where it is taken out row after row.
-use Rattle.std.proofs.Common.{◌≡◌, ℕ, zero, suc, ◌+◌, ◌-◌, ◌<◌, ◌≤◌, true, false, not, List, [], ◌∷◌, ◌++◌, length, map, get_or, take, drop, Some, None, refl, sym, ap, ◌∙◌, inl, inr, arith}
+use Rattle.std.proofs.Common.{◌≡◌, ℕ, zero, suc, ◌+◌, ◌-◌, ◌<◌, ◌≤◌, not, List, [], ◌∷◌, ◌++◌, length, map, get_or, take, drop, Some, None, refl, sym, ap, ◌∙◌, inl, inr, arith}
 use Rattle.std.specs.List.{All}
 use Rattle.std.proofs.lemmas.Bool.{cases_Bool}
-use Rattle.std.specs.List.{filter, remove, between}
+use Rattle.std.specs.List.{remove, between}
 use Rattle.std.proofs.Math.Seq.{take-add}
-use Rattle.std.proofs.lemmas.List.{append-nil, append_assoc, take-append-drop, take_more, take_rest, length-take-le, length-drop, get_or-take, get_or-drop, get_or-map, length-map, length-append}
-use Rattle.std.proofs.lemmas.List.Edits.{remove-append_right}
+use Rattle.std.proofs.lemmas.List.{append-nil, take-append-drop, take_more, take_rest, length-take-le, length-drop, get_or-take, get_or-drop, get_or-map, length-map, length-append}
 use Rattle.std.proofs.lemmas.List.Elements.{filter-append, All-cons, All-head, All-tail}
 use Rattle.crack_row.specs.Ranges.{Range, IsIn, is_in}
 use Rattle.crack_row.specs.declared.Row.{Row}
 use Rattle.crack_arena.specs.Arena.{Cell, Handle, no_handle}
 use Rattle.crack_arena.specs.Rows.{key_at, keys_at}
-use Rattle.crack_pending.specs.Pending.{Finds, IsFirstIn, NoneIn}
+use Rattle.crack_pending.specs.Pending.{Finds, NoneIn}
 use Rattle.crack_pending.proofs.Searches.{is_in-true, is_in-false}
 use Rattle.crack_column.specs.Column.{Column, memory_at}
 use Rattle.crack_column.specs.Sifts.{AreRead}

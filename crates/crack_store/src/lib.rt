@@ -8,6 +8,7 @@ pub mod appending;
 mod ascent;
 pub mod carrying;
 mod cracking;
+pub mod draining;
 mod inside;
 pub mod live;
 mod notes;

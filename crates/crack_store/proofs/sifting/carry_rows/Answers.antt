@@ -1,4 +1,4 @@
-use Rattle.std.proofs.Common.{◌≡◌, ◌+◌, ◌++◌, [], length, refl, sym, ap, ◌∙◌, arith, length-append}
+use Rattle.std.proofs.Common.{◌≡◌, ◌+◌, length, refl, sym, ap, ◌∙◌, arith, length-append}
 use Rattle.crack_column.specs.Column.{Column}
 use Rattle.crack_pending.specs.Pending.{Pending}
 use Rattle.crack_state.specs.Steps.{SameButRoom}

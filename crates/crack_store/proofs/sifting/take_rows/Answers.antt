@@ -1,11 +1,10 @@
-use Rattle.std.proofs.Common.{◌≡◌, ◌+◌, ◌<◌, ◌≤◌, ◌++◌, ◌∷◌, [], length, map, get_or, take, drop, Some, refl, sym, ap, ◌∙◌, inr, arith}
+use Rattle.std.proofs.Common.{◌≡◌, ◌+◌, ◌++◌, ◌∷◌, [], length, map, get_or, take, drop, Some, refl, sym, ap, ◌∙◌, inr, arith}
 use Rattle.std.specs.List.{remove}
 use Rattle.std.proofs.lemmas.List.{append-nil, append_assoc, get_or_default, length-map, map-append, length_push, drop_all, take-append-drop}
 use Rattle.crack_arena.specs.Arena.{no_handle, read}
 use Rattle.crack_arena.specs.Rows.{key_at}
 use Rattle.crack_column.specs.Column.{Column, memory_at}
 use Rattle.crack_bulk.specs.Carried.{inside_of}
-use Rattle.crack_pending.specs.Pending.{Pending}
 use Rattle.crack_state.specs.State.{Reads}
 use Rattle.crack_store.proofs.TakeLemmas.{found, found_none, first-none, without, all-left, All-removed, drop-push, behind-read}
 use Rattle.crack_store.proofs.sifting.take_rows.Goals as goal

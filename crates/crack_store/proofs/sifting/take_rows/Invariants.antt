@@ -1,4 +1,4 @@
-use Rattle.std.proofs.Common.{◌≡◌, ◌+◌, ◌≤◌, ◌++◌, [], length, take, drop, map}
+use Rattle.std.proofs.Common.{◌≡◌, ◌≤◌, ◌++◌, [], length, take, drop, map}
 use Rattle.crack_arena.specs.Rows.{RemembersKeys}
 use Rattle.crack_column.specs.Column.{Remembers, memory_at}
 use Rattle.crack_bulk.specs.Carried.{inside_of}

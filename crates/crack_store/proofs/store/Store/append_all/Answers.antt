@@ -1,4 +1,4 @@
-use Rattle.std.proofs.Common.{◌≡◌, ◌++◌, [], length, refl, ap, ◌∙◌, arith}
+use Rattle.std.proofs.Common.{◌≡◌, ◌++◌, [], refl, ap, ◌∙◌, arith}
 use Rattle.crack_pending.specs.Pending.{Pending}
 use Rattle.crack_state.specs.Steps.{SameButRoom, all_appended}
 use Rattle.crack_state.proofs.AppendLaws.{IsIntact-all}

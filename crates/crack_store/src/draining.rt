@@ -1,0 +1,184 @@
+//! All pending deletions of a range pulled in bulk: the doomed rows are taken out of the column's pieces from the lowest up, and then buried in
+//! the order of arrival.
+ghost use Rattle.std.specs.Prelude.{◌≡◌, ◌<◌, ◌≤◌, [], length, map, All, IfSome, IsTrue, IsFalse};
+ghost use Rattle.crack_arena.specs.Rows.{RemembersKeys, key_at};
+ghost use Rattle.crack_bulk.specs.Carried.{inside_of};
+ghost use Rattle.crack_bulk.specs.Pulled.{buried_all, pulled_from, pulled_in_bulk};
+ghost use Rattle.crack_column.specs.Drains.{doomed_handle};
+ghost use Rattle.crack_state.specs.Merge.{outside_of};
+ghost use Rattle.crack_state.specs.State.{live_rows};
+ghost use Rattle.crack_store.specs.Drainings.{AreBuried, CanBePulled, IsDrainedTo, IsReady, IsShortened, KeepsKeys, doomed_of};
+ghost use Rattle.crack_store.specs.Inside.{lists_of};
+ghost use Rattle.crack_store.specs.Keeps.{KeepsIntact};
+
+use crate::Store;
+use crate::inside::Inside;
+use crack_arena::{Arena, key_of};
+use crack_column::{CrackerColumn, Doomed};
+use crack_index::{Mark, Placer};
+use crack_pending::PendingOut;
+use crack_row::{KeyNumber, KeyRange, Row};
+use std::alloc::Global;
+
+/// Fewer rows are pulled one at a time, where more bounds stand than this: a walk over all of them isn't worth it.
+const FEWEST: usize = 16;
+
+const FEW_BOUNDS: usize = 64;
+
+impl Store {
+    /// Pulls all pending deletions of a range in bulk, each by the column's last row, and leaves what the pull of one after the other leaves;
+    /// whether it did so. It doesn't where none is in the range or few are, nor where it finds no memory to list them: all is then as it was.
+    /// O(pending deletions and holes); for each that it pulls O(bounds) without a wait for memory, and one search of its piece; O(bounds).
+    pub fn pull_in_bulk(&mut self, range: KeyRange) -> bool
+        ensures pulled { IsTrue result → self.new ≡ pulled_in_bulk range self.old }
+        ensures left { IsTrue result → self.new.pending_out ≡ outside_of self.old.cells range self.old.pending_out }
+        ensures live { live_rows self.new ≡ live_rows self.old }
+        ensures same { IsFalse result → self.new ≡ self.old }
+    {
+        self.inside.pending_out.close_up();
+        let alloc = *self.inside.serials.allocator();
+        let Some(doomed) = doomed_in(&self.inside.pending_out, range, &self.inside.arena, alloc)
+        else {
+            return false;
+        };
+        if doomed.is_empty() || doomed.len() < FEWEST && FEW_BOUNDS < self.inside.index.len() {
+            return false;
+        }
+        pull_rows(&mut self.inside, doomed);
+        true
+    }
+}
+
+/// The rows of a list whose keys are in the range, in their order; none where it finds no memory for them.
+fn doomed_in(
+    rows: &PendingOut,
+    range: KeyRange,
+    arena: &Arena<Row>,
+    alloc: Global,
+) -> Option<Vec<Doomed>>
+    requires keys { RemembersKeys arena.now.cells rows.now.handles rows.now.keys }
+    requires few { length rows.now.handles < usize.MAX }
+    ensures { IfSome result (λ doomed. doomed.items ≡ map (doomed_of arena.now.cells) (inside_of arena.now.cells range rows.now.handles)) }
+{
+    let mut doomed = Vec::new(alloc);
+    let mut from = 0;
+    'rows: while let Some(place) = rows.next_in(range, from, arena) {
+        let handle = rows.at(place);
+        let key = key_of(arena, handle).number();
+        if doomed.push(Doomed { key, handle }).is_err() {
+            return None;
+        }
+        from = place + 1;
+    }
+    Some(doomed)
+}
+
+/// Pulls these pending deletions out of the column, and buries them.
+fn pull_rows(inside: &mut Inside, doomed: Vec<Doomed>)
+    requires intact { KeepsIntact inside.old [] }
+    requires doomed { CanBePulled doomed.items (lists_of inside.old) }
+    ensures pulled { lists_of inside.new ≡ pulled_from (map doomed_handle doomed.items) (lists_of inside.old) }
+    ensures intact { KeepsIntact inside.new [] }
+{
+    let mut drain = Drain {
+        column: inside.column.take(),
+        doomed,
+        low: 0,
+        from: 0,
+        gap: 0,
+        pulled: inside.tally.pulled,
+    };
+    inside.index.place_each(&mut drain);
+    drain_last(&mut drain);
+    let Drain {
+        column,
+        doomed,
+        pulled,
+        ..
+    } = drain;
+    inside.column = column;
+    inside.tally.pulled = pulled;
+    bury_all(inside, &doomed);
+}
+
+/// Pulls the rows out of the last piece, and takes those that were pulled out of the column, after whose last row they stand.
+fn drain_last(drain: &mut Drain)
+    requires { IsReady drain.old }
+    ensures { IsDrainedTo drain.old drain.new }
+{
+    let len = drain.column.len();
+    let (end, more) = drain
+        .column
+        .drain(drain.gap, drain.from, len, drain.low, None, &drain.doomed);
+    shorten(&mut drain.column, end);
+    drain.pulled = drain.pulled.saturating_add(more as u64);
+}
+
+/// Takes the last rows out of a column, down to so many. O(rows that are taken), and reads none.
+fn shorten(column: &mut CrackerColumn, len: usize)
+    requires { len ≤ length column.old.handles }
+    ensures { IsShortened len column.old column.new }
+{
+    let mut rows = column.len();
+    'rows: while len < rows {
+        column.pop_aside();
+        rows -= 1;
+    }
+}
+
+/// Strikes these rows from the pending deletions, and frees their cells, one after the other.
+fn bury_all(inside: &mut Inside, doomed: &[Doomed])
+    requires { AreBuried (map doomed_handle doomed.now) inside.old.arena.cells inside.old.pending_out.handles }
+    ensures buried { lists_of inside.new ≡ buried_all (map doomed_handle doomed.now) (lists_of inside.old) }
+    ensures keys { KeepsKeys inside.old inside.new }
+{
+    'rows: for i in 0..doomed.len() {
+        let handle = doomed[i].handle;
+        inside.pending_out.strike(handle);
+        let _ = inside.arena.free(handle);
+        inside.tally.taken_out = inside.tally.taken_out.saturating_add(1);
+    }
+    inside.pending_out.shrink_if_empty(0);
+}
+
+/// A column on a walk over its bounds from the lowest up, out of which doomed rows are pulled: the piece that begins at the bound `low` and the place
+/// `from` is next, and those that were taken out of the pieces below stand in the `gap` places before it.
+#[derive(Drop)]
+pub(crate) struct Drain {
+    column: CrackerColumn,
+    doomed: Vec<Doomed>,
+    low: KeyNumber,
+    from: usize,
+    gap: usize,
+    /// How many rows were pulled, as the store counts them.
+    pulled: u64,
+}
+
+impl Placer for Drain {
+    ghost use Rattle.crack_store.specs.Drainings.{IsReady, Empties};
+
+    ghost is_ready = { IsReady };
+
+    ghost places = { Empties };
+
+    /// Pulls the doomed rows out of the piece below the bound, which stands where the piece ends then.
+    fn place(&mut self, mark: Mark) -> usize {
+        let Mark { bound, position } = mark;
+        if position < self.from || self.column.len() < position {
+            return position;
+        }
+        let (end, more) = self.column.drain(
+            self.gap,
+            self.from,
+            position,
+            self.low,
+            Some(bound),
+            &self.doomed,
+        );
+        self.low = bound.number();
+        self.from = position;
+        self.gap = position - end;
+        self.pulled = self.pulled.saturating_add(more as u64);
+        end
+    }
+}
