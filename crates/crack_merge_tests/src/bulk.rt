@@ -3,17 +3,17 @@ ghost use Rattle.std.specs.Prelude.{◌≡◌, ◌+◌, ◌<◌, ◌≤◌};
 
 use crate::merge::{complete_at, crack_between, gradual_at, insert};
 use crack_row::{GREATEST_BOUND, KeyRange};
-use crack_store::{MergeReport, Store};
+use crack_store::{Carrying, MergeReport, Store};
 use std::alloc::Global;
 use std::process::Abort;
 
 /// Numbers that look random.
 #[derive(Drop)]
-struct Numbers(u64);
+pub(crate) struct Numbers(pub(crate) u64);
 
 impl Numbers {
     /// The next, which is below this one.
-    fn below(&mut self, end: u64) -> u64
+    pub(crate) fn below(&mut self, end: u64) -> u64
         requires { 0 < end }
         ensures { result < end }
     {
@@ -25,17 +25,17 @@ impl Numbers {
     }
 }
 
-/// What a store contains: the serials of its column from the last place down, of its pending insertions in their order, and the sizes of its
-/// pieces.
+/// What a store contains: serial, slot and generation of each row of its column, from the last place down, and of its pending insertions in
+/// their order, and the sizes of its pieces.
 #[derive(Drop, PartialEq, Debug)]
-struct Contents {
+pub(crate) struct Contents {
     column: Vec<u64>,
     pending: Vec<u64>,
     sizes: Vec<u64>,
 }
 
 /// A store of all keys with up to 40 rows in its column, of keys below `keys`, cracked up to six times.
-fn some_store(rt: &impl Abort, alloc: Global, numbers: &mut Numbers, keys: u64) -> Store
+pub(crate) fn some_store(rt: &impl Abort, alloc: Global, numbers: &mut Numbers, keys: u64) -> Store
     requires some { 0 < keys }
     requires few { keys ≤ 1000 }
     ensures low { result.keys.low ≡ 0 }
@@ -58,8 +58,14 @@ fn some_store(rt: &impl Abort, alloc: Global, numbers: &mut Numbers, keys: u64) 
     store
 }
 
-/// Takes the last row of the column out, and puts it after the pending insertions, or frees it where it is doomed; its serial.
-fn take_last(rt: &impl Abort, store: Store) -> (Store, u64) {
+/// The serial, slot and generation of the row in hand.
+fn hand_of(carrying: &Carrying) -> [u64; 3] {
+    let (handle, row) = carrying.hand();
+    [row.serial.0, handle.slot() as u64, handle.generation()]
+}
+
+/// Takes the last row of the column out, and puts it after the pending insertions, or frees it where it is doomed; what it was.
+pub(crate) fn take_last(rt: &impl Abort, store: Store) -> (Store, [u64; 3]) {
     let mut store = store;
     let len = store.column_len();
     assert!(rt; len > 0);
@@ -67,17 +73,16 @@ fn take_last(rt: &impl Abort, store: Store) -> (Store, u64) {
         panic!(rt; "no memory");
     }
     let carrying = store.lift_last();
-    let (_, row) = carrying.hand();
-    let serial = row.serial.0;
+    let row = hand_of(&carrying);
     if carrying.is_doomed() {
-        (carrying.bury(), serial)
+        (carrying.bury(), row)
     } else {
-        (carrying.put_back(), serial)
+        (carrying.put_back(), row)
     }
 }
 
-/// Takes the first pending insertion out, and puts it after the others; its serial.
-fn take_first(rt: &impl Abort, store: Store) -> (Store, u64) {
+/// Takes the first pending insertion out, and puts it after the others; what it was.
+fn take_first(rt: &impl Abort, store: Store) -> (Store, [u64; 3]) {
     let mut store = store;
     let len = store.pending_in();
     assert!(rt; len > 0);
@@ -85,15 +90,21 @@ fn take_first(rt: &impl Abort, store: Store) -> (Store, u64) {
         panic!(rt; "no memory");
     }
     let carrying = store.lift(0);
-    let (_, row) = carrying.hand();
-    let serial = row.serial.0;
+    let row = hand_of(&carrying);
     let doomed = carrying.is_doomed();
     assert!(rt; !doomed);
-    (carrying.put_back(), serial)
+    (carrying.put_back(), row)
+}
+
+/// Notes one row more.
+fn note(rt: &impl Abort, rows: &mut Vec<u64>, row: [u64; 3]) {
+    for i in 0..3 {
+        assert!(rt; rows.push(row[i]).is_ok());
+    }
 }
 
 /// What the store contains.
-fn contents_of(rt: &impl Abort, alloc: Global, store: Store) -> Contents {
+pub(crate) fn contents_of(rt: &impl Abort, alloc: Global, store: Store) -> Contents {
     let mut store = store;
     let mut contents = Contents {
         column: Vec::new(alloc),
@@ -106,13 +117,13 @@ fn contents_of(rt: &impl Abort, alloc: Global, store: Store) -> Contents {
         contents.sizes.push(pieces[i].size).expect(rt, "memory");
     }
     for _ in 0..store.pending_in() {
-        let (next, serial) = take_first(rt, store);
-        contents.pending.push(serial).expect(rt, "memory");
+        let (next, row) = take_first(rt, store);
+        note(rt, &mut contents.pending, row);
         store = next;
     }
     for _ in 0..store.column_len() {
-        let (next, serial) = take_last(rt, store);
-        contents.column.push(serial).expect(rt, "memory");
+        let (next, row) = take_last(rt, store);
+        note(rt, &mut contents.column, row);
         store = next;
     }
     drop(store);

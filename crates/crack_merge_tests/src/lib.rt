@@ -4,4 +4,6 @@
 #[cfg(test)]
 mod bulk;
 #[cfg(test)]
+mod carried;
+#[cfg(test)]
 mod merge;

@@ -30,7 +30,7 @@ pub(crate) fn insert(rt: &impl Abort, store: &mut Store, key: KeyNumber)
 }
 
 /// Dooms a row of the column of a store of all keys.
-fn doom(rt: &impl Abort, store: &mut Store, serial: u64)
+pub(crate) fn doom(rt: &impl Abort, store: &mut Store, serial: u64)
     requires low { store.old.keys.low ≡ 0 }
     requires high { store.old.keys.high ≡ GREATEST_BOUND }
     ensures low { store.new.keys.low ≡ 0 }

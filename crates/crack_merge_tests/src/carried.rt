@@ -1,0 +1,224 @@
+//! Carries of a range leave what the carry of each of its rows leaves, where doomed rows are in the way too: each row in its cell, and the free
+//! cells in their order.
+//!
+//! The test `sweep_..` holds whichever one of its allocations is refused, so it may be run with each of them refused in turn.
+ghost use Rattle.std.specs.Prelude.{◌≡◌, ◌<◌, ◌≤◌};
+ghost use Rattle.crack_state.specs.Merge.{IsCracked};
+
+use crate::bulk::{Contents, Numbers, contents_of, some_store, take_last};
+use crate::merge::{doom, insert};
+use crack_merge::{carry_range, merge_complete};
+use crack_row::{GREATEST_BOUND, Key, KeyNumber, KeyRange, Payload, Row, Serial};
+use crack_store::{MergeReport, Store};
+use std::alloc::Global;
+use std::process::Abort;
+
+/// Asserts that a store has all keys.
+fn assert_all_keys(rt: &impl Abort, store: &Store)
+    ensures low { store.now.keys.low ≡ 0 }
+    ensures high { store.now.keys.high ≡ GREATEST_BOUND }
+{
+    let (keys, all) = (store.keys(), KeyRange::all());
+    assert!(rt; keys.low() <= all.low());
+    assert!(rt; keys.high() <= all.high());
+    assert!(rt; all.high() <= keys.high());
+}
+
+/// Dooms up to eight rows of the column.
+fn doom_some(rt: &impl Abort, store: &mut Store, numbers: &mut Numbers)
+    requires low { store.old.keys.low ≡ 0 }
+    requires high { store.old.keys.high ≡ GREATEST_BOUND }
+    ensures low { store.new.keys.low ≡ 0 }
+    ensures high { store.new.keys.high ≡ GREATEST_BOUND }
+{
+    let count = numbers.below(8);
+    'rows: for _ in 0..count {
+        let serial = numbers.below(40);
+        if store.is_pending(Serial(serial)) == Some(false) {
+            doom(rt, store, serial);
+        }
+    }
+}
+
+/// Inserts up to twelve rows whose keys differ: these, in the order of arrival.
+fn insert_some(
+    rt: &impl Abort,
+    alloc: Global,
+    store: &mut Store,
+    numbers: &mut Numbers,
+    keys: u64,
+) -> Vec<u64>
+    requires some { 0 < keys }
+    requires few { keys ≤ 1000 }
+    requires low { store.old.keys.low ≡ 0 }
+    requires high { store.old.keys.high ≡ GREATEST_BOUND }
+{
+    let mut inserted = Vec::new(alloc);
+    let count = numbers.below(12);
+    'rows: for _ in 0..count {
+        let key = numbers.below(keys);
+        if !inserted.as_slice().contains(&key) {
+            insert(rt, store, key);
+            assert!(rt; inserted.push(key).is_ok());
+        }
+    }
+    inserted
+}
+
+/// Carries the pending insertions of a range.
+fn carried(rt: &impl Abort, store: Store, range: KeyRange) -> Store {
+    match carry_range(store, range, None) {
+        Ok(carried) => carried,
+        Err(_) => panic!(rt; "no memory"),
+    }
+}
+
+/// Carries the row of a key, if it is in the range.
+fn carried_one(rt: &impl Abort, store: Store, range: KeyRange, key: u64) -> Store {
+    if range.contains(Key::from_number(key)) {
+        let one = KeyRange::new(key as u128, key as u128 + 1).expect(rt, "a range");
+        carried(rt, store, one)
+    } else {
+        store
+    }
+}
+
+/// Carries the rows of these keys that are in the range, one after the other.
+fn carried_each(rt: &impl Abort, store: Store, range: KeyRange, keys: &[u64]) -> Store {
+    let mut store = store;
+    for i in 0..keys.len() {
+        store = carried_one(rt, store, range, keys[i]);
+    }
+    store
+}
+
+/// Puts a row of this serial and this key among the pending insertions, at the second time where memory was refused once.
+fn admit(rt: &impl Abort, store: &mut Store, serial: u64, key: KeyNumber) {
+    assert_all_keys(rt, store);
+    let cells = store.cells();
+    assert!(rt; cells < 1000);
+    let there = store.is_pending(Serial(serial)).is_some();
+    assert!(rt; !there);
+    let row = Row {
+        serial: Serial(serial),
+        key: Key::from_number(key),
+        payload: Payload::from_number(0),
+    };
+    if store.admit(row).is_err() {
+        admit_again(rt, store, row);
+    }
+}
+
+fn admit_again(rt: &impl Abort, store: &mut Store, row: Row) {
+    assert_all_keys(rt, store);
+    let cells = store.cells();
+    assert!(rt; cells < 1000);
+    let there = store.is_pending(row.serial).is_some();
+    assert!(rt; !there);
+    assert!(rt; store.admit(row).is_ok());
+}
+
+/// Carries pending insertions of random keys in a store of random rows, of which some are doomed: all at once, or one after the other. What the
+/// store contains once it has six rows more, which take free cells first, and what was counted.
+fn carried_by(rt: &impl Abort, alloc: Global, seed: u64, at_once: bool) -> (Contents, MergeReport) {
+    let mut numbers = Numbers(seed);
+    let keys = numbers.below(60) + 1;
+    let mut store = some_store(rt, alloc, &mut numbers, keys);
+    doom_some(rt, &mut store, &mut numbers);
+    let low = numbers.below(keys);
+    let more = numbers.below(keys);
+    let part = KeyRange::new(low as u128, (low + more + 1) as u128).expect(rt, "a range");
+    let whole = numbers.below(2) == 0;
+    let range = if whole { KeyRange::all() } else { part };
+    let inserted = insert_some(rt, alloc, &mut store, &mut numbers, keys);
+    let mut store = if at_once {
+        carried(rt, store, range)
+    } else {
+        carried_each(rt, store, range, inserted.as_slice())
+    };
+    drop(inserted);
+    let tally = store.tally();
+    for serial in 5000..5006u64 {
+        admit(rt, &mut store, serial, 1);
+    }
+    (contents_of(rt, alloc, store), tally)
+}
+
+#[test]
+fn carries_past_doomed_rows_leave_what_one_after_the_other_leaves(rt: HostRuntime) {
+    for seed in 0..2000u64 {
+        let (contents, counted) = carried_by(&rt, rt.alloc(), seed, true);
+        let (expected, tally) = carried_by(&rt, rt.alloc(), seed, false);
+        assert_eq!(rt; counted, tally, "{}", seed);
+        assert_eq!(rt; contents, expected, "{}", seed);
+    }
+}
+
+/// Cracks at the ends of a range, at the second time where memory was refused once.
+fn crack_at_last(rt: &impl Abort, store: &mut Store, range: KeyRange)
+    ensures keys { store.new.keys ≡ store.old.keys }
+    ensures cracked { IsCracked store.new range }
+{
+    if store.crack(range).is_ok() {
+        return;
+    }
+    let again = store.crack(range);
+    assert!(rt; again.is_ok());
+}
+
+/// Merges all rows, at the second time where memory was refused once.
+fn merge_at_last(rt: &impl Abort, store: Store) -> Store {
+    let mut store = store;
+    assert_all_keys(rt, &store);
+    crack_at_last(rt, &mut store, KeyRange::all());
+    match merge_complete(store, KeyRange::all()) {
+        Ok((merged, _)) => merged,
+        Err((stopped, _)) => merge_again(rt, stopped),
+    }
+}
+
+fn merge_again(rt: &impl Abort, store: Store) -> Store {
+    let mut store = store;
+    assert_all_keys(rt, &store);
+    crack_at_last(rt, &mut store, KeyRange::all());
+    match merge_complete(store, KeyRange::all()) {
+        Ok((merged, _)) => merged,
+        Err(_) => panic!(rt; "no memory"),
+    }
+}
+
+/// The serial of the column's last row, which is taken out.
+fn take_serial(rt: &impl Abort, store: Store) -> (Store, u64) {
+    let mut store = store;
+    if store.make_room().is_err() {
+        let again = store.make_room();
+        assert!(rt; again.is_ok());
+    }
+    let (store, row) = take_last(rt, store);
+    (store, row[0])
+}
+
+/// Three rows are carried into three pieces.
+#[test]
+fn sweep_carries_in_bulk(rt: HostRuntime) {
+    let mut store = Store::new(rt.alloc(), KeyRange::all());
+    admit(&rt, &mut store, 0, 10);
+    admit(&rt, &mut store, 1, 20);
+    admit(&rt, &mut store, 2, 30);
+    let mut store = merge_at_last(&rt, store);
+    let range = KeyRange::new(15, 25).expect(&rt, "a range");
+    crack_at_last(&rt, &mut store, range);
+    admit(&rt, &mut store, 3, 17);
+    admit(&rt, &mut store, 4, 12);
+    admit(&rt, &mut store, 5, 90);
+    let mut store = merge_at_last(&rt, store);
+    assert_eq!(rt; store.tally().moved, 3);
+    let mut serials = [0u64; 6];
+    for i in 0..6 {
+        let (next, serial) = take_serial(&rt, store);
+        serials[i] = serial;
+        store = next;
+    }
+    drop(store);
+    assert_eq!(rt; serials, [5, 2, 1, 3, 4, 0]);
+}
