@@ -1,11 +1,11 @@
 -- What contracts see of a book that was opened, and of partitions that are witnessed.
-use Rattle.std.specs.Prelude.{◌≡◌, ◌≢◌, ℕ, ◌+◌, ◌<◌, ◌⊎◌, List, [], ◌∷◌, ◌++◌, length, sum_by, take, All, Any, AllPairs, Contains, Some, slice_index_or}
+use Rattle.std.specs.Prelude.{◌≡◌, ◌≢◌, ℕ, ◌+◌, ◌<◌, ◌≤◌, ◌⊎◌, List, [], ◌∷◌, ◌++◌, length, sum_by, take, All, Any, AllPairs, Contains, Some, slice_index_or}
 use mathlib.Core.List.{IsPrefix}
 use Rattle.logbook.specs.Pages.{Book}
 use Rattle.crack_row.specs.declared.command.Entry.{Entry}
 use Rattle.crack_row.specs.declared.refusal.Refusal.{Refusal}
 use Rattle.crack_row.specs.declared.command.Command.{Command}
-use Rattle.crack_row.specs.declared.refusal.Refusal.TheVariants.{OutOfMemory, StrangeReceipt}
+use Rattle.crack_row.specs.declared.refusal.Refusal.TheVariants.{NoSuchPartition, OutOfMemory, StrangeReceipt}
 use Rattle.crack_part.specs.Parts.{Part}
 use Rattle.crack_part.specs.Refusals.{refusal_of}
 use Rattle.crack_witness.specs.declared.event.Event.{Event}
@@ -93,6 +93,18 @@ Differs owner a w = w.part < length a.fronts → a.worker < w.workers → HasJus
 -- how many replies the partition of this number gave a worker
 abbrev pub replies_at : AskerState → ℕ → ℕ
 replies_at a part = slice_index_or a.counts part 0
+
+-- a partition has this number, and its history as many entries of a worker as that was given replies for there
+abbrev pub Knows : (ℕ → ℕ) → AskerState → ℕ → WitnessedState → Type 0
+Knows owner a part w = (w.part ≡ part) × IsInStep owner w a.worker (replies_at a part)
+
+-- why a worker that asks for partition `part` may be refused by the partition that it is lent: 5 where it knows of none of this number; 16 with the
+-- number and its replies there, where the partition doesn't know it; else for want of memory, or as the partition refuses the command
+abbrev pub MayRefuseAt : (ℕ → ℕ) → WitnessedState → ℕ → Command → AskerState → Refusal → Type 0
+MayRefuseAt owner w part command a e =
+    ((e ≡ NoSuchPartition) × (length a.fronts ≤ part))
+    ⊎ (((e ≡ StrangeReceipt part (replies_at a part)) × (Knows owner a part w → ⊥))
+    ⊎ ((e ≡ OutOfMemory) ⊎ (refusal_of w.held command ≡ Some e)))
 
 -- how many replies a worker was given
 abbrev pub replies_to : AskerState → ℕ

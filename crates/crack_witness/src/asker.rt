@@ -8,7 +8,7 @@ ghost use Rattle.crack_part.specs.Parts.{state_of};
 ghost use Rattle.crack_part.specs.Upkeep.{upkept};
 ghost use Rattle.crack_part.specs.Refusals.{refusal_of};
 ghost use Rattle.crack_witness.specs.Histories.{history_of, calls_at, AreHistories, AreEmpty};
-ghost use Rattle.crack_witness.specs.Witnesses.{IsInStep, IsGiven, HasJustItsOwn, replies_at, replies_to};
+ghost use Rattle.crack_witness.specs.Witnesses.{IsInStep, IsGiven, HasJustItsOwn, Knows, MayRefuseAt, replies_at, replies_to};
 
 use crate::opening::Naming;
 use crate::scribe::Front;
@@ -112,7 +112,8 @@ impl<J: Naming> Asker<J> {
         ensures seen { IsPrefix self.old.seen self.new.seen × IsPrefix witnessed.old.log witnessed.new.log }
         ensures worker { self.new.worker ≡ self.old.worker }
         ensures nowhere { length self.old.fronts ≤ part → result ≡ Err Refusal.NoSuchPartition }
-        ensures causes { IfErr result (λ e. ((e ≡ Refusal.NoSuchPartition) × (length self.old.fronts ≤ part)) ⊎ ((e ≡ Refusal.StrangeReceipt part (replies_at self.old part)) ⊎ ((e ≡ Refusal.OutOfMemory) ⊎ (refusal_of witnessed.old.held command ≡ Some e)))) }
+        ensures strange { part < length self.old.fronts → (Knows J.owner self.old part witnessed.old → ⊥) → (result ≡ Err (Refusal.StrangeReceipt part (replies_at self.old part))) × (witnessed.new ≡ witnessed.old) }
+        ensures causes { IfErr result (MayRefuseAt J.owner witnessed.old part command self.old) }
         ensures err { OnErr result ((self.new ≡ self.old) × (witnessed.new.log ≡ witnessed.old.log) × (witnessed.new.held.past ≡ witnessed.old.held.past)) }
     {
         let Some(count) = count_at(self.counts.as_slice(), part) else {

@@ -1,13 +1,12 @@
 //! A command behind its gate, under a lock that is held.
-ghost use Rattle.std.specs.Prelude.{◌≡◌, ◌⊎◌, ℕ, ◌+◌, ◌<◌, ◌≤◌, [], ◌∷◌, ◌++◌, length, Some, IfOk, IfErr, OnErr, OnOk, slice_index_or, slice_set};
+ghost use Rattle.std.specs.Prelude.{◌≡◌, ◌⊎◌, ℕ, ◌+◌, ◌<◌, ◌≤◌, [], ◌∷◌, ◌++◌, length, Err, IfOk, IfErr, OnErr, OnOk, slice_index_or, slice_set};
 ghost use mathlib.Core.List.{IsPrefix};
 ghost use Rattle.crack_plain.specs.Past.{with_entry};
 ghost use Rattle.crack_plain.specs.Plain.{IsSmall, reply_to};
 ghost use Rattle.crack_part.specs.Parts.{state_of};
-ghost use Rattle.crack_part.specs.Refusals.{refusal_of};
 ghost use Rattle.crack_part.specs.Upkeep.{upkept};
 ghost use Rattle.crack_witness.specs.Histories.{calls_at, AreHistories};
-ghost use Rattle.crack_witness.specs.Witnesses.{IsGiven, replies_at, replies_to};
+ghost use Rattle.crack_witness.specs.Witnesses.{IsGiven, Knows, MayRefuseAt, replies_at, replies_to};
 
 use crack_row::{Command, Policy, Refusal, Reply};
 use crack_table::Gate;
@@ -45,7 +44,8 @@ pub(crate) fn ask_behind<J: Naming, G: Gate>(
     ensures seen { IsPrefix asker.old.seen asker.new.seen × IsPrefix witnessed.old.log witnessed.new.log }
     ensures worker { asker.new.worker ≡ asker.old.worker }
 
-    ensures causes { IfOk result (λ answered. IfErr answered (λ e. ((e ≡ Refusal.NoSuchPartition) × (length asker.old.fronts ≤ part)) ⊎ ((e ≡ Refusal.StrangeReceipt part (replies_at asker.old part)) ⊎ ((e ≡ Refusal.OutOfMemory) ⊎ (refusal_of witnessed.old.held command ≡ Some e))))) }
+    ensures strange { IfOk result (λ answered. part < length asker.old.fronts → (Knows J.owner asker.old part witnessed.old → ⊥) → (answered ≡ Err (Refusal.StrangeReceipt part (replies_at asker.old part))) × (witnessed.new ≡ witnessed.old)) }
+    ensures causes { IfOk result (λ answered. IfErr answered (MayRefuseAt J.owner witnessed.old part command asker.old)) }
     ensures err { IfOk result (λ answered. OnErr answered ((asker.new ≡ asker.old) × (witnessed.new.log ≡ witnessed.old.log) × (witnessed.new.held.past ≡ witnessed.old.held.past))) }
 {
     pass(gate, part)?;

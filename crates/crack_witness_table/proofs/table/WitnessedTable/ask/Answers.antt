@@ -19,6 +19,6 @@ returns g c = record {
   causes =
       let e = c.in_ok-answered.ensures in
       let table : TableState = record { splits = c.self.inside.splits.items; limits = c.self.inside.limits; workers = c.self.inside.workers; locks = vec_len c.self.inside.locks } in
-      rw (← c.self.view_is) (causes-witnessed table (g.G.Gate.may_refuse c.args.gate.now c.args.part) c.args.part c.deref_mut.result.now.held c.args.command c.args.asker.now c.in_ok-answered.answered c.with_table_limit.result e.causes c.with_table_limit.ensures);
+      rw (← c.self.view_is) (causes-witnessed g.J.Naming.owner table (g.G.Gate.may_refuse c.args.gate.now c.args.part) c.args.part c.deref_mut.result.now c.args.command c.args.asker.now c.in_ok-answered.answered c.with_table_limit.result e.causes c.with_table_limit.ensures);
   nowhere = search rules;
 }
