@@ -1,37 +1,6 @@
 """Runs the program on the acceptance cases: run.py PROGRAM [WORD ..]
 
-With words only the cases whose name, or whose file's name, has one of them. A file of cases/ has the cases of a topic,
-with a blank line before each:
-
-    == a-full-history-refuses
-    $ script --limit 2
-    insert 1 1          | row 0.0
-    select 0 5          | rows 1
-                        | 0.0 1 1
-    count 0 5           | refused 6 2
-
-    == NAME             a case begins; its name has the words that mark in docs/SPECIFICATION.md, after a §, the rules
-                        that it shows
-    $ WORD ..           the words of the command line
-    STATEMENT | REPLY   a line of input and the first line of its reply; each further one stands after a `|` of its own
-    < LINE              a line of input that has no reply
-    > LINE              a line of output that is no statement's reply
-    ! LINE              a line of standard error
-    = STATUS            the exit status, where it isn't 0
-    ~ TEXT              a text that the output has, where it isn't given line by line
-    + NAME TEXT         a file where it runs
-    @ from PATH         what is read in place of a pipe: a path of the system, or `.`, a folder
-    @ to PATH           what is written
-    @ fits LINES WIDTH  how many lines the output has at most, and how many columns each
-    # TEXT              a comment
-
-In a batch the replies of a worker's statements stand together, after `worker N`: that line is put there, for each
-worker, by the runner. Where `serve --workers N ..` has statements, each begins with the number of a client, which waits
-for its reply before the next one is asked; the runner adds a port, and as many sessions as there are clients. `shell`
-is the shell of the Python package. In a line `\\r` is a carriage return, `\\t` a tab, `\\n` a line feed, `\\s` a space
-(at an end, where it would be dropped), `\\\\` a backslash, `\\xHH` a byte, `\\{N TEXT}` N times a text, and `\\c` at
-the end says that no line feed follows.
-
+With words only the cases whose name, or whose file's name, has one of them; cases/README.txt says how a case is written.
 Prints for each case that fails its file, the first line of it that differs, what was wanted there and what came, and
 last 'acceptance: N passed, M failed'.
 """

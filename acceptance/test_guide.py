@@ -142,43 +142,7 @@ def run(blocks: list[Block], program: str) -> tuple[int, list[str], list[str]]:
     return len(asked) - len(faults), faults, skipped
 
 
-PAGE = """# A page
-
-## One
-
-```console
-$ echo one
-one
-$ for it in a b
-> do echo $it; done
-a
-...
-$ sort
-```
-
-```ini
-$ no command
-```
-
-```python
-print(1 + 1)
-```
-
-```text
-2
-```
-
-## Two
-
-```pycon
->>> 1 + 1
-2
-```
-
-```console needs=no-such-program
-$ no-such-program
-```
-"""
+PAGE = (TOP / "acceptance" / "page.txt").read_text(encoding="utf-8")
 
 
 class Checker(unittest.TestCase):
