@@ -69,11 +69,6 @@ class Case(unittest.TestCase):
         if not os.path.exists(self.program):
             self.skipTest(f"{self.needs} isn't built")
 
-    def assert_right(self, fault: str | None) -> None:
-        """Fails where a fault is reported."""
-        if fault is not None:
-            self.fail(fault)
-
 
 def add(of: type[unittest.TestCase], name: str, check: typing.Callable, *given: object) -> None:
     """Adds a check of this name, which calls a function of the case and of what is given."""
@@ -84,7 +79,7 @@ def add(of: type[unittest.TestCase], name: str, check: typing.Callable, *given: 
 def add_seeds(of: type[Case], seeds: typing.Iterable[int], fault: typing.Callable[[str, int], str | None]) -> None:
     """Adds a check for each seed of what a function says is wrong with the program."""
     for seed in seeds:
-        add(of, f"seed {seed:02}", lambda self, seed: self.assert_right(fault(self.program, seed)), seed)
+        add(of, f"seed {seed:02}", lambda self, seed: self.assertIsNone(fault(self.program, seed)), seed)
 
 
 def ran(command: typing.Iterable[object], given: str | bytes | None = b"", seconds: float = SECONDS, **how) -> Ended:
@@ -206,20 +201,11 @@ class Server:
 
 
 @contextlib.contextmanager
-def serving_any(program: str, workers: int, sessions: int, *words: str) -> typing.Iterator[tuple[int, list]]:
-    """The port of a server that must end by itself, and a list that must have its totals once the clients ended."""
-    totals: list = []
+def serving(program: str, totals: typing.Sequence, workers: int, sessions: int, *words: str) -> typing.Iterator[int]:
+    """The port of a server that must end by itself once its clients have, with totals that are there by then."""
     with Server(program, workers, "--sessions", str(sessions), "--quiet", *words) as it:
-        yield it.port, totals
+        yield it.port
         it.wait(totals)
-
-
-@contextlib.contextmanager
-def serving(program: str, totals: typing.Iterable, workers: int, sessions: int, *words: str) -> typing.Iterator[int]:
-    """The same of a server whose totals are known."""
-    with serving_any(program, workers, sessions, *words) as (port, found):
-        yield port
-        found += totals
 
 
 class Client:

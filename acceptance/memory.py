@@ -18,6 +18,7 @@ import itertools
 import pathlib
 import random
 import re
+import socket
 import subprocess
 import typing
 
@@ -260,10 +261,10 @@ def fault_of_batch(program: str, seed: int, way: str) -> str | None:
 def exchanged(port: int, given: bytes) -> bytes:
     """What a server answers to a session's bytes, up to its end; what came until then, where it breaks off."""
     got = b""
-    with contextlib.suppress(OSError), fixtures.Client(port, SECONDS) as it:
-        it.socket.sendall(given)
-        it.sends_no_more()
-        while more := it.socket.recv(65536):
+    with contextlib.suppress(OSError), socket.create_connection(("127.0.0.1", port), SECONDS) as it:
+        it.sendall(given)
+        it.shutdown(socket.SHUT_WR)
+        while more := it.recv(65536):
             got += more
     return got
 
@@ -324,12 +325,9 @@ def fault_of_test(built: str, name: str) -> str | None:
 
 def fault(program: str, seed: int) -> str | None:
     """What is wrong with a sweep over the random script of a seed, which draws the way as well; or None."""
-    wrong = fault_of_random(program, seed, list(WAYS)[seed % len(WAYS)])
-    return wrong and f"memory, script of seed {seed}, {wrong}"
+    return fault_of_random(program, seed, list(WAYS)[seed % len(WAYS)])
 
 
 def workers_fault(program: str, seed: int) -> str | None:
     """What is wrong with a sweep over the batch or the server of a seed, which draws the way as well; or None."""
-    check, way = [fault_of_batch, fault_of_server][seed % 2], ["alone", "all", "chance"][seed // 2 % 3]
-    wrong = check(program, seed, way)
-    return wrong and f"memory, {check.__name__.removeprefix('fault_of_')} of seed {seed}, {wrong}"
+    return [fault_of_batch, fault_of_server][seed % 2](program, seed, ["alone", "all", "chance"][seed // 2 % 3])

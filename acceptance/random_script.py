@@ -150,7 +150,6 @@ def fault(program: str, seed: int) -> str | None:
     """What is wrong with the program's answers to the script of a seed; None where they are right."""
     words, given, splits, limits = script(seed)
     status, wrote, complained = fixtures.ran([program, *words], given, SECONDS)
-    wrong = misfit(given, wrote, splits, limits)
     if status or complained:
-        wrong = wrong or f"status {status}, standard error {complained!r}"
-    return wrong and f"seed {seed}: {wrong}"
+        return f"status {status}, standard error {complained!r}"
+    return misfit(given, wrote, splits, limits)

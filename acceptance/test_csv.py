@@ -31,7 +31,7 @@ def fault_of_input(
     words = ["csv", *limits.words(), *map(str, splits)]
     wanted = exported(given, splits, limits) if wanted is None else wanted
     got = fixtures.fed([program, *words], given, piece)
-    what = f"{given[:80]!r} (of {len(given)} bytes, in pieces of {piece})"
+    what = f"{given[:80]!r} (of {len(given)} bytes, in pieces of {piece}), splits {splits}, {limits}"
     return None if got == wanted else f"{what}: wanted {wanted!r:.300}, got {got!r:.300}"
 
 
@@ -77,15 +77,14 @@ def fault(program: str, seed: int) -> str | None:
     others = [changed(numbers, given) for _ in range(10)]
     piece = numbers.choice([1, 3, 64, 4096, 65536])
     found = (fault_of_input(program, it, splits, limits, piece) for it in [given, *cuts, *others])
-    wrong = next(filter(None, found), None)
-    return wrong and f"csv, seed {seed}, splits {splits}, {limits}: {wrong}"
+    return next(filter(None, found), None)
 
 
 class Csv(fixtures.Case):
     """CSV of all kinds."""
 
     def assert_exported(self, given: bytes, *more: typing.Any, **how: typing.Any) -> None:
-        self.assert_right(fault_of_input(self.program, given, *more, **how))
+        self.assertIsNone(fault_of_input(self.program, given, *more, **how))
 
     def test_cut_anywhere(self) -> None:
         """A small input is cut after each byte: by the specification's own table, and as it is read here."""

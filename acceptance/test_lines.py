@@ -137,9 +137,8 @@ def fault(program: str, seed: int) -> str | None:
     numbers = random.Random(seed)
     splits = sorted(numbers.sample([1, 10, 99, 100, 101, *random_script.EDGES[2:-1]], numbers.randrange(4)))
     limits = numbers.choice([Limits(), Limits(200), Limits(100, 50, 1000)])
-    piece = PIECES[seed % len(PIECES)]
-    wrong = fault_of_session(program, random_input(numbers, SESSION_LINES), splits, limits, piece)
-    return wrong and f"lines, seed {seed}, in pieces of {piece}: {wrong}"
+    given = random_input(numbers, SESSION_LINES)
+    return fault_of_session(program, given, splits, limits, PIECES[seed % len(PIECES)])
 
 
 class Lines(fixtures.Case):

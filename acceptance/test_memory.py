@@ -26,7 +26,7 @@ class Refused(Sweeps):
     """Sweeps over runs of the program. What a check is given stands in its name."""
 
     def sweep(self, fault: typing.Callable, *given: object) -> None:
-        self.assert_right(fault(self.program, *given))
+        self.assertIsNone(fault(self.program, *given))
 
 
 class Tests(Sweeps):
@@ -39,7 +39,7 @@ class Tests(Sweeps):
         built = CRATES / crate / "out" / crate.replace("_tests", "_tests_tests")
         if not built.exists():
             self.skipTest(f"the tests of {crate} aren't built")
-        self.assert_right(memory.fault_of_test(str(built), name))
+        self.assertIsNone(memory.fault_of_test(str(built), name))
 
 
 def add(name: str, fault: typing.Callable, *given: object) -> None:

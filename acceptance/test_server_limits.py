@@ -170,8 +170,8 @@ class SmallLimits(fixtures.Case):
             expect("cells after a checkpoint", "refused 9", insert())
             freed.append(len(gone))
 
-        freed, words = [], ["--limit", str(LIMIT), "--cells", str(CELLS)]
-        with fixtures.serving_any(self.program, CLIENTS, CLIENTS + 1, *words) as (port, totals):
+        freed, totals, words = [], [], ["--limit", str(LIMIT), "--cells", str(CELLS)]
+        with serving(self.program, totals, CLIENTS, CLIENTS + 1, *words) as port:
             clients = at_once(port, work)
             check_folded(port, clients, 1, CELLS + 2 * sum(freed))
             totals += [CELLS + 2 * sum(freed), CELLS + sum(freed), sum(freed), CELLS]
