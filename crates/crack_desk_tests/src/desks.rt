@@ -58,6 +58,23 @@ static MERGED: &[u8] = b"policy gradual\nrow 0.0\nrow 0.1\ncount 2\ncount 0\n\
 row 0.2\nrow 0.3\ncount 2\nlayout 0 rows 4 column 3 out 0 in 1 cells 4 free 0 pieces 4\n\
 piece 0 10 0\npiece 10 20 2\npiece 20 30 0\npiece 30 18446744073709551616 1\n";
 
+/// And so it is by a sum and by a select, which merge as a count does.
+static GRADUAL_SUM: &[u8] =
+    b"policy gradual\ninsert 10 1\ninsert 40 4\ncount 0 18446744073709551616\ncount 20 30\n\
+insert 15 5\ninsert 50 6\nsum 10 20\nlayout 0\n";
+
+static MERGED_BY_A_SUM: &[u8] = b"policy gradual\nrow 0.0\nrow 0.1\ncount 2\ncount 0\n\
+row 0.2\nrow 0.3\nsum 6\nlayout 0 rows 4 column 3 out 0 in 1 cells 4 free 0 pieces 4\n\
+piece 0 10 0\npiece 10 20 2\npiece 20 30 0\npiece 30 18446744073709551616 1\n";
+
+static GRADUAL_SELECT: &[u8] =
+    b"policy gradual\ninsert 10 1\ninsert 40 4\ncount 0 18446744073709551616\ncount 20 30\n\
+insert 15 5\ninsert 50 6\nselect 10 20\nlayout 0\n";
+
+static MERGED_BY_A_SELECT: &[u8] = b"policy gradual\nrow 0.0\nrow 0.1\ncount 2\ncount 0\n\
+row 0.2\nrow 0.3\nrows 2\n0.0 10 1\n0.2 15 5\nlayout 0 rows 4 column 3 out 0 in 1 cells 4 free 0 pieces 4\n\
+piece 0 10 0\npiece 10 20 2\npiece 20 30 0\npiece 30 18446744073709551616 1\n";
+
 /// By ripple it is, and the row above the range that makes room for it pends again.
 static RIPPLE: &[u8] =
     b"policy ripple\ninsert 10 1\ninsert 40 4\ncount 0 18446744073709551616\ncount 20 30\n\
@@ -152,9 +169,37 @@ fn a_worker_desk_merges_by_the_policy(rt: HostRuntime) -> Result<(), Fail> {
     assert_desk(&rt, alloc, RIPPLE, RIPPLED)
 }
 
+/// Whatever is asked of a range is asked by the session's policy.
+#[test]
+fn a_worker_desk_adds_up_and_lists_by_the_policy(rt: HostRuntime) -> Result<(), Fail> {
+    let alloc: Global = rt.alloc();
+    assert_desk(&rt, alloc, GRADUAL_SUM, MERGED_BY_A_SUM)?;
+    assert_desk(&rt, alloc, GRADUAL_SELECT, MERGED_BY_A_SELECT)
+}
+
 #[test]
 fn a_worker_desk_adds_up_below_0(rt: HostRuntime) -> Result<(), Fail> {
     assert_desk(&rt, rt.alloc(), WIDE, ADDED)
+}
+
+/// Each checkpoint folds the partition that it names, and no other.
+#[test]
+fn a_worker_desk_folds_one_partition_at_a_time(rt: HostRuntime) -> Result<(), Fail> {
+    let alloc: Global = rt.alloc();
+    let (table, mut workers) = Table::open(alloc, &hundred(), GREATEST_LIMIT, 1)?;
+    let worker = workers.pop().ok_or("worker")?;
+    let mut desk = WorkerDesk::new(&rt, &table, &OpenGate, worker);
+    assert_session(
+        &rt,
+        alloc,
+        &mut desk,
+        b"insert 50 5\ninsert 60 6\ninsert 150 7\ncheckpoint 1\ncheckpoint 0\ncheckpoint 0\ncheckpoint 2\n",
+        b"row 0.0\nrow 0.1\nrow 1.0\nfolded 1\nfolded 2\nfolded 0\nrefused 5\n",
+        (How::InputEnded, 7),
+    );
+    workers.push(desk.into_worker())?;
+    assert_eq!(rt; totals(alloc, table, workers), Ok([3, 3, 0, 3]));
+    Ok(())
 }
 
 /// A layout goes through no gate.
