@@ -294,6 +294,10 @@ class Reading(unittest.TestCase):
         path.write_text(path.read_text().replace(trust.PRIVATE, "-- Other sizes."))
         self.assertEqual([it.name for it in list(trust.misplaced(self.shelf).values())[1]], ["a.Other.size"])
 
+    def test_each_definition_stands_where_a_reader_is_sent(self):
+        found = trust.misplaced(reading.whole())
+        self.assertEqual({fault: [it.name for it in items] for fault, items in found.items() if items}, {})
+
     def test_what_a_type_keeps_of_its_own_fields_is_private(self):
         path = self.shelf.items["a.Keeps.AreLight"].path
         path.write_text(path.read_text().replace(trust.PRIVATE, "-- Weights."))
