@@ -1,0 +1,9 @@
+//! Tests of tables that witness their replies: what no clause says.
+#![tactic(auto)]
+
+#[cfg(test)]
+mod refusals;
+#[cfg(test)]
+mod threads;
+#[cfg(test)]
+mod values;
