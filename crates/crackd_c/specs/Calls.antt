@@ -79,8 +79,8 @@ abbrev pub TakesOut : Handle → Handle → RowNo → ℕ → (Option Row → Ty
 TakesOut old new row status written unwritten = StaysOpen old new × ((refusal : Option Refusal) × (went : Option Row) × (status ≡ status_of refusal) × Deletes old.core.limits old.core.splits row (comes_to went refusal) (rows_of old.core) (rows_of new.core) × MatchOption refusal (written went) (λ e. unwritten))
 
 -- a row gets another key and payload: 1 is written, or 0, where it isn't there
-abbrev pub Rewrites : Handle → Handle → RowNo → Key → Payload → ℕ → ℕ → Type 0 → Type 0
-Rewrites old new row key payload status found unwritten = StaysOpen old new × ((refusal : Option Refusal) × (is : Bool) × (status ≡ status_of refusal) × Updates old.core.limits old.core.splits row key payload (comes_to is refusal) (rows_of old.core) (rows_of new.core) × MatchOption refusal (found ≡ flag is) (λ e. unwritten))
+abbrev pub ChangesRow : Handle → Handle → RowNo → Key → Payload → ℕ → ℕ → Type 0 → Type 0
+ChangesRow old new row key payload status found unwritten = StaysOpen old new × ((refusal : Option Refusal) × (is : Bool) × (status ≡ status_of refusal) × Updates old.core.limits old.core.splits row key payload (comes_to is refusal) (rows_of old.core) (rows_of new.core) × MatchOption refusal (found ≡ flag is) (λ e. unwritten))
 
 -- a list of so many calls on a table went so: its status is 0, or the number of the refusal at which it stopped, and so many were done
 abbrev pub GoesOn : Call → ℕ → Handle → Handle → ℕ → ℕ → Type 0
@@ -99,5 +99,5 @@ abbrev pub IsFresh : Handle → List ℕ → Limits → Type 0
 IsFresh handle splits limits = (handle.is_open ≡ true) × (handle.core.splits ≡ bounds_at splits) × (handle.core.limits ≡ limits) × All (λ (part : Part). part.past ≡ no_past) handle.core.parts × (opening_fault (bounds_at splits) limits ≡ None)
 
 -- a table is opened with these splits and limits, without rows, or this is why not
-abbrev pub Opens : Handle → Handle → List ℕ → Limits → ℕ → Type 0
-Opens old new splits limits status = (refusal : Option Refusal) × (status ≡ status_of refusal) × MatchOption refusal (IsFresh new splits limits) (λ e. (MayFault (bounds_at splits) limits e ⊎ (e ≡ OutOfMemory)) × (new ≡ old))
+abbrev pub OpensHandle : Handle → Handle → List ℕ → Limits → ℕ → Type 0
+OpensHandle old new splits limits status = (refusal : Option Refusal) × (status ≡ status_of refusal) × MatchOption refusal (IsFresh new splits limits) (λ e. (MayFault (bounds_at splits) limits e ⊎ (e ≡ OutOfMemory)) × (new ≡ old))

@@ -6,7 +6,7 @@ ghost use Rattle.crack_core.specs.Asking.{Inserts};
 ghost use Rattle.crack_core.specs.Bulk.{CountsKeys, SumsKeys, joined, InsertsAt, DeletesAt, UpdatesAt, CountsAt, SumsAt};
 ghost use Rattle.crack_core.specs.Listing.{SelectsKeys};
 ghost use Rattle.crack_core.specs.Steps.{accepted_by};
-ghost use Rattle.crackd_c.specs.Calls.{policy_at, AreEqual, ComesOut, TakesOut, Rewrites, GoesOn, Shows, FoldsOne, Opens};
+ghost use Rattle.crackd_c.specs.Calls.{policy_at, AreEqual, ComesOut, TakesOut, ChangesRow, GoesOn, Shows, FoldsOne, OpensHandle};
 
 pub mod handle;
 pub mod opening;
@@ -33,7 +33,7 @@ pub extern "C" fn crackd_open(
     life: u64,
 ) -> u32
     ensures open { handle.old.is_open ≡ true → (result ≡ ALREADY_OPEN) × (handle.new ≡ handle.old) }
-    ensures opens { handle.old.is_open ≡ false → Opens handle.old handle.new splits.now (record { history = history; cells = cells; life = life; upkeep = Upkeep.OnRequest }) result }
+    ensures opens { handle.old.is_open ≡ false → OpensHandle handle.old handle.new splits.now (record { history = history; cells = cells; life = life; upkeep = Upkeep.OnRequest }) result }
 {
     if handle.is_open() {
         return ALREADY_OPEN;
@@ -140,7 +140,7 @@ pub extern "C" fn crackd_update(
     found: &mut u8,
 ) -> u32
     ensures closed { handle.old.is_open ≡ false → (result ≡ CLOSED) × (handle.new ≡ handle.old) × (found.new ≡ found.old) }
-    ensures updates { handle.old.is_open ≡ true → Rewrites handle.old handle.new (record { part = part; serial = record { 0 = serial } }) (record { 0 = key }) (record { 0 = payload }) result found.new (found.new ≡ found.old) }
+    ensures updates { handle.old.is_open ≡ true → ChangesRow handle.old handle.new (record { part = part; serial = record { 0 = serial } }) (record { 0 = key }) (record { 0 = payload }) result found.new (found.new ≡ found.old) }
 {
     if !handle.is_open() {
         return CLOSED;
