@@ -1,9 +1,9 @@
 """Types, ghost members and calls of src/ as items, with what they cite.
 
-A type is its text, without attributes and comments; where it has a model, what clauses see is the model's value, and a field that nobody else sees and
-that the model doesn't read is left out. A ghost member is one statement of a trait or of a block `impl`: of a model each is an item, else those of a
-block are one. A call is its clauses: it cites what they name, and the types
-and traits of its signature.
+A type is its text, without attributes and comments; where it has a model, what clauses see is the model's value. A field that other crates don't see is
+left out where the model doesn't read it, or without a model no clause, definition or ghost member. A ghost member is one statement of a trait or of a
+block `impl`: of a model each is an item, else those of a block are one. A call is its clauses: it cites what they name, and the types and traits of its
+signature.
 """
 
 import dataclasses
@@ -55,25 +55,29 @@ def text_of(lines):
     return "\n".join(line for _, line in lines)
 
 
-def unread(source, span, model):
-    """The numbers of the lines of a span, from 1, that have fields which nobody else sees and the members of a model don't read, and their comments."""
-    read = {name for it in model for name in re.findall(r"\.(\w+)", text_of(it.lines))}
+def fields_read(items):
+    """The names of the fields that these items read."""
+    return {name for it in items for name in re.findall(r"\.(\w+)", text_of(it.lines))}
+
+
+def unread(source, span, read):
+    """The numbers of the lines of a span, from 1, that have fields which other crates don't see and that aren't read, and of their comments."""
     found = [at for at in span if (field := HIDDEN.match(source.lines[at])) and field[1] not in read]
     return {at + 1 for at in found} | {number for at in found for number, _ in source.remarks(range(at, at + 1))}
 
 
-def type_items(source, names, models):
-    """The types and constants of a file. One that has a model cites the model's members, else the types of its fields."""
+def type_items(source, names, models, read):
+    """The types and constants of a file. One that has a model cites the model's members, else the types of those fields that are read."""
     found = []
     for at, (_, keyword, name) in source.types().items():
         span, item = source.whole(at, ("}", ";")), source.named(name)
-        text = text_of(source.said(span)).partition(name)[2]
-        model = models.get(item, ())
-        cites = {it.name for it in model} or types_cited(VARIANT.sub("", text) if keyword == "enum" else text, source.scope) - {item}
+        model = models.get(item)
+        hidden = unread(source, span, fields_read(model) if model else read) if keyword == "struct" else set()
+        lines, beside = (tuple(it for it in these if it[0] not in hidden) for these in (source.said(span), source.remarks(span)))
+        text = text_of(lines).partition(name)[2]
+        cites = {it.name for it in model or ()} or types_cited(VARIANT.sub("", text) if keyword == "enum" else text, source.scope) - {item}
         kind = "constant" if keyword in ("const", "static") else "type"
         if keyword != "trait":
-            hidden = unread(source, span, model) if model else set()
-            lines, beside = (tuple(it for it in these if it[0] not in hidden) for these in (source.said(span), source.remarks(span)))
             found.append(definitions.Item(item, kind, source.crate, source.path, lines, beside, frozenset(cites), item in names.public))
     return found
 
@@ -195,8 +199,8 @@ def calls_of(source, blocks, names):
     return [call_at(source, span, next((it for it in blocks if span[0] in it.span), None), names) for span in spans if span]
 
 
-def items_of(files, names):
-    """All items of these files of src/, whose scopes are filled."""
+def items_of(files, names, others):
+    """All items of these files of src/, whose scopes are filled, beside the definitions."""
     found, models = [], {}
     blocks = {source.path: sources.blocks_of(source) for source in files}
     for source in files:
@@ -206,5 +210,6 @@ def items_of(files, names):
             if block.trait == "Model":
                 models[source.named(block.owner)] = [it for it in items if it.name.rpartition("::")[2] in READ]
     for source in files:
-        found += [*type_items(source, names, models), *ghost_fields(source, names), *calls_of(source, blocks[source.path], names)]
-    return found
+        found += [*ghost_fields(source, names), *calls_of(source, blocks[source.path], names)]
+    read = fields_read([*found, *others])
+    return [*found, *(it for source in files for it in type_items(source, names, models, read))]

@@ -137,7 +137,8 @@ def all_items(folders):
     files = [it for folder in folders for it in sources.read(folder, names)]
     for source in files:
         sources.fill_scope(source, names)
-    return [*(it for folder in folders for it in definitions.definitions_of(folder)), *contracts.items_of(files, names)]
+    found = [it for folder in folders for it in definitions.definitions_of(folder)]
+    return [*found, *contracts.items_of(files, names, found)]
 
 
 def whole():

@@ -116,6 +116,18 @@ struct Thing(u64);
 
 struct Hint(u64);
 
+pub struct Label {
+    text: u64,
+    ink: Hint,
+}
+
+/// Reads a label.
+pub fn read(label: &Label) -> u64
+    ensures text { result ≡ label.now.text }
+{
+    label.text
+}
+
 pub trait Scale {
     ghost weight : ℕ → ℕ;
 
@@ -302,6 +314,10 @@ class Reading(unittest.TestCase):
         path = self.shelf.items["a.Keeps.AreLight"].path
         path.write_text(path.read_text().replace(trust.PRIVATE, "-- Weights."))
         self.assertEqual([it.name for it in list(trust.misplaced(self.shelf).values())[1]], ["a.Keeps.AreLight"])
+
+    def test_of_a_type_without_a_model_no_field_is_read_that_nothing_reads(self):
+        label = self.shelf.items["a::inside::Label"]
+        self.assertEqual(([line for _, line in label.lines], label.cites), (["pub struct Label {", "    text: u64,", "}"], frozenset()))
 
     def test_a_trait_is_read_with_what_public_types_have_of_it(self):
         names = [it.name for it in self.shelf.read_for({"a::inside::Scale::weigh": frozenset()})]
