@@ -31,15 +31,18 @@ const MANY_BOUNDS: usize = 64;
 /// The fewest rows that are carried in bulk where many bounds stand.
 const FEWEST_OVER_MANY: usize = 8;
 
+/// More pending insertions than these are many: those of a range are counted as they are taken.
+const MANY_PENDING: usize = 4096;
+
 /// The most doomed rows that are looked for: of more one is likely to be in the way.
 const MOST_DOOMED: usize = 64;
 
 impl Store {
     /// Carries all pending insertions of a range in bulk, of which `first` is the first, and leaves what the carry of one after the other
     /// leaves; whether it did so. It doesn't for few rows, nor where a doomed row may be in the way, nor where it finds no memory for
-    /// all of them: all is then as it was. Room is made for all of them at once.
-    /// O(pending insertions), and for each that it carries O(pieces) without a wait for memory; O(bounds); for each of a few doomed rows
-    /// O(rows that it carries + log bounds).
+    /// all of them, nor for a first load of all keys: all is then as it was. Room is made for all of them at once.
+    /// Two passes over the pending insertions, where many pend and none is doomed one; for each row that it carries O(pieces) without a wait
+    /// for memory; O(bounds); for each of a few doomed rows O(rows that it carries + log bounds).
     pub fn carry_in_bulk(&mut self, range: KeyRange, first: usize) -> bool
         requires { Finds range (keys_at self.old.cells self.old.pending_in) 0 (Some first) }
         ensures carried { IsTrue result → SameButRoom (carried_in_bulk None range self.old) self.new }
@@ -47,6 +50,12 @@ impl Store {
         ensures live { live_rows self.new ≡ live_rows self.old }
         ensures same { IsFalse result → SameButRoom self.old self.new }
     {
+        if !is_worth_a_pass(&self.inside, range) {
+            return false;
+        }
+        if is_counted_late(&self.inside) {
+            return carry_uncounted(&mut self.inside, range, first);
+        }
         let count = count_in(&mut self.inside.pending_in, range, first, &self.inside.arena);
         if is_few(&self.inside, count) || !is_clear(&self.inside, count) {
             return false;
@@ -54,9 +63,45 @@ impl Store {
         if self.inside.column.reserve(count).is_err() {
             return false;
         }
-        carry_rows(&mut self.inside, range, first, count);
+        carry_rows(&mut self.inside, range, first);
         true
     }
+}
+
+/// Whether a pass over the pending insertions of a range is worth it: not where many rows are doomed, nor where the range has all keys, and more
+/// rows are pending than the column has. O(1).
+fn is_worth_a_pass(inside: &Inside, range: KeyRange) -> bool {
+    let keys = inside.keys;
+    let is_whole = range.low() <= keys.low() && keys.high() <= range.high();
+    let fits = inside.pending_in.len() <= inside.column.len();
+    inside.pending_out.len() <= MOST_DOOMED && (fits || !is_whole)
+}
+
+/// Whether no row is doomed, and so many are pending that to count those of a range is dearer than a walk over all bounds. O(1).
+fn is_counted_late(inside: &Inside) -> bool
+    ensures { IsTrue result → inside.now.pending_out.handles ≡ [] }
+{
+    inside.pending_out.is_empty() && MANY_PENDING < inside.pending_in.len()
+}
+
+/// Carries the pending insertions of a range, of which `first` is the first, where no row is doomed, with room for all pending insertions;
+/// whether it found memory for them. All is else as it was.
+fn carry_uncounted(inside: &mut Inside, range: KeyRange, first: usize) -> bool
+    requires intact { KeepsIntact inside.old [] }
+    requires none { inside.old.pending_out.handles ≡ [] }
+    requires first { Finds range (keys_at inside.old.arena.cells inside.old.pending_in.handles) 0 (Some first) }
+    ensures carried { IsTrue result → SameButRoom (carried_in_bulk None range (lists_of inside.old)) (lists_of inside.new) }
+    ensures left { IsTrue result → inside.new.pending_in.handles ≡ outside_of inside.old.arena.cells range inside.old.pending_in.handles }
+    ensures live { live_rows (lists_of inside.new) ≡ live_rows (lists_of inside.old) }
+    ensures same { IsFalse result → SameButRoom (lists_of inside.old) (lists_of inside.new) }
+    ensures intact { KeepsIntact inside.new [] }
+{
+    let most = inside.pending_in.len();
+    if let Err(_) = inside.column.reserve(most) {
+        return false;
+    }
+    carry_rows(inside, range, first);
+    true
 }
 
 /// How many rows of a list have their key in the range, of which `first` is the first.
@@ -112,13 +157,12 @@ fn is_in_way(inside: &Inside, handle: Handle<Row>, count: usize) -> bool
     inside.column.place_between(from, met, handle).is_some()
 }
 
-/// Carries as many pending insertions of a range, the first of which is `first`, where no doomed row is in the way and there is room for them.
-fn carry_rows(inside: &mut Inside, range: KeyRange, first: usize, count: usize)
+/// Carries the pending insertions of a range, the first of which is `first`, where no doomed row is in the way and there is room for them.
+fn carry_rows(inside: &mut Inside, range: KeyRange, first: usize)
     requires intact { KeepsIntact inside.old [] }
-    requires clear { AreClear count (lists_of inside.old) }
+    requires clear { AreClear (length (inside_of inside.old.arena.cells range inside.old.pending_in.handles)) (lists_of inside.old) }
     requires first { Finds range (keys_at inside.old.arena.cells inside.old.pending_in.handles) 0 (Some first) }
-    requires count { count ≡ length (inside_of inside.old.arena.cells range inside.old.pending_in.handles) }
-    requires room { count ≤ inside.old.column.room }
+    requires room { length (inside_of inside.old.arena.cells range inside.old.pending_in.handles) ≤ inside.old.column.room }
     ensures carried { SameButRoom (carried_in_bulk None range (lists_of inside.old)) (lists_of inside.new) }
     ensures left { inside.new.pending_in.handles ≡ outside_of inside.old.arena.cells range inside.old.pending_in.handles }
     ensures live { live_rows (lists_of inside.new) ≡ live_rows (lists_of inside.old) }
@@ -133,10 +177,12 @@ fn carry_rows(inside: &mut Inside, range: KeyRange, first: usize, count: usize)
         &inside.arena,
     );
     inside.pending_in.shrink_if_empty(inside.in_room);
+    let to = inside.column.len();
+    let count = to - from;
     let mut sieve = Sieve {
         column: inside.column.take(),
         from,
-        to: from + count,
+        to,
         moved: inside.tally.moved,
     };
     inside.index.raise_each(count, &mut sieve);
