@@ -56,7 +56,12 @@ impl Store {
         if is_counted_late(&self.inside) {
             return carry_uncounted(&mut self.inside, range, first);
         }
-        let count = count_in(&mut self.inside.pending_in, range, first, &self.inside.arena);
+        let count = count_in(
+            &mut self.inside.pending_in,
+            range,
+            first,
+            &self.inside.arena,
+        );
         if is_few(&self.inside, count) || !is_clear(&self.inside, count) {
             return false;
         }
@@ -122,7 +127,11 @@ fn count_in(rows: &mut PendingIn, range: KeyRange, first: usize, arena: &Arena<R
 
 /// Whether so many rows are too few for a walk over all bounds. O(1).
 fn is_few(inside: &Inside, count: usize) -> bool {
-    let fewest = if MANY_BOUNDS < inside.index.len() { FEWEST_OVER_MANY } else { FEWEST };
+    let fewest = if MANY_BOUNDS < inside.index.len() {
+        FEWEST_OVER_MANY
+    } else {
+        FEWEST
+    };
     count < fewest
 }
 
