@@ -1,5 +1,9 @@
 //! A batch: the lines of one input, each worker's on a thread of its own.
-ghost use Rattle.std.specs.Prelude.{◌<◌, vec_len};
+ghost use Rattle.std.specs.Prelude.{◌<◌, ℕ, [], Option, Some, IfNone, vec_len};
+ghost use Rattle.crack_session.specs.Calls.{AreAnswersOf};
+ghost use Rattle.crack_session.specs.Readings.{statements};
+ghost use Rattle.crack_session.specs.Written.{AreWritten};
+ghost use Rattle.crack_worker_desk.specs.Leads.{worker_leads};
 
 use crate::input::{divide, read_input};
 use crate::totals::totals_of;
@@ -108,7 +112,11 @@ fn serve_share<Rt: Wait, G: Gate>(
     share: Vec<u8>,
     policy: Policy,
     gate: &G,
-) -> Served {
+) -> Served
+    // Where the session wasn't cut off, its part of the output is the texts of answers to all statements of its share, made of just the calls that
+    // these fix, by the policy in force; they led the worker to what it is now.
+    ensures { IfNone result.fault ((short : Option ℕ) × AreWritten (AreAnswersOf (worker_leads table.now (G.may_refuse gate.now)) table.now.splits policy worker result.worker) (statements share.items) [] short (Some result.output.items)) }
+{
     let mut desk = WorkerDesk::new(rt, table, gate, worker);
     let mut reader = Watched::new(share.as_slice());
     let mut writer = Watched::new(Vec::new(alloc));
