@@ -1,3 +1,4 @@
+pub mod Ahead
 pub mod Codes
 pub mod Inside
 pub mod Pending

@@ -20,8 +20,8 @@ const BLOCK: usize = 32;
 /// The codes of a pass's ends, and of a key that isn't known.
 #[derive(Clone, Copy)]
 pub(crate) struct Window {
-    first: u16,
-    last: u16,
+    pub(crate) first: u16,
+    pub(crate) last: u16,
     beyond: u16,
     some_unknown: bool,
 }
@@ -65,7 +65,7 @@ impl Window {
 }
 
 /// Whether one of a block's codes lies between the two. Found out by one comparison for each code, without a branch.
-fn any_lies(codes: &[u16], low: u16, last: u16) -> bool
+pub(crate) fn any_lies(codes: &[u16], low: u16, last: u16) -> bool
     requires block { length codes.now ≡ 32 }
     requires order { low ≤ last }
     ensures { OnFalse result ((k : ℕ) → k < 32 → ¬ Lies low last (slice_index codes.now k)) }
@@ -94,7 +94,7 @@ fn may_hit(codes: &[u16], window: Window) -> bool
 /// Whether a row stands at the spot and has its key in the range. Reads its key only where the code is that of one of the range's ends, or of
 /// keys that aren't known.
 #[inline(always)]
-fn is_hit(
+pub(crate) fn is_hit(
     handles: &[Handle<Row>],
     keys: &[StoredKey],
     stands: &[bool],

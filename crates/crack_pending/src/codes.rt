@@ -1,13 +1,17 @@
 //! A code of 16 bits for each key: a pass reads codes, a quarter of what it would read of keys.
-ghost use Rattle.std.specs.Prelude.{◌≡◌, ◌+◌, ◌<◌, ◌≤◌, [], length, vec_capacity, slice_set};
+ghost use Rattle.std.specs.Prelude.{◌≡◌, ◌+◌, ◌<◌, ◌≤◌, [], length, take, vec_capacity, slice_set};
+ghost use Rattle.crack_pending.specs.Ahead.{IsNext};
 ghost use Rattle.crack_pending.specs.Codes.{AreCoded, code_of};
 
+use crate::ahead::{Ahead, Candidate};
 use crate::spots::{StoredKey, UNKNOWN};
+use crack_arena::{Arena, Handle};
+use crack_row::Row;
 use std::alloc::Global;
 use std::marker::Model;
 
 /// Stands where no row does. It is above all codes.
-const HOLE: u16 = 65535;
+pub(crate) const HOLE: u16 = 65535;
 
 /// The code of all keys that are too high for one of their own.
 const GREATEST_CODE: u64 = 65534;
@@ -32,23 +36,25 @@ impl Scale {
     }
 }
 
-/// The codes of the rows at the first spots. Whatever the scale is, they rise with the keys. It is chosen by the keys that are there when the
+/// The codes of the rows at the first spots, and what a pass found ahead. Whatever the scale is, they rise with the keys. It is chosen by the keys that are there when the
 /// first of them is coded.
 #[derive(Drop)]
 pub(crate) struct Codes {
     codes: Vec<u16>,
     scale: Scale,
+    ahead: Ahead,
 }
 
 impl Model for Codes {
     ghost use Rattle.std.specs.Prelude.{◌<◌};
+    ghost use Rattle.crack_pending.specs.Ahead.{IsAhead};
     ghost use Rattle.crack_pending.specs.Codes.{Coding};
 
     ghost Value = { Coding };
 
     ghost view = { λ c. record { codes = c.codes.items; base = c.scale.base; shift = c.scale.shift } };
 
-    ghost invariant = { λ c. c.scale.shift < 64 };
+    ghost invariant = { λ c. (c.scale.shift < 64) × IsAhead c.codes.items c.ahead };
 }
 
 impl Codes {
@@ -59,6 +65,7 @@ impl Codes {
         Codes {
             codes: Vec::new(alloc),
             scale: Scale { base: 0, shift: 0 },
+            ahead: Ahead::new(alloc),
         }
     }
 
@@ -88,6 +95,7 @@ impl Codes {
         ensures { self.new.codes ≡ [] }
     {
         self.codes.clear();
+        self.ahead.forget();
     }
 
     /// Lets all codes and their memory go.
@@ -96,6 +104,7 @@ impl Codes {
     {
         self.codes.clear();
         self.codes.shrink_to(0);
+        self.ahead.give_back();
     }
 
     /// Says that the row at the spot went.
@@ -104,6 +113,7 @@ impl Codes {
     {
         if spot < self.codes.len() {
             self.codes[spot] = HOLE;
+            self.ahead.leave_hole(spot);
         }
     }
 
@@ -113,7 +123,27 @@ impl Codes {
     {
         if spot < self.codes.len() {
             self.codes[spot] = self.code(key);
+            self.ahead.forget();
         }
+    }
+
+    /// The first spot, from one on, whose code lies between two; where there is none up to a spot, that one. It passes over the codes once for
+    /// all that are sought one after the other, and looks ahead; where it finds no memory for that, it looks no further.
+    pub(crate) fn seek(&mut self, first: u16, last: u16, start: usize) -> Candidate
+        requires order { first ≤ last }
+        requires low { last < 65535 }
+        requires within { start ≤ length self.old.codes }
+        ensures same { self.new ≡ self.old }
+        ensures next { IsNext self.old.codes first last start result }
+    {
+        self.ahead.seek(&self.codes, first, last, start)
+    }
+
+    /// Reads the cells of the rows that were found ahead.
+    pub(crate) fn warm(&mut self, handles: &[Handle<Row>], arena: &Arena<Row>)
+        ensures { self.new ≡ self.old }
+    {
+        self.ahead.warm(handles, arena);
     }
 
     /// Codes the rows at all spots that have no code yet. O(1) for each of them. Where it finds no memory it codes none.
@@ -139,7 +169,8 @@ fn append_codes(codes: &mut Vec<u16>, scale: Scale, keys: &[StoredKey], stands: 
     requires room { length keys.now ≤ vec_capacity codes.old }
     requires small { scale.shift < 64 }
     requires coded { AreCoded keys.now stands.now (record { codes = codes.old.items; base = scale.base; shift = scale.shift }) }
-    ensures { AreCoded keys.now stands.now (record { codes = codes.new.items; base = scale.base; shift = scale.shift }) }
+    ensures coded { AreCoded keys.now stands.now (record { codes = codes.new.items; base = scale.base; shift = scale.shift }) }
+    ensures kept { take (length codes.old.items) codes.new.items ≡ codes.old.items }
 {
     'spots: for spot in codes.len()..keys.len() {
         let code = if stands[spot] {

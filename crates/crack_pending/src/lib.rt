@@ -1,6 +1,7 @@
 //! The pending insertions and the pending deletions of a partition: handles in the order of their arrival.
 #![tactic(auto)]
 
+mod ahead;
 mod bits;
 mod closing;
 mod code_pass;

@@ -91,6 +91,8 @@ pub(crate) fn spot_of(
 {
     if rows == stands.len() {
         place
+    } else if before == place && from < stands.len() && stands[from] {
+        from
     } else if before <= place {
         spot_from(stands, before, from, place)
     } else {
@@ -98,7 +100,7 @@ pub(crate) fn spot_of(
     }
 }
 
-/// A spot before which as many rows stand as before the place: the spot that is given, or the next where it is a hole, if so many stand
+/// A spot before which as many rows stand as before the place: the one after the spot that is given, or that spot, if so many stand
 /// before it; else that of the row itself.
 pub(crate) fn spot_before(
     stands: &[bool],
@@ -114,11 +116,11 @@ pub(crate) fn spot_before(
     ensures place { place_at stands.now result ≡ place }
     ensures within { result ≤ length stands.now }
 {
+    if from < stands.len() && before + stands[from] as usize == place {
+        return from + 1;
+    }
     if before != place {
         return spot_of(stands, rows, before, from, place);
-    }
-    if from < stands.len() && !stands[from] {
-        return from + 1;
     }
     from
 }

@@ -10,7 +10,7 @@ use crate::bits::BitSet;
 use crate::closing::close_up;
 use crate::codes::Codes;
 use crate::noting::{spot_noted, spot_sought};
-use crate::pass::first_hit;
+use crate::pass::{first_hit, next_hit};
 use crate::rows::{rows_between, spot_before, spot_of};
 use crack_arena::{Arena, Handle};
 use crack_row::{GREATEST_KEY, KeyNumber, KeyRange, Refusal, Row};
@@ -464,21 +464,20 @@ impl SpotList {
             from,
         );
         let some_unknown = self.unknowns > 0;
-        match first_hit(
+        match next_hit(
             &self.handles,
             &self.keys,
             &self.stands,
-            &self.codes,
+            &mut self.codes,
             start,
             range,
             arena,
             some_unknown,
         ) {
-            Some(spot) => {
-                let place = from + rows_between(&self.stands, start, spot);
-                self.hint_place = place;
+            Some((spot, rows)) => {
+                self.hint_place = from + rows;
                 self.hint_spot = spot;
-                Some(place)
+                Some(from + rows)
             }
             None => None,
         }

@@ -1,4 +1,4 @@
-use Rattle.std.proofs.Common.{◌≡◌, ◌≤◌, length, vec_capacity}
+use Rattle.std.proofs.Common.{◌≡◌, ◌≤◌, length, take, vec_capacity}
 use Rattle.crack_pending.specs.Codes.{AreCoded}
 use Rattle.crack_pending.proofs.codes.append_codes.Given as goal
 
@@ -7,4 +7,6 @@ invariant-spots l = record {
   long : length l.codes.items ≡ l.spot;
   capacity : vec_capacity l.codes ≡ vec_capacity l.initial.codes;
   coded : AreCoded l.keys l.stands (record { codes = l.codes.items; base = l.scale.base; shift = l.scale.shift });
+  longer : length l.initial.codes.items ≤ length l.codes.items;
+  kept : take (length l.initial.codes.items) l.codes.items ≡ l.initial.codes.items;
 }

@@ -13,40 +13,45 @@ returns-then-self-from-clause-finds c =
     rw (← c.self.view_is) (λ k after before inside.
     absurd (omega (arith, after, before, length-keys_at c.args.arena.now.cells rows, length-kept c.self.inside.stands.items c.self.inside.handles.items a.stands_beside, a.counted, c.if-self-from.true)))
 
-pub first_hit-requires-clause-known : goal.first_hit-requires-clause-known
-first_hit-requires-clause-known c =
+pub next_hit-requires-clause-known : goal.next_hit-requires-clause-known
+next_hit-requires-clause-known c =
     let a = c.self.invariant.0 in
     let right = rw (← c.self.view_is) at c.requires in
     rw (c.deref-2.ensures.value, c.deref-3.ensures.value, c.deref-4.ensures.value) (KnowKeys-kept c.args.arena.now.cells c.self.inside.handles.items c.self.inside.keys.items c.self.inside.stands.items a.stands_beside a.keys_beside right)
 
-pub first_hit-requires-clause-all_known : goal.first_hit-requires-clause-all_known
-first_hit-requires-clause-all_known c = λ none.
+pub next_hit-requires-clause-all_known : goal.next_hit-requires-clause-all_known
+next_hit-requires-clause-all_known c = λ none.
     let a = c.self.invariant.0 in
     let i = c.self.inside in
     let zero : i.unknowns ≡ 0 = omega (arith, ltb-false 0 i.unknowns none) in
     rw (c.deref-3.ensures.value, c.deref-4.ensures.value) (counted_none i.keys.items i.stands.items (omega (arith, a.stands_beside, a.keys_beside)) (omega (arith, c.self.invariant.1, zero)))
 
-pub overflow_add-place : goal.overflow_add-place
-overflow_add-place c =
+pub overflow_add-self : goal.overflow_add-self
+overflow_add-self c =
     let a = c.self.invariant.0 in
     let place = rw (c.deref.ensures.value) at c.spot_before-start.ensures.place in
-    let hit = rw (c.deref-2.ensures.value, c.deref-4.ensures.value) at c.in-Some.ensures in
-    let more = rw (c.deref-in-Some.ensures.value) at c.rows_between.ensures in
-    omega (arith, place, more, place_at-few c.self.inside.stands.items c.in-Some.spot, hit.within, a.few)
+    let found = rw (c.deref-2.ensures.value, c.deref-4.ensures.value) at c.in-Some.ensures.hit in
+    omega (arith, place, found.rows, place_at-few c.self.inside.stands.items c.in-Some.spot, found.hit.within, a.few)
+
+pub overflow_add-result : goal.overflow_add-result
+overflow_add-result c =
+    let a = c.self.invariant.0 in
+    let place = rw (c.deref.ensures.value) at c.spot_before-start.ensures.place in
+    let found = rw (c.deref-2.ensures.value, c.deref-4.ensures.value) at c.in-Some.ensures.hit in
+    omega (arith, place, found.rows, place_at-few c.self.inside.stands.items c.in-Some.spot, found.hit.within, a.few)
 
 pub returns-in-Some-clause-finds : goal.returns-in-Some-clause-finds
 returns-in-Some-clause-finds c =
     let a = c.self.invariant.0 in
     let place = rw (c.deref.ensures.value) at c.spot_before-start.ensures.place in
-    let hit = rw (c.deref-2.ensures.value, c.deref-4.ensures.value) at c.in-Some.ensures in
-    let more = rw (c.deref-in-Some.ensures.value) at c.rows_between.ensures in
-    let first = finds-some c.args.range c.args.arena.now.cells c.self.inside.handles.items c.self.inside.stands.items a.stands_beside c.spot_before-start.result c.in-Some.spot hit in
-    rw (← c.self.view_is) (rw (more, place) at first)
+    let found = rw (c.deref-2.ensures.value, c.deref-4.ensures.value) at c.in-Some.ensures.hit in
+    let first = finds-some c.args.range c.args.arena.now.cells c.self.inside.handles.items c.self.inside.stands.items a.stands_beside c.spot_before-start.result c.in-Some.spot found.hit in
+    rw (← c.self.view_is) (rw (found.rows, place) at first)
 
 pub returns-in-None-clause-finds : goal.returns-in-None-clause-finds
 returns-in-None-clause-finds c =
     let a = c.self.invariant.0 in
     let place = rw (c.deref.ensures.value) at c.spot_before-start.ensures.place in
-    let missed = rw (c.deref-2.ensures.value, c.deref-4.ensures.value) at c.in-None.ensures in
+    let missed = rw (c.deref-2.ensures.value, c.deref-4.ensures.value) at c.in-None.ensures.hit in
     let none = finds-none c.args.range c.args.arena.now.cells c.self.inside.handles.items c.self.inside.stands.items a.stands_beside c.spot_before-start.result missed in
     rw (← c.self.view_is) (rw place at none)

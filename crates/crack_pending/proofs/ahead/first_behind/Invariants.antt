@@ -1,0 +1,12 @@
+use Rattle.std.proofs.Common.{ℕ, ◌-◌, ◌<◌, ◌≤◌, length}
+use Rattle.crack_pending.specs.Ahead.{candidate_at}
+use Rattle.crack_pending.proofs.ahead.first_behind.Given as goal
+
+abbrev pub invariant-passed : goal.invariant-passed
+invariant-passed l = record {
+  after : l.next ≤ l.place;
+  passed : (k : ℕ) → l.next ≤ k → k < l.place → (candidate_at l.candidates k).spot < l.start;
+}
+
+abbrev pub decreases-passed : goal.decreases-passed
+decreases-passed l = length l.candidates - l.place

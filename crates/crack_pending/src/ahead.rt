@@ -1,0 +1,334 @@
+//! Rows that a pass over codes found ahead of the one that was asked for, so that the next is at hand.
+ghost use Rattle.std.specs.Prelude.{◌≡◌, ◌+◌, ◌-◌, ◌<◌, ◌≤◌, ℕ, length, List, [], nat_lt, slice_index, slice_set, vec_len, vec_capacity};
+ghost use Rattle.crack_pending.specs.Keeps.{place_at};
+ghost use Rattle.crack_pending.specs.Inside.{Lies};
+ghost use Rattle.crack_pending.specs.Ahead.{AreAhead, IsAhead, IsGathered, IsNext, candidate_at, marks_of};
+
+use crate::code_pass::any_lies;
+use crate::codes::HOLE;
+use crack_arena::{Arena, Handle};
+use crack_row::Row;
+use std::alloc::Global;
+
+/// Read at once, without a branch for each.
+const BLOCK: usize = 32;
+
+/// For how many candidates there is place.
+const MOST_AHEAD: usize = 1024;
+
+/// A spot whose code lies between the two that are sought.
+#[derive(Clone, Copy)]
+pub(crate) struct Candidate {
+    pub(crate) spot: usize,
+    /// From here up to the spot stand as many rows as are counted.
+    pub(crate) since: usize,
+    pub(crate) rows: usize,
+}
+
+/// The candidates from one spot up to another; those of the list before `next` were passed.
+#[derive(Drop)]
+pub(crate) struct Ahead {
+    first: u16,
+    last: u16,
+    from: usize,
+    to: usize,
+    candidates: Vec<Candidate>,
+    next: usize,
+    /// Whether the cells of the candidates were read, and how many of them have a row. Nobody asks for the number: it is that they are read at once,
+    /// so that whoever takes the rows doesn't wait for the memory of one cell after the other.
+    is_warm: bool,
+    live: usize,
+}
+
+impl Ahead {
+    /// No candidates. It takes no memory.
+    pub(crate) fn new(alloc: Global) -> Ahead
+        ensures { (codes : List ℕ) → IsAhead codes result }
+    {
+        Ahead {
+            first: 0,
+            last: 0,
+            from: 0,
+            to: 0,
+            candidates: Vec::new(alloc),
+            next: 0,
+            is_warm: true,
+            live: 0,
+        }
+    }
+
+    /// Lets all candidates go, and keeps their memory.
+    pub(crate) fn forget(&mut self)
+        ensures { (codes : List ℕ) → IsAhead codes self.new }
+    {
+        self.first = 0;
+        self.last = 0;
+        self.from = 0;
+        self.to = 0;
+        self.candidates.clear();
+        self.next = 0;
+    }
+
+    /// Lets all candidates and their memory go.
+    pub(crate) fn give_back(&mut self)
+        ensures { (codes : List ℕ) → IsAhead codes self.new }
+    {
+        self.first = 0;
+        self.last = 0;
+        self.from = 0;
+        self.to = 0;
+        self.candidates.clear();
+        self.next = 0;
+        self.candidates.shrink_to(0);
+    }
+
+    /// Says that the row at the spot goes: the next candidate is passed if it is that one; a hole before it makes all to be found anew.
+    pub(crate) fn leave_hole(&mut self, spot: usize)
+        ensures { (codes : List ℕ) → IsAhead codes self.old → IsAhead (slice_set codes spot 65535) self.new }
+    {
+        if self.candidates.len() <= self.next {
+            return;
+        }
+        let near = self.candidates[self.next];
+        if spot < near.since {
+            return;
+        }
+        if spot == near.spot {
+            self.next += 1;
+            return;
+        }
+        self.forget();
+    }
+
+    /// The first candidate from a spot on; where there is none up to a spot, that one. Where it finds no memory it looks no further.
+    pub(crate) fn seek(&mut self, codes: &[u16], first: u16, last: u16, start: usize) -> Candidate
+        requires order { first ≤ last }
+        requires low { last < 65535 }
+        requires within { start ≤ length codes.now }
+        requires ahead { IsAhead codes.now self.old }
+        ensures ahead { IsAhead codes.now self.new }
+        ensures next { IsNext codes.now first last start result }
+    {
+        self.turn_to(first, last, start);
+        self.pass(start);
+        self.look_on(codes);
+        self.near()
+    }
+
+    /// Begins at a spot where something else is sought, or elsewhere.
+    fn turn_to(&mut self, first: u16, last: u16, start: usize)
+        requires order { first ≤ last }
+        requires low { last < 65535 }
+        ensures ahead { (codes : List ℕ) → start ≤ length codes → IsAhead codes self.old → IsAhead codes self.new }
+        ensures first { self.new.first ≡ first }
+        ensures last { self.new.last ≡ last }
+        ensures from { self.new.from ≤ start }
+        ensures to { start ≤ self.new.to }
+    {
+        if self.first == first && self.last == last && self.from <= start && start <= self.to {
+            return;
+        }
+        self.first = first;
+        self.last = last;
+        self.from = start;
+        self.to = start;
+        self.candidates.clear();
+        self.next = 0;
+    }
+
+    /// Passes the candidates before a spot.
+    fn pass(&mut self, start: usize)
+        requires from { self.old.from ≤ start }
+        requires to { start ≤ self.old.to }
+        ensures ahead { (codes : List ℕ) → IsAhead codes self.old → IsAhead codes self.new }
+        ensures first { self.new.first ≡ self.old.first }
+        ensures last { self.new.last ≡ self.old.last }
+        ensures from { self.new.from ≡ start }
+    {
+        self.from = start;
+        self.next = first_behind(&self.candidates, self.next, start);
+    }
+
+    /// Goes on to the next candidates if all were passed. Where it finds no memory it finds none.
+    fn look_on(&mut self, codes: &[u16])
+        requires ahead { IsAhead codes.now self.old }
+        ensures ahead { IsAhead codes.now self.new }
+        ensures first { self.new.first ≡ self.old.first }
+        ensures last { self.new.last ≡ self.old.last }
+        ensures from { self.old.from ≤ self.new.from }
+        ensures passed { (spot : ℕ) → self.old.from ≤ spot → spot < self.new.from → ¬ Lies self.old.first self.old.last (slice_index codes.now spot) }
+    {
+        if self.next < self.candidates.len() {
+            return;
+        }
+        self.candidates.clear();
+        self.next = 0;
+        self.from = self.to;
+        self.is_warm = false;
+        if self.candidates.reserve(MOST_AHEAD).is_err() {
+            return;
+        }
+        self.to = gather(
+            &mut self.candidates,
+            codes,
+            self.first,
+            self.last,
+            self.from,
+        );
+    }
+
+    /// Reads the cells of all candidates, once.
+    #[inline]
+    pub(crate) fn warm(&mut self, handles: &[Handle<Row>], arena: &Arena<Row>)
+        ensures { (codes : List ℕ) → IsAhead codes self.old → IsAhead codes self.new }
+    {
+        if self.is_warm {
+            return;
+        }
+        self.live = live_cells(&self.candidates, handles, arena);
+        self.is_warm = true;
+    }
+
+    /// The next candidate; where there is none, the spot up to which there is none.
+    fn near(&self) -> Candidate
+        ensures { (codes : List ℕ) → IsAhead codes self.now → IsNext codes self.now.first self.now.last self.now.from result }
+    {
+        if self.next < self.candidates.len() {
+            return self.candidates[self.next];
+        }
+        Candidate {
+            spot: self.to,
+            since: self.to,
+            rows: 0,
+        }
+    }
+}
+
+/// The first place of the list, from one on, whose candidate isn't before a spot.
+fn first_behind(candidates: &[Candidate], next: usize, start: usize) -> usize
+    ensures after { next ≤ result }
+    ensures passed { (k : ℕ) → next ≤ k → k < result → (candidate_at candidates.now k).spot < start }
+    ensures reached { result < length candidates.now → start ≤ (candidate_at candidates.now result).spot }
+{
+    let mut place = next;
+    'passed: while place < candidates.len() && candidates[place].spot < start {
+        place += 1;
+    }
+    place
+}
+
+/// How many of the candidates' cells have a row.
+#[inline(never)]
+fn live_cells(candidates: &[Candidate], handles: &[Handle<Row>], arena: &Arena<Row>) -> usize {
+    let mut live = 0;
+    'candidates: for place in 0..candidates.len() {
+        let spot = candidates[place].spot;
+        if spot < handles.len() && arena.get(handles[spot]).is_some() {
+            live += 1;
+        }
+    }
+    live
+}
+
+/// Whether the code is that of a row.
+fn is_row(code: u16) -> bool
+    ensures { result ≡ nat_lt code 65535 }
+{
+    code < HOLE
+}
+
+/// How many rows a block of codes is of.
+fn rows_in_codes(codes: &[u16]) -> u16
+    requires { length codes.now ≡ 32 }
+    ensures { result ≡ place_at (marks_of codes.now) 32 }
+{
+    let mut rows = 0u16;
+    'codes: for i in 0..BLOCK {
+        rows += is_row(codes[i]) as u16;
+    }
+    rows
+}
+
+/// Puts the candidates from one spot up to another behind the others, where so many rows stand since the last. Returns the same of what comes
+/// next: since when, and how many rows.
+fn gather_between(
+    candidates: &mut Vec<Candidate>,
+    codes: &[u16],
+    first: u16,
+    last: u16,
+    from: usize,
+    to: usize,
+    since: usize,
+    rows: usize,
+) -> (usize, usize)
+    requires order { first ≤ last }
+    requires span { from ≤ to }
+    requires within { to ≤ length codes.now }
+    requires few { rows ≤ from }
+    requires room { vec_len candidates.old + (to - from) ≤ vec_capacity candidates.old }
+    ensures gathered { (begin : ℕ) → IsGathered codes.now first last begin from candidates.old.items since rows
+        → IsGathered codes.now first last begin to candidates.new.items result.0 result.1 }
+    ensures length { vec_len candidates.new ≤ vec_len candidates.old + (to - from) }
+    ensures capacity { vec_capacity candidates.new ≡ vec_capacity candidates.old }
+{
+    let width = last - first;
+    let (mut after, mut more) = (since, rows);
+    'spots: for spot in from..to {
+        let code = codes[spot];
+        if code.wrapping_sub(first) <= width {
+            candidates.push_reserved(Candidate {
+                spot,
+                since: after,
+                rows: more,
+            });
+            after = spot + 1;
+            more = 0;
+        } else {
+            more += is_row(code) as usize;
+        }
+    }
+    (after, more)
+}
+
+/// Puts the candidates from a spot on into the list, as many as it has room for, and returns up to where they are found.
+fn gather(
+    candidates: &mut Vec<Candidate>,
+    codes: &[u16],
+    first: u16,
+    last: u16,
+    from: usize,
+) -> usize
+    requires order { first ≤ last }
+    requires low { last < 65535 }
+    requires within { from ≤ length codes.now }
+    requires empty { candidates.old.items ≡ [] }
+    requires room { 1024 ≤ vec_capacity candidates.old }
+    ensures { AreAhead codes.now first last from result candidates.new.items 0 }
+{
+    let (mut since, mut rows) = (from, 0);
+    let mut spot = from;
+    'far: while BLOCK <= codes.len() - spot && candidates.len() <= MOST_AHEAD - BLOCK {
+        let block = &codes[spot..spot + BLOCK];
+        if any_lies(block, first, last) {
+            (since, rows) = gather_between(
+                candidates,
+                codes,
+                first,
+                last,
+                spot,
+                spot + BLOCK,
+                since,
+                rows,
+            );
+        } else {
+            rows += rows_in_codes(block) as usize;
+        }
+        spot += BLOCK;
+    }
+    if BLOCK <= codes.len() - spot || MOST_AHEAD - BLOCK < candidates.len() {
+        return spot;
+    }
+    let end = codes.len();
+    let _ = gather_between(candidates, codes, first, last, spot, end, since, rows);
+    end
+}
