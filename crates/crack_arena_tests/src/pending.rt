@@ -296,6 +296,7 @@ fn strike_all(
             round,
             keys,
         )?;
+        pending.code_keys();
         assert_keys(rt, arena, pending, keys);
         assert_found(rt, arena, pending, keys, 60, 90)?;
     }
@@ -331,6 +332,91 @@ fn rows_are_struck_in_any_order(rt: HostRuntime) -> Result<(), Fail> {
     let mut arena = Arena::new(rt.alloc());
     let mut pending = PendingIn::new(rt.alloc());
     let told = push_and_strike_all(&rt, rt.alloc(), &mut arena, &mut pending);
+    drop(pending);
+    drop(arena);
+    told
+}
+
+/// Pushes all, each with its key.
+fn push_keyed_all(
+    rt: &impl Abort,
+    arena: &Arena<Row>,
+    pending: &mut PendingIn,
+    handles: &[Handle<Row>],
+) -> Result<(), Fail>
+    requires { RemembersKeys arena.now.cells pending.old.handles pending.old.keys }
+    ensures { RemembersKeys arena.now.cells pending.new.handles pending.new.keys }
+{
+    'handles: for place in 0..handles.len() {
+        push(rt, arena, pending, handles[place], true)?;
+    }
+    Ok(())
+}
+
+/// Takes the rows of a range one after the other, and their keys out of the list of keys.
+fn take_range(
+    rt: &impl Abort,
+    arena: &Arena<Row>,
+    pending: &mut PendingIn,
+    keys: &mut Vec<KeyNumber>,
+    low: KeyNumber,
+    high: BoundNumber,
+) -> Result<(), Fail>
+    requires { RemembersKeys arena.now.cells pending.old.handles pending.old.keys }
+    ensures { RemembersKeys arena.now.cells pending.new.handles pending.new.keys }
+{
+    let range = KeyRange::between(Key::from_number(low).bound(), Bound::from_number(high))?;
+    let mut from = 0;
+    'rows: for _ in 0..200usize {
+        let found = pending.seek_in(range, from, arena);
+        assert_eq!(rt; found, first_from(keys, low, high, from));
+        let Some(place) = found else {
+            return Ok(());
+        };
+        take(rt, arena, pending, place, keys);
+        from = place;
+    }
+    Ok(())
+}
+
+/// Takes the rows of some ranges, of which some have keys in common.
+fn take_ranges(
+    rt: &impl Abort,
+    arena: &Arena<Row>,
+    pending: &mut PendingIn,
+    keys: &mut Vec<KeyNumber>,
+) -> Result<(), Fail>
+    requires { RemembersKeys arena.now.cells pending.old.handles pending.old.keys }
+    ensures { RemembersKeys arena.now.cells pending.new.handles pending.new.keys }
+{
+    'rounds: for round in 0..10u64 {
+        let low = round * 67 % 180;
+        take_range(rt, arena, pending, keys, low, low as u128 + 15)?;
+        assert_keys(rt, arena, pending, keys);
+    }
+    Ok(())
+}
+
+fn push_and_take_ranges(
+    rt: &impl Abort,
+    alloc: Global,
+    arena: &mut Arena<Row>,
+    pending: &mut PendingIn,
+) -> Result<(), Fail>
+    requires { (cells : List (Cell Row)) → RemembersKeys cells pending.old.handles pending.old.keys }
+{
+    let mut keys = scattered(alloc)?;
+    let handles = put_all(rt, alloc, arena, &keys)?;
+    push_keyed_all(rt, arena, pending, &handles)?;
+    take_ranges(rt, arena, pending, &mut keys)
+}
+
+/// Of two hundred rows those of one range after the other are taken in the order of their arrival, as a pass finds them ahead.
+#[test]
+fn rows_of_ranges_are_taken_in_order(rt: HostRuntime) -> Result<(), Fail> {
+    let mut arena = Arena::new(rt.alloc());
+    let mut pending = PendingIn::new(rt.alloc());
+    let told = push_and_take_ranges(&rt, rt.alloc(), &mut arena, &mut pending);
     drop(pending);
     drop(arena);
     told
