@@ -11,7 +11,7 @@ import sizes
 import sorted_set
 from inputs import random_counts, random_insert_lines, script
 from of_crackd import bytes_a_row, csv_and_script
-from of_workers import worker_times
+from of_workers import asking_times, gathering_times, worker_times
 from programs import BENCH, CRACKD, PEERS, answers, compare, middle_of, middles, over_tcp
 
 
@@ -152,5 +152,6 @@ def moves(program, kind="{}"):
 def write_report(folder, runs):
     """Measures what the page reports, and writes it with its plots into the folder."""
     contests = [*count_contests(runs), *([lookup_contest(runs)] if report.sqlite3 else [])]
-    measured = (bytes_a_row(CRACKD), moves(BENCH), loading(runs), counts_after_a_load(runs), worker_rates(runs), contests, rivals(runs), set_contests(runs))
+    workers = (worker_rates(runs), (asking_times(runs), gathering_times(runs)))
+    measured = (bytes_a_row(CRACKD), moves(BENCH), loading(runs), counts_after_a_load(runs), *workers, contests, rivals(runs), set_contests(runs))
     report.write(folder, BENCH, PEERS, report.Measured(sizes.PART_ROWS, sizes.RANGES, runs, *measured))

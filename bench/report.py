@@ -80,7 +80,8 @@ class Rivals:
 @dataclasses.dataclass
 class Measured:
     """What stands in the report besides the queries: bytes a row by name, the steps of rows by policy in millions, seconds by the way of loading, those of
-    counts after a load, statements a second by the sharing, contests, what is fast in its own way, and what a Redis sorted set takes, if there is one."""
+    counts after a load, statements a second by the sharing, seconds of asking and of gathering with receipts and witnessed, contests, what is fast in its
+    own way, and what a Redis sorted set takes, if there is one."""
 
     rows: int
     ranges: int
@@ -90,6 +91,7 @@ class Measured:
     loading: dict
     counts: dict
     workers: dict
+    witnessed: tuple
     contests: list
     rivals: Rivals
     sets: list
@@ -299,6 +301,14 @@ def worker_table(workers):
     return "\n".join(lines)
 
 
+def witnessed_table(witnessed):
+    asking, gathering = witnessed
+    lines = ["| | with receipts | witnessed |", "|---|---|---|"]
+    lines += [f"| {what} | {booked * 1e9:,.0f} ns | {it * 1e9:,.0f} ns |" for what, (booked, it) in asking.items()]
+    lines += [f"| gathering after {commands:,} commands | {booked * 1e3:,.2f} ms | {it * 1e3:,.3f} ms |" for commands, (booked, it) in gathering.items()]
+    return "\n".join(lines)
+
+
 def write(folder, bench, peers, measured):
     """Measures the queries, and writes the page and its plots."""
     series = query_series(bench, peers, measured)
@@ -408,4 +418,8 @@ workers answer fewer statements in the same time: those who share a partition wa
 ![statements a second](workers.svg)
 
 {worker_table(measured.workers)}
+
+A server's workers, but for an audit, are those of a table that witnesses its replies: they keep no receipts, and are gathered by counts.
+
+{witnessed_table(measured.witnessed)}
 """

@@ -3,7 +3,7 @@
 run.py [--once] [--small] [--report] [--before FOLDER] [WHAT ..]
 
 WHAT is session, tcp, csv, batch, instructions, splits, memory, served, arena, column, partition, cold, updates, steps, folds, growth, workers, asking,
-gathering or python; all of them without a word. python is the package's table in the process, where numpy and libcrackd.so are there; its times go
+gathering, witnessed or python; all of them without a word. python is the package's table in the process, where numpy and libcrackd.so are there; its times go
 into docs/PYTHON.md, too. Wants a quiet machine, rustc, and the programs, which are built (and first proved, where they aren't) as
 `make run` does it. Each number is the median of five runs; with --once of one. The programs and their peers run in turn, so that all meet the same machine.
 Instructions are counted by valgrind where it is installed, and then once, since they are the same each time. Prints a table, and ends with status

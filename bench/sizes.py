@@ -24,6 +24,7 @@ WORKER_ROWS, WORKER_STEPS = 100_000, 4000
 SHARINGS = [("own", "two partitions of each's own"), ("shared", "all over the same partitions")]
 # a worker has two partitions, and each insert is an entry
 GATHER_WORKERS, GATHER_ROWS = 4, 125_000
+WITNESSED_ROWS = (125, 12_500, GATHER_ROWS)
 # a history has at most a million entries
 MOST_PART_ROWS = 998_000
 # statements that each wait for the reply to the last one, and counts of one key each
@@ -56,6 +57,7 @@ def shrink():
         "WORKER_ROWS": 500,
         "WORKER_STEPS": 50,
         "GATHER_ROWS": 500,
+        "WITNESSED_ROWS": (5, 50, 500),
         "MOST_PART_ROWS": 8000,
         "TURNS": 200,
         "LOOKUPS": 100,

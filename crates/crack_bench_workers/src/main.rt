@@ -2,109 +2,37 @@
 //! `crack_bench_workers own|shared WORKERS ROWS STEPS`, `crack_bench_workers ask|bare ROWS STEPS`,
 //! `crack_bench_workers gathered|folded|loaded WORKERS ROWS`, or `crack_bench_workers all WORKERS ROWS STEPS`.
 //! ROWS are those of each partition, of which there are two for each worker; a step has four statements.
+//! The workers keep receipts; with `witnessed` before the other words, but for `bare` and `all`, they are those of a
+//! table that witnesses its replies.
 //!
 //! What a run computes goes to standard output: it depends on the words alone. Times go to standard error, in
 //! nanoseconds, a line `NAME NUMBER` each.
 #![tactic(auto)]
 
+mod booked;
+mod measuring;
 mod mix;
 mod pool;
+mod witnessed;
 
 use crack_row::Refusal;
+use measuring::{End, Host, Run, Work};
 use mix::{Mix, Parts, count_all};
-use pool::{Bare, PARTS_EACH, Plan, Pool, Sharing};
-use std::alloc::Global;
+use pool::{Bare, PARTS_EACH, Plan, Sharing};
 use std::env;
-use std::rt::Clock;
-use std::sync::Wait;
-use std::thread::Threads;
-use std::time::Instant;
 
-/// What a run is handed: to start threads and wait for them, and to print what it computed and how long that took.
-trait Host: Alloc<A = Global> + Print + Eprint + Clock + Threads + Wait + Sync {}
-
-impl<R: Alloc<A = Global> + Print + Eprint + Clock + Threads + Wait + Sync> Host for R {}
-
-/// Writes how long a part took.
-fn report<R: Host>(rt: &R, name: &str, since: Instant) -> anyhow::Result<()> {
-    let nanoseconds = since.elapsed(rt)?.as_nanos();
-    eprintln!(rt; "{name} {nanoseconds}")?;
-    Ok(())
-}
-
-/// What is done with the workers of a table, once their rows are there.
+/// What the workers' table is.
 #[derive(Clone, Copy)]
-enum Work {
-    /// Everything is counted, and then each worker makes steps on a thread of its own.
-    Threads { steps: u32 },
-    /// The same, one worker after the other.
-    InTurn { steps: u32 },
-    /// A checkpoint of each partition.
-    Fold,
-    Nothing,
+enum Kind {
+    Booked,
+    Witnessed,
 }
 
-/// What is done at the end.
-#[derive(Clone, Copy, PartialEq, Eq)]
-enum End {
-    Gather,
-    Leave,
-}
-
-fn run_pool<R: Host>(rt: &R, plan: Plan, rows: u32, work: Work, end: End) -> anyhow::Result<()> {
-    let mut pool = Pool::open(rt.alloc(), plan)?;
-    let measured = measure_pool(rt, &mut pool, plan, rows, work);
-    if end == End::Leave || measured.is_err() {
-        drop(pool);
-        return measured;
+fn run_pool<R: Host>(rt: &R, kind: Kind, run: Run) -> anyhow::Result<()> {
+    match kind {
+        Kind::Booked => booked::run(rt, run),
+        Kind::Witnessed => witnessed::run(rt, run),
     }
-    gather(rt, pool)
-}
-
-fn measure_pool<R: Host>(
-    rt: &R,
-    pool: &mut Pool,
-    plan: Plan,
-    rows: u32,
-    work: Work,
-) -> anyhow::Result<()> {
-    pool.load(rt, rows)?;
-    match work {
-        Work::Threads { steps } => measure_threads(rt, pool, plan, steps),
-        Work::InTurn { steps } => measure_in_turn(rt, pool, steps),
-        Work::Fold => Ok(pool.fold(rt)?),
-        Work::Nothing => Ok(()),
-    }
-}
-
-/// What the sums of workers that share partitions come to depends on who comes first, so it isn't written.
-fn measure_threads<R: Host>(rt: &R, pool: &mut Pool, plan: Plan, steps: u32) -> anyhow::Result<()> {
-    let everything = pool.count_all(rt)?;
-    println!(rt; "rows {everything}")?;
-    let start = Instant::now(rt)?;
-    pool.work(rt, rt.alloc(), steps)?;
-    report(rt, "work", start)?;
-    let told = pool.told()?;
-    if plan.sharing == Sharing::Own {
-        println!(rt; "sums {told}")?;
-    }
-    Ok(())
-}
-
-fn measure_in_turn<R: Host>(rt: &R, pool: &mut Pool, steps: u32) -> anyhow::Result<()> {
-    let everything = pool.count_all(rt)?;
-    pool.work_in_turn(rt, steps);
-    let told = pool.told()?;
-    println!(rt; "rows {everything} sums {told}")?;
-    Ok(())
-}
-
-fn gather<R: Host>(rt: &R, pool: Pool) -> anyhow::Result<()> {
-    let start = Instant::now(rt)?;
-    let [accepted, inserted, deleted, held] = pool.gather(rt.alloc())?;
-    report(rt, "gather", start)?;
-    println!(rt; "accepted {accepted} inserted {inserted} deleted {deleted} held {held}")?;
-    Ok(())
 }
 
 /// The steps of one worker, asked of bare partitions.
@@ -131,43 +59,102 @@ fn ask_bare(mix: &mut Mix, bare: &mut Bare, rows: u32, steps: u32) -> Result<(u6
 }
 
 /// One worker over its own partitions.
-const ALONE: Plan = Plan {
-    workers: 1,
-    sharing: Sharing::Own,
-};
+fn alone(rows: u32, steps: u32) -> Run {
+    Run {
+        plan: Plan {
+            workers: 1,
+            sharing: Sharing::Own,
+        },
+        rows,
+        work: Work::InTurn { steps },
+        end: End::Leave,
+    }
+}
 
-fn run_all<R: Host>(rt: &R, workers: u32, rows: u32, steps: u32) -> anyhow::Result<()> {
-    let own = Plan {
-        workers,
-        sharing: Sharing::Own,
+/// All that is measured of one kind of table.
+fn run_each<R: Host>(
+    rt: &R,
+    kind: Kind,
+    workers: u32,
+    rows: u32,
+    steps: u32,
+) -> anyhow::Result<()> {
+    let own = Run {
+        plan: Plan {
+            workers,
+            sharing: Sharing::Own,
+        },
+        rows,
+        work: Work::Threads { steps },
+        end: End::Gather,
     };
-    let shared = Plan {
+    let plan = Plan {
         workers,
         sharing: Sharing::Shared,
     };
-    run_pool(rt, own, rows, Work::Threads { steps }, End::Gather)?;
-    run_pool(rt, shared, rows, Work::Threads { steps }, End::Gather)?;
-    run_pool(rt, shared, rows, Work::Nothing, End::Gather)?;
-    run_pool(rt, shared, rows, Work::Fold, End::Gather)?;
-    run_pool(rt, ALONE, rows, Work::InTurn { steps }, End::Leave)?;
+    run_pool(rt, kind, own)?;
+    run_pool(rt, kind, Run { plan, ..own })?;
+    run_pool(
+        rt,
+        kind,
+        Run {
+            plan,
+            work: Work::Nothing,
+            ..own
+        },
+    )?;
+    run_pool(
+        rt,
+        kind,
+        Run {
+            plan,
+            work: Work::Fold,
+            ..own
+        },
+    )?;
+    run_pool(rt, kind, alone(rows, steps))
+}
+
+fn run_all<R: Host>(rt: &R, workers: u32, rows: u32, steps: u32) -> anyhow::Result<()> {
+    run_each(rt, Kind::Booked, workers, rows, steps)?;
+    run_each(rt, Kind::Witnessed, workers, rows, steps)?;
     run_bare(rt, rows, steps)
 }
 
 /// Measures what the words ask for.
 fn run<R: Host>(rt: &R, words: &[&str]) -> anyhow::Result<()> {
     match words {
-        [_, "ask", rows, steps] => {
-            let work = Work::InTurn {
-                steps: steps.parse()?,
-            };
-            run_pool(rt, ALONE, rows.parse()?, work, End::Leave)
-        }
         [_, "bare", rows, steps] => run_bare(rt, rows.parse()?, steps.parse()?),
         [_, "all", workers, rows, steps] => {
             run_all(rt, workers.parse()?, rows.parse()?, steps.parse()?)
         }
-        [_, name, workers, rows, rest @ ..] => {
-            run_workers(rt, name, workers.parse()?, rows.parse()?, rest)
+        [_, "witnessed", rest @ ..] => run_workers(rt, Kind::Witnessed, rest),
+        [_, rest @ ..] => run_workers(rt, Kind::Booked, rest),
+        _ => Err(anyhow::anyhow!("no words")),
+    }
+}
+
+/// The same for the workers of a table of one kind.
+fn run_workers<R: Host>(rt: &R, kind: Kind, words: &[&str]) -> anyhow::Result<()> {
+    match words {
+        ["ask", rows, steps] => run_pool(rt, kind, alone(rows.parse()?, steps.parse()?)),
+        [name, workers, rows, rest @ ..] => {
+            let plan = Plan {
+                workers: workers.parse()?,
+                sharing: sharing_of(name),
+            };
+            let (work, end) = work_of(name, rest)?;
+            let rows = rows.parse()?;
+            run_pool(
+                rt,
+                kind,
+                Run {
+                    plan,
+                    rows,
+                    work,
+                    end,
+                },
+            )
         }
         _ => Err(anyhow::anyhow!(
             "own, shared, ask, bare, gathered, folded, loaded or all, with their numbers"
@@ -175,29 +162,23 @@ fn run<R: Host>(rt: &R, words: &[&str]) -> anyhow::Result<()> {
     }
 }
 
-/// The same for words that have a number of workers.
-fn run_workers<R: Host>(
-    rt: &R,
-    name: &str,
-    workers: u32,
-    rows: u32,
-    rest: &[&str],
-) -> anyhow::Result<()> {
-    let sharing = match name {
+fn sharing_of(name: &str) -> Sharing {
+    match name {
         "own" => Sharing::Own,
         _ => Sharing::Shared,
-    };
-    let plan = Plan { workers, sharing };
+    }
+}
+
+/// What is done with the workers of a run, and at its end.
+fn work_of(name: &str, rest: &[&str]) -> anyhow::Result<(Work, End)> {
     match (name, rest) {
         ("own" | "shared", [steps]) => {
-            let work = Work::Threads {
-                steps: steps.parse()?,
-            };
-            run_pool(rt, plan, rows, work, End::Gather)
+            let steps = steps.parse()?;
+            Ok((Work::Threads { steps }, End::Gather))
         }
-        ("gathered", []) => run_pool(rt, plan, rows, Work::Nothing, End::Gather),
-        ("folded", []) => run_pool(rt, plan, rows, Work::Fold, End::Gather),
-        ("loaded", []) => run_pool(rt, plan, rows, Work::Nothing, End::Leave),
+        ("gathered", []) => Ok((Work::Nothing, End::Gather)),
+        ("folded", []) => Ok((Work::Fold, End::Gather)),
+        ("loaded", []) => Ok((Work::Nothing, End::Leave)),
         _ => Err(anyhow::anyhow!("own or shared with steps, gathered, folded or loaded")),
     }
 }

@@ -1,9 +1,8 @@
-//! A table with its workers, and partitions that are asked without either.
+//! Workers of a table with what they ask, and partitions that are asked without either.
 
 use crate::mix::{Asks, Mix, PART_WIDTH, Parts, count_all, lowest_key};
 use crack_part::Partition;
 use crack_row::{Bound, BoundNumber, Command, GREATEST_LIMIT, KeyRange, Policy, Refusal, Reply};
-use crack_table::{OpenGate, Table, Worker, gather};
 use std::alloc::{AllocError, Global};
 use std::sync::Wait;
 use std::thread::Threads;
@@ -16,7 +15,7 @@ pub const PARTS_EACH: u32 = 2;
 const APART: u32 = 50000000;
 
 /// The policy of each command.
-const POLICY: Policy = Policy::Gradual;
+pub const POLICY: Policy = Policy::Gradual;
 
 /// Which partitions each worker asks.
 #[derive(Clone, Copy, PartialEq, Eq, Debug, Drop)]
@@ -36,7 +35,7 @@ pub struct Plan {
 
 impl Plan {
     /// How many partitions there are.
-    fn parts(&self) -> u32 {
+    pub fn parts(&self) -> u32 {
         self.workers.saturating_mul(PARTS_EACH)
     }
 
@@ -56,125 +55,92 @@ impl Plan {
     }
 }
 
-/// A worker, and what it asks.
+/// A worker at its table.
+pub trait Works: Asks {
+    /// Folds the history of a partition.
+    fn fold(&mut self, part: u32) -> Result<(), Refusal>;
+}
+
+/// A worker at its table, and what it asks.
 #[derive(Drop)]
-struct Hand {
-    worker: Worker,
+pub struct Hand<A> {
+    pub worker: A,
     mix: Mix,
     /// What its steps returned.
     told: Result<u64, Refusal>,
 }
 
-/// A worker at a table.
-#[derive(Drop)]
-struct Asking<'a, R: Wait> {
-    rt: &'a R,
-    table: &'a Table,
-    worker: &'a mut Worker,
-}
-
-impl<'a, R: Wait> Asks for Asking<'a, R> {
-    fn ask(&mut self, part: u32, command: Command) -> Result<Reply, Refusal> {
-        self.worker
-            .ask(self.rt, self.table, &OpenGate, part, command, POLICY)
-    }
-}
-
-impl Hand {
-    fn load<R: Wait>(&mut self, rt: &R, table: &Table, rows: u32) -> Result<(), Refusal> {
-        let worker = &mut self.worker;
-        let mut asking = Asking { rt, table, worker };
-        self.mix.load(&mut asking, rows)
+impl<A: Asks> Hand<A> {
+    fn load(&mut self, rows: u32) -> Result<(), Refusal> {
+        self.mix.load(&mut self.worker, rows)
     }
 
-    fn count_all<R: Wait>(&mut self, rt: &R, table: &Table, parts: u32) -> Result<u64, Refusal> {
-        let worker = &mut self.worker;
-        let mut asking = Asking { rt, table, worker };
-        count_all(&mut asking, parts)
-    }
-
-    fn work<R: Wait>(&mut self, rt: &R, table: &Table, steps: u32) {
-        let worker = &mut self.worker;
-        let mut asking = Asking { rt, table, worker };
-        self.told = self.mix.steps(&mut asking, steps);
+    fn work(&mut self, steps: u32) {
+        self.told = self.mix.steps(&mut self.worker, steps);
     }
 
     /// The same hand, which lay where its own thread alone writes while it worked.
-    fn worked<R: Wait>(mut self, rt: &R, table: &Table, steps: u32) -> Hand {
-        self.work(rt, table, steps);
+    fn worked(mut self, steps: u32) -> Hand<A> {
+        self.work(steps);
         self
     }
 }
 
-/// A table with its workers.
+/// Workers of one table, by their numbers.
 #[derive(Drop)]
-pub struct Pool {
-    table: Table,
-    hands: Vec<Hand>,
-    parts: u32,
+pub struct Pool<A> {
+    pub hands: Vec<Hand<A>>,
+    plan: Plan,
 }
 
-impl Pool {
-    pub fn open(alloc: Global, plan: Plan) -> Result<Pool, Refusal> {
-        let splits = splits(alloc, plan.parts())?;
-        let (table, workers) = Table::open(
-            alloc,
-            splits.as_slice(),
-            GREATEST_LIMIT,
-            plan.workers as u64,
-        )?;
-        let hands = hands_of(alloc, plan, workers)?;
-        Ok(Pool {
-            table,
-            hands,
-            parts: plan.parts(),
-        })
+impl<A: Works + Drop> Pool<A> {
+    /// No workers yet.
+    pub fn new(alloc: Global, plan: Plan) -> Pool<A> {
+        Pool {
+            hands: Vec::new(alloc),
+            plan,
+        }
+    }
+
+    /// Takes in the worker with this number.
+    pub fn add(&mut self, alloc: Global, number: u32, worker: A) -> Result<(), AllocError> {
+        let mix = self.plan.mix(alloc, number);
+        let told = Ok(0);
+        self.hands.push(Hand { worker, mix, told })?;
+        Ok(())
     }
 
     /// Inserts as many rows for each partition, a worker after the other.
-    pub fn load<R: Wait>(&mut self, rt: &R, rows: u32) -> Result<(), Refusal> {
+    pub fn load(&mut self, rows: u32) -> Result<(), Refusal> {
         'hands: for hand in self.hands.iter_mut() {
-            hand.load(rt, &self.table, rows.saturating_mul(PARTS_EACH))?;
+            hand.load(rows.saturating_mul(PARTS_EACH))?;
         }
         Ok(())
     }
 
     /// Counts every row, by the first worker.
-    pub fn count_all<R: Wait>(&mut self, rt: &R) -> Result<u64, Refusal> {
+    pub fn count_all(&mut self) -> Result<u64, Refusal> {
         match self.hands.first_mut() {
-            Some(hand) => hand.count_all(rt, &self.table, self.parts),
+            Some(hand) => count_all(&mut hand.worker, self.plan.parts()),
             None => Ok(0),
         }
     }
 
     /// Folds the history of each partition, by the first worker.
-    pub fn fold<R: Wait>(&self, rt: &R) -> Result<(), Refusal> {
-        let Some(hand) = self.hands.first() else {
+    pub fn fold(&mut self) -> Result<(), Refusal> {
+        let Some(hand) = self.hands.first_mut() else {
             return Ok(());
         };
-        'parts: for part in 0..self.parts {
-            hand.worker.checkpoint(rt, &self.table, part)?;
+        'parts: for part in 0..self.plan.parts() {
+            hand.worker.fold(part)?;
         }
         Ok(())
     }
 
-    /// As many steps of each worker, on threads of their own. No worker is left where it finds no memory.
-    pub fn work<R: Threads + Wait + Sync>(
-        &mut self,
-        rt: &R,
-        alloc: Global,
-        steps: u32,
-    ) -> Result<(), AllocError> {
-        let hands = mem::replace(&mut self.hands, Vec::new(alloc));
-        let table = &self.table;
-        self.hands = thread::map_vec(rt, hands, &|hand| hand.worked(rt, table, steps))?;
-        Ok(())
-    }
-
     /// As many steps of each worker, one worker after the other.
-    pub fn work_in_turn<R: Wait>(&mut self, rt: &R, steps: u32) {
+    pub fn work_in_turn(&mut self, steps: u32) {
         'hands: for hand in self.hands.iter_mut() {
-            hand.work(rt, &self.table, steps);
+            hand.work(steps);
         }
     }
 
@@ -186,56 +152,27 @@ impl Pool {
         }
         Ok(total)
     }
+}
 
-    /// How many commands were accepted, and rows inserted, deleted and held, by all workers together.
-    pub fn gather(self, alloc: Global) -> Result<[u64; 4], Refusal> {
-        let Pool { table, hands, .. } = self;
-        let workers = workers_of(alloc, hands)?;
-        match gather(alloc, table, workers) {
-            Ok(closed) => {
-                let totals = [
-                    closed.accepted,
-                    closed.inserted,
-                    closed.deleted,
-                    closed.held,
-                ];
-                drop(closed);
-                Ok(totals)
-            }
-            Err(refused) => {
-                let refusal = refused.refusal;
-                drop(refused);
-                Err(refusal)
-            }
-        }
+impl<A: Works + Send + Drop> Pool<A> {
+    /// As many steps of each worker, on threads of their own. No worker is left where it finds no memory.
+    pub fn work<R: Threads + Wait + Sync>(
+        &mut self,
+        rt: &R,
+        alloc: Global,
+        steps: u32,
+    ) -> Result<(), AllocError> {
+        let hands = mem::replace(&mut self.hands, Vec::new(alloc));
+        self.hands = thread::map_vec(rt, hands, &|hand| hand.worked(steps))?;
+        Ok(())
     }
 }
 
 /// Where the partitions meet.
-fn splits(alloc: Global, parts: u32) -> Result<Vec<Bound>, AllocError> {
+pub fn splits(alloc: Global, parts: u32) -> Result<Vec<Bound>, AllocError> {
     (1..parts)
         .map(|part| Bound::from_number(BoundNumber::from(lowest_key(part))))
         .collect(alloc)
-}
-
-/// The workers, with what they ask.
-fn hands_of(alloc: Global, plan: Plan, workers: Vec<Worker>) -> Result<Vec<Hand>, AllocError> {
-    let mut hands = Vec::new(alloc);
-    'workers: for worker in workers {
-        let mix = plan.mix(alloc, worker.book().worker());
-        let told = Ok(0);
-        hands.push(Hand { worker, mix, told })?;
-    }
-    Ok(hands)
-}
-
-/// The workers alone.
-fn workers_of(alloc: Global, hands: Vec<Hand>) -> Result<Vec<Worker>, AllocError> {
-    let mut workers = Vec::new(alloc);
-    'hands: for hand in hands {
-        workers.push(hand.worker)?;
-    }
-    Ok(workers)
 }
 
 /// Partitions that are asked directly: no lock, and no receipt.
