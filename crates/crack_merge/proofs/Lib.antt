@@ -2,6 +2,7 @@ mod Ending
 mod Pulling
 mod AtOnce
 mod InBulk
+mod PulledInBulk
 pub mod CarryLaws
 pub mod PullLaws
 pub mod RangeLaws

@@ -14,8 +14,31 @@ use crack_store::{Carrying, Store};
 /// `fillers` fills the place of each, the first from the place `seen` on, and where there is none left the column's last row. No filler
 /// stands before `seen`; pending insertions are passed over once.
 /// O(1) for each pending row that it passes; for each that it takes out O(log bounds) and the pieces on its way, and one search for its
-/// place. Takes no memory.
+/// place. Where no filler is found it takes them out in bulk, if that is worth it and there is memory for a list of them; else takes none.
 pub fn pull_range(mut store: Store, range: KeyRange, fillers: KeyRange, seen: usize) -> Store
+    requires behind { fillers.low < fillers.high → range.high ≤ fillers.low }
+    requires within { seen ≤ length store.pending_in }
+    requires none { NoneIn fillers (keys_at store.cells store.pending_in) 0 seen }
+    requires room { (length store.pending_in ≤ seen) ⊎ (0 < store.column_room) }
+    ensures { PullsAll range fillers store result }
+{
+    store.facts();
+    let Some(_) = store.next_out(range, 0) else {
+        return store;
+    };
+    match store.next_in(fillers, seen) {
+        Some(_) => pull_each(store, range, fillers, seen),
+        None => {
+            if store.pull_in_bulk(range) {
+                return store;
+            }
+            pull_each(store, range, fillers, seen)
+        }
+    }
+}
+
+/// Takes them out one after the other, as `pull_range` does.
+fn pull_each(mut store: Store, range: KeyRange, fillers: KeyRange, seen: usize) -> Store
     requires behind { fillers.low < fillers.high → range.high ≤ fillers.low }
     requires within { seen ≤ length store.pending_in }
     requires none { NoneIn fillers (keys_at store.cells store.pending_in) 0 seen }

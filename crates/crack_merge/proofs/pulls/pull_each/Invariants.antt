@@ -1,6 +1,6 @@
 use Rattle.std.proofs.Common.{length}
 use Rattle.crack_merge.proofs.Pulling.{IsPulling}
-use Rattle.crack_merge.proofs.pulls.pull_range.Given as goal
+use Rattle.crack_merge.proofs.pulls.pull_each.Given as goal
 
 abbrev pub invariant-deletions : goal.invariant-deletions
 invariant-deletions l = IsPulling l.fn.range l.fn.fillers l.fn.store l.from l.seen l.carrying
