@@ -378,6 +378,16 @@ class Numbers(unittest.TestCase):
 
 
 class Documents(unittest.TestCase):
+    def test_lines_of_rattle_have_120_columns_at_most(self):
+        # (an attribute can't be broken)
+        wide = [
+            f"{path.relative_to(crates.TOP)}:{number}"
+            for path in sorted((crates.TOP / "crates").glob("*/src/**/*.rt"))
+            for number, line in enumerate(path.read_text(encoding="utf-8").splitlines(), 1)
+            if len(line) > 120 and not line.lstrip().startswith("#[")
+        ]
+        self.assertEqual(wide, [])
+
     def test_readme_has_120_lines_at_most(self):
         self.assertLessEqual(len((crates.TOP / "README.md").read_text(encoding="utf-8").splitlines()), 120)
 

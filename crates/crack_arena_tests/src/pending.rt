@@ -411,7 +411,8 @@ fn push_and_take_ranges(
     take_ranges(rt, arena, pending, &mut keys)
 }
 
-/// Of two hundred rows those of one range after the other are taken in the order of their arrival, as a pass finds them ahead.
+/// Of two hundred rows those of one range after the other are taken in the order of their arrival, as a pass finds them
+/// ahead.
 #[test]
 fn rows_of_ranges_are_taken_in_order(rt: HostRuntime) -> Result<(), Fail> {
     let mut arena = Arena::new(rt.alloc());

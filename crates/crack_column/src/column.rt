@@ -1,10 +1,13 @@
 //! The cracker column, and how a crack divides a stretch of it.
-ghost use Rattle.std.specs.Prelude.{◌≡◌, ◌+◌, ◌-◌, ◌<◌, ◌≤◌, ◌^◌, ◌↔◌, List, [], ◌∷◌, ◌++◌, Some, length, vec_len, slice_get, slice_index_or, slice_set, vec_capacity, IsTrue, OnOk, OnErr, IfErr, All, MatchOption, take, drop, pos, neg_ℤ, ◌≤ℤ◌, ◌*◌};
+ghost use Rattle.std.specs.Prelude.{◌≡◌, ◌+◌, ◌-◌, ◌<◌, ◌≤◌, ◌^◌, ◌↔◌, List, [], ◌∷◌, ◌++◌, Some, length, vec_len};
+ghost use Rattle.std.specs.Prelude.{slice_get, slice_index_or, slice_set, vec_capacity, IsTrue, OnOk, OnErr, IfErr};
+ghost use Rattle.std.specs.Prelude.{All, MatchOption, take, drop, pos, neg_ℤ, ◌≤ℤ◌, ◌*◌};
 ghost use Rattle.std.specs.List.{between};
 ghost use Rattle.crack_arena.specs.Arena.{Cell, StandsAt, IsFirstAt, IsAbsent, no_handle};
 ghost use Rattle.crack_arena.specs.Rows.{amount_at, key_at};
 ghost use Rattle.crack_row.specs.Rows.{total_by, farthest_amount};
-ghost use Rattle.crack_column.specs.Column.{nothing, Remembers, StillRemembers, StillRemembersWith, Cracks, Agrees, first_aside, with_aside, exchanged_aside, appended_aside, popped_aside};
+ghost use Rattle.crack_column.specs.Column.{nothing, Remembers, StillRemembers, StillRemembersWith, Cracks, Agrees};
+ghost use Rattle.crack_column.specs.Column.{first_aside, with_aside, exchanged_aside, appended_aside, popped_aside};
 ghost use Rattle.crack_column.specs.Keeps.{AreDrawn, unread_in};
 ghost use Rattle.crack_column.specs.Sifts.{AreRead, Sifts};
 ghost use Rattle.crack_column.specs.Tickets.{handles_in, room_in, aside_in};
@@ -19,10 +22,9 @@ use std::alloc::Global;
 use std::marker::Model;
 use std::mem;
 
-/// Handles in cracked order. A crack exchanges tags, one at each place: a tag has its row's key and payload, the handle's slot, and the
-/// ticket under which the handle's generation is kept, which no crack moves. The payloads stand apart, where a sum of known rows reads
-/// them alone.
-/// A ticket has 32 bits, so there are at most `MOST_PLACES` places.
+/// Handles in cracked order. A crack exchanges tags, one at each place: a tag has its row's key and payload, the
+/// handle's slot, and the ticket under which the handle's generation is kept, which no crack moves. The payloads stand
+/// apart, where a sum of known rows reads them alone. A ticket has 32 bits, so there are at most `MOST_PLACES` places.
 /// A row is asked of the arena once, if at all; only one with the greatest key is asked for again.
 #[derive(Drop)]
 pub struct CrackerColumn {
@@ -117,7 +119,8 @@ impl CrackerColumn {
             .find_between(0, self.len, &self.generations, handle)
     }
 
-    /// The first place from `from` up to and without `to` where the handle stands; none where it stands at none of them. O(to - from).
+    /// The first place from `from` up to and without `to` where the handle stands; none where it stands at none of
+    /// them. O(to - from).
     pub fn place_between(&self, from: usize, to: usize, handle: Handle<Row>) -> Option<usize>
         requires order { from ≤ to }
         requires within { to ≤ length self.now.handles }
@@ -210,8 +213,8 @@ impl CrackerColumn {
             .0
     }
 
-    /// Puts the handle at the place, with what is to be remembered of its row, and gives back the one that stood there, with what was
-    /// remembered. O(1).
+    /// Puts the handle at the place, with what is to be remembered of its row, and gives back the one that stood there,
+    /// with what was remembered. O(1).
     pub fn swap_in_remembered(
         &mut self,
         place: usize,
@@ -275,8 +278,8 @@ impl CrackerColumn {
         Some((self.aside(), self.aside_memory()))
     }
 
-    /// Puts the handle aside, after the last place, into room that was reserved, with what is to be remembered of its row. It stands at
-    /// no place of the column; one that stood aside before is let go. O(1).
+    /// Puts the handle aside, after the last place, into room that was reserved, with what is to be remembered of its
+    /// row. It stands at no place of the column; one that stood aside before is let go. O(1).
     pub fn set_aside(&mut self, handle: Handle<Row>, remembered: Remembered)
         requires { 0 < self.old.room }
         ensures { self.new ≡ with_aside (record { handle = handle; memory = remembered }) self.old }
@@ -303,19 +306,21 @@ impl CrackerColumn {
     pub fn append_aside(&mut self)
         requires { 0 < length self.old.aside }
         ensures after { self.new ≡ appended_aside self.old }
-        ensures remembered { StillRemembersWith (first_aside self.old).handle (first_aside self.old).memory self.old self.new }
+        ensures remembered { StillRemembersWith (first_aside self.old).handle (first_aside self.old).memory
+            self.old self.new }
     {
         self.unread += self.tags.get(self.len).unread();
         self.len += 1;
     }
 
-    /// Puts the handle that stands aside at the place, and the one that stood there aside. O(1): two tags change places, with their
-    /// tickets, and no generation is read.
+    /// Puts the handle that stands aside at the place, and the one that stood there aside. O(1): two tags change
+    /// places, with their tickets, and no generation is read.
     pub fn exchange(&mut self, place: usize)
         requires within { place < length self.old.handles }
         requires aside { 0 < length self.old.aside }
         ensures after { self.new ≡ exchanged_aside place self.old }
-        ensures remembered { StillRemembersWith (first_aside self.old).handle (first_aside self.old).memory self.old self.new }
+        ensures remembered { StillRemembersWith (first_aside self.old).handle (first_aside self.old).memory
+            self.old self.new }
     {
         let aside = self.tags.get(self.len);
         let there = self.tags.get(place);
@@ -385,9 +390,10 @@ impl CrackerColumn {
         place
     }
 
-    /// Cracks in three: reorders what stands from the place `from` up to and without `to`, rows below the low bound first, then those
-    /// below the high one, and gives the places of the first row at or above either. In place, without memory, in one pass.
-    /// O(to - from); reads each row there that isn't known through the arena, and remembers it.
+    /// Cracks in three: reorders what stands from the place `from` up to and without `to`, rows below the low bound
+    /// first, then those below the high one, and gives the places of the first row at or above either. In place,
+    /// without memory, in one pass. O(to - from); reads each row there that isn't known through the arena, and
+    /// remembers it.
     pub fn crack_three(
         &mut self,
         from: usize,
@@ -417,10 +423,11 @@ impl CrackerColumn {
         places
     }
 
-    /// Sifts the rows from the place `from` up to and without `to`, one after the other, through the piece before them, which begins at the
-    /// place `start`: one below the bound changes places with the first of the piece, and the others stay after its last. Those below
-    /// the bound stand first then. How many they are, and how many rows of the piece made way. The rows that are sifted are known.
-    /// In place, without memory. O(to - from); reads no other row, and the arena not at all.
+    /// Sifts the rows from the place `from` up to and without `to`, one after the other, through the piece before them,
+    /// which begins at the place `start`: one below the bound changes places with the first of the piece, and the
+    /// others stay after its last. Those below the bound stand first then. How many they are, and how many rows of the
+    /// piece made way. The rows that are sifted are known. In place, without memory. O(to - from); reads no other row,
+    /// and the arena not at all.
     pub fn sift(
         &mut self,
         start: usize,
@@ -431,7 +438,8 @@ impl CrackerColumn {
         requires order { start ≤ from }
         requires behind { from ≤ to }
         requires within { to ≤ length self.old.handles }
-        ensures sifts { (cells : List (Cell Row)) → AreRead cells from to self.old → Sifts cells bound.0 start from to self.old self.new result.0 result.1 }
+        ensures sifts { (cells : List (Cell Row)) → AreRead cells from to self.old → Sifts cells bound.0 start from to
+            self.old self.new result.0 result.1 }
         ensures few { result.0 ≤ to - from }
         ensures length { length self.new.handles ≡ length self.old.handles }
         ensures room { self.new.room ≡ self.old.room }
@@ -452,8 +460,10 @@ fn keep(
 ) -> (Handle<Row>, Remembered)
     requires within { place < length tags.old.items }
     requires drawn { All (λ t. t.ticket < vec_len generations.old) tags.old.items }
-    ensures kept { Kept generations.old.items tags.old.items place handle remembered generations.new.items tags.new.items result.0 result.1 }
-    ensures capacities { (vec_capacity generations.new ≡ vec_capacity generations.old) × (tags.new.capacity ≡ tags.old.capacity) }
+    ensures kept { Kept generations.old.items tags.old.items place handle remembered generations.new.items
+        tags.new.items result.0 result.1 }
+    ensures capacities { (vec_capacity generations.new ≡ vec_capacity generations.old) ×
+        (tags.new.capacity ≡ tags.old.capacity) }
 {
     let here = tags.get(place);
     tags.set(place, Tag::new(here.ticket, handle, remembered));
@@ -472,7 +482,8 @@ fn keep_behind(
     requires are { AreDrawn generations.old.items tags.old.items len }
     requires room { 0 < room_in (length tags.old.items) (vec_capacity generations.old) tags.old.capacity len }
     ensures are { AreDrawn generations.new.items tags.new.items len }
-    ensures handles { handles_in generations.new.items tags.new.items len ≡ handles_in generations.old.items tags.old.items len }
+    ensures handles { handles_in generations.new.items tags.new.items len ≡ handles_in generations.old.items
+        tags.old.items len }
     ensures first { take len tags.new.items ≡ take len tags.old.items }
     ensures aside { aside_in generations.new.items tags.new.items len
         ≡ record { handle = handle; memory = remembered } ∷ drop 1 (aside_in generations.old.items tags.old.items len) }
@@ -494,7 +505,8 @@ fn draw(generations: &mut Vec<u64>, tags: &mut Tags, handle: Handle<Row>, rememb
     requires tag_room { length tags.old.items < tags.old.capacity }
     ensures generations { generations.new.items ≡ generations.old.items ++ handle.generation ∷ [] }
     ensures tags { tags.new.items ≡ tags.old.items ++ tag_for (length generations.old.items) handle remembered ∷ [] }
-    ensures capacities { (vec_capacity generations.new ≡ vec_capacity generations.old) × (tags.new.capacity ≡ tags.old.capacity) }
+    ensures capacities { (vec_capacity generations.new ≡ vec_capacity generations.old) ×
+        (tags.new.capacity ≡ tags.old.capacity) }
 {
     let ticket = generations.len() as u32;
     generations.push_reserved(handle.generation());

@@ -17,11 +17,12 @@ pub struct Doomed {
 }
 
 impl CrackerColumn {
-    /// Pulls doomed rows out of the piece from the place `from` up to and without `to`, one after the other, as far as their pulls reach
-    /// it: one below its bound `low` puts its last row before its first, into the gap of so many places that the rows taken out of the pieces
-    /// below have left; one of its own makes place for its last row. It begins where the gap began then, and where it ends the rows
-    /// taken out follow. Where it ends, and how many of its rows were pulled.
-    /// In place, without memory. O(doomed rows), and O(to - from) for each of its own; reads no row, and the arena not at all.
+    /// Pulls doomed rows out of the piece from the place `from` up to and without `to`, one after the other, as far as
+    /// their pulls reach it: one below its bound `low` puts its last row before its first, into the gap of so many
+    /// places that the rows taken out of the pieces below have left; one of its own makes place for its last row. It
+    /// begins where the gap began then, and where it ends the rows taken out follow. Where it ends, and how many of its
+    /// rows were pulled. In place, without memory. O(doomed rows), and O(to - from) for each of its own; reads no row,
+    /// and the arena not at all.
     pub fn drain(
         &mut self,
         gap: usize,
@@ -34,7 +35,8 @@ impl CrackerColumn {
         requires gap { gap ≤ from }
         requires order { from ≤ to }
         requires within { to ≤ length self.old.handles }
-        ensures drains { count_below low doomed.now ≡ gap → Drains low high doomed.now (from - gap) from to self.old self.new result.0 result.1 }
+        ensures drains { count_below low doomed.now ≡ gap → Drains low high doomed.now (from - gap) from to self.old
+            self.new result.0 result.1 }
         ensures end { (from - gap ≤ result.0) × (result.0 ≤ to) }
         ensures few { result.1 ≤ length doomed.now }
         ensures length { length self.new.handles ≡ length self.old.handles }
@@ -53,8 +55,8 @@ impl CrackerColumn {
         (end, pulled)
     }
 
-    /// One pull of them, for a piece that begins at the place `start` and ends before `end`, with a gap from `first` up to it. Where it begins and
-    /// ends then, and how many of its rows were pulled.
+    /// One pull of them, for a piece that begins at the place `start` and ends before `end`, with a gap from `first` up
+    /// to it. Where it begins and ends then, and how many of its rows were pulled.
     fn drain_once(
         &mut self,
         first: usize,
@@ -67,7 +69,8 @@ impl CrackerColumn {
         requires gap { first ≤ start }
         requires order { start ≤ end }
         requires within { end ≤ length self.old.handles }
-        ensures drains { (doomed.key < low → first < start) → DrainsOnce low high doomed start end self.old.handles self.new.handles result.0 result.1 result.2 }
+        ensures drains { (doomed.key < low → first < start) → DrainsOnce low high doomed start end self.old.handles
+            self.new.handles result.0 result.1 result.2 }
         ensures gap { first ≤ result.0 }
         ensures order { result.0 ≤ result.1 }
         ensures end { result.1 ≤ end }

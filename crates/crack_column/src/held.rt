@@ -8,8 +8,8 @@ use crate::tag::Tag;
 use crate::tags::Tags;
 use std::marker::Model;
 
-/// A column whose row aside is in hand, for a way on which it takes place after place: an exchange reads and writes the place alone.
-/// Contracts see the column.
+/// A column whose row aside is in hand, for a way on which it takes place after place: an exchange reads and writes the
+/// place alone. Contracts see the column.
 #[derive(Drop)]
 pub struct HeldColumn {
     generations: Vec<u64>,
@@ -41,7 +41,8 @@ impl Model for HeldColumn {
 }
 
 impl CrackerColumn {
-    /// Takes the column with its row aside in hand, and leaves one without handles in its place. O(1), and takes no memory.
+    /// Takes the column with its row aside in hand, and leaves one without handles in its place. O(1), and takes no
+    /// memory.
     pub fn hold(&mut self) -> HeldColumn
         requires { 0 < length self.old.aside }
         ensures { result ≡ self.old }
@@ -108,7 +109,8 @@ impl HeldColumn {
         self.hand.remembered()
     }
 
-    /// Puts the handle in hand at the place, and takes the one that stood there into the hand, as `CrackerColumn::exchange` does. O(1).
+    /// Puts the handle in hand at the place, and takes the one that stood there into the hand, as
+    /// `CrackerColumn::exchange` does. O(1).
     #[inline(always)]
     pub fn exchange(&mut self, place: usize)
         requires { place < length self.old.handles }

@@ -1,6 +1,7 @@
-//! The tags of a cracker column, one at each place: what a crack and a sum read, and what a crack exchanges.
-//! A tag is kept as its label and its payload, side by side in two lists, so that a sum of known rows reads payloads alone.
-ghost use Rattle.std.specs.Prelude.{◌≡◌, ◌+◌, ◌<◌, ◌≤◌, ◌^◌, All, [], ◌∷◌, MatchOption, length, map, take, drop, ◌++◌, cond, pos, neg_ℤ, ◌≤ℤ◌, ◌*◌};
+//! The tags of a cracker column, one at each place: what a crack and a sum read, and what a crack exchanges. A tag is
+//! kept as its label and its payload, side by side in two lists, so that a sum of known rows reads payloads alone.
+ghost use Rattle.std.specs.Prelude.{◌≡◌, ◌+◌, ◌<◌, ◌≤◌, ◌^◌, All, [], ◌∷◌, MatchOption, length, map, take, drop, ◌++◌};
+ghost use Rattle.std.specs.Prelude.{cond, pos, neg_ℤ, ◌≤ℤ◌, ◌*◌};
 ghost use Rattle.std.specs.List.Sorted.{IsPermutation};
 ghost use Rattle.crack_arena.specs.Arena.{times, IsAbsent, IsFirstAt};
 ghost use Rattle.crack_arena.specs.Rows.{amount_at, key_at, unknown};
@@ -17,7 +18,8 @@ use crate::remembered::{Remembered, UNKNOWN};
 use crack_arena::{Arena, Handle, amount_of, key_of};
 use crack_row::{InnerBound, Key, KeyNumber, Payload, Row};
 
-/// What stands at a place: what is remembered of a row, its handle's slot, and the ticket under which its generation is kept.
+/// What stands at a place: what is remembered of a row, its handle's slot, and the ticket under which its generation is
+/// kept.
 #[derive(Clone, Copy)]
 pub(crate) struct Tag {
     pub(crate) key: KeyNumber,
@@ -135,10 +137,12 @@ pub(crate) fn crack(
     requires drawn { All (λ t. t.ticket < length generations.now) (tags_of labels.old payloads.old) }
     requires known { All (Knows arena.now.cells generations.now) (tags_of labels.old payloads.old) }
     requires unread { unread_in (tags_of labels.old payloads.old) ≤ unread }
-    ensures kept { IsPermutation (map forgotten (tags_of labels.old payloads.old)) (map forgotten (tags_of labels.new payloads.new)) }
+    ensures kept { IsPermutation (map forgotten (tags_of labels.old payloads.old)) (map forgotten
+        (tags_of labels.new payloads.new)) }
     ensures read { All (Read arena.now.cells generations.now) (tags_of labels.new payloads.new) }
     ensures divided { IsDividedAt bound.0 (map remembered_key (tags_of labels.new payloads.new)) result.0 }
-    ensures fewer { unread_in (tags_of labels.new payloads.new) + result.1 ≡ unread_in (tags_of labels.old payloads.old) }
+    ensures fewer { unread_in (tags_of labels.new payloads.new) + result.1 ≡
+        unread_in (tags_of labels.old payloads.old) }
 {
     if unread == 0 {
         return (divide(labels, payloads, bound.number()), 0);
@@ -147,8 +151,8 @@ pub(crate) fn crack(
     (divide(labels, payloads, bound.number()), learned)
 }
 
-/// Reads the rows of the tags, if any of at most so many is unread, and puts those below the low bound first, then those below the
-/// high one. How many are below either, and how many rows are known now that weren't.
+/// Reads the rows of the tags, if any of at most so many is unread, and puts those below the low bound first, then
+/// those below the high one. How many are below either, and how many rows are known now that weren't.
 pub(crate) fn crack_three(
     labels: &mut [Label],
     payloads: &mut [Payload],
@@ -163,12 +167,14 @@ pub(crate) fn crack_three(
     requires drawn { All (λ t. t.ticket < length generations.now) (tags_of labels.old payloads.old) }
     requires known { All (Knows arena.now.cells generations.now) (tags_of labels.old payloads.old) }
     requires unread { unread_in (tags_of labels.old payloads.old) ≤ unread }
-    ensures kept { IsPermutation (map forgotten (tags_of labels.old payloads.old)) (map forgotten (tags_of labels.new payloads.new)) }
+    ensures kept { IsPermutation (map forgotten (tags_of labels.old payloads.old)) (map forgotten
+        (tags_of labels.new payloads.new)) }
     ensures read { All (Read arena.now.cells generations.now) (tags_of labels.new payloads.new) }
     ensures low { IsDividedAt low.0 (map remembered_key (tags_of labels.new payloads.new)) result.0 }
     ensures high { IsDividedAt high.0 (map remembered_key (tags_of labels.new payloads.new)) result.1 }
     ensures order { result.0 ≤ result.1 }
-    ensures fewer { unread_in (tags_of labels.new payloads.new) + result.2 ≡ unread_in (tags_of labels.old payloads.old) }
+    ensures fewer { unread_in (tags_of labels.new payloads.new) + result.2 ≡
+        unread_in (tags_of labels.old payloads.old) }
 {
     if unread == 0 {
         let (middle, upper) = divide_three(labels, payloads, low.number(), high.number());
@@ -208,10 +214,10 @@ fn learn(
     learned
 }
 
-/// Puts the keys below the bound first, and gives their number.
-/// The first tag is held, and the gap that it leaves goes round: each step fills it from the place where the keys at or above the bound
-/// begin, and puts the next tag there, so that no branch hangs on a key. To exchange the two tags instead costs a fourth more. The key
-/// is read first and then its label: to read the whole label before its key costs three times as much.
+/// Puts the keys below the bound first, and gives their number. The first tag is held, and the gap that it leaves goes
+/// round: each step fills it from the place where the keys at or above the bound begin, and puts the next tag there, so
+/// that no branch hangs on a key. To exchange the two tags instead costs a fourth more. The key is read first and then
+/// its label: to read the whole label before its key costs three times as much.
 fn divide(labels: &mut [Label], payloads: &mut [Payload], bound: KeyNumber) -> usize
     requires beside { length payloads.old ≡ length labels.old }
     ensures kept { IsPermutation (tags_of labels.old payloads.old) (tags_of labels.new payloads.new) }
@@ -232,8 +238,9 @@ fn divide(labels: &mut [Label], payloads: &mut [Payload], bound: KeyNumber) -> u
     low + (first.key < bound) as usize
 }
 
-/// Sifts the tags from the place `from` on through those before it: each below the bound changes places with the first that isn't, as long as
-/// one is left. How many are below the bound, which stand first then, and how many made way. O(tags from there on).
+/// Sifts the tags from the place `from` on through those before it: each below the bound changes places with the first
+/// that isn't, as long as one is left. How many are below the bound, which stand first then, and how many made way.
+/// O(tags from there on).
 pub(crate) fn sift(
     labels: &mut [Label],
     payloads: &mut [Payload],
@@ -242,10 +249,13 @@ pub(crate) fn sift(
 ) -> (usize, usize)
     requires beside { length payloads.old ≡ length labels.old }
     requires within { from ≤ length labels.old }
-    ensures tags { tags_of labels.new payloads.new ≡ below_bound remembered_key bound (drop from (tags_of labels.old payloads.old))
-        ++ queued remembered_key bound (drop from (tags_of labels.old payloads.old)) (take from (tags_of labels.old payloads.old)) }
+    ensures tags { tags_of labels.new payloads.new ≡ below_bound remembered_key bound
+        (drop from (tags_of labels.old payloads.old))
+        ++ queued remembered_key bound (drop from (tags_of labels.old payloads.old))
+        (take from (tags_of labels.old payloads.old)) }
     ensures below { result.0 ≡ length (below_bound remembered_key bound (drop from (tags_of labels.old payloads.old))) }
-    ensures moved { result.1 ≡ made_way remembered_key bound (drop from (tags_of labels.old payloads.old)) (take from (tags_of labels.old payloads.old)) }
+    ensures moved { result.1 ≡ made_way remembered_key bound (drop from (tags_of labels.old payloads.old))
+        (take from (tags_of labels.old payloads.old)) }
 {
     let (mut low, mut moved) = (0, 0);
     'tags: for gap in from..labels.len() {
@@ -273,7 +283,8 @@ fn shift(
     requires beside { length payloads.old ≡ length labels.old }
     requires order { low ≤ gap }
     requires within { gap < length labels.old }
-    ensures { tags_of labels.new payloads.new ≡ shifted (tags_of labels.old payloads.old) gap low (tag_of label payload) }
+    ensures { tags_of labels.new payloads.new ≡ shifted (tags_of labels.old payloads.old) gap low
+        (tag_of label payload) }
 {
     labels[gap] = labels[low];
     labels[low] = label;
@@ -281,9 +292,10 @@ fn shift(
     payloads[low] = payload;
 }
 
-/// Puts the keys below the low bound first, then those below the high one, and gives how many are below either.
-/// The gap goes round as in `divide`: each step fills it from the place where the keys at or above the high bound begin, that place
-/// from the one where those at or above the low bound begin, and puts the next tag where it belongs; no branch hangs on a key.
+/// Puts the keys below the low bound first, then those below the high one, and gives how many are below either. The gap
+/// goes round as in `divide`: each step fills it from the place where the keys at or above the high bound begin, that
+/// place from the one where those at or above the low bound begin, and puts the next tag where it belongs; no branch
+/// hangs on a key.
 fn divide_three(
     labels: &mut [Label],
     payloads: &mut [Payload],
@@ -333,7 +345,8 @@ fn turn(
     requires low { place ≤ upper }
     requires order { upper ≤ gap }
     requires within { gap < length labels.old }
-    ensures { tags_of labels.new payloads.new ≡ turned (tags_of labels.old payloads.old) gap upper place (tag_of label payload) }
+    ensures { tags_of labels.new payloads.new ≡ turned (tags_of labels.old payloads.old) gap upper place
+        (tag_of label payload) }
 {
     labels[gap] = labels[upper];
     labels[upper] = labels[place];
@@ -363,7 +376,8 @@ pub(crate) fn sum(
     requires drawn { All (λ t. t.ticket < length generations.now) (tags_of labels.now payloads.now) }
     requires known { All (Knows arena.now.cells generations.now) (tags_of labels.now payloads.now) }
     requires unread { unread_in (tags_of labels.now payloads.now) ≤ unread }
-    ensures value { result ≡ total_by (λ t. amount_at arena.now.cells (tag_handle generations.now t)) (tags_of labels.now payloads.now) }
+    ensures value { result ≡ total_by (λ t. amount_at arena.now.cells (tag_handle generations.now t))
+        (tags_of labels.now payloads.now) }
     ensures least { neg_ℤ (pos (length labels.now * farthest_amount)) ≤ℤ result }
     ensures most { result ≤ℤ pos (length labels.now * farthest_amount) }
     ensures small { (neg_ℤ (pos (2 ^ 95)) ≤ℤ result) × (result ≤ℤ pos (2 ^ 95)) }
@@ -395,7 +409,8 @@ fn sum_read(labels: &[Label], payloads: &[Payload], generations: &[u64], arena: 
     requires few { length labels.now ≤ MOST_PLACES }
     requires drawn { All (λ t. t.ticket < length generations.now) (tags_of labels.now payloads.now) }
     requires known { All (Knows arena.now.cells generations.now) (tags_of labels.now payloads.now) }
-    ensures value { result ≡ total_by (λ t. amount_at arena.now.cells (tag_handle generations.now t)) (tags_of labels.now payloads.now) }
+    ensures value { result ≡ total_by (λ t. amount_at arena.now.cells (tag_handle generations.now t))
+        (tags_of labels.now payloads.now) }
     ensures least { neg_ℤ (pos (length labels.now * farthest_amount)) ≤ℤ result }
     ensures most { result ≤ℤ pos (length labels.now * farthest_amount) }
 {

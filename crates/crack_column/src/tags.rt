@@ -1,5 +1,6 @@
 //! The tags of a cracker column, kept as labels and payloads side by side.
-ghost use Rattle.std.specs.Prelude.{◌≡◌, ◌+◌, ◌-◌, ◌<◌, ◌≤◌, ◌^◌, ◌*◌, ◌++◌, ◌∷◌, [], All, MatchOption, OnOk, OnErr, IfErr, length, map, pos, neg_ℤ, ◌≤ℤ◌, slice_index_or, slice_set};
+ghost use Rattle.std.specs.Prelude.{◌≡◌, ◌+◌, ◌-◌, ◌<◌, ◌≤◌, ◌^◌, ◌*◌, ◌++◌, ◌∷◌, [], All, MatchOption, OnOk, OnErr};
+ghost use Rattle.std.specs.Prelude.{IfErr, length, map, pos, neg_ℤ, ◌≤ℤ◌, slice_index_or, slice_set};
 ghost use Rattle.std.specs.List.{between};
 ghost use Rattle.crack_arena.specs.Arena.{IsAbsent, IsFirstAt};
 ghost use Rattle.crack_arena.specs.Rows.{amount_at};
@@ -126,7 +127,8 @@ impl Tags {
         requires drawn { All (λ t. t.ticket < length generations.now) self.old.items }
         requires known { All (Knows arena.now.cells generations.now) (between from to self.old.items) }
         requires unread { unread_in (between from to self.old.items) ≤ unread }
-        ensures turned { Turns arena.now.cells generations.now bound.0 from to self.old.items self.new.items result.0 result.1 }
+        ensures turned { Turns arena.now.cells generations.now bound.0 from to self.old.items self.new.items
+            result.0 result.1 }
         ensures capacity { self.new.capacity ≡ self.old.capacity }
     {
         let (place, learned) = tag::crack(
@@ -158,8 +160,10 @@ impl Tags {
         requires drawn { All (λ t. t.ticket < length generations.now) self.old.items }
         requires known { All (Knows arena.now.cells generations.now) (between from to self.old.items) }
         requires unread { unread_in (between from to self.old.items) ≤ unread }
-        ensures low { Turns arena.now.cells generations.now low.0 from to self.old.items self.new.items result.0.0 result.1 }
-        ensures high { Turns arena.now.cells generations.now high.0 from to self.old.items self.new.items result.0.1 result.1 }
+        ensures low { Turns arena.now.cells generations.now low.0 from to self.old.items self.new.items
+            result.0.0 result.1 }
+        ensures high { Turns arena.now.cells generations.now high.0 from to self.old.items self.new.items
+            result.0.1 result.1 }
         ensures order { result.0.0 ≤ result.0.1 }
         ensures capacity { self.new.capacity ≡ self.old.capacity }
     {
@@ -198,7 +202,8 @@ impl Tags {
         )
     }
 
-    /// The sum of the payloads of the rows from the place `from` up to and without `to`, of which at most so many are unread.
+    /// The sum of the payloads of the rows from the place `from` up to and without `to`, of which at most so many are
+    /// unread.
     pub(crate) fn sum_between(
         &self,
         from: usize,
@@ -213,7 +218,8 @@ impl Tags {
         requires drawn { All (λ t. t.ticket < length generations.now) self.now.items }
         requires known { All (Knows arena.now.cells generations.now) (between from to self.now.items) }
         requires unread { unread_in (between from to self.now.items) ≤ unread }
-        ensures value { result ≡ total_by (λ t. amount_at arena.now.cells (tag_handle generations.now t)) (between from to self.now.items) }
+        ensures value { result ≡ total_by (λ t. amount_at arena.now.cells (tag_handle generations.now t))
+            (between from to self.now.items) }
         ensures least { neg_ℤ (pos ((to - from) * farthest_amount)) ≤ℤ result }
         ensures most { result ≤ℤ pos ((to - from) * farthest_amount) }
         ensures small { (neg_ℤ (pos (2 ^ 95)) ≤ℤ result) × (result ≤ℤ pos (2 ^ 95)) }

@@ -103,7 +103,8 @@ fn fill(
     payloads: [PayloadNumber; 4],
 ) -> Result<(), Fail>
     requires remembered { (cells : List (Cell RowValue)) → Remembers cells column.old.handles column.old.remembered }
-    ensures remembered { OnOk result ((cells : List (Cell RowValue)) → Remembers cells column.new.handles column.new.remembered) }
+    ensures remembered { OnOk result ((cells : List (Cell RowValue)) → Remembers cells column.new.handles
+        column.new.remembered) }
 {
     let a = put(rt, arena, 0, keys[0], payloads[0])?;
     let b = put(rt, arena, 1, keys[1], payloads[1])?;
@@ -196,7 +197,8 @@ fn fill_five(
     column: &mut CrackerColumn,
 ) -> Result<(), Fail>
     requires remembered { (cells : List (Cell RowValue)) → Remembers cells column.old.handles column.old.remembered }
-    ensures remembered { OnOk result ((cells : List (Cell RowValue)) → Remembers cells column.new.handles column.new.remembered) }
+    ensures remembered { OnOk result ((cells : List (Cell RowValue)) → Remembers cells column.new.handles
+        column.new.remembered) }
 {
     let a = put(rt, arena, 0, 40, 1)?;
     let b = put(rt, arena, 1, 10, 2)?;
@@ -275,7 +277,8 @@ fn swap_first(
     c: Handle<Row>,
 ) -> Result<(), Fail>
     requires remembered { (cells : List (Cell RowValue)) → Remembers cells column.old.handles column.old.remembered }
-    ensures remembered { OnOk result ((cells : List (Cell RowValue)) → Remembers cells column.new.handles column.new.remembered) }
+    ensures remembered { OnOk result ((cells : List (Cell RowValue)) → Remembers cells column.new.handles
+        column.new.remembered) }
 {
     assert!(rt; column.pop().is_none());
     let len = column.len();

@@ -72,7 +72,7 @@ layout_text part layout = (
     ++ (codes " free " ++ decimal layout.free ++ codes " pieces " ++ decimal (length layout.pieces)) ++ codes "\n"
     ) ++ flat_map piece_text layout.pieces
 
--- the answer to `checkpoint P`: how many entries were folded
+-- the answer to `checkpoint P`: how many entries were checkpointed
 abbrev pub folded_text : ℕ → List ℕ
 folded_text folded = codes "folded " ++ decimal folded ++ codes "\n"
 

@@ -20,8 +20,9 @@ pub struct LeadingInsert {
     pub len: usize,
 }
 
-/// The insert that bytes begin with, up to a line feed, where it is written without a space more than it needs, and its numbers are short; so most inserts
-/// are. The end of the line isn't looked for first. None says nothing of what they begin with. O(bytes of the line), no memory.
+/// The insert that bytes begin with, up to a line feed, where it is written without a space more than it needs, and its
+/// numbers are short; so most inserts are. The end of the line isn't looked for first. None says nothing of what they
+/// begin with. O(bytes of the line), no memory.
 #[inline(always)]
 pub fn leading_insert(bytes: &[u8]) -> Option<LeadingInsert>
     ensures { IfSome result (λ i. BeginsWithInsert bytes.now i.len i.key i.payload) }

@@ -1,7 +1,8 @@
 //! The statement language.
 ghost use Rattle.std.specs.Prelude.{◌≡◌, ◌∷◌, codes, Some, IfSome};
 ghost use Rattle.crack_commands.specs.Grammar.{statement_of, words, named, two_numbers, over, policy_named};
-ghost use Rattle.crack_commands.specs.Inside.{insert_of, delete_of, update_of, update_from, range_from, layout_of, checkpoint_of, policy_of, quit_of};
+ghost use Rattle.crack_commands.specs.Inside.{insert_of, delete_of, update_of, update_from, range_from, layout_of};
+ghost use Rattle.crack_commands.specs.Inside.{checkpoint_of, policy_of, quit_of};
 ghost use Rattle.crack_commands.specs.declared.statement.Statement.TheVariants.{Count, Sum, Select};
 
 use crate::words::{

@@ -2,8 +2,11 @@
 ghost use Rattle.std.specs.Prelude.{◌≡◌, ◌+◌, ◌<◌, ◌≤◌, ◌++◌, length, decimal, codes};
 ghost use Rattle.std.specs.List.{flat_map};
 ghost use Rattle.std.specs.Fmt.{signed_decimal};
-ghost use Rattle.crack_commands.specs.Texts.{key_text, payload_text, bound_text, reply_text, count_text, sum_text, head_text, row_text, layout_text, piece_text, folded_text, policy_text, refusal_text, field_text, bits_text, Writes};
-ghost use Rattle.crack_commands.specs.Inside.{placed_text, gone_text, rows_text, layout_head, two_fields, refused_text, has_bit, bit_text};
+ghost use Rattle.crack_commands.specs.Texts.{key_text, payload_text, bound_text, reply_text, count_text, sum_text};
+ghost use Rattle.crack_commands.specs.Texts.{head_text, row_text, layout_text, piece_text, folded_text, policy_text};
+ghost use Rattle.crack_commands.specs.Texts.{refusal_text, field_text, bits_text, Writes};
+ghost use Rattle.crack_commands.specs.Inside.{placed_text, gone_text, rows_text, layout_head, two_fields, refused_text};
+ghost use Rattle.crack_commands.specs.Inside.{has_bit, bit_text};
 
 use crate::output::send;
 use arrayvec::ArrayVec;
@@ -12,14 +15,15 @@ use crack_row::{
 };
 use std::io::Write;
 
-/// Room for a line of text, or a part of one. The longest is a piece's: a word, two bounds of up to 40 digits, a size of 20, and four bytes more.
+/// Room for a line of text, or a part of one. The longest is a piece's: a word, two bounds of up to 40 digits, a size
+/// of 20, and four bytes more.
 const TEXT_BYTES: usize = 112;
 
 /// A line of text in the making.
 type Text = ArrayVec<u8, TEXT_BYTES>;
 
-/// Room for the line of a placed row, the most frequent one: a word, a partition's number of 10 digits, a serial of 20, and three bytes more.
-/// It is cleared for each line.
+/// Room for the line of a placed row, the most frequent one: a word, a partition's number of 10 digits, a serial of 20,
+/// and three bytes more. It is cleared for each line.
 const PLACED_BYTES: usize = 48;
 
 /// Writes a partition's reply: a line, and for rows a line for each of them, a row at a time.
@@ -58,7 +62,8 @@ fn write_placed<W: Write>(part: u32, serial: Serial, writer: &mut Watched<W>) ->
     send(writer, text.as_slice())
 }
 
-/// Adds the beginning of a placed row's line, through the full stop after the partition's number: at once where that has one digit.
+/// Adds the beginning of a placed row's line, through the full stop after the partition's number: at once where that
+/// has one digit.
 #[inline(always)]
 #[tactic(auto, using(std::proofs::lemmas::Fmt::decimal_digit))]
 fn push_part(text: &mut ArrayVec<u8, PLACED_BYTES>, part: u32)
@@ -110,7 +115,7 @@ pub fn write_sum<W: Write>(sum: i128, writer: &mut Watched<W>) -> Result<(), Ref
     send(writer, text.as_slice())
 }
 
-/// Writes the line of a checkpoint, which says how many entries it folded.
+/// Writes the line of a checkpoint, which says how many entries it took.
 pub fn write_folded<W: Write>(folded: u64, writer: &mut Watched<W>) -> Result<(), Refusal>
     ensures { Writes W.contents (folded_text folded) result writer.old writer.new }
 {
@@ -281,7 +286,8 @@ fn write_refused<W: Write>(
     send(writer, text.as_slice())
 }
 
-/// Writes the line of a refusal that carries the numbers of missing workers, a number at a time: all of them pass a text.
+/// Writes the line of a refusal that carries the numbers of missing workers, a number at a time: all of them pass a
+/// text.
 fn write_missing<W: Write>(code: u32, missing: u64, writer: &mut Watched<W>) -> Result<(), Refusal>
     ensures { Writes W.contents (refused_text code (bits_text missing 64)) result writer.old writer.new }
 {

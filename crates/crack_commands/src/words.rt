@@ -1,8 +1,11 @@
 //! Words and numbers among bytes.
-ghost use Rattle.std.specs.Prelude.{pos, neg_ℤ, int_le, ◌&&◌, ◌≡◌, ◌+◌, ◌-◌, ◌*◌, ◌^◌, ◌<◌, ◌≤◌, ◌≢◌, ◌↔◌, true, false, length, IsTrue, Some, take, drop, ◌==◌, if◌then◌else◌, IfSome, slice_index};
+ghost use Rattle.std.specs.Prelude.{pos, neg_ℤ, int_le, ◌&&◌, ◌≡◌, ◌+◌, ◌-◌, ◌*◌, ◌^◌, ◌<◌, ◌≤◌, ◌≢◌, ◌↔◌, true, false};
+ghost use Rattle.std.specs.Prelude.{length, IsTrue, Some, take, drop, ◌==◌, if◌then◌else◌, IfSome, slice_index};
 ghost use Rattle.std.specs.List.{list_all, position_or_len};
-ghost use Rattle.crack_commands.specs.Grammar.{words, number_of, whole_number_of, has_sign, number_up_to, two_numbers, key_of, payload_of, key_and_payload, only_word, row_number_of, is_digit};
-ghost use Rattle.crack_commands.specs.Inside.{value_on, has_space, row_from, IsFirstWord, IsFirstNumber, IsFirstWholeNumber, BeginsWithDigits};
+ghost use Rattle.crack_commands.specs.Grammar.{words, number_of, whole_number_of, has_sign, number_up_to, two_numbers};
+ghost use Rattle.crack_commands.specs.Grammar.{key_of, payload_of, key_and_payload, only_word, row_number_of, is_digit};
+ghost use Rattle.crack_commands.specs.Inside.{value_on, has_space, row_from, IsFirstWord, IsFirstNumber};
+ghost use Rattle.crack_commands.specs.Inside.{IsFirstWholeNumber, BeginsWithDigits};
 
 use crack_row::{
     GREATEST_KEY, GREATEST_PAYLOAD, Key, KeyNumber, LEAST_PAYLOAD, Payload, PayloadNumber, RowNo,
@@ -37,7 +40,8 @@ pub fn key_and_payload(bytes: &[u8]) -> Option<(Key, Payload)>
     any_key_and_payload(bytes)
 }
 
-/// A number and a whole number, where there are just two words, these, 64 bits are enough for each, and no space stands after them.
+/// A number and a whole number, where there are just two words, these, 64 bits are enough for each, and no space stands
+/// after them.
 #[inline(always)]
 fn two_short_words(bytes: &[u8]) -> Option<(u64, i128)>
     ensures { IfSome result (λ pair. key_and_payload (words bytes.now) ≡ row_from pair.0 pair.1) }
@@ -291,7 +295,8 @@ fn ends_at(bytes: &[u8], end: usize) -> bool
     end == bytes.len() || bytes[end] == b' '
 }
 
-/// The digits at the front, `MOST_DIGITS` at the most, and no more than fit 64 bits: their value, and how many they are.
+/// The digits at the front, `MOST_DIGITS` at the most, and no more than fit 64 bits: their value, and how many they
+/// are.
 #[inline(always)]
 pub(crate) fn leading_number(bytes: &[u8]) -> (u64, usize)
     ensures within { (result.1 ≤ length bytes.now) × (result.1 ≤ MOST_DIGITS) }

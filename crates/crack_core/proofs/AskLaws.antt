@@ -1,4 +1,4 @@
--- What follows of asking a partition whose full history is folded first.
+-- What follows of asking a partition whose full history is checkpointed first.
 use Rattle.std.specs.Prelude.{◌≡◌, ◌⊎◌, ℕ, ◌+◌, ◌<◌, ◌≤◌, ◌≤ℤ◌, ◌^◌, neg_ℤ, pos, All, sum_by, Bool, true, false, cond, ◌&&◌, not, List, [], ◌∷◌, ◌++◌, length, take, drop, Option, None, Some, Result, Ok, Err, IsOk, nat_le, slice_get, if◌then◌else◌}
 use Rattle.std.specs.Option.{option_map, option_or}
 use Rattle.std.proofs.Common.{zero, suc, get_or, set, arith, ap, refl, sym, subst, ◌∙◌, inl, inr}
@@ -26,24 +26,24 @@ use Rattle.crack_core.specs.Steps.{bounds_of, reply_unless, MayLackCell, IsOutco
 use Rattle.crack_core.specs.Inside.{is_full}
 use Rattle.crack_core.specs.Asking.{lasting_bounds, lasting, lasting_after, Asks, AsksInTurn, replies, refuses, asking, counted, summed}
 
--- a table that was just folded
+-- a table that was just checkpointed
 abbrev folded_table : PlainState → ℕ → PlainView
 folded_table s accepted = record { state = s; folded = accepted; since = 0 }
 
--- a fold leaves how many commands were accepted, and a second one changes nothing more
+-- a checkpoint leaves how many commands were accepted, and a second one changes nothing more
 accepted-same : (table : PlainView) → accepted_of (checkpointed table) ≡ accepted_of table
 accepted-same table = omega arith
 
 checkpointed-twice : (table : PlainView) → checkpointed (checkpointed table) ≡ checkpointed table
 checkpointed-twice table = ap (folded_table table.state) (accepted-same table)
 
--- a command that is answered comes to the same before a fold and after it
+-- a command that is answered comes to the same before a checkpoint and after it
 once : (table : PlainView) (command : Command) → checkpointed (table_after table command) ≡ checkpointed (table_after (checkpointed table) command)
 once table command =
     let same : table.folded + (table.since + 1) ≡ (table.folded + table.since) + (0 + 1) = omega arith in
     ap (folded_table (after table.state command)) same
 
--- upkeep shows in no table as folds leave it
+-- upkeep shows in no table as checkpoints leave it
 once-upkept : (limits : Limits) (table : PlainView) (command : Command) → checkpointed (table_after (upkept_table limits table) command) ≡ checkpointed (table_after (checkpointed table) command)
 once-upkept limits table command = by_test (is_due limits table.since)
   where
@@ -56,14 +56,14 @@ get_or-lasting [] part = refl
 get_or-lasting (t ∷ tables) zero = refl
 get_or-lasting (t ∷ tables) (suc part) = get_or-lasting tables part
 
--- the partitions after an answer, as folds leave them
+-- the partitions after an answer, as checkpoints leave them
 after-lasting : (limits : Limits) (tables : List PlainView) (part : ℕ) (command : Command) (r : Result Reply Refusal) → lasting (tables_after (bounds_of limits) tables part command r) ≡ lasting_after (lasting tables) part command r
 after-lasting limits tables part command (Err e) = refl
 after-lasting limits tables part command (Ok reply) =
     map-set checkpointed tables part (table_after (upkept_table limits (get_or tables part fresh_table)) command)
     ∙ ap (set (lasting tables) part) (once-upkept limits (get_or tables part fresh_table) command ∙ ap (λ (t : PlainView). checkpointed (table_after t command)) (sym (get_or-lasting tables part)))
 
--- the partitions after a fold, as folds leave them
+-- the partitions after a checkpoint, as checkpoints leave them
 lasting-folded : (tables : List PlainView) (part : ℕ) → lasting (set tables part (checkpointed (get_or tables part fresh_table))) ≡ lasting tables
 lasting-folded tables part =
     map-set checkpointed tables part (checkpointed (get_or tables part fresh_table))
@@ -119,14 +119,14 @@ outcome-folded : (limits : Limits) (keys : Range) (table : Option PlainView) (co
 outcome-folded limits keys None command r some comes = comes
 outcome-folded limits keys (Some t) command r some comes = subst (λ (b : Bool). Comes (by_tests (is_key_in keys (key_of command)) b (nat_le limits.life (accepted_of (checkpointed t))) limits.history (reply_to t.state command)) (MayLackCell limits.cells (Some (checkpointed t)) command) r) (not-full limits some) comes
 
--- a partition that isn't folded is asked
+-- a partition that isn't checkpointed is asked
 pub asked-plain : (limits : Limits) (splits : List Bound) (tables new : List PlainView) (part : ℕ) (command : Command) (r : Result Reply Refusal) → (r ≡ Err (HistoryFull limits.history) → ⊥) → IsOutcomeAt (bounds_of limits) splits tables part command r → new ≡ tables_after (bounds_of limits) tables part command r → Asks limits splits part command r (lasting tables) (lasting new)
 asked-plain limits splits tables new part command r other outcome left = record {
   comes_out = inl (subst (λ (o : Option PlainView). IsOutcome (lasting_bounds limits) (keys_of_part splits part) o command r) (sym (slice_get-map checkpointed tables part)) (outcome-lasting limits (keys_of_part splits part) (slice_get tables part) command r other outcome));
   leaves = ap lasting left ∙ after-lasting limits tables part command r;
 }
 
--- a partition that was folded is asked
+-- a partition that was checkpointed is asked
 pub asked-folded : (limits : Limits) (splits : List Bound) (tables between new : List PlainView) (part count : ℕ) (command : Command) (r : Result Reply Refusal) → 1 ≤ limits.history → between ≡ tables_folded tables part (Ok count) → IsOutcomeAt (bounds_of limits) splits between part command r → new ≡ tables_after (bounds_of limits) between part command r → Asks limits splits part command r (lasting tables) (lasting new)
 asked-folded limits splits tables between new part count command r some fold outcome left =
     let there : slice_get between part ≡ option_map checkpointed (slice_get tables part) = ap (λ (ts : List PlainView). slice_get ts part) fold ∙ get-folded tables part in
@@ -144,7 +144,7 @@ pub full-leaves : (limits : Limits) (tables : List PlainView) (part : ℕ) (comm
 full-leaves limits tables part command (Ok reply) full = absurd (true≢false (sym full))
 full-leaves limits tables part command (Err e) full = refl
 
--- the fold of a full history found no memory
+-- the checkpoint of a full history found no memory
 short : (is_own full_now over : Bool) (limit : ℕ) (said : Reply) (Lacks Lacks' : Type 0) (r : Result Reply Refusal) → is_full r ≡ true → Comes (by_tests is_own full_now over limit said) Lacks r → Comes (by_tests is_own false over limit said) Lacks' (refused_with OutOfMemory) ⊎ ((refused_with OutOfMemory ≡ Err OutOfMemory) × (by_tests is_own false over limit said ≡ Err LifeOver))
 short false full_now over limit said Lacks Lacks' r full comes = elim comes [
   | inl is ↦ absurd (true≢false (sym full ∙ ap is_full is))

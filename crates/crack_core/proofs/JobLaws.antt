@@ -57,7 +57,7 @@ KeepsJobs-refused limits pasts job e = λ part. by_past part (slice_get pasts pa
     by_past part None = refl
     by_past part (Some past) = ap Some (sym (refused-past limits part job e past))
 
--- a checkpoint: its partition is folded
+-- a checkpoint: its partition's history moves into its base
 pub KeepsJobs-fold : (limits : Limits) (old new : List Part) (number count : ℕ) → FoldsAt number old new → KeepsJobs limits (pasts_of old) (Fold number ∷ []) (Ok (Folded count) ∷ []) (pasts_of new)
 KeepsJobs-fold limits old new number count folds = λ part.
     slice_get-map (λ (p : Part). p.past) new part ∙ ap (option_map (λ (p : Part). p.past)) (folds part) ∙ by_part part (slice_get old part) ∙ ap (option_map (past_at limits part (Fold number ∷ []) (Ok (Folded count) ∷ []))) (sym (slice_get-map (λ (p : Part). p.past) old part))
@@ -70,7 +70,7 @@ KeepsJobs-fold limits old new number count folds = λ part.
     by_part part None = refl
     by_part part (Some p) = ap Some (by_test (number == part) p)
 
--- the partition that is named is replaced by itself, folded
+-- the partition that is named is replaced by itself, checkpointed
 pub FoldsAt-set : (parts : List Part) (i : ℕ) (q d : Part) → i < length parts → q ≡ folded_part (get_or parts i d) → FoldsAt i parts (set parts i q)
 FoldsAt-set parts i q d within is = λ k. ⊎_elim
     (λ (same : k ≡ i). subst (λ (n : ℕ). slice_get (set parts i q) n ≡ option_map (λ (p : Part). if i == n then folded_part p else p) (slice_get parts n)) (sym same) own)

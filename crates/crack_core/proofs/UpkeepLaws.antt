@@ -39,7 +39,7 @@ one limits part (Fold number) (Ok (Replied reply)) past = refl
 one limits part (Fold number) (Ok (Folded count)) past = refl
 one limits part (Fold number) (Err e) past = refl
 
--- a partition's own checkpoint folds it
+-- a checkpoint of a partition's own is one of that partition
 own-fold : (limits : Limits) (part count : ℕ) (past : Past) → past_after limits part (Fold part) (Ok (Folded count)) past ≡ folded past
 own-fold limits part count past = ap (λ (b : Bool). cond b (folded past) past) (eq-eqb part part refl)
 

@@ -1,4 +1,4 @@
--- What is answered where a full history is folded first: one command, and what is asked of a range over all partitions.
+-- What is answered where a full history is checkpointed first: one command, and what is asked of a range over all partitions.
 use Rattle.std.specs.Prelude.{◌≡◌, ◌⊎◌, ℕ, ℤ, pos, Bool, false, List, [], ◌∷◌, ◌++◌, map, Option, None, Some, Result, Ok, Err, IfOk, IfErr, nat_le, slice_get, slice_set, slice_index_or, sum_by, if◌then◌else◌}
 use Rattle.crack_row.specs.Ranges.{Range}
 use Rattle.crack_row.specs.Rows.{total_by}
@@ -20,16 +20,16 @@ use Rattle.crack_core.specs.Steps.{Bounds, expected, IsOutcomeAt, fresh_table, t
 use Rattle.crack_core.specs.declared.asking.Query.{Query}
 use Rattle.crack_core.specs.declared.asking.Query.TheVariants.{CountRows, SumPayloads, SelectRows}
 
--- what bounds partitions whose full histories are folded: no history, but their lives, and the cells of their rows
+-- what bounds partitions whose full histories are checkpointed: no history, but their lives, and the cells of their rows
 abbrev pub lasting_bounds : Limits → Bounds
 lasting_bounds limits = record { stop = λ table. if nat_le limits.life (accepted_of table) then Some LifeOver else None; cells = limits.cells; due = λ table. false }
 
--- the partitions as folds leave them: their plain rows, and how many commands each accepted; so no fold shows here
+-- the partitions as checkpoints leave them: their plain rows, and how many commands each accepted; so no checkpoint shows here
 abbrev pub lasting : List PlainView → List PlainView
 lasting tables = map checkpointed tables
 
--- what comes out of asking a partition whose full history is folded first: what its plain rows call for; where that is 10, it may be 8, for a
--- fold that found no memory
+-- what comes out of asking a partition whose full history is checkpointed first: what its plain rows call for; where that is 10, it may be 8, for a
+-- checkpoint that found no memory
 abbrev pub IsLastingOutcome : Limits → List Bound → List PlainView → ℕ → Command → Result Reply Refusal → Type 0
 IsLastingOutcome limits splits tables part command outcome =
     IsOutcomeAt (lasting_bounds limits) splits tables part command outcome

@@ -37,7 +37,7 @@ folding (Ok count) = Ok (Folded count)
 folding (Err e) = Err e
 
 -- what one partition of these limits lived through, after a job: a step of its own that was answered is one entry more, once upkeep is done,
--- and a checkpoint of its own folds its tail into its base
+-- and a checkpoint of its own moves its history into its base
 abbrev pub past_after : Limits → ℕ → Job → Result Done Refusal → Past → Past
 past_after limits part (Perform step) (Ok (Replied reply)) past = if step.part == part then with_entry (upkept limits past) (record { worker = step.worker; command = step.command; reply = reply }) else past
 past_after limits part (Fold number) (Ok (Folded count)) past = if number == part then folded past else past
@@ -79,11 +79,11 @@ pub record AreExpectedOutcomes (limits : Limits) (splits : List Bound) (pasts : 
   pub outcomes : (k : ℕ) (job : Job) (result : Result Done Refusal) → slice_get jobs k ≡ Some job → slice_get results k ≡ Some result →
       IsJobOutcome (bounds_of limits) splits (option_map (λ (past : Past). table_of (past_at limits (part_of job) (take k jobs) (take k results) past)) (slice_get pasts (part_of job))) job result
 
--- the partition of this number is folded, and the others are as they were
+-- the partition of this number is checkpointed, and the others are as they were
 abbrev pub FoldsAt : ℕ → List Part → List Part → Type 0
 FoldsAt number old new = (k : ℕ) → slice_get new k ≡ option_map (λ part. if number == k then folded_part part else part) (slice_get old k)
 
--- what a checkpoint does to the partitions of these splits: each stays one, the one that is named is folded, and a refusal changes nothing
+-- what a checkpoint does to the partitions of these splits: each stays one, the one that is named is checkpointed, and a refusal changes nothing
 pub record Folds (splits : List Bound) (limits : Limits) (number : ℕ) (result : Result ℕ Refusal) (old new : List Part) : Type 0 where
   pub parts : AreParts splits limits new
   pub folds : OnOk result (FoldsAt number old new)

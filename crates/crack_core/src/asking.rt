@@ -1,4 +1,4 @@
-//! Commands before which a full history is folded, and ranges over all partitions.
+//! Commands before which a full history is checkpointed, and ranges over all partitions.
 ghost use Rattle.std.specs.Prelude.{◌≡◌, ◌⊎◌, ℕ, ℤ, ◌<◌, ◌≤◌, ◌≤ℤ◌, ◌^◌, neg_ℤ, pos, [], All, length, vec_capacity};
 ghost use Rattle.std.specs.Prelude.{sum_by, Ok, Err, IfOk, IfErr};
 ghost use Rattle.crack_row.specs.Rows.{total_by};
@@ -41,9 +41,9 @@ impl Query {
 }
 
 impl Core {
-    /// Asks one partition as `step` does, but where its history is full, that is folded first, by `checkpoint`. So it
-    /// is never refused with 6. Refused, in this order: with 5, 4, 10, 9 and 8 as `step` is; with 8, before 10, where
-    /// a fold finds no memory. Takes what these two take.
+    /// Asks one partition as `step` does, but where its history is full, that is checkpointed first, by `checkpoint`.
+    /// So it is never refused with 6. Refused, in this order: with 5, 4, 10, 9 and 8 as `step` is; with 8, before 10,
+    /// where a checkpoint finds no memory. Takes what these two take.
     pub fn ask(&mut self, step: &Step) -> Result<Reply, Refusal>
         ensures asks { Asks self.old.limits self.old.splits step.now.part step.now.command result
             (lasting (tables_of self.old.parts)) (lasting (tables_of self.new.parts)) }

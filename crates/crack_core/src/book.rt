@@ -128,7 +128,8 @@ impl Book {
             partition.new.past ≡ with_entry (upkept partition.old.limits partition.old.past)
             (record { worker = self.old.worker; command = command; reply = reply })) }
         ensures state { OnOk result (state_of partition.new ≡ after (state_of partition.old) command) }
-        ensures store { OnOk result (Serves policy partition.old.keys partition.old.next command partition.old.store partition.new.store) }
+        ensures store { OnOk result (Serves policy partition.old.keys partition.old.next command partition.old.store
+            partition.new.store) }
         ensures opened { (partition.new.keys ≡ partition.old.keys) × (partition.new.limits ≡ partition.old.limits) }
 
         ensures err { OnErr result ((self.new.receipts ≡ self.old.receipts) ×

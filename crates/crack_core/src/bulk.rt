@@ -99,7 +99,8 @@ impl Core {
         requires payloads { length payloads.now ≡ length keys.now }
         requires parts { length parts.old ≡ length keys.now }
         requires serials { length serials.old ≡ length keys.now }
-        ensures inserts { Went (InsertsAt self.old.limits self.old.splits keys.now payloads.now parts.new serials.new) (length keys.now) (lasting (tables_of self.old.parts)) result (lasting (tables_of self.new.parts)) }
+        ensures inserts { Went (InsertsAt self.old.limits self.old.splits keys.now payloads.now parts.new serials.new)
+            (length keys.now) (lasting (tables_of self.old.parts)) result (lasting (tables_of self.new.parts)) }
         ensures opened { (self.new.splits ≡ self.old.splits) × (self.new.limits ≡ self.old.limits) }
     {
         'rows: for i in 0..keys.len() {
@@ -149,7 +150,9 @@ impl Core {
         requires keys { length keys.now ≡ length parts.now }
         requires payloads { length payloads.now ≡ length parts.now }
         requires found { length found.old ≡ length parts.now }
-        ensures updates { Went (UpdatesAt self.old.limits self.old.splits parts.now serials.now keys.now payloads.now found.new) (length parts.now) (lasting (tables_of self.old.parts)) result (lasting (tables_of self.new.parts)) }
+        ensures updates { Went (UpdatesAt self.old.limits self.old.splits parts.now serials.now keys.now payloads.now
+            found.new) (length parts.now) (lasting (tables_of self.old.parts)) result
+            (lasting (tables_of self.new.parts)) }
         ensures opened { (self.new.splits ≡ self.old.splits) × (self.new.limits ≡ self.old.limits) }
     {
         'rows: for i in 0..parts.len() {

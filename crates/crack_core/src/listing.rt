@@ -26,7 +26,8 @@ impl Core {
         requires serials { length serials.old ≡ length parts.old }
         requires keys { length keys.old ≡ length parts.old }
         requires payloads { length payloads.old ≡ length parts.old }
-        ensures selects { SelectsKeys self.old.limits self.old.splits parts.new serials.new keys.new payloads.new first last result (lasting (tables_of self.old.parts)) (lasting (tables_of self.new.parts)) }
+        ensures selects { SelectsKeys self.old.limits self.old.splits parts.new serials.new keys.new payloads.new first
+            last result (lasting (tables_of self.old.parts)) (lasting (tables_of self.new.parts)) }
         ensures unwritten { OnErr result ((parts.new ≡ parts.old) × (serials.new ≡ serials.old) ×
             (keys.new ≡ keys.old) × (payloads.new ≡ payloads.old)) }
         ensures opened { (self.new.splits ≡ self.old.splits) × (self.new.limits ≡ self.old.limits) }
@@ -50,7 +51,8 @@ impl Core {
         requires serials { length serials.old ≡ length parts.old }
         requires keys { length keys.old ≡ length parts.old }
         requires payloads { length payloads.old ≡ length parts.old }
-        ensures selects { Selects self.old.limits self.old.splits parts.new serials.new keys.new payloads.new range result (lasting (tables_of self.old.parts)) (lasting (tables_of self.new.parts)) }
+        ensures selects { Selects self.old.limits self.old.splits parts.new serials.new keys.new payloads.new range
+            result (lasting (tables_of self.old.parts)) (lasting (tables_of self.new.parts)) }
         ensures unwritten { OnErr result ((parts.new ≡ parts.old) × (serials.new ≡ serials.old) ×
             (keys.new ≡ keys.old) × (payloads.new ≡ payloads.old)) }
         ensures opened { (self.new.splits ≡ self.old.splits) × (self.new.limits ≡ self.old.limits) }

@@ -16,7 +16,7 @@ pub struct Step {
 pub enum Job {
     /// To ask a partition.
     Perform(Step),
-    /// To fold the history of the partition of this number.
+    /// To checkpoint the history of the partition of this number.
     Fold(u32),
 }
 
@@ -25,6 +25,6 @@ pub enum Job {
 pub enum Done {
     /// A step was replied.
     Replied(Reply),
-    /// So many entries were folded.
+    /// So many entries were checkpointed.
     Folded(u64),
 }

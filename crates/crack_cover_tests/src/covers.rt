@@ -27,7 +27,7 @@ fn receipt(part: u32, position: u64) -> Receipt {
     }
 }
 
-/// What a partition keeps that has folded nothing.
+/// What a partition keeps that has made no checkpoint.
 fn standing(tail: &[Entry]) -> Kept<'_>
     ensures { IsKept (told result) }
 {
@@ -39,7 +39,7 @@ fn standing(tail: &[Entry]) -> Kept<'_>
     }
 }
 
-/// What a partition keeps that has folded two commands, of which so many placed a row and took one out.
+/// What a partition keeps that has two commands in its base, of which so many placed a row and took one out.
 fn two_folded(inserted: u64, deleted: u64, tail: &[Entry]) -> Kept<'_>
     requires { inserted + deleted ≤ 2 }
     ensures { IsKept (told result) }

@@ -32,18 +32,23 @@ pub fn export_csv<D: Desk, W: Write>(
     writer: &mut Watched<W>,
 ) -> Result<u64, Refusal>
     ensures exported { IfOk result (λ count. (tables : List PlainView) → D.tables desk.old ≡ Some tables →
-        IsExported (D.bounds desk.old) (D.splits desk.old) tables count (D.tables desk.new) (W.contents (device writer.old)) (W.contents (device writer.new))) }
+        IsExported (D.bounds desk.old) (D.splits desk.old) tables count (D.tables desk.new)
+        (W.contents (device writer.old)) (W.contents (device writer.new))) }
     // On a refusal the first partitions are asked, and no row is changed. Their records are written up to what the
     // cause says.
     ensures cut { IfErr result (λ e. (tables : List PlainView) → D.tables desk.old ≡ Some tables →
         IsExportCut (D.bounds desk.old) (D.splits desk.old) tables e (D.receipts desk.old) (D.receipts desk.new)
-        (has_failed writer.old) (has_failed writer.new) (D.tables desk.new) (W.contents (device writer.old)) (W.contents (device writer.new))) }
-    // Whatever is known of the rows: each partition is asked for them, once, in order and by this policy, and what is written is the header and a
-    // record for each row that it lists; on a refusal the last call may be the one that was refused.
+        (has_failed writer.old) (has_failed writer.new) (D.tables desk.new) (W.contents (device writer.old))
+        (W.contents (device writer.new))) }
+    // Whatever is known of the rows: each partition is asked for them, once, in order and by this policy, and what is
+    // written is the header and a record for each row that it lists; on a refusal the last call may be the one that was
+    // refused.
     ensures asks { IfOk result (λ count.
-        IsListed D.leads (D.splits desk.old) policy count desk.old desk.new (W.contents (device writer.old)) (W.contents (device writer.new))) }
+        IsListed D.leads (D.splits desk.old) policy count desk.old desk.new (W.contents (device writer.old))
+        (W.contents (device writer.new))) }
     ensures asks_in_part { IfErr result (λ e.
-        IsListedFirst D.leads (D.splits desk.old) policy e desk.old desk.new (has_failed writer.old) (has_failed writer.new) (W.contents (device writer.old)) (W.contents (device writer.new))) }
+        IsListedFirst D.leads (D.splits desk.old) policy e desk.old desk.new (has_failed writer.old)
+        (has_failed writer.new) (W.contents (device writer.old)) (W.contents (device writer.new))) }
     ensures unfailed { OnOk result (has_failed writer.new ≡ has_failed writer.old) }
     ensures receipts { OnOk result (D.receipts desk.new ≡ D.receipts desk.old + length (D.splits desk.old) + 1) }
     ensures splits { D.splits desk.new ≡ D.splits desk.old }
@@ -84,12 +89,17 @@ fn export_part<D: Desk, W: Write>(
 ) -> Result<u64, Refusal>
     requires { part ≤ length (D.splits desk.old) }
     ensures exported { IfOk result (λ count. (tables : List PlainView) → D.tables desk.old ≡ Some tables →
-        IsPartExported (D.bounds desk.old) (D.splits desk.old) tables part count (D.tables desk.new) (W.contents (device writer.old)) (W.contents (device writer.new))) }
+        IsPartExported (D.bounds desk.old) (D.splits desk.old) tables part count (D.tables desk.new)
+        (W.contents (device writer.old)) (W.contents (device writer.new))) }
     ensures cut { IfErr result (λ e. (tables : List PlainView) → D.tables desk.old ≡ Some tables →
         IsPartCut (D.bounds desk.old) (D.splits desk.old) tables part e (D.receipts desk.old) (D.receipts desk.new)
-        (has_failed writer.old) (has_failed writer.new) (D.tables desk.new) (W.contents (device writer.old)) (W.contents (device writer.new))) }
-    ensures asks { IfOk result (λ count. AsksAndWrites D.leads (D.splits desk.old) policy part count desk.old desk.new (W.contents (device writer.old)) (W.contents (device writer.new))) }
-    ensures asks_in_part { IfErr result (λ e. AsksAndCuts D.leads (D.splits desk.old) policy part e desk.old desk.new (has_failed writer.old) (has_failed writer.new) (W.contents (device writer.old)) (W.contents (device writer.new))) }
+        (has_failed writer.old) (has_failed writer.new) (D.tables desk.new) (W.contents (device writer.old))
+        (W.contents (device writer.new))) }
+    ensures asks { IfOk result (λ count. AsksAndWrites D.leads (D.splits desk.old) policy part count desk.old desk.new
+        (W.contents (device writer.old)) (W.contents (device writer.new))) }
+    ensures asks_in_part { IfErr result (λ e. AsksAndCuts D.leads (D.splits desk.old) policy part e desk.old desk.new
+        (has_failed writer.old) (has_failed writer.new) (W.contents (device writer.old))
+        (W.contents (device writer.new))) }
     ensures small { IfOk result (λ count. count < 2 ^ 32) }
     ensures unfailed { OnOk result (has_failed writer.new ≡ has_failed writer.old) }
     ensures receipts { OnOk result (D.receipts desk.new ≡ D.receipts desk.old + 1) }

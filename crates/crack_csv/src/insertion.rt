@@ -36,7 +36,8 @@ pub fn insert_record<D: Desk>(
     ensures receipts { D.receipts desk.new ≡ (if is_ok result then D.receipts desk.old + 1 else D.receipts desk.old) }
     // Whatever is known of the rows: the partition of the row's key is asked to insert it, once and by this policy.
     ensures asks { OnOk result (AsksRow D.leads (D.splits desk.old) policy (fields_of fields.now) desk.old desk.new) }
-    ensures asks_in_vain { IfErr result (λ e. AsksNoRow D.leads (D.splits desk.old) policy number (fields_of fields.now) e desk.old desk.new) }
+    ensures asks_in_vain { IfErr result (λ e. AsksNoRow D.leads (D.splits desk.old) policy number (fields_of fields.now)
+        e desk.old desk.new) }
 {
     match new_row(fields) {
         Some(row) => insert_row(desk, policy, row),
@@ -51,12 +52,15 @@ fn insert_row<D: Desk>(desk: &mut D, policy: Policy, row: NewRow) -> Result<(), 
     ensures kept { IfErr result (λ _. (tables : List PlainView) → D.tables desk.old ≡ Some tables →
         D.tables desk.new ≡ Some tables) }
     ensures refused { IfErr result (λ e. (tables : List PlainView) → D.tables desk.old ≡ Some tables →
-        IsOutcomeAt (D.bounds desk.old) (D.splits desk.old) tables (route (D.splits desk.old) row.key.0) (Insert row.key row.payload) (Err e)) }
+        IsOutcomeAt (D.bounds desk.old) (D.splits desk.old) tables (route (D.splits desk.old) row.key.0)
+        (Insert row.key row.payload) (Err e)) }
     ensures splits { D.splits desk.new ≡ D.splits desk.old }
     ensures bounds { D.bounds desk.new ≡ D.bounds desk.old }
     ensures receipts { D.receipts desk.new ≡ (if is_ok result then D.receipts desk.old + 1 else D.receipts desk.old) }
-    ensures asks { OnOk result ((reply : Reply) × D.leads desk.old (insertion (D.splits desk.old) policy row (Ok reply)) desk.new) }
-    ensures asks_in_vain { IfErr result (λ e. D.leads desk.old (insertion (D.splits desk.old) policy row (Err e)) desk.new) }
+    ensures asks { OnOk result ((reply : Reply) × D.leads desk.old (insertion (D.splits desk.old) policy row
+        (Ok reply)) desk.new) }
+    ensures asks_in_vain { IfErr result (λ e. D.leads desk.old (insertion (D.splits desk.old) policy row
+        (Err e)) desk.new) }
 {
     let part = route(desk.splits(), row.key);
     let command = Command::Insert {

@@ -41,8 +41,8 @@ pub fn load_csv<D: Desk, R: Read + Drop>(
     ensures cut_short { IfErr result (λ fault. (bytes : List ℕ) (tables : List PlainView) →
         R.remaining reader ≡ Some bytes → D.tables desk.old ≡ Some tables →
         IsCutShort (D.bounds desk.old) (D.splits desk.old) tables bytes fault (D.tables desk.new)) }
-    // Whatever is known of the rows: the desk is asked to insert the rows of just the records that are read, in order, each once, by this policy,
-    // and each is answered; on a fault the last call may be the one that was refused.
+    // Whatever is known of the rows: the desk is asked to insert the rows of just the records that are read, in order,
+    // each once, by this policy, and each is answered; on a fault the last call may be the one that was refused.
     ensures asks { IfOk result (λ count. (bytes : List ℕ) → R.remaining reader ≡ Some bytes →
         IsAskedAll D.leads (D.splits desk.old) policy bytes count desk.old desk.new) }
     ensures asks_in_part { IfErr result (λ fault. (bytes : List ℕ) → R.remaining reader ≡ Some bytes →

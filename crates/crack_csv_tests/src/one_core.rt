@@ -29,8 +29,10 @@ fn serve_both<R: Read, W: Write>(
     ensures { IfOk result (λ ends. (bytes more out : List ℕ) →
         R.remaining (device first.old) ≡ Some bytes → R.remaining (device second.old) ≡ Some more →
         W.contents (device writer.old) ≡ Some out → (between : List PlainView) × (written : List ℕ)
-        × AreTold (bounds_of core.old.limits) core.old.splits (tables_of core.old.parts) (statements bytes) out ends.0.first_short (Some between) (Some written)
-        × AreTold (bounds_of core.old.limits) core.old.splits between (statements more) written ends.1.first_short (Some (tables_of core.new.parts)) (W.contents (device writer.new))) }
+        × AreTold (bounds_of core.old.limits) core.old.splits (tables_of core.old.parts) (statements bytes) out
+        ends.0.first_short (Some between) (Some written)
+        × AreTold (bounds_of core.old.limits) core.old.splits between (statements more) written ends.1.first_short
+        (Some (tables_of core.new.parts)) (W.contents (device writer.new))) }
 {
     match serve(alloc, core, Policy::Ripple, first, writer) {
         Ok(one) => match serve(alloc, core, Policy::Ripple, second, writer) {
@@ -52,8 +54,10 @@ fn serve_and_export<R: Read, W: Write>(
     ensures { IfOk result (λ told. (bytes out : List ℕ) →
         R.remaining (device reader.old) ≡ Some bytes → W.contents (device writer.old) ≡ Some out →
         (between : List PlainView) × (written : List ℕ)
-        × AreTold (bounds_of core.old.limits) core.old.splits (tables_of core.old.parts) (statements bytes) out told.0.first_short (Some between) (Some written)
-        × IsExported (bounds_of core.old.limits) core.old.splits between told.1 (Some (tables_of core.new.parts)) (Some written) (W.contents (device writer.new))) }
+        × AreTold (bounds_of core.old.limits) core.old.splits (tables_of core.old.parts) (statements bytes) out
+        told.0.first_short (Some between) (Some written)
+        × IsExported (bounds_of core.old.limits) core.old.splits between told.1 (Some (tables_of core.new.parts))
+        (Some written) (W.contents (device writer.new))) }
 {
     match serve(alloc, core, Policy::Ripple, reader, writer) {
         Ok(end) => match export_csv(alloc, core, Policy::Ripple, writer) {

@@ -182,7 +182,7 @@ fn a_worker_desk_adds_up_below_0(rt: HostRuntime) -> Result<(), Fail> {
     assert_desk(&rt, rt.alloc(), WIDE, ADDED)
 }
 
-/// Each checkpoint folds the partition that it names, and no other.
+/// Each checkpoint checkpoints the partition that it names, and no other.
 #[test]
 fn a_worker_desk_folds_one_partition_at_a_time(rt: HostRuntime) -> Result<(), Fail> {
     let alloc: Global = rt.alloc();

@@ -1,5 +1,5 @@
-//! Gates that say no: always, at one partition, or until another worker is inside; and those that say yes, and note to whom, or which
-//! checkpoints were due.
+//! Gates that say no: always, at one partition, or until another worker is inside; and those that say yes, and note to
+//! whom, or which checkpoints were due.
 ghost use Rattle.std.specs.Prelude.{◌≡◌, ◌<◌, not, false, nat_eq};
 ghost use Rattle.std.specs.Bool.{OnFalse};
 
@@ -200,8 +200,9 @@ impl Notes {
     }
 }
 
-/// A gate that says yes, and notes its worker each time. All gates of one partition share their notes, which then stand in the order of its
-/// history, as long as each command is let in once and nobody comes between a gate's yes and the command.
+/// A gate that says yes, and notes its worker each time. All gates of one partition share their notes, which then stand
+/// in the order of its history, as long as each command is let in once and nobody comes between a gate's yes and the
+/// command.
 #[derive(Clone, Copy, Drop)]
 pub struct Noting<'a> {
     pub worker: u32,
@@ -217,7 +218,8 @@ impl Gate for Noting<'_> {
     }
 }
 
-/// A gate that says yes, and notes the checkpoints that were due: how many, how many entries they folded, and of which partition the last was.
+/// A gate that says yes, and notes the checkpoints that were due: how many, how many entries they took, and of which
+/// partition the last was.
 #[derive(Drop)]
 pub struct Due {
     count: AtomicU64,
@@ -235,7 +237,7 @@ impl Due {
         }
     }
 
-    /// How many there were, and how many entries they folded.
+    /// How many there were, and how many entries they took.
     pub fn noted(&self) -> [u64; 2] {
         [
             self.count.load(Ordering::SeqCst),

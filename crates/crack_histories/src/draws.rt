@@ -58,7 +58,7 @@ impl Numbers {
 pub enum Asked {
     /// To answer a command.
     Command(Command),
-    /// To fold its history.
+    /// To checkpoint its history.
     Checkpoint,
 }
 

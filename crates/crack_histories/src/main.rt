@@ -3,11 +3,11 @@
 //! that of each history, CELLS and LIFE are the other limits of each partition.
 //!
 //! It writes for each worker, after `worker W`, what it asked and what it was answered, and after `receipts W` its
-//! receipts; then for each partition, after `partition P`, the entries of its history, where it was folded `partition
-//! P folded N inserted I deleted D rows R` and R lines `P.S K V` before them; and the totals. What is asked is written
-//! as a session's statement, with the partition's number before it, in a receipt the position and the worker besides,
-//! and in an entry the worker alone; the lines of the reply follow. A gathering that is refused ends the run with its
-//! refusal, in place of the histories.
+//! receipts; then for each partition, after `partition P`, the entries of its history, where it was checkpointed
+//! `partition P folded N inserted I deleted D rows R` and R lines `P.S K V` before them; and the totals. What is asked
+//! is written as a session's statement, with the partition's number before it, in a receipt the position and the worker
+//! besides, and in an entry the worker alone; the lines of the reply follow. A gathering that is refused ends the run
+//! with its refusal, in place of the histories.
 #![tactic(auto)]
 
 mod draws;

@@ -99,7 +99,7 @@ pub fn write_checkpoint<W: Write>(
     }
 }
 
-/// Writes a partition's number, and its base where something was folded: how many entries went, how many of them
+/// Writes a partition's number, and its base where something was checkpointed: how many entries went, how many of them
 /// placed a row and took one out, and the rows.
 pub fn write_base<W: Write>(
     part: u32,

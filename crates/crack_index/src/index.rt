@@ -1,11 +1,13 @@
 //! The cracker index: the bounds that divide a cracked column, each with its place.
-ghost use Rattle.std.specs.Prelude.{◌≡◌, ℕ, ◌+◌, ◌-◌, ◌<◌, ◌≤◌, ◌==◌, ◌↔◌, [], map, length, reverse, All, Contains, sum_by, IsOk, IsSome, IfSome, IfOk, IfErr, OnOk, IsTrue};
+ghost use Rattle.std.specs.Prelude.{◌≡◌, ℕ, ◌+◌, ◌-◌, ◌<◌, ◌≤◌, ◌==◌, ◌↔◌, [], map, length, reverse, All, Contains};
+ghost use Rattle.std.specs.Prelude.{sum_by, IsOk, IsSome, IfSome, IfOk, IfErr, OnOk, IsTrue};
 ghost use Rattle.crack_row.specs.Layouts.{AreJoined};
 ghost use Rattle.crack_index.specs.Heights.{least, most};
 ghost use Rattle.crack_index.specs.Walks.{Climbs, Descends};
 ghost use Rattle.crack_index.specs.Raises.{Raises};
 ghost use Rattle.crack_index.specs.Places.{Places};
-ghost use Rattle.crack_index.specs.Marks.{Rising, Fits, HasBound, position_of, next_mark, last_mark, first_behind, last_before, added, raised, lowered, lowered_at, piece_at, pieces_from};
+ghost use Rattle.crack_index.specs.Marks.{Rising, Fits, HasBound, position_of, next_mark, last_mark, first_behind};
+ghost use Rattle.crack_index.specs.Marks.{last_before, added, raised, lowered, lowered_at, piece_at, pieces_from};
 
 use crate::tree::{self, Link, Node};
 use crate::{Mark, Placer, Raiser, Visitor, lowering, raising, walk};
@@ -162,7 +164,10 @@ impl CrackerIndex {
     pub fn piece_of(&self, key: Key, len: usize) -> Piece
         ensures value { result ≡ piece_at key.0 len self.now.marks }
         ensures order { All (λ m. m.position ≤ len) self.now.marks → result.from ≤ result.to }
-        ensures fits { (p : ℕ) → result.from ≤ p → p ≤ result.to → Fits (record { bound = record { 0 = key.0 }; position = p }) self.now.marks }
+        ensures fits { (p : ℕ) → result.from ≤ p → p ≤ result.to → Fits (record {
+          bound = record { 0 = key.0 };
+          position = p;
+        }) self.now.marks }
         ensures rising { Rising self.now.marks }
     {
         let (below, above) = tree::neighbours(&self.root, key.number());
@@ -177,9 +182,12 @@ impl CrackerIndex {
     /// The sizes of the pieces, in rising order, in a column of `len` rows whose keys lie in this range;
     /// refused with 8 where it finds no memory. O(bounds).
     pub fn pieces(&self, keys: KeyRange, len: usize) -> Result<Vec<PieceSize>, Refusal>
-        ensures ok { IfOk result (λ v. v.items ≡ pieces_from (record { 0 = keys.low }) 0 self.now.marks (record { 0 = keys.high }) len) }
-        ensures joined { All (λ m. (keys.low ≤ m.bound.0) × (m.bound.0 ≤ keys.high)) self.now.marks → IfOk result (λ v. AreJoined keys.low keys.high v.items) }
-        ensures sizes { All (λ m. m.position ≤ len) self.now.marks → IfOk result (λ v. sum_by (λ (p : PieceSize). p.size) v.items ≡ len) }
+        ensures ok { IfOk result (λ v. v.items ≡ pieces_from (record { 0 = keys.low }) 0 self.now.marks
+            (record { 0 = keys.high }) len) }
+        ensures joined { All (λ m. (keys.low ≤ m.bound.0) × (m.bound.0 ≤ keys.high)) self.now.marks → IfOk result (λ v.
+            AreJoined keys.low keys.high v.items) }
+        ensures sizes { All (λ m. m.position ≤ len) self.now.marks → IfOk result (λ v. sum_by (λ (p : PieceSize).
+            p.size) v.items ≡ len) }
         ensures err { IfErr result (λ e. e ≡ Refusal.OutOfMemory) }
     {
         tree::piece_sizes(*self.spare.allocator(), &self.root, self.len, keys, len)
@@ -226,8 +234,8 @@ impl CrackerIndex {
         }
     }
 
-    /// Each bound at or above this one that stands where it stands moves up by one, and the answer is the first bound that
-    /// stood after that place. O(log bounds) and the bounds at that place.
+    /// Each bound at or above this one that stands where it stands moves up by one, and the answer is the first bound
+    /// that stood after that place. O(log bounds) and the bounds at that place.
     pub fn raise_past(&mut self, mark: Mark) -> Option<Mark>
         requires there { Contains self.old.marks mark }
         requires small { mark.position < usize.MAX }
@@ -243,8 +251,8 @@ impl CrackerIndex {
         next
     }
 
-    /// Each bound at or below this one that stands where it stands moves down by one, and the answer is the last bound that
-    /// stood before that place. O(log bounds) and the bounds at that place.
+    /// Each bound at or below this one that stands where it stands moves down by one, and the answer is the last bound
+    /// that stood before that place. O(log bounds) and the bounds at that place.
     pub fn lower_past(&mut self, mark: Mark) -> Option<Mark>
         requires there { Contains self.old.marks mark }
         requires above_zero { 0 < mark.position }
@@ -260,14 +268,15 @@ impl CrackerIndex {
         next
     }
 
-    /// Walks up from the least bound above the key: the visitor is given the place of the bound, and where it says so, that bound and those
-    /// above it that stand there move up by one, and the walk goes on to the next place. The bound at which it ended, if one is left.
-    /// O(log bounds) and the bounds at the places on its way. Takes no memory.
+    /// Walks up from the least bound above the key: the visitor is given the place of the bound, and where it says so,
+    /// that bound and those above it that stand there move up by one, and the walk goes on to the next place. The bound
+    /// at which it ended, if one is left. O(log bounds) and the bounds at the places on its way. Takes no memory.
     #[inline(always)]
     pub fn climb<V: Visitor>(&mut self, key: Key, visitor: &mut V) -> Option<Mark>
         requires small { All (λ m. m.position < usize.MAX) self.old.marks }
         requires ready { V.is_ready visitor.old }
-        ensures climbs { Climbs V.visits (next_mark key.0 self.old.marks) self.old.marks visitor.old result self.new.marks visitor.new }
+        ensures climbs { Climbs V.visits (next_mark key.0 self.old.marks) self.old.marks visitor.old result
+            self.new.marks visitor.new }
         ensures ready { V.is_ready visitor.new }
         ensures there { IfSome result (λ m. Contains self.new.marks m) }
         ensures room { self.new.room ≡ self.old.room }
@@ -276,14 +285,15 @@ impl CrackerIndex {
         walk::climb(&mut self.root, key.number(), visitor)
     }
 
-    /// Walks down from the greatest bound at or below the key: the visitor is given the last place before the bound, and where it says so,
-    /// that bound and those below it that stand where it stands move down by one, and the walk goes on to the next place. The bound at
-    /// which it ended, if one is left; a bound at the column's front has no place before it, and ends it.
-    /// O(log bounds) and the bounds at the places on its way. Takes no memory.
+    /// Walks down from the greatest bound at or below the key: the visitor is given the last place before the bound,
+    /// and where it says so, that bound and those below it that stand where it stands move down by one, and the walk
+    /// goes on to the next place. The bound at which it ended, if one is left; a bound at the column's front has no
+    /// place before it, and ends it. O(log bounds) and the bounds at the places on its way. Takes no memory.
     #[inline(always)]
     pub fn descend<V: Visitor>(&mut self, key: Key, visitor: &mut V) -> Option<Mark>
         requires ready { V.is_ready visitor.old }
-        ensures descends { Descends V.visits (last_mark key.0 self.old.marks) self.old.marks visitor.old result self.new.marks visitor.new }
+        ensures descends { Descends V.visits (last_mark key.0 self.old.marks) self.old.marks visitor.old result
+            self.new.marks visitor.new }
         ensures ready { V.is_ready visitor.new }
         ensures there { IfSome result (λ m. Contains self.new.marks m) }
         ensures room { self.new.room ≡ self.old.room }
@@ -292,21 +302,22 @@ impl CrackerIndex {
         walk::descend(&mut self.root, key.number(), visitor)
     }
 
-    /// Walks over the bounds from the highest down: the visitor is given each, and says how far it rises. No bound rises further than the
-    /// one above it, and none further than `most`; where one doesn't rise, none below it is looked at. How far the lowest rose.
-    /// O(bounds that rise + log bounds). Takes no memory.
+    /// Walks over the bounds from the highest down: the visitor is given each, and says how far it rises. No bound
+    /// rises further than the one above it, and none further than `most`; where one doesn't rise, none below it is
+    /// looked at. How far the lowest rose. O(bounds that rise + log bounds). Takes no memory.
     pub fn raise_each<V: Raiser>(&mut self, most: usize, visitor: &mut V) -> usize
         requires small { All (λ m. m.position + most ≤ usize.MAX) self.old.marks }
         requires ready { V.is_ready visitor.old }
-        ensures raises { Raises V.rises most (reverse self.old.marks) visitor.old (reverse self.new.marks) visitor.new result }
+        ensures raises { Raises V.rises most (reverse self.old.marks) visitor.old (reverse self.new.marks)
+            visitor.new result }
         ensures ready { V.is_ready visitor.new }
         ensures room { self.new.room ≡ self.old.room }
         ensures rising { Rising self.new.marks }
     {
         raising::raise_down(&mut self.root, most, visitor)
     }
-    /// Walks over the bounds from the lowest up: the visitor is given each, and says at which place it stands then. None goes before the one
-    /// below it. The place of the last, or 0 where there is none. O(bounds). Takes no memory.
+    /// Walks over the bounds from the lowest up: the visitor is given each, and says at which place it stands then.
+    /// None goes before the one below it. The place of the last, or 0 where there is none. O(bounds). Takes no memory.
     pub fn place_each<V: Placer>(&mut self, visitor: &mut V) -> usize
         requires { V.is_ready visitor.old }
         ensures places { Places V.places 0 self.old.marks visitor.old self.new.marks visitor.new result }

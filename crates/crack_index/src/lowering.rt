@@ -8,8 +8,8 @@ ghost use Rattle.crack_index.specs.Trees.{marks_of};
 use crate::tree::{Link, Node};
 use crate::{Mark, Placer};
 
-/// Places the marks of a tree from the lowest up, each where the visitor says, but none before the one below it and `least`.
-/// The place of the last. O(marks).
+/// Places the marks of a tree from the lowest up, each where the visitor says, but none before the one below it and
+/// `least`. The place of the last. O(marks).
 pub(crate) fn place_up<V: Placer>(link: &mut Link, least: usize, visitor: &mut V) -> usize
     requires ready { V.is_ready visitor.old }
     ensures places { Places V.places least (marks_of link.old) visitor.old (marks_of link.new) visitor.new result }

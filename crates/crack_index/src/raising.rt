@@ -8,12 +8,13 @@ ghost use Rattle.crack_index.specs.Trees.{marks_of};
 use crate::tree::{Link, Node};
 use crate::{Mark, Raiser};
 
-/// Raises the marks of a tree from the highest down, each as far as the visitor says, but no further than the one above it and `most`.
-/// How far the next below them may rise. O(marks that rise + log marks).
+/// Raises the marks of a tree from the highest down, each as far as the visitor says, but no further than the one above
+/// it and `most`. How far the next below them may rise. O(marks that rise + log marks).
 pub(crate) fn raise_down<V: Raiser>(link: &mut Link, most: usize, visitor: &mut V) -> usize
     requires small { All (λ m. m.position + most ≤ usize.MAX) (marks_of link.old) }
     requires ready { V.is_ready visitor.old }
-    ensures raises { Raises V.rises most (reverse (marks_of link.old)) visitor.old (reverse (marks_of link.new)) visitor.new result }
+    ensures raises { Raises V.rises most (reverse (marks_of link.old)) visitor.old (reverse (marks_of link.new))
+        visitor.new result }
     ensures rising { Rising (marks_of link.old) → Rising (marks_of link.new) }
     ensures length { length (marks_of link.new) ≡ length (marks_of link.old) }
     ensures height { height_of link.new ≡ height_of link.old }

@@ -1,7 +1,9 @@
 //! An AVL tree of marks in rising order, whose nodes are handed in, and whose look-ups and moves take no memory
 //! ("An algorithm for the organization of information", 1962).
-ghost use Rattle.std.specs.Prelude.{◌≡◌, ◌+◌, ◌-◌, ◌^◌, ◌<◌, ◌≤◌, max, length, [], ◌∷◌, ◌++◌, map, List, ℕ, vec_len, vec_capacity, OnOk, IfOk, IfErr};
-ghost use Rattle.crack_index.specs.Marks.{Rising, added, last_mark, next_mark, first_behind, last_before, raised, lowered, lowered_at, size_between, pieces_from};
+ghost use Rattle.std.specs.Prelude.{◌≡◌, ◌+◌, ◌-◌, ◌^◌, ◌<◌, ◌≤◌, max, length, [], ◌∷◌, ◌++◌, map, List, ℕ, vec_len};
+ghost use Rattle.std.specs.Prelude.{vec_capacity, OnOk, IfOk, IfErr};
+ghost use Rattle.crack_index.specs.Marks.{Rising, added, last_mark, next_mark, first_behind, last_before, raised};
+ghost use Rattle.crack_index.specs.Marks.{lowered, lowered_at, size_between, pieces_from};
 ghost use Rattle.crack_index.specs.Keeps.{height_of, IsBalanced, IsTall, DifferByAtMost};
 ghost use Rattle.crack_index.specs.Trees.{Grown, marks_of};
 ghost use Rattle.crack_index.specs.Rotations.{Settles};
@@ -232,8 +234,8 @@ pub(crate) fn insert(link: Link, mark: Mark, mut node: Box<Node>) -> Box<Node>
     }
 }
 
-/// The tree of both sides and the mark between them, in this node. One side may be two levels higher than the other: then it is
-/// rotated. O(1).
+/// The tree of both sides and the mark between them, in this node. One side may be two levels higher than the other:
+/// then it is rotated. O(1).
 fn join(left: Link, mark: Mark, right: Link, node: Box<Node>) -> Box<Node>
     requires rising { Rising (marks_of left ++ mark ∷ marks_of right) }
     requires near { DifferByAtMost 2 (height_of left) (height_of right) }
@@ -249,7 +251,8 @@ fn join(left: Link, mark: Mark, right: Link, node: Box<Node>) -> Box<Node>
     }
 }
 
-/// The tree of both sides and the mark between them, in this node, where neither side is more than a level higher. O(1).
+/// The tree of both sides and the mark between them, in this node, where neither side is more than a level higher.
+/// O(1).
 fn settle(left: Link, mark: Mark, right: Link, mut node: Box<Node>) -> Box<Node>
     requires rising { Rising (marks_of left ++ mark ∷ marks_of right) }
     requires even { DifferByAtMost 1 (height_of left) (height_of right) }
@@ -406,8 +409,8 @@ struct Edge {
     position: usize,
 }
 
-/// Adds the sizes of the pieces that end at the marks of the tree, in order. The first begins at `last`, which is the last mark then.
-/// O(marks), takes no memory.
+/// Adds the sizes of the pieces that end at the marks of the tree, in order. The first begins at `last`, which is the
+/// last mark then. O(marks), takes no memory.
 fn append_pieces(link: &Link, last: &mut Edge, pieces: &mut Vec<PieceSize>)
     requires room { vec_len pieces.old + length (marks_of link.now) ≤ vec_capacity pieces.old }
     ensures made { (rest : List Mark) (high : Bound) (to : ℕ)
@@ -432,7 +435,8 @@ fn append_pieces(link: &Link, last: &mut Edge, pieces: &mut Vec<PieceSize>)
     append_pieces(right, last, pieces);
 }
 
-/// The sizes of the pieces between the marks of a tree, so many, and at both ends; refused with 8 where it finds no memory. O(marks).
+/// The sizes of the pieces between the marks of a tree, so many, and at both ends; refused with 8 where it finds no
+/// memory. O(marks).
 pub(crate) fn piece_sizes(
     alloc: Global,
     link: &Link,
@@ -442,7 +446,8 @@ pub(crate) fn piece_sizes(
 ) -> Result<Vec<PieceSize>, Refusal>
     requires counted { length (marks_of link.now) ≡ marks }
     requires few { marks < usize.MAX }
-    ensures ok { IfOk result (λ v. v.items ≡ pieces_from (record { 0 = keys.low }) 0 (marks_of link.now) (record { 0 = keys.high }) len) }
+    ensures ok { IfOk result (λ v. v.items ≡ pieces_from (record { 0 = keys.low }) 0 (marks_of link.now)
+        (record { 0 = keys.high }) len) }
     ensures err { IfErr result (λ e. e ≡ Refusal.OutOfMemory) }
 {
     let mut pieces = Vec::with_capacity(alloc, marks + 1)?;
@@ -480,8 +485,8 @@ fn piece_between(low: Edge, high: Edge) -> PieceSize
     }
 }
 
-/// Fills the stock up to so many spare nodes, one box at a time; refused with 8 where it finds no memory: then it keeps those that it
-/// made.
+/// Fills the stock up to so many spare nodes, one box at a time; refused with 8 where it finds no memory: then it keeps
+/// those that it made.
 pub(crate) fn fill(spare: &mut Vec<Box<Node>>, nodes: usize) -> Result<(), Refusal>
     requires { vec_len spare.old ≤ nodes }
     ensures ok { OnOk result (nodes ≤ vec_len spare.new) }

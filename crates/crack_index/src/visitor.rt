@@ -4,9 +4,9 @@ ghost use Rattle.crack_index.specs.declared.mark.Mark.{Mark};
 
 use crate::Mark;
 
-/// What goes along on a walk over the bounds of an index. At each place where bounds stand it does what a step does there, and says
-/// whether the walk goes on. It has no part of the index, and so calls none.
-/// A walk calls it once for each place, and its body is a part of the walk's loop: mark `visit` with `#[inline(always)]`.
+/// What goes along on a walk over the bounds of an index. At each place where bounds stand it does what a step does
+/// there, and says whether the walk goes on. It has no part of the index, and so calls none. A walk calls it once for
+/// each place, and its body is a part of the walk's loop: mark `visit` with `#[inline(always)]`.
 pub trait Visitor {
     /// When it may be given a place.
     ghost is_ready: { Self → Type 0 };
@@ -21,13 +21,13 @@ pub trait Visitor {
         ensures ready { is_ready self.new };
 }
 
-/// What goes along on a walk over the bounds of an index from the highest down, and says how far each of them rises. It has no part of the
-/// index, and so calls none.
+/// What goes along on a walk over the bounds of an index from the highest down, and says how far each of them rises. It
+/// has no part of the index, and so calls none.
 pub trait Raiser {
-    /// When it may be told a bound.
+    /// When it may be given a bound.
     ghost is_ready: { Self → Type 0 };
 
-    /// What it leaves that is told a bound: from the first state, at this mark, with this rise, the second.
+    /// What it leaves that is given a bound: from the first state, at this mark, with this rise, the second.
     ghost rises: { Self → Mark → ℕ → Self → Type 0 };
 
     /// Does what is to be done at the bound, and says how many places further up it goes.
@@ -37,13 +37,13 @@ pub trait Raiser {
         ensures ready { is_ready self.new };
 }
 
-/// What goes along on a walk over the bounds of an index from the lowest up, and says where each of them stands then. It has no part of the
-/// index, and so calls none.
+/// What goes along on a walk over the bounds of an index from the lowest up, and says where each of them stands then.
+/// It has no part of the index, and so calls none.
 pub trait Placer {
-    /// When it may be told a bound.
+    /// When it may be given a bound.
     ghost is_ready: { Self → Type 0 };
 
-    /// What it leaves that is told a bound: from the first state, at this mark, with this place, the second.
+    /// What it leaves that is given a bound: from the first state, at this mark, with this place, the second.
     ghost places: { Self → Mark → ℕ → Self → Type 0 };
 
     /// Does what is to be done at the bound, and says at which place it stands then.

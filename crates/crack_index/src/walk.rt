@@ -1,5 +1,5 @@
-//! Walks over the marks of a tree in order, from place to place, each one recursion over the tree: a bound at the place that was just
-//! given moves along, and at a bound after it the visitor is given the next place.
+//! Walks over the marks of a tree in order, from place to place, each one recursion over the tree: a bound at the place
+//! that was just given moves along, and at a bound after it the visitor is given the next place.
 ghost use Rattle.std.specs.Prelude.{ℕ, ◌≡◌, ◌<◌, ◌≤◌, reverse, length, All, Contains, IfSome, None, is_some};
 ghost use Rattle.crack_index.specs.Marks.{Rising, next_mark, last_mark};
 ghost use Rattle.crack_index.specs.Steps.{Goes, StepsUp, StepsDown};
@@ -19,13 +19,15 @@ struct Way {
     ended: Option<Mark>,
 }
 
-/// Walks up from the first mark above the number. The mark at which it ended. O(log marks) and the marks at the places on its way.
+/// Walks up from the first mark above the number. The mark at which it ended. O(log marks) and the marks at the places
+/// on its way.
 #[inline(always)]
 pub(crate) fn climb<V: Visitor>(link: &mut Link, number: KeyNumber, visitor: &mut V) -> Option<Mark>
     requires rising { Rising (marks_of link.old) }
     requires small { All (λ m. m.position < usize.MAX) (marks_of link.old) }
     requires ready { V.is_ready visitor.old }
-    ensures climbs { Climbs V.visits (next_mark number (marks_of link.old)) (marks_of link.old) visitor.old result (marks_of link.new) visitor.new }
+    ensures climbs { Climbs V.visits (next_mark number (marks_of link.old)) (marks_of link.old) visitor.old result
+        (marks_of link.new) visitor.new }
     ensures ready { V.is_ready visitor.new }
     ensures there { IfSome result (λ m. Contains (marks_of link.new) m) }
     ensures rising { Rising (marks_of link.new) }
@@ -41,7 +43,8 @@ pub(crate) fn climb<V: Visitor>(link: &mut Link, number: KeyNumber, visitor: &mu
     way.ended
 }
 
-/// Walks down from the last mark at or below the number. The mark at which it ended. O(log marks) and the marks at the places on its way.
+/// Walks down from the last mark at or below the number. The mark at which it ended. O(log marks) and the marks at the
+/// places on its way.
 #[inline(always)]
 pub(crate) fn descend<V: Visitor>(
     link: &mut Link,
@@ -50,7 +53,8 @@ pub(crate) fn descend<V: Visitor>(
 ) -> Option<Mark>
     requires rising { Rising (marks_of link.old) }
     requires ready { V.is_ready visitor.old }
-    ensures descends { Descends V.visits (last_mark number (marks_of link.old)) (marks_of link.old) visitor.old result (marks_of link.new) visitor.new }
+    ensures descends { Descends V.visits (last_mark number (marks_of link.old)) (marks_of link.old) visitor.old result
+        (marks_of link.new) visitor.new }
     ensures ready { V.is_ready visitor.new }
     ensures there { IfSome result (λ m. Contains (marks_of link.new) m) }
     ensures rising { Rising (marks_of link.new) }
@@ -76,7 +80,8 @@ fn raise_along<V: Visitor>(
     requires going { way.old.ended ≡ None }
     requires small { All (λ m. m.position < usize.MAX) node.old.marks }
     requires ready { V.is_ready visitor.old }
-    ensures goes { Goes (StepsUp V.visits number) node.old.marks way.old visitor.old node.new.marks way.new visitor.new }
+    ensures goes { Goes (StepsUp V.visits number) node.old.marks way.old visitor.old node.new.marks
+        way.new visitor.new }
     ensures height { node.new.height ≡ node.old.height }
     ensures ended { result ≡ is_some way.new.ended }
     ensures ready { V.is_ready visitor.new }
@@ -107,8 +112,8 @@ fn raise_along<V: Visitor>(
     }
 }
 
-/// The part of a walk up that is in this tree, where all bounds are above the number from which it began: so it compares none with it.
-/// Whether the walk has ended.
+/// The part of a walk up that is in this tree, where all bounds are above the number from which it began: so it
+/// compares none with it. Whether the walk has ended.
 fn raise_all<V: Visitor>(node: &mut Node, way: &mut Way, visitor: &mut V) -> bool
     requires going { way.old.ended ≡ None }
     requires above { (number : ℕ) × All (λ m. number < m.bound.0) node.old.marks }
@@ -149,7 +154,8 @@ fn lower_along<V: Visitor>(
 ) -> bool
     requires going { way.old.ended ≡ None }
     requires ready { V.is_ready visitor.old }
-    ensures goes { Goes (StepsDown V.visits number) (reverse node.old.marks) way.old visitor.old (reverse node.new.marks) way.new visitor.new }
+    ensures goes { Goes (StepsDown V.visits number) (reverse node.old.marks) way.old visitor.old
+        (reverse node.new.marks) way.new visitor.new }
     ensures height { node.new.height ≡ node.old.height }
     ensures ended { result ≡ is_some way.new.ended }
     ensures ready { V.is_ready visitor.new }
@@ -180,14 +186,15 @@ fn lower_along<V: Visitor>(
     }
 }
 
-/// The part of a walk down that is in this tree, where no bound is above the number from which it began: so it compares none with it.
-/// Whether the walk has ended.
+/// The part of a walk down that is in this tree, where no bound is above the number from which it began: so it compares
+/// none with it. Whether the walk has ended.
 fn lower_all<V: Visitor>(node: &mut Node, way: &mut Way, visitor: &mut V) -> bool
     requires going { way.old.ended ≡ None }
     requires below { (number : ℕ) × All (λ m. m.bound.0 ≤ number) node.old.marks }
     requires ready { V.is_ready visitor.old }
     ensures goes { (number : ℕ) → All (λ m. m.bound.0 ≤ number) node.old.marks
-        → Goes (StepsDown V.visits number) (reverse node.old.marks) way.old visitor.old (reverse node.new.marks) way.new visitor.new }
+        → Goes (StepsDown V.visits number) (reverse node.old.marks) way.old visitor.old (reverse node.new.marks)
+        way.new visitor.new }
     ensures height { node.new.height ≡ node.old.height }
     ensures ended { result ≡ is_some way.new.ended }
     ensures ready { V.is_ready visitor.new }
@@ -218,7 +225,8 @@ fn step_up<V: Visitor>(mark: &mut Mark, way: &mut Way, visitor: &mut V) -> bool
     requires going { way.old.ended ≡ None }
     requires small { mark.old.position < usize.MAX }
     requires ready { V.is_ready visitor.old }
-    ensures steps { (number : ℕ) → number < mark.old.bound.0 → StepsUp V.visits number mark.old way.old visitor.old mark.new way.new visitor.new }
+    ensures steps { (number : ℕ) → number < mark.old.bound.0 → StepsUp V.visits number mark.old way.old visitor.old
+        mark.new way.new visitor.new }
     ensures ended { result ≡ is_some way.new.ended }
     ensures ready { V.is_ready visitor.new }
 {
@@ -241,7 +249,8 @@ fn step_up<V: Visitor>(mark: &mut Mark, way: &mut Way, visitor: &mut V) -> bool
 fn step_down<V: Visitor>(mark: &mut Mark, way: &mut Way, visitor: &mut V) -> bool
     requires going { way.old.ended ≡ None }
     requires ready { V.is_ready visitor.old }
-    ensures steps { (number : ℕ) → mark.old.bound.0 ≤ number → StepsDown V.visits number mark.old way.old visitor.old mark.new way.new visitor.new }
+    ensures steps { (number : ℕ) → mark.old.bound.0 ≤ number → StepsDown V.visits number mark.old way.old visitor.old
+        mark.new way.new visitor.new }
     ensures ended { result ≡ is_some way.new.ended }
     ensures ready { V.is_ready visitor.new }
 {

@@ -1,5 +1,6 @@
 //! The carry, and the carries of a range.
-ghost use Rattle.std.specs.Prelude.{◌≡◌, ◌<◌, ◌≤◌, None, Some, [], length, IsTrue, IsFalse, IfSome, IfNone, IfOk, IfErr};
+ghost use Rattle.std.specs.Prelude.{◌≡◌, ◌<◌, ◌≤◌, None, Some, [], length, IsTrue, IsFalse, IfSome, IfNone, IfOk};
+ghost use Rattle.std.specs.Prelude.{IfErr};
 ghost use Rattle.crack_arena.specs.Rows.{keys_at};
 ghost use Rattle.crack_pending.specs.Pending.{Finds};
 ghost use Rattle.crack_state.specs.State.{IsIntact};
@@ -11,12 +12,12 @@ ghost use Rattle.crack_merge.specs.Loops.{MayEnd, EvictsOver, ended};
 use crack_row::{Bound, KeyRange, Refusal};
 use crack_store::{CarryEnd, Carrying, Store};
 
-/// Carries the pending insertions of a range, each as far as to the ceiling, in the order of arrival; passes over the others once. The ceiling
-/// lies at or above the range's high end, so no row that is evicted is one of these again.
-/// O(1) for each pending row that it passes, and O(log bounds) and the pieces on its way for each that it carries. Where no bound stands and
-/// the range has all keys, it is one loop, with room made once for all; where there is no ceiling and no doomed row is in the way, the rows are
-/// carried in bulk, which goes once through the pieces for all of them.
-/// Refused with 8 where it finds no memory; the rows that it had carried stay where they are.
+/// Carries the pending insertions of a range, each as far as to the ceiling, in the order of arrival; passes over the
+/// others once. The ceiling lies at or above the range's high end, so no row that is evicted is one of these again.
+/// O(1) for each pending row that it passes, and O(log bounds) and the pieces on its way for each that it carries.
+/// Where no bound stands and the range has all keys, it is one loop, with room made once for all; where there is no
+/// ceiling and no doomed row is in the way, the rows are carried in bulk, which goes once through the pieces for all of
+/// them. Refused with 8 where it finds no memory; the rows that it had carried stay where they are.
 pub fn carry_range(
     mut store: Store,
     range: KeyRange,
@@ -49,8 +50,8 @@ pub fn carry_range(
     }
 }
 
-/// The first pending insertion of a range, with which carries of one after the other begin; none where all are carried: since there was none, or
-/// all were carried at once. O(pending insertions).
+/// The first pending insertion of a range, with which carries of one after the other begin; none where all are carried:
+/// since there was none, or all were carried at once. O(pending insertions).
 fn first_to_carry(store: &mut Store, range: KeyRange, ceiling: Option<Bound>) -> Option<usize>
     requires { IsCeiling (ceiling_of ceiling) range }
     ensures carried { IfNone result (CarriesAll (ceiling_of ceiling) range store.old store.new) }
@@ -66,9 +67,10 @@ fn first_to_carry(store: &mut Store, range: KeyRange, ceiling: Option<Bound>) ->
     Some(first)
 }
 
-/// Carries all pending insertions of a range at once, of which `first` is the first; whether it did so. Where no bound stands and the range has
-/// all keys, they are put after the column's last row, else they are carried in bulk, but not under a ceiling. Where it finds no
-/// memory for all of them, it carries none. O(pending insertions), and O(pieces) for each that is carried.
+/// Carries all pending insertions of a range at once, of which `first` is the first; whether it did so. Where no bound
+/// stands and the range has all keys, they are put after the column's last row, else they are carried in bulk, but not
+/// under a ceiling. Where it finds no memory for all of them, it carries none. O(pending insertions), and O(pieces) for
+/// each that is carried.
 pub(crate) fn carry_at_once(
     store: &mut Store,
     range: KeyRange,
@@ -112,9 +114,9 @@ fn append_at_once(store: &mut Store) -> bool
     store.append_all().is_ok()
 }
 
-/// Carries the hand up through the pieces until a rule holds that ends the carry, and returns which. As long as none does, the hand
-/// takes the place where its own piece ends, and the row that stood there is in hand.
-/// O(log bounds) and O(1) for each piece, and the bounds at its place; takes no memory.
+/// Carries the hand up through the pieces until a rule holds that ends the carry, and returns which. As long as none
+/// does, the hand takes the place where its own piece ends, and the row that stood there is in hand. O(log bounds) and
+/// O(1) for each piece, and the bounds at its place; takes no memory.
 pub(crate) fn carry(carrying: &mut Carrying, ceiling: Option<Bound>) -> CarryEnd
     ensures ends { MayEnd result carrying.new }
     ensures evicts { EvictsOver (ceiling_of ceiling) result (hand_key carrying.new) }

@@ -14,9 +14,9 @@ use crack_row::{KeyRange, Refusal};
 use crack_store::{MergeReport, Store};
 
 /// Merges every pending row, if one of them has its key in the range, else none; the range was cracked before.
-/// O(pieces) for each pending row, which takes O(1) to take, and one search for the place of each doomed row.
-/// Refused with 8 where it finds no memory for a pending insertion; the rows that it had put in stay where they are, and no doomed row
-/// is gone but those that they met.
+/// O(pieces) for each pending row, which takes O(1) to take, and one search for the place of each doomed row. Refused
+/// with 8 where it finds no memory for a pending insertion; the rows that it had put in stay where they are, and no
+/// doomed row is gone but those that they met.
 pub fn merge_complete(
     store: Store,
     range: KeyRange,

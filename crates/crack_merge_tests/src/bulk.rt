@@ -25,8 +25,8 @@ impl Numbers {
     }
 }
 
-/// What a store contains: serial, slot and generation of each row of its column, from the last place down, and of its pending insertions in
-/// their order, and the sizes of its pieces.
+/// What a store contains: serial, slot and generation of each row of its column, from the last place down, and of its
+/// pending insertions in their order, and the sizes of its pieces.
 #[derive(Drop, PartialEq, Debug)]
 pub(crate) struct Contents {
     column: Vec<u64>,
@@ -64,7 +64,8 @@ fn hand_of(carrying: &Carrying) -> [u64; 3] {
     [row.serial.0, handle.slot() as u64, handle.generation()]
 }
 
-/// Takes the last row of the column out, and puts it after the pending insertions, or frees it where it is doomed; what it was.
+/// Takes the last row of the column out, and puts it after the pending insertions, or frees it where it is doomed; what
+/// it was.
 pub(crate) fn take_last(rt: &impl Abort, store: Store) -> (Store, [u64; 3]) {
     let mut store = store;
     let len = store.column_len();
@@ -130,8 +131,8 @@ pub(crate) fn contents_of(rt: &impl Abort, alloc: Global, store: Store) -> Conte
     contents
 }
 
-/// Merges up to twelve rows of random keys into a store of random rows: all at once, or one after the other. What it contains then, and what was
-/// counted.
+/// Merges up to twelve rows of random keys into a store of random rows: all at once, or one after the other. What it
+/// contains then, and what was counted.
 fn merged(rt: &impl Abort, alloc: Global, seed: u64, at_once: bool) -> (Contents, MergeReport) {
     let mut numbers = Numbers(seed);
     let keys = numbers.below(60) + 1;

@@ -1,7 +1,8 @@
-//! Carries of a range leave what the carry of each of its rows leaves, where doomed rows are in the way too: each row in its cell, and the free
-//! cells in their order.
+//! Carries of a range leave what the carry of each of its rows leaves, where doomed rows are in the way too: each row
+//! in its cell, and the free cells in their order.
 //!
-//! The test `sweep_..` holds whichever one of its allocations is refused, so it may be run with each of them refused in turn.
+//! The test `sweep_..` holds whichever one of its allocations is refused, so it may be run with each of them refused in
+//! turn.
 ghost use Rattle.std.specs.Prelude.{◌≡◌, ◌<◌, ◌≤◌};
 ghost use Rattle.crack_state.specs.Merge.{IsCracked};
 
@@ -92,7 +93,8 @@ fn carried_each(rt: &impl Abort, store: Store, range: KeyRange, keys: &[u64]) ->
     store
 }
 
-/// Puts a row of this serial and this key among the pending insertions, at the second time where memory was refused once.
+/// Puts a row of this serial and this key among the pending insertions, at the second time where memory was refused
+/// once.
 fn admit(rt: &impl Abort, store: &mut Store, serial: u64, key: KeyNumber) {
     assert_all_keys(rt, store);
     let cells = store.cells();
@@ -118,8 +120,9 @@ fn admit_again(rt: &impl Abort, store: &mut Store, row: Row) {
     assert!(rt; store.admit(row).is_ok());
 }
 
-/// Carries pending insertions of random keys in a store of random rows, of which some are doomed: all at once, or one after the other. What the
-/// store contains once it has six rows more, which take free cells first, and what was counted.
+/// Carries pending insertions of random keys in a store of random rows, of which some are doomed: all at once, or one
+/// after the other. What the store contains once it has six rows more, which take free cells first, and what was
+/// counted.
 fn carried_by(rt: &impl Abort, alloc: Global, seed: u64, at_once: bool) -> (Contents, MergeReport) {
     let mut numbers = Numbers(seed);
     let keys = numbers.below(60) + 1;

@@ -226,7 +226,7 @@ IsSound-served p e next t sound room life fits within said intact faithful spend
       few_freed = omega (arith, tells.freed, sound.few_freed, deleted-push p.past.tail e, updated-push p.past.tail e);
     }
 
--- a partition whose tail is folded
+-- a partition whose history is moved into its base
 pub IsSound-folded : (p : Part) → IsSound p → IsSound (folded_part p)
 IsSound-folded p sound =
     let keys : All (λ (row : Row). IsIn p.keys row.key.0) (live_rows p.store) = rw (← sound.ends) (live_rows-within p.store sound.intact) in

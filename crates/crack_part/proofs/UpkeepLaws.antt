@@ -10,7 +10,7 @@ use Rattle.crack_plain.proofs.PastLaws.{state_after-push}
 use Rattle.crack_part.specs.Refusals.{table_of}
 use Rattle.crack_part.specs.Upkeep.{is_automatic, is_full, is_due, upkept}
 
--- the plain table to which the next command is added: folded, where a checkpoint is due
+-- the plain table to which the next command is added: checkpointed, where a checkpoint is due
 abbrev pub upkept_table : Limits → PlainView → PlainView
 upkept_table limits table = if is_due limits table.since then checkpointed table else table
 

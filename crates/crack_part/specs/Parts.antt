@@ -47,8 +47,8 @@ pub record IsFaithful (store : State) (next : ℕ) (plain : PlainState) : Type 0
   pub serial : next ≡ plain.next
 
 -- the partition's fact: each kept reply is that of the plain rows, every cell stands in one place and every bound is obeyed, the live rows
--- are the plain rows, and there are no more cells than their limit, nor than commands folded and rows placed and changed since, nor more
--- freed or doomed than commands folded and rows gone and changed since
+-- are the plain rows, and there are no more cells than their limit, nor than commands checkpointed and rows placed and changed since, nor more
+-- freed or doomed than commands checkpointed and rows gone and changed since
 pub record IsSound (part : Part) : Type 0 where
   pub limited : AreLimits part.limits
   pub legal : IsLegal part.keys part.limits part.past
@@ -59,7 +59,7 @@ pub record IsSound (part : Part) : Type 0 where
   pub few_cells : length part.store.cells ≤ part.past.base.folded + inserted part.past.tail + updated part.past.tail
   pub few_freed : freed_of part.store.cells + length part.store.pending_out ≤ part.past.base.folded + deleted part.past.tail + updated part.past.tail
 
--- a partition whose tail is folded into its base, and of which nothing else is changed
+-- a partition whose history is moved into its base, and of which nothing else is changed
 abbrev pub folded_part : Part → Part
 folded_part part = record part { past = folded part.past }
 

@@ -17,7 +17,7 @@ use Rattle.crack_state.specs.Points.{pending_by}
 use Rattle.crack_part.specs.Parts.{Part}
 use Rattle.crack_part.specs.Upkeep.{is_full}
 
--- the plain rows that a past left, how many commands its base comes to, and how many entries its tail has
+-- the plain rows that a past left, how many commands its base comes to, and how many entries its history has
 abbrev pub table_of : Past → PlainView
 table_of past = record { state = state_after past; folded = past.base.folded; since = length past.tail }
 

@@ -18,6 +18,6 @@ is_full limits entries = nat_le limits.history entries && not (is_automatic limi
 abbrev pub is_due : Limits → ℕ → Bool
 is_due limits entries = nat_le limits.history entries && is_automatic limits.upkeep
 
--- the past to which the next command is added: folded, where a checkpoint is due
+-- the past to which the next command is added: checkpointed, where a checkpoint is due
 abbrev pub upkept : Limits → Past → Past
 upkept limits past = if is_due limits (length past.tail) then folded past else past

@@ -4,11 +4,11 @@ ghost use Rattle.std.specs.Prelude.{◌≡◌, ◌<◌, ◌++◌, [], ◌∷◌,
 use crack_row::{Entry, Refusal};
 use std::alloc::Global;
 
-/// How many entries a history has room for at first: so large a block of memory is mapped by itself, so that it grows without being copied,
-/// and what isn't used of it takes no memory.
+/// How many entries a history has room for at first: so large a block of memory is mapped by itself, so that it grows
+/// without being copied, and what isn't used of it takes no memory.
 const FIRST_ENTRIES: usize = 2048;
 
-/// For how many entries a history that was folded keeps its room.
+/// For how many entries a history that was checkpointed keeps its room.
 const KEPT_ENTRIES: usize = 4096;
 
 /// Makes room for one entry: O(1), amortised. Takes no memory where there is room.

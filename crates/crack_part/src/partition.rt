@@ -1,5 +1,6 @@
 //! Commands and their history.
-ghost use Rattle.std.specs.Prelude.{◌≡◌, ◌⊎◌, None, Some, ◌+◌, ◌<◌, ◌≤◌, ◌^◌, List, [], ◌∷◌, ◌++◌, length, map, filter, true, false, IsOk, IfOk, IfErr, IfSome, OnErr, OnOk, Err, vec_len, vec_capacity};
+ghost use Rattle.std.specs.Prelude.{◌≡◌, ◌⊎◌, None, Some, ◌+◌, ◌<◌, ◌≤◌, ◌^◌, List, [], ◌∷◌, ◌++◌, length, map, filter};
+ghost use Rattle.std.specs.Prelude.{true, false, IsOk, IfOk, IfErr, IfSome, OnErr, OnOk, Err, vec_len, vec_capacity};
 ghost use Rattle.std.specs.List.Sorted.{IsPermutation};
 ghost use Rattle.crack_row.specs.Commands.{change_of, key_of, range_of};
 ghost use Rattle.crack_row.specs.Ranges.{IsIn};
@@ -16,7 +17,9 @@ ghost use Rattle.crack_state.specs.Points.{pending_by, MayFree, IsRenewable, Rem
 ghost use Rattle.crack_state.specs.Merge.{IsCracked, IsSettled, Merges, Tallies};
 ghost use Rattle.crack_merge.specs.Merges.{Stops};
 ghost use Rattle.crack_store.specs.Inside.{no_cells, IsLayoutOf};
-ghost use Rattle.crack_part.specs.Parts.{state_of, folded_part, IsLimit, IsSound, IsFaithful, LeavesNear, has_many_pending, is_merged_first, read_by, CracksAndMerges, Readies, Settles, StopsAt, StopsRead, Serves, Spares, Prepares, Performs, placed};
+ghost use Rattle.crack_part.specs.Parts.{state_of, folded_part, IsLimit, IsSound, IsFaithful, LeavesNear};
+ghost use Rattle.crack_part.specs.Parts.{has_many_pending, is_merged_first, read_by, CracksAndMerges, Readies, Settles};
+ghost use Rattle.crack_part.specs.Parts.{StopsAt, StopsRead, Serves, Spares, Prepares, Performs, placed};
 ghost use Rattle.crack_part.specs.Refusals.{is_key_in, takes_cell, lacks_cell, refusal_of};
 ghost use Rattle.crack_part.specs.Upkeep.{is_automatic, is_full, upkept};
 ghost use Rattle.crack_part.specs.Inside.{IsCommon, AreCommon, MayPerform, base_of};
@@ -35,8 +38,8 @@ use std::alloc::Global;
 use std::marker::Model;
 use std::mem;
 
-/// What commands that are kept no more left: the rows, in rising serial (24 bytes each), how many commands these were, and how many
-/// rows they placed and took out.
+/// What commands that are kept no more left: the rows, in rising serial (24 bytes each), how many commands these were,
+/// and how many rows they placed and took out.
 #[derive(Drop)]
 struct Base {
     rows: Vec<Row>,
@@ -53,9 +56,9 @@ struct Fold {
     fresh: Option<Vec<Entry>>,
 }
 
-/// The rows whose keys lie in one range, and every command that was answered since the last checkpoint, with the worker who asked and the
-/// reply, after a base: what the commands before it left. Contracts see besides what stands where in the store of its rows; the plain rows
-/// are those after the history, from the base on.
+/// The rows whose keys lie in one range, and every command that was answered since the last checkpoint, with the worker
+/// who asked and the reply, after a base: what the commands before it left. Contracts see besides what stands where in
+/// the store of its rows; the plain rows are those after the history, from the base on.
 #[derive(Drop)]
 pub struct Partition {
     alloc: Global,
@@ -72,9 +75,37 @@ impl Model for Partition {
 
     ghost Value = { Part };
 
-    ghost view = { λ p. record { keys = p.keys; limits = p.limits; past = record { base = record { state = record { rows = p.base.rows.items; next = p.base.placed }; folded = p.base.folded; placed = p.base.placed; gone = p.base.gone }; tail = p.history.items }; next = p.next; store = p.store } };
+    ghost view = { λ p. record {
+      keys = p.keys;
+      limits = p.limits;
+      past = record {
+        base = record {
+          state = record { rows = p.base.rows.items; next = p.base.placed };
+          folded = p.base.folded;
+          placed = p.base.placed;
+          gone = p.base.gone;
+        };
+        tail = p.history.items;
+      };
+      next = p.next;
+      store = p.store;
+    } };
 
-    ghost invariant = { λ p. let part : Part = record { keys = p.keys; limits = p.limits; past = record { base = record { state = record { rows = p.base.rows.items; next = p.base.placed }; folded = p.base.folded; placed = p.base.placed; gone = p.base.gone }; tail = p.history.items }; next = p.next; store = p.store } in IsSound part };
+    ghost invariant = { λ p. let part : Part = record {
+      keys = p.keys;
+      limits = p.limits;
+      past = record {
+        base = record {
+          state = record { rows = p.base.rows.items; next = p.base.placed };
+          folded = p.base.folded;
+          placed = p.base.placed;
+          gone = p.base.gone;
+        };
+        tail = p.history.items;
+      };
+      next = p.next;
+      store = p.store;
+    } in IsSound part };
 }
 
 impl Partition {
@@ -128,7 +159,8 @@ impl Partition {
         let _ = &self.store;
     }
 
-    /// Every command that was answered since the last checkpoint, in order: reads and commands that found no row among them.
+    /// Every command that was answered since the last checkpoint, in order: reads and commands that found no row among
+    /// them.
     pub fn history(&self) -> &[Entry]
         ensures value { result.now ≡ self.now.past.tail }
         ensures legal { IsLegal self.now.keys self.now.limits self.now.past }
@@ -172,9 +204,10 @@ impl Partition {
         self.base.folded + self.history.len() as u64
     }
 
-    /// Makes its rows the base, and empties its history: how many entries went. It cracks and merges nothing, and changes no reply to
-    /// come. Refused with 8 where it finds no memory; all is then as it was. As `Store::live_rows` it is O(cells), and O(n log n) for n rows
-    /// where serials don't rise with the cells; what the history took is given back, but for the room of `KEPT_ENTRIES` entries.
+    /// Makes its rows the base, and empties its history: how many entries went. It cracks and merges nothing, and
+    /// changes no reply to come. Refused with 8 where it finds no memory; all is then as it was. As `Store::live_rows`
+    /// it is O(cells), and O(n log n) for n rows where serials don't rise with the cells; what the history took is
+    /// given back, but for the room of `KEPT_ENTRIES` entries.
     pub fn checkpoint(&mut self) -> Result<u64, Refusal>
         ensures ok { IfOk result (λ count. count ≡ length self.old.past.tail) }
         ensures folded { OnOk result (self.new ≡ folded_part self.old) }
@@ -190,7 +223,8 @@ impl Partition {
 
     /// Takes what a checkpoint needs of memory: the base that it comes to, and the list of a history that begins anew.
     fn fold(&self) -> Result<Fold, Refusal>
-        ensures base { IfOk result (λ fold. base_of fold.base.rows.items fold.base.folded fold.base.placed fold.base.gone ≡ base_after self.now.past) }
+        ensures base { IfOk result (λ fold. base_of fold.base.rows.items fold.base.folded fold.base.placed
+            fold.base.gone ≡ base_after self.now.past) }
         ensures fresh { IfOk result (λ fold. IfSome fold.fresh (λ list. (list.items ≡ []) × (0 < vec_capacity list))) }
         ensures err { IfErr result (λ e. e ≡ Refusal.OutOfMemory) }
     {
@@ -251,15 +285,16 @@ impl Partition {
         self.store.layout()
     }
 
-    /// Answers one command of a worker and keeps it in the history. The second reply is a copy, for a receipt. Where the history is full
-    /// and upkeep is automatic, it makes a checkpoint first, as `checkpoint` does. Refused, in this order: with 4 where the command brings
-    /// a key that isn't the partition's, with 6 where the history is full and upkeep is on request, with 10 where it has accepted as many
-    /// commands as its life, with 9 where an insert, or an update of a row of the column, finds no free cell and as many cells as their
-    /// limit, with 8 where no memory is found. After 4, 6, 10 and 9 nothing has changed. After 8 no checkpoint is made; a command that
-    /// reads no range has changed nothing, and one that reads a range has at most cracked the column at its ends and merged in part, or in
-    /// whole. An insert, a delete and an update are O(1), amortised. A command that reads a range cracks the pieces in which its ends fall
-    /// and merges by the policy what its range needs; a count is then O(log pieces), a sum O(m), and a select O(m log m) for m rows in the
-    /// range.
+    /// Answers one command of a worker and keeps it in the history. The second reply is a copy, for a receipt. Where
+    /// the history is full and upkeep is automatic, it makes a checkpoint first, as `checkpoint` does. Refused, in this
+    /// order: with 4 where the command brings a key that isn't the partition's, with 6 where the history is full and
+    /// upkeep is on request, with 10 where it has accepted as many commands as its life, with 9 where an insert, or an
+    /// update of a row of the column, finds no free cell and as many cells as their limit, with 8 where no memory is
+    /// found. After 4, 6, 10 and 9 nothing has changed. After 8 no checkpoint is made; a command that reads no range
+    /// has changed nothing, and one that reads a range has at most cracked the column at its ends and merged in part,
+    /// or in whole. An insert, a delete and an update are O(1), amortised. A command that reads a range cracks the
+    /// pieces in which its ends fall and merges by the policy what its range needs; a count is then O(log pieces), a
+    /// sum O(m), and a select O(m log m) for m rows in the range.
     #[inline(always)]
     pub fn apply(
         &mut self,
@@ -267,9 +302,11 @@ impl Partition {
         command: Command,
         policy: Policy,
     ) -> Result<(Reply, Reply), Refusal>
-        ensures replies { IfOk result (λ replies. (replies.0 ≡ reply_to (state_of self.old) command) × (replies.1 ≡ replies.0)) }
+        ensures replies { IfOk result (λ replies. (replies.0 ≡ reply_to (state_of self.old) command) ×
+            (replies.1 ≡ replies.0)) }
         ensures small { IfOk result (λ replies. IsSmall replies.0) }
-        ensures kept { IfOk result (λ replies. self.new.past ≡ with_entry (upkept self.old.limits self.old.past) (record { worker = worker; command = command; reply = replies.0 })) }
+        ensures kept { IfOk result (λ replies. self.new.past ≡ with_entry (upkept self.old.limits self.old.past)
+            (record { worker = worker; command = command; reply = replies.0 })) }
         ensures state { OnOk result (state_of self.new ≡ after (state_of self.old) command) }
         ensures store { OnOk result (Serves policy self.old.keys self.old.next command self.old.store self.new.store) }
         ensures opened { (self.new.keys ≡ self.old.keys) × (self.new.limits ≡ self.old.limits) }
@@ -304,8 +341,8 @@ impl Partition {
         Ok((copies.reply, copies.receipt))
     }
 
-    /// Answers a command where the history is full. What comes of it has its place in memory here, so that where `apply` begins none is
-    /// cleared for it.
+    /// Answers a command where the history is full. What comes of it has its place in memory here, so that where
+    /// `apply` begins none is cleared for it.
     #[inline(always)]
     fn apply_apart(
         &mut self,
@@ -314,9 +351,11 @@ impl Partition {
         policy: Policy,
     ) -> Result<(Reply, Reply), Refusal>
         requires full { self.old.limits.history ≤ length self.old.past.tail }
-        ensures replies { IfOk result (λ replies. (replies.0 ≡ reply_to (state_of self.old) command) × (replies.1 ≡ replies.0)) }
+        ensures replies { IfOk result (λ replies. (replies.0 ≡ reply_to (state_of self.old) command) ×
+            (replies.1 ≡ replies.0)) }
         ensures small { IfOk result (λ replies. IsSmall replies.0) }
-        ensures kept { IfOk result (λ replies. self.new.past ≡ with_entry (upkept self.old.limits self.old.past) (record { worker = worker; command = command; reply = replies.0 })) }
+        ensures kept { IfOk result (λ replies. self.new.past ≡ with_entry (upkept self.old.limits self.old.past)
+            (record { worker = worker; command = command; reply = replies.0 })) }
         ensures state { OnOk result (state_of self.new ≡ after (state_of self.old) command) }
         ensures store { OnOk result (Serves policy self.old.keys self.old.next command self.old.store self.new.store) }
         ensures opened { (self.new.keys ≡ self.old.keys) × (self.new.limits ≡ self.old.limits) }
@@ -329,7 +368,8 @@ impl Partition {
         handed_on(self.apply_when_full(worker, command, policy))
     }
 
-    /// Answers a command where the history is full, as `apply` does. What a checkpoint needs of memory is taken before the command is answered.
+    /// Answers a command where the history is full, as `apply` does. What a checkpoint needs of memory is taken before
+    /// the command is answered.
     #[inline(never)]
     fn apply_when_full(
         &mut self,
@@ -338,9 +378,11 @@ impl Partition {
         policy: Policy,
     ) -> Result<(Reply, Reply), Refusal>
         requires full { self.old.limits.history ≤ length self.old.past.tail }
-        ensures replies { IfOk result (λ replies. (replies.0 ≡ reply_to (state_of self.old) command) × (replies.1 ≡ replies.0)) }
+        ensures replies { IfOk result (λ replies. (replies.0 ≡ reply_to (state_of self.old) command) ×
+            (replies.1 ≡ replies.0)) }
         ensures small { IfOk result (λ replies. IsSmall replies.0) }
-        ensures kept { IfOk result (λ replies. self.new.past ≡ with_entry (upkept self.old.limits self.old.past) (record { worker = worker; command = command; reply = replies.0 })) }
+        ensures kept { IfOk result (λ replies. self.new.past ≡ with_entry (upkept self.old.limits self.old.past)
+            (record { worker = worker; command = command; reply = replies.0 })) }
         ensures state { OnOk result (state_of self.new ≡ after (state_of self.old) command) }
         ensures store { OnOk result (Serves policy self.old.keys self.old.next command self.old.store self.new.store) }
         ensures opened { (self.new.keys ≡ self.old.keys) × (self.new.limits ≡ self.old.limits) }
@@ -459,23 +501,29 @@ fn answer(
 ) -> Result<Reply, Refusal>
     requires ends { store.old.keys ≡ keys }
     requires intact { IsIntact store.old [] }
-    requires admissible { (ready : State) → Prepares policy keys (range_of command.now) store.old ready → MayPerform next.old (change_of command.now) ready }
+    requires admissible { (ready : State) → Prepares policy keys (range_of command.now) store.old ready →
+        MayPerform next.old (change_of command.now) ready }
     requires small { next.old + 1 < 2 ^ 64 }
-    ensures replies { IfOk result (λ reply. (plain : PlainState) → IsNumbered plain → IsFaithful store.old next.old plain → reply ≡ reply_to plain command.now) }
-    ensures small { IfOk result (λ reply. (plain : PlainState) → IsNumbered plain → IsFaithful store.old next.old plain → length plain.rows < 2 ^ 32 → IsSmall reply) }
-    ensures lists { IfOk result (λ reply. (Prepares policy keys (range_of command.now) store.old store.new × (next.new ≡ next.old)) ⊎ IsFlat reply) }
+    ensures replies { IfOk result (λ reply. (plain : PlainState) → IsNumbered plain → IsFaithful store.old next.old
+        plain → reply ≡ reply_to plain command.now) }
+    ensures small { IfOk result (λ reply. (plain : PlainState) → IsNumbered plain → IsFaithful store.old next.old plain
+        → length plain.rows < 2 ^ 32 → IsSmall reply) }
+    ensures lists { IfOk result (λ reply. (Prepares policy keys (range_of command.now) store.old store.new ×
+        (next.new ≡ next.old)) ⊎ IsFlat reply) }
     ensures served { OnOk result (Serves policy keys next.old command.now store.old store.new) }
-    ensures faithful { OnOk result ((plain : PlainState) → IsFaithful store.old next.old plain → IsFaithful store.new next.new (after plain command.now)) }
+    ensures faithful { OnOk result ((plain : PlainState) → IsFaithful store.old next.old plain →
+        IsFaithful store.new next.new (after plain command.now)) }
     ensures intact { OnOk result (IsIntact store.new []) }
-    ensures spared { OnErr result (Spares policy keys (range_of command.now) store.old store.new × (next.new ≡ next.old)) }
+    ensures spared { OnErr result (Spares policy keys (range_of command.now) store.old store.new ×
+        (next.new ≡ next.old)) }
     ensures err { IfErr result (λ e. e ≡ Refusal.OutOfMemory) }
 {
     let common = prepare(store, alloc, keys, command.range(), policy)?;
     carry_out(store, next, alloc, command, common)
 }
 
-/// Reads a range, if there is one, as far as it is within the keys: where none of them is in it, nothing is cracked or merged.
-/// What the range has in common with the keys, if anything.
+/// Reads a range, if there is one, as far as it is within the keys: where none of them is in it, nothing is cracked or
+/// merged. What the range has in common with the keys, if anything.
 #[inline(always)]
 fn prepare(
     store: &mut Store,
@@ -504,8 +552,9 @@ fn prepare(
     }
 }
 
-/// Replies to a command where the store is settled for what its range has in common with the keys, and makes its change, where the
-/// next row gets this serial. Refused with 8 where no memory is found: for a list, or for a row that is placed, removed or rewritten.
+/// Replies to a command where the store is settled for what its range has in common with the keys, and makes its
+/// change, where the next row gets this serial. Refused with 8 where no memory is found: for a list, or for a row that
+/// is placed, removed or rewritten.
 #[inline(always)]
 fn carry_out(
     store: &mut Store,
@@ -519,11 +568,14 @@ fn carry_out(
     requires intact { IsIntact store.old [] }
     requires admissible { MayPerform next.old (change_of command.now) store.old }
     requires small { next.old + 1 < 2 ^ 64 }
-    ensures reply { IfOk result (λ reply. (plain : PlainState) → IsNumbered plain → IsFaithful store.old next.old plain → reply ≡ reply_to plain command.now) }
+    ensures reply { IfOk result (λ reply. (plain : PlainState) → IsNumbered plain → IsFaithful store.old next.old plain
+        → reply ≡ reply_to plain command.now) }
     ensures flat { IfOk result (λ reply. (change_of command.now ≡ None) ⊎ IsFlat reply) }
-    ensures small { IfOk result (λ reply. (plain : PlainState) → IsNumbered plain → IsFaithful store.old next.old plain → length plain.rows < 2 ^ 32 → IsSmall reply) }
+    ensures small { IfOk result (λ reply. (plain : PlainState) → IsNumbered plain → IsFaithful store.old next.old plain
+        → length plain.rows < 2 ^ 32 → IsSmall reply) }
     ensures performed { OnOk result (Performs next.old (change_of command.now) store.old store.new) }
-    ensures faithful { OnOk result ((plain : PlainState) → IsFaithful store.old next.old plain → IsFaithful store.new next.new (after plain command.now)) }
+    ensures faithful { OnOk result ((plain : PlainState) → IsFaithful store.old next.old plain →
+        IsFaithful store.new next.new (after plain command.now)) }
     ensures intact { OnOk result (IsIntact store.new []) }
     ensures none { change_of command.now ≡ None → (store.new ≡ store.old) × (next.new ≡ next.old) }
     ensures same { OnErr result (SameButRoom store.old store.new × (next.new ≡ next.old)) }
@@ -564,8 +616,8 @@ fn handed_on(answered: Result<(Reply, Reply), Refusal>) -> Result<(Reply, Reply)
     }
 }
 
-/// Settles the store for a range. Under `Policy::Auto` all pending rows are merged first where many insertions are pending, as a count of all keys
-/// under `Policy::Complete` does, and the range is then read under `Policy::Ripple`.
+/// Settles the store for a range. Under `Policy::Auto` all pending rows are merged first where many insertions are
+/// pending, as a count of all keys under `Policy::Complete` does, and the range is then read under `Policy::Ripple`.
 #[inline(never)]
 fn settle(
     store: &mut Store,
@@ -597,7 +649,8 @@ fn make_ready(
     requires ends { store.old.keys ≡ keys }
     requires filled { keys.low < keys.high }
     ensures ready { OnOk result (Readies policy store.old store.new) }
-    ensures stopped { OnErr result ((is_merged_first policy store.old ≡ true) × StopsAt Policy.Complete store.old store.new store.old.keys) }
+    ensures stopped { OnErr result ((is_merged_first policy store.old ≡ true) × StopsAt Policy.Complete store.old
+        store.new store.old.keys) }
     ensures err { IfErr result (λ e. e ≡ Refusal.OutOfMemory) }
 {
     if is_merged_first(policy, store) {
@@ -653,7 +706,8 @@ fn crack_and_merge(
     }
 }
 
-/// Merges by the policy what a range needs by whose ends the store was cracked; `Policy::Auto` merges as `Policy::Ripple` here.
+/// Merges by the policy what a range needs by whose ends the store was cracked; `Policy::Auto` merges as
+/// `Policy::Ripple` here.
 fn merge(
     store: Store,
     range: KeyRange,
@@ -677,7 +731,8 @@ fn merge(
     }
 }
 
-/// Whether so many insertions are pending that merging all of them is expected to cost less than passing over them again and again. O(1).
+/// Whether so many insertions are pending that merging all of them is expected to cost less than passing over them
+/// again and again. O(1).
 fn has_many_pending(store: &Store) -> bool
     ensures { result ≡ has_many_pending store.now }
 {
@@ -693,7 +748,8 @@ fn place(store: &mut Store, next: &mut u64, key: Key, payload: Payload) -> Resul
     requires small { next.old + 1 < 2 ^ 64 }
     ensures reply { IfOk result (λ reply. reply ≡ Reply.Placed (record { 0 = next.old })) }
     ensures placed { OnOk result (SameButRoom (admitted (placed next.old key payload) store.old) store.new) }
-    ensures faithful { OnOk result ((plain : PlainState) → IsFaithful store.old next.old plain → IsFaithful store.new next.new (after plain (Command.Insert key payload))) }
+    ensures faithful { OnOk result ((plain : PlainState) → IsFaithful store.old next.old plain →
+        IsFaithful store.new next.new (after plain (Command.Insert key payload))) }
     ensures intact { OnOk result (IsIntact store.new []) }
     ensures same { OnErr result (SameButRoom store.old store.new × (next.new ≡ next.old)) }
     ensures err { IfErr result (λ e. e ≡ Refusal.OutOfMemory) }
@@ -713,11 +769,13 @@ fn place(store: &mut Store, next: &mut u64, key: Key, payload: Payload) -> Resul
 #[inline(never)]
 fn remove(store: &mut Store, serial: Serial) -> Result<Reply, Refusal>
     requires few { MayFree store.old }
-    ensures reply { IfOk result (λ reply. (plain : List Row) → IsPermutation (live_rows store.old) plain → reply ≡ gone (row_in plain serial)) }
+    ensures reply { IfOk result (λ reply. (plain : List Row) → IsPermutation (live_rows store.old) plain → reply ≡
+        gone (row_in plain serial)) }
     ensures flat { IfOk result (λ reply. IsFlat reply) }
     ensures small { IfOk result (λ reply. IsSmall reply) }
     ensures removed { OnOk result (Removes (pending_by store.old serial.0) serial.0 store.old store.new) }
-    ensures live { OnOk result ((plain : List Row) → IsPermutation (live_rows store.old) plain → IsPermutation (live_rows store.new) (filter (is_other serial.0) plain)) }
+    ensures live { OnOk result ((plain : List Row) → IsPermutation (live_rows store.old) plain →
+        IsPermutation (live_rows store.new) (filter (is_other serial.0) plain)) }
     ensures intact { OnOk result (IsIntact store.new []) }
     ensures same { OnErr result (SameButRoom store.old store.new) }
     ensures err { IfErr result (λ e. e ≡ Refusal.OutOfMemory) }
@@ -733,11 +791,13 @@ fn remove(store: &mut Store, serial: Serial) -> Result<Reply, Refusal>
 fn rewrite(store: &mut Store, row: Row) -> Result<Reply, Refusal>
     requires within { IsIn store.old.keys row.key.0 }
     requires renewable { IsRenewable store.old }
-    ensures reply { IfOk result (λ reply. (plain : List Row) → IsPermutation (live_rows store.old) plain → reply ≡ rewritten (row_in plain row.serial)) }
+    ensures reply { IfOk result (λ reply. (plain : List Row) → IsPermutation (live_rows store.old) plain → reply ≡
+        rewritten (row_in plain row.serial)) }
     ensures flat { IfOk result (λ reply. IsFlat reply) }
     ensures small { IfOk result (λ reply. IsSmall reply) }
     ensures replaced { OnOk result (Rewrites (pending_by store.old row.serial.0) row store.old store.new) }
-    ensures live { OnOk result ((plain : List Row) → IsPermutation (live_rows store.old) plain → IsPermutation (live_rows store.new) (map (replaced row) plain)) }
+    ensures live { OnOk result ((plain : List Row) → IsPermutation (live_rows store.old) plain →
+        IsPermutation (live_rows store.new) (map (replaced row) plain)) }
     ensures intact { OnOk result (IsIntact store.new []) }
     ensures same { OnErr result (SameButRoom store.old store.new) }
     ensures err { IfErr result (λ e. e ≡ Refusal.OutOfMemory) }

@@ -12,12 +12,13 @@ use crack_row::{KeyRange, Refusal, Row};
 use crack_store::Store;
 use std::alloc::Global;
 
-/// How many rows have their key in a range: the difference of two places of the column, which is settled for what is common to the
-/// range and the keys.
+/// How many rows have their key in a range: the difference of two places of the column, which is settled for what is
+/// common to the range and the keys.
 #[inline(never)]
 pub(crate) fn count(store: &Store, common: Option<KeyRange>) -> u64
     requires settled { IfSome common (λ r. IsSettled store.now r) }
-    ensures { (range : Range) → IsCommon range store.now.keys common → (plain : List Row) → IsPermutation (live_rows store.now) plain → result ≡ count_by (in_range range) plain }
+    ensures { (range : Range) → IsCommon range store.now.keys common → (plain : List Row) →
+        IsPermutation (live_rows store.now) plain → result ≡ count_by (in_range range) plain }
 {
     store.facts();
     match common {
@@ -26,11 +27,13 @@ pub(crate) fn count(store: &Store, common: Option<KeyRange>) -> u64
     }
 }
 
-/// The sum of the payloads of the rows whose key is in a range: of those between two places of the column, as for a count.
+/// The sum of the payloads of the rows whose key is in a range: of those between two places of the column, as for a
+/// count.
 #[inline(never)]
 pub(crate) fn sum(store: &Store, common: Option<KeyRange>) -> i128
     requires settled { IfSome common (λ r. IsSettled store.now r) }
-    ensures is { (range : Range) → IsCommon range store.now.keys common → (plain : List Row) → IsPermutation (live_rows store.now) plain → result ≡ sum_of (rows_in range plain) }
+    ensures is { (range : Range) → IsCommon range store.now.keys common → (plain : List Row) →
+        IsPermutation (live_rows store.now) plain → result ≡ sum_of (rows_in range plain) }
     ensures small { (neg_ℤ (pos (2 ^ 96)) <ℤ result) × (result <ℤ pos (2 ^ 96)) }
 {
     store.facts();
@@ -49,7 +52,8 @@ pub(crate) fn select(
     common: Option<KeyRange>,
 ) -> Result<Vec<Row>, Refusal>
     requires settled { IfSome common (λ r. IsSettled store.now r) }
-    ensures rows { IfOk result (λ rows. (range : Range) → IsCommon range store.now.keys common → (plain : PlainState) → IsNumbered plain → IsPermutation (live_rows store.now) plain.rows → rows.items ≡ rows_in range plain.rows) }
+    ensures rows { IfOk result (λ rows. (range : Range) → IsCommon range store.now.keys common → (plain : PlainState) →
+        IsNumbered plain → IsPermutation (live_rows store.now) plain.rows → rows.items ≡ rows_in range plain.rows) }
     ensures err { IfErr result (λ e. e ≡ Refusal.OutOfMemory) }
 {
     store.facts();

@@ -49,7 +49,7 @@ module _ {X : Type 0} where
             get_or-set_other new low k x d ne ∙ moved.rest k d (omega (arith, after));
       }
 
-  -- a hole stays behind
+  -- a hole stays
   pub moved_hole : (bs : List Bool) (old new : List X) (spot low : ℕ) → spot < length bs → get_or bs spot false ≡ false → AreMoved bs old new spot low → AreMoved bs old new (spot + 1) low
   moved_hole bs old new spot low within hole moved =
       let more : place_at bs (spot + 1) ≡ place_at bs spot + 0 = rw hole at (place_at-more bs spot within) in

@@ -1,5 +1,6 @@
 //! Rows that a pass over codes found ahead of the one that was asked for, so that the next is at hand.
-ghost use Rattle.std.specs.Prelude.{◌≡◌, ◌+◌, ◌-◌, ◌<◌, ◌≤◌, ℕ, length, List, [], nat_lt, slice_index, slice_set, vec_len, vec_capacity};
+ghost use Rattle.std.specs.Prelude.{◌≡◌, ◌+◌, ◌-◌, ◌<◌, ◌≤◌, ℕ, length, List, [], nat_lt, slice_index, slice_set};
+ghost use Rattle.std.specs.Prelude.{vec_len, vec_capacity};
 ghost use Rattle.crack_pending.specs.Keeps.{place_at};
 ghost use Rattle.crack_pending.specs.Inside.{Lies};
 ghost use Rattle.crack_pending.specs.Ahead.{AreAhead, IsAhead, IsGathered, IsNext, candidate_at, marks_of};
@@ -34,8 +35,9 @@ pub(crate) struct Ahead {
     to: usize,
     candidates: Vec<Candidate>,
     next: usize,
-    /// Whether the cells of the candidates were read, and how many of them have a row. Nobody asks for the number: it is that they are read at once,
-    /// so that whoever takes the rows doesn't wait for the memory of one cell after the other.
+    /// Whether the cells of the candidates were read, and how many of them have a row. Nobody asks for the number: it
+    /// is that they are read at once, so that whoever takes the rows doesn't wait for the memory of one cell after the
+    /// other.
     is_warm: bool,
     live: usize,
 }
@@ -82,7 +84,8 @@ impl Ahead {
         self.candidates.shrink_to(0);
     }
 
-    /// Says that the row at the spot goes: the next candidate is passed if it is that one; a hole before it makes all to be found anew.
+    /// Says that the row at the spot goes: the next candidate is passed if it is that one; a hole before it makes all
+    /// to be found anew.
     pub(crate) fn leave_hole(&mut self, spot: usize)
         ensures { (codes : List ℕ) → IsAhead codes self.old → IsAhead (slice_set codes spot 65535) self.new }
     {
@@ -100,7 +103,8 @@ impl Ahead {
         self.forget();
     }
 
-    /// The first candidate from a spot on; where there is none up to a spot, that one. Where it finds no memory it looks no further.
+    /// The first candidate from a spot on; where there is none up to a spot, that one. Where it finds no memory it
+    /// looks no further.
     pub(crate) fn seek(&mut self, codes: &[u16], first: u16, last: u16, start: usize) -> Candidate
         requires order { first ≤ last }
         requires low { last < 65535 }
@@ -156,7 +160,8 @@ impl Ahead {
         ensures first { self.new.first ≡ self.old.first }
         ensures last { self.new.last ≡ self.old.last }
         ensures from { self.old.from ≤ self.new.from }
-        ensures passed { (spot : ℕ) → self.old.from ≤ spot → spot < self.new.from → ¬ Lies self.old.first self.old.last (slice_index codes.now spot) }
+        ensures passed { (spot : ℕ) → self.old.from ≤ spot → spot < self.new.from → ¬ Lies self.old.first self.old.last
+            (slice_index codes.now spot) }
     {
         if self.next < self.candidates.len() {
             return;
@@ -191,7 +196,8 @@ impl Ahead {
 
     /// The next candidate; where there is none, the spot up to which there is none.
     fn near(&self) -> Candidate
-        ensures { (codes : List ℕ) → IsAhead codes self.now → IsNext codes self.now.first self.now.last self.now.from result }
+        ensures { (codes : List ℕ) → IsAhead codes self.now → IsNext codes self.now.first self.now.last
+            self.now.from result }
     {
         if self.next < self.candidates.len() {
             return self.candidates[self.next];
@@ -249,8 +255,8 @@ fn rows_in_codes(codes: &[u16]) -> u16
     rows
 }
 
-/// Puts the candidates from one spot up to another behind the others, where so many rows stand since the last. Returns the same of what comes
-/// next: since when, and how many rows.
+/// Puts the candidates from one spot up to another behind the others, where so many rows stand since the last. Returns
+/// the same of what comes next: since when, and how many rows.
 fn gather_between(
     candidates: &mut Vec<Candidate>,
     codes: &[u16],
@@ -290,7 +296,8 @@ fn gather_between(
     (after, more)
 }
 
-/// Puts the candidates from a spot on into the list, as many as it has room for, and returns up to where they are found.
+/// Puts the candidates from a spot on into the list, as many as it has room for, and returns up to where they are
+/// found.
 fn gather(
     candidates: &mut Vec<Candidate>,
     codes: &[u16],

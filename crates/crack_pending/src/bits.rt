@@ -1,5 +1,6 @@
 //! A set of numbers, a bit for each: that of half a million cells stays in the first caches.
-ghost use Rattle.std.specs.Prelude.{◌≡◌, ◌≢◌, ◌*◌, ◌<◌, ◌≤◌, ◌↔◌, [], ℕ, length, vec_len, slice_index, IsTrue, IfErr, OnOk};
+ghost use Rattle.std.specs.Prelude.{◌≡◌, ◌≢◌, ◌*◌, ◌<◌, ◌≤◌, ◌↔◌, [], ℕ, length, vec_len, slice_index, IsTrue, IfErr};
+ghost use Rattle.std.specs.Prelude.{OnOk};
 ghost use Rattle.crack_pending.specs.Keeps.{Has};
 
 use crack_row::Refusal;
@@ -36,7 +37,8 @@ impl BitSet {
         }
     }
 
-    /// Makes place for the bits of so many numbers, counted from 0; amortised O(1) for each 64 that are new. Refused with 8 alone.
+    /// Makes place for the bits of so many numbers, counted from 0; amortised O(1) for each 64 that are new. Refused
+    /// with 8 alone.
     pub(crate) fn make_places(&mut self, numbers: usize) -> Result<(), Refusal>
         ensures same { (number : ℕ) → Has self.new number ↔ Has self.old number }
         ensures covered { OnOk result (numbers ≤ 64 * length self.new) }

@@ -1,5 +1,6 @@
 //! The pass over the codes of pending rows.
-ghost use Rattle.std.specs.Prelude.{◌≡◌, ◌+◌, ◌-◌, ◌<◌, ◌≤◌, ◌↔◌, ℕ, length, slice_index, slice_index_or, MatchOption, IsTrue, IsFalse};
+ghost use Rattle.std.specs.Prelude.{◌≡◌, ◌+◌, ◌-◌, ◌<◌, ◌≤◌, ◌↔◌, ℕ, length, slice_index, slice_index_or, MatchOption};
+ghost use Rattle.std.specs.Prelude.{IsTrue, IsFalse};
 ghost use Rattle.std.specs.Bool.{OnFalse};
 ghost use Rattle.crack_row.specs.Ranges.{IsIn};
 ghost use Rattle.crack_arena.specs.Arena.{no_handle};
@@ -83,7 +84,8 @@ fn may_hit(codes: &[u16], window: Window) -> bool
     requires block { length codes.now ≡ 32 }
     requires order { window.first ≤ window.last }
     ensures lies { OnFalse result ((k : ℕ) → k < 32 → ¬ Lies window.first window.last (slice_index codes.now k)) }
-    ensures none_unknown { OnFalse result (IsTrue window.some_unknown → (k : ℕ) → k < 32 → ¬ Lies window.beyond window.beyond (slice_index codes.now k)) }
+    ensures none_unknown { OnFalse result (IsTrue window.some_unknown → (k : ℕ) → k < 32 →
+        ¬ Lies window.beyond window.beyond (slice_index codes.now k)) }
 {
     if any_lies(codes, window.first, window.last) {
         return true;
@@ -91,8 +93,8 @@ fn may_hit(codes: &[u16], window: Window) -> bool
     window.some_unknown && any_lies(codes, window.beyond, window.beyond)
 }
 
-/// Whether a row stands at the spot and has its key in the range. Reads its key only where the code is that of one of the range's ends, or of
-/// keys that aren't known.
+/// Whether a row stands at the spot and has its key in the range. Reads its key only where the code is that of one of
+/// the range's ends, or of keys that aren't known.
 #[inline(always)]
 pub(crate) fn is_hit(
     handles: &[Handle<Row>],
@@ -113,7 +115,8 @@ pub(crate) fn is_hit(
     requires all_known { IsFalse window.some_unknown → AreKnown keys.now stands.now }
     ensures stands { IsTrue result → HasRow stands.now spot }
     ensures holds { IsTrue result → IsIn range (key_at arena.now.cells (slice_index_or handles.now spot no_handle)) }
-    ensures missed { IsFalse result → HasRow stands.now spot → ¬ IsIn range (key_at arena.now.cells (slice_index_or handles.now spot no_handle)) }
+    ensures missed { IsFalse result → HasRow stands.now spot → ¬ IsIn range (key_at arena.now.cells
+        (slice_index_or handles.now spot no_handle)) }
 {
     let code = codes.list()[spot];
     if !window.may_hold(code) {

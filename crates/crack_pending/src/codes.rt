@@ -36,8 +36,8 @@ impl Scale {
     }
 }
 
-/// The codes of the rows at the first spots, and what a pass found ahead. Whatever the scale is, they rise with the keys. It is chosen by the keys that are there when the
-/// first of them is coded.
+/// The codes of the rows at the first spots, and what a pass found ahead. Whatever the scale is, they rise with the
+/// keys. It is chosen by the keys that are there when the first of them is coded.
 #[derive(Drop)]
 pub(crate) struct Codes {
     codes: Vec<u16>,
@@ -119,7 +119,10 @@ impl Codes {
 
     /// Says that the row at the spot has another key.
     pub(crate) fn recode(&mut self, spot: usize, key: StoredKey)
-        ensures { self.new ≡ record self.old { codes = slice_set self.old.codes spot (code_of self.old.base self.old.shift key) } }
+        ensures { self.new ≡ record self.old {
+          codes = slice_set self.old.codes spot (code_of self.old.base
+              self.old.shift key);
+        } }
     {
         if spot < self.codes.len() {
             self.codes[spot] = self.code(key);
@@ -127,8 +130,9 @@ impl Codes {
         }
     }
 
-    /// The first spot, from one on, whose code lies between two; where there is none up to a spot, that one. It passes over the codes once for
-    /// all that are sought one after the other, and looks ahead; where it finds no memory for that, it looks no further.
+    /// The first spot, from one on, whose code lies between two; where there is none up to a spot, that one. It passes
+    /// over the codes once for all that are sought one after the other, and looks ahead; where it finds no memory for
+    /// that, it looks no further.
     pub(crate) fn seek(&mut self, first: u16, last: u16, start: usize) -> Candidate
         requires order { first ≤ last }
         requires low { last < 65535 }
@@ -146,7 +150,8 @@ impl Codes {
         self.ahead.warm(handles, arena);
     }
 
-    /// Codes the rows at all spots that have no code yet. O(1) for each of them. Where it finds no memory it codes none.
+    /// Codes the rows at all spots that have no code yet. O(1) for each of them. Where it finds no memory it codes
+    /// none.
     #[inline(never)]
     pub(crate) fn catch_up(&mut self, keys: &[StoredKey], stands: &[bool])
         requires beside { length stands.now ≡ length keys.now }
@@ -168,8 +173,16 @@ fn append_codes(codes: &mut Vec<u16>, scale: Scale, keys: &[StoredKey], stands: 
     requires beside { length stands.now ≡ length keys.now }
     requires room { length keys.now ≤ vec_capacity codes.old }
     requires small { scale.shift < 64 }
-    requires coded { AreCoded keys.now stands.now (record { codes = codes.old.items; base = scale.base; shift = scale.shift }) }
-    ensures coded { AreCoded keys.now stands.now (record { codes = codes.new.items; base = scale.base; shift = scale.shift }) }
+    requires coded { AreCoded keys.now stands.now (record {
+      codes = codes.old.items;
+      base = scale.base;
+      shift = scale.shift;
+    }) }
+    ensures coded { AreCoded keys.now stands.now (record {
+      codes = codes.new.items;
+      base = scale.base;
+      shift = scale.shift;
+    }) }
     ensures kept { take (length codes.old.items) codes.new.items ≡ codes.old.items }
 {
     'spots: for spot in codes.len()..keys.len() {

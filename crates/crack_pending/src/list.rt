@@ -1,5 +1,6 @@
 //! The lists of pending rows.
-ghost use Rattle.std.specs.Prelude.{◌≡◌, ◌+◌, ◌-◌, ◌<◌, ◌≤◌, ◌^◌, ◌↔◌, ◌∷◌, [], ◌++◌, ℕ, length, All, IsTrue, MatchOption, IfErr, OnOk, OnErr, List, slice_set};
+ghost use Rattle.std.specs.Prelude.{◌≡◌, ◌+◌, ◌-◌, ◌<◌, ◌≤◌, ◌^◌, ◌↔◌, ◌∷◌, [], ◌++◌, ℕ, length, All, IsTrue};
+ghost use Rattle.std.specs.Prelude.{MatchOption, IfErr, OnOk, OnErr, List, slice_set};
 ghost use Rattle.std.specs.List.{remove};
 ghost use Rattle.crack_row.specs.declared.Row.{Row};
 ghost use Rattle.crack_arena.specs.Rows.{keys_at, unknown, RemembersKeys};
@@ -85,8 +86,9 @@ impl<Kind> PendingList<Kind> {
         self.list.reserve(additional)
     }
 
-    /// Gives back memory that holds no row: what is kept is room for half as many rows again as there are, for 8,192 at least, and for
-    /// `room` pushes. O(1) where there are no holes, else O(len). It can't fail: what the allocator doesn't take back stays room.
+    /// Gives back memory that holds no row: what is kept is room for half as many rows again as there are, for 8,192 at
+    /// least, and for `room` pushes. O(1) where there are no holes, else O(len). It can't fail: what the allocator
+    /// doesn't take back stays room.
     pub fn shrink(&mut self, room: usize)
         requires { room ≤ self.old.room }
         ensures same { self.new ≡ record self.old { room = self.new.room } }
@@ -96,7 +98,8 @@ impl<Kind> PendingList<Kind> {
         self.list.shrink(room);
     }
 
-    /// As `shrink` where there is no handle, so that a list that was emptied gives its memory back; else it does nothing. O(1).
+    /// As `shrink` where there is no handle, so that a list that was emptied gives its memory back; else it does
+    /// nothing. O(1).
     #[inline(always)]
     pub fn shrink_if_empty(&mut self, room: usize)
         requires { room ≤ self.old.room }
@@ -172,8 +175,8 @@ impl<Kind> PendingList<Kind> {
         self.list.push(handle, key);
     }
 
-    /// The handle at the place, counted from the first arrival. O(1) where there are no holes, and else one pass over the marks
-    /// of the spots from where the last row was taken.
+    /// The handle at the place, counted from the first arrival. O(1) where there are no holes, and else one pass over
+    /// the marks of the spots from where the last row was taken.
     pub fn at(&self, place: usize) -> Handle<Row>
         requires { place < length self.now.handles }
         ensures { StandsAt self.now.handles place result }
@@ -181,8 +184,8 @@ impl<Kind> PendingList<Kind> {
         self.list.at(place)
     }
 
-    /// Goes on from this place when one is looked for next, so that taking k of i rows at rising places, wherever they are struck,
-    /// costs O(i + k) in all. Contracts see no change.
+    /// Goes on from this place when one is looked for next, so that taking k of i rows at rising places, wherever they
+    /// are struck, costs O(i + k) in all. Contracts see no change.
     pub fn seek(&mut self, place: usize)
         requires { place < length self.old.handles }
         ensures { self.new ≡ self.old }
@@ -236,8 +239,8 @@ impl<Kind> PendingList<Kind> {
         self.marks.has(slot)
     }
 
-    /// Takes out the handle of the cell that this one names, wherever it stands. It takes no memory; what room there was stays.
-    /// Amortised O(1), however many rows there are.
+    /// Takes out the handle of the cell that this one names, wherever it stands. It takes no memory; what room there
+    /// was stays. Amortised O(1), however many rows there are.
     pub fn strike(&mut self, handle: Handle<Row>)
         requires { 0 < times handle.slot (slots self.old.handles) }
         ensures handles { self.new.handles ≡ remove self.old.handles (place_in self.old.handles handle.slot) }
@@ -271,9 +274,9 @@ impl<Kind> PendingList<Kind> {
         self.next_in(range, 0, arena)
     }
 
-    /// The first place at or after `from` whose row has its key in the range; O(1) for each place that it passes, without a
-    /// branch for each key. It looks at a handle only where a key lies in the range, or isn't remembered.
-    /// A command that takes rows goes on from where it took the last one, and so passes over the list once.
+    /// The first place at or after `from` whose row has its key in the range; O(1) for each place that it passes,
+    /// without a branch for each key. It looks at a handle only where a key lies in the range, or isn't remembered. A
+    /// command that takes rows goes on from where it took the last one, and so passes over the list once.
     pub fn next_in(&self, range: KeyRange, from: usize, arena: &Arena<Row>) -> Option<usize>
         requires { RemembersKeys arena.now.cells self.now.handles self.now.keys }
         ensures { Finds range (keys_at arena.now.cells self.now.handles) from result }
@@ -281,8 +284,8 @@ impl<Kind> PendingList<Kind> {
         self.list.next_in(range, from, arena)
     }
 
-    /// As `next_in`, and goes on from the place that it finds when one is looked for next: to find a row and then to take it is one
-    /// pass.
+    /// As `next_in`, and goes on from the place that it finds when one is looked for next: to find a row and then to
+    /// take it is one pass.
     pub fn seek_in(&mut self, range: KeyRange, from: usize, arena: &Arena<Row>) -> Option<usize>
         requires { RemembersKeys arena.now.cells self.old.handles self.old.keys }
         ensures finds { Finds range (keys_at arena.now.cells self.old.handles) from result }
@@ -292,8 +295,9 @@ impl<Kind> PendingList<Kind> {
         self.list.seek_in(range, from, arena)
     }
 
-    /// Codes the keys that have no code yet, where these are many, so that the next passes read 16 bits for each. Amortised O(1) for each
-    /// push. It can't fail: without memory for codes, passes read keys. Contracts see no change.
+    /// Codes the keys that have no code yet, where these are many, so that the next passes read 16 bits for each.
+    /// Amortised O(1) for each push. It can't fail: without memory for codes, passes read keys. Contracts see no
+    /// change.
     #[inline]
     pub fn code_keys(&mut self)
         ensures { self.new ≡ self.old }
@@ -301,7 +305,8 @@ impl<Kind> PendingList<Kind> {
         self.list.code_keys();
     }
 
-    /// The first place where the handle stands; none where it stands nowhere. O(1) where there are no holes, else O(len).
+    /// The first place where the handle stands; none where it stands nowhere. O(1) where there are no holes, else
+    /// O(len).
     pub fn place_of(&self, handle: Handle<Row>) -> Option<usize>
         ensures { MatchOption result (IsAbsent self.now.handles handle) (IsFirstAt self.now.handles handle) }
     {

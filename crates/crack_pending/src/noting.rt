@@ -6,7 +6,8 @@ ghost use Rattle.crack_pending.specs.Inside.{IsNowhere, IsNotBehind, IsSpotWith,
 use crack_arena::Handle;
 use crack_row::Row;
 
-/// Notes the spot of each row, by the number of its cell, from the first spot that isn't noted yet. O(1) for each spot from there on.
+/// Notes the spot of each row, by the number of its cell, from the first spot that isn't noted yet. O(1) for each spot
+/// from there on.
 fn note_spots(spots: &mut Vec<u32>, handles: &[Handle<Row>], stands: &[bool], noted: usize)
     requires beside { length stands.now ≡ length handles.now }
     requires few { length handles.now ≤ 2 ^ 32 }
@@ -27,7 +28,8 @@ fn note_spots(spots: &mut Vec<u32>, handles: &[Handle<Row>], stands: &[bool], no
 /// The spot that is noted of the row whose handle names the cell of this number; none where no such row stands there.
 fn spot_with(handles: &[Handle<Row>], stands: &[bool], spots: &[u32], slot: u32) -> Option<usize>
     requires beside { length stands.now ≡ length handles.now }
-    ensures { MatchOption result (IsUnnoted handles.now stands.now spots.now slot) (λ spot. IsSpotWith handles.now stands.now slot spot) }
+    ensures { MatchOption result (IsUnnoted handles.now stands.now spots.now slot) (λ spot. IsSpotWith handles.now
+        stands.now slot spot) }
 {
     if slot as usize >= spots.len() {
         return None;
@@ -40,8 +42,8 @@ fn spot_with(handles: &[Handle<Row>], stands: &[bool], spots: &[u32], slot: u32)
     }
 }
 
-/// The spot of the row whose handle names the cell of this number. It first notes the spots that aren't noted yet, so that n rows that are
-/// struck after m pushes cost O(n + m) in all.
+/// The spot of the row whose handle names the cell of this number. It first notes the spots that aren't noted yet, so
+/// that n rows that are struck after m pushes cost O(n + m) in all.
 pub(crate) fn spot_noted(
     spots: &mut Vec<u32>,
     noted: &mut usize,
@@ -55,7 +57,8 @@ pub(crate) fn spot_noted(
     requires covered { AreCovered handles.now stands.now (vec_len spots.old) }
     requires apart { StandApart handles.now stands.now }
     requires led { LeadBack handles.now stands.now spots.old.items noted.old }
-    ensures found { MatchOption result (IsNowhere handles.now stands.now slot) (λ spot. IsSpotWith handles.now stands.now slot spot) }
+    ensures found { MatchOption result (IsNowhere handles.now stands.now slot) (λ spot. IsSpotWith handles.now
+        stands.now slot spot) }
     ensures led { LeadBack handles.now stands.now spots.new.items (length handles.now) }
     ensures all { noted.new ≡ length handles.now }
     ensures covered { vec_len spots.new ≡ vec_len spots.old }
@@ -68,7 +71,8 @@ pub(crate) fn spot_noted(
 /// The spot, from one on, of the row whose handle names the cell of this number. O(1) for each spot from there on.
 fn spot_behind(handles: &[Handle<Row>], stands: &[bool], from: usize, slot: u32) -> Option<usize>
     requires beside { length stands.now ≡ length handles.now }
-    ensures { MatchOption result (IsNotBehind handles.now stands.now slot from) (λ spot. IsSpotWith handles.now stands.now slot spot) }
+    ensures { MatchOption result (IsNotBehind handles.now stands.now slot from) (λ spot. IsSpotWith handles.now
+        stands.now slot spot) }
 {
     'spots: for spot in from..handles.len() {
         if stands[spot] && handles[spot].slot() == slot {
@@ -78,7 +82,8 @@ fn spot_behind(handles: &[Handle<Row>], stands: &[bool], from: usize, slot: u32)
     None
 }
 
-/// The spot of the row whose handle names the cell of this number, where so many spots are noted. O(1) for each that isn't.
+/// The spot of the row whose handle names the cell of this number, where so many spots are noted. O(1) for each that
+/// isn't.
 pub(crate) fn spot_sought(
     handles: &[Handle<Row>],
     stands: &[bool],
@@ -88,7 +93,8 @@ pub(crate) fn spot_sought(
 ) -> Option<usize>
     requires beside { length stands.now ≡ length handles.now }
     requires led { LeadBack handles.now stands.now spots.now noted }
-    ensures { MatchOption result (IsNowhere handles.now stands.now slot) (λ spot. IsSpotWith handles.now stands.now slot spot) }
+    ensures { MatchOption result (IsNowhere handles.now stands.now slot) (λ spot. IsSpotWith handles.now
+        stands.now slot spot) }
 {
     match spot_with(handles, stands, spots, slot) {
         Some(spot) => Some(spot),

@@ -56,7 +56,8 @@ fn may_hit(keys: &[StoredKey], wanted: Wanted) -> bool
     requires block { length keys.now ≡ 16 }
     requires order { wanted.low ≤ wanted.last }
     ensures lies { OnFalse result ((k : ℕ) → k < 16 → ¬ Lies wanted.low wanted.last (slice_index keys.now k)) }
-    ensures none_unknown { OnFalse result (IsTrue wanted.some_unknown → (k : ℕ) → k < 16 → slice_index keys.now k ≢ unknown) }
+    ensures none_unknown { OnFalse result (IsTrue wanted.some_unknown → (k : ℕ) → k < 16 →
+        slice_index keys.now k ≢ unknown) }
 {
     if any_lies(keys, wanted.low, wanted.last) {
         return true;
@@ -163,8 +164,8 @@ fn hit_in_blocks(
     hit_between(handles, keys, stands, spot, keys.len(), range, arena)
 }
 
-/// The first spot at or after `from` whose row has its key in the range; whether a key isn't known is asked only where some aren't.
-/// Reads the codes of the spots that have one, and the keys at the others.
+/// The first spot at or after `from` whose row has its key in the range; whether a key isn't known is asked only where
+/// some aren't. Reads the codes of the spots that have one, and the keys at the others.
 pub(crate) fn first_hit(
     handles: &[Handle<Row>],
     keys: &[StoredKey],
@@ -204,8 +205,8 @@ pub(crate) fn first_hit(
     }
 }
 
-/// As `first_hit`, and how many rows stand from `from` up to the hit. Where all keys are known it looks ahead in the codes, so that hits that
-/// are sought one after the other cost one pass.
+/// As `first_hit`, and how many rows stand from `from` up to the hit. Where all keys are known it looks ahead in the
+/// codes, so that hits that are sought one after the other cost one pass.
 pub(crate) fn next_hit(
     handles: &[Handle<Row>],
     keys: &[StoredKey],
@@ -271,7 +272,8 @@ pub(crate) fn next_hit(
     )
 }
 
-/// The first hit from the spot `start` on, and how many rows stand from the spot `from` up to it, where none is a hit from there up to `start`.
+/// The first hit from the spot `start` on, and how many rows stand from the spot `from` up to it, where none is a hit
+/// from there up to `start`.
 fn hit_behind(
     handles: &[Handle<Row>],
     keys: &[StoredKey],

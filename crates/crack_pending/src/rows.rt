@@ -32,7 +32,8 @@ pub(crate) fn rows_between(stands: &[bool], from: usize, to: usize) -> usize
     rows + rows_in_block(&stands[spot..to]) as usize
 }
 
-/// A spot with so many rows before it, from which it is less than a block to the row at the place; and how many these are.
+/// A spot with so many rows before it, from which it is less than a block to the row at the place; and how many these
+/// are.
 fn skip_blocks(stands: &[bool], before: usize, from: usize, place: usize) -> (usize, usize)
     requires before { before ≡ place_at stands.now from }
     requires order { before ≤ place }
@@ -74,8 +75,8 @@ fn spot_from(stands: &[bool], before: usize, from: usize, place: usize) -> usize
     }
 }
 
-/// The spot of the row at the place. O(1) where there are no holes; else the rows are counted, from the spot that is given if
-/// the place isn't before it.
+/// The spot of the row at the place. O(1) where there are no holes; else the rows are counted, from the spot that is
+/// given if the place isn't before it.
 pub(crate) fn spot_of(
     stands: &[bool],
     rows: usize,
@@ -100,8 +101,8 @@ pub(crate) fn spot_of(
     }
 }
 
-/// A spot before which as many rows stand as before the place: the one after the spot that is given, or that spot, if so many stand
-/// before it; else that of the row itself.
+/// A spot before which as many rows stand as before the place: the one after the spot that is given, or that spot, if
+/// so many stand before it; else that of the row itself.
 pub(crate) fn spot_before(
     stands: &[bool],
     rows: usize,

@@ -1,5 +1,6 @@
 //! A list that leaves a hole where a row goes.
-ghost use Rattle.std.specs.Prelude.{◌≡◌, ◌+◌, ◌-◌, ◌*◌, ◌<◌, ◌≤◌, ◌^◌, ◌↔◌, ◌∷◌, [], ◌++◌, ℕ, length, All, MatchOption, false, IfErr, OnOk, OnErr, slice_set, slice_index, vec_len, vec_capacity};
+ghost use Rattle.std.specs.Prelude.{◌≡◌, ◌+◌, ◌-◌, ◌*◌, ◌<◌, ◌≤◌, ◌^◌, ◌↔◌, ◌∷◌, [], ◌++◌, ℕ, length, All, MatchOption};
+ghost use Rattle.std.specs.Prelude.{false, IfErr, OnOk, OnErr, slice_set, slice_index, vec_len, vec_capacity};
 ghost use Rattle.std.specs.List.{remove};
 ghost use Rattle.crack_arena.specs.Rows.{keys_at, unknown, RemembersKeys};
 ghost use Rattle.crack_arena.specs.Arena.{StandsAt, IsFirstAt, IsAbsent, times, slots, place_in, no_handle};
@@ -26,8 +27,8 @@ pub(crate) const UNKNOWN: StoredKey = GREATEST_KEY;
 /// A spot is numbered by 32 bits.
 const MOST_SPOTS: usize = 4294967296;
 
-/// For how many rows there is room at first, and at least each time that it grows: so large a block of memory is mapped by itself, so that it
-/// grows without being copied, and what isn't used of it takes no memory.
+/// For how many rows there is room at first, and at least each time that it grows: so large a block of memory is mapped
+/// by itself, so that it grows without being copied, and what isn't used of it takes no memory.
 const FIRST_SPOTS: usize = 8192;
 
 /// For how many cells more there is place at least, each time that it grows.
@@ -36,8 +37,8 @@ const MORE_PLACES: usize = 2048;
 /// At how many spots a pass reads keys, since making codes for so few gains nothing.
 const MOST_UNCODED: usize = 64;
 
-/// Handles in the order of their arrival, each at a spot of its own, and holes where rows went. A hole keeps its handle and
-/// its key, which nobody reads; a mark beside it distinguishes it from a row.
+/// Handles in the order of their arrival, each at a spot of its own, and holes where rows went. A hole keeps its handle
+/// and its key, which nobody reads; a mark beside it distinguishes it from a row.
 #[derive(Drop)]
 pub(crate) struct SpotList {
     handles: Vec<Handle<Row>>,
@@ -144,8 +145,8 @@ impl SpotList {
         self.make_room(additional)
     }
 
-    /// Closes all holes up before it grows; then it makes room for half as many more, and for `FIRST_SPOTS` at least, so that n pushes cost O(n) however many
-    /// rows go between them.
+    /// Closes all holes up before it grows; then it makes room for half as many more, and for `FIRST_SPOTS` at least,
+    /// so that n pushes cost O(n) however many rows go between them.
     #[inline(never)]
     fn make_room(&mut self, additional: usize) -> Result<(), Refusal>
         requires { length self.old.handles + additional ≤ 2 ^ 32 }
@@ -365,7 +366,10 @@ impl SpotList {
 
     pub(crate) fn remember(&mut self, slot: u32, key: StoredKey)
         requires { 0 < times slot (slots self.old.handles) }
-        ensures after { self.new ≡ record self.old { keys = slice_set self.old.keys (place_in self.old.handles slot) key } }
+        ensures after { self.new ≡ record self.old {
+          keys = slice_set self.old.keys
+              (place_in self.old.handles slot) key;
+        } }
         ensures remembered { RemembersAnew slot key self.old self.new }
     {
         if let Some(spot) = spot_noted(
@@ -508,7 +512,8 @@ fn grow(
     Ok(())
 }
 
-/// Puts zeros at the end until there are so many numbers, and as many more as their memory holds; makes place for a mark of each before.
+/// Puts zeros at the end until there are so many numbers, and as many more as their memory holds; makes place for a
+/// mark of each before.
 #[inline(never)]
 fn lengthen(spots: &mut Vec<u32>, marks: &mut BitSet, cells: usize) -> Result<(), Refusal>
     requires more { vec_len spots.old < cells }

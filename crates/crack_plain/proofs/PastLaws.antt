@@ -70,7 +70,7 @@ changes-le-accepted (e ∷ es) = by_reply e.reply (inserted-cons e es) (deleted-
     by_reply (Summed sum) placed gone changed later = omega (arith, placed, gone, changed, later)
     by_reply (Rows rows) placed gone changed later = omega (arith, placed, gone, changed, later)
 
--- what a past comes to is a base, and with it in place of its tail the past is legal
+-- what a past comes to is a base, and with it in place of its history the past is legal
 pub IsBase-after : (past : Past) → IsBase past.base → AreReplies past.base.state past.tail → IsBase (base_after past)
 IsBase-after past base replies = record {
   numbered = IsNumbered-after_past past base;

@@ -21,11 +21,11 @@ pub record IsBase (base : Base) : Type 0 where
   pub held : length base.state.rows + base.gone ≡ base.placed
   pub few : base.placed + base.gone ≤ base.folded
 
--- the base of a partition that has folded no command
+-- the base of a partition that has made no checkpoint
 abbrev pub no_base : Base
 no_base = record { state = no_rows; folded = 0; placed = 0; gone = 0 }
 
--- its base, and its tail: the entries since, in order
+-- its base, and its history: the entries since, in order
 pub record Past : Type 0 where
   pub base : Base
   pub tail : List Entry
@@ -56,7 +56,7 @@ deleted_in past = past.base.gone + deleted past.tail
 abbrev pub base_after : Past → Base
 base_after past = record { state = state_after past; folded = accepted_in past; placed = inserted_in past; gone = deleted_in past }
 
--- the past with its tail folded into its base
+-- the past with its history moved into its base
 abbrev pub folded : Past → Past
 folded past = record { base = base_after past; tail = [] }
 
@@ -64,8 +64,8 @@ folded past = record { base = base_after past; tail = [] }
 abbrev pub StandWithin : Range → List Row → Type 0
 StandWithin keys rows = All (λ (row : Row). IsIn keys row.key.0) rows
 
--- what a partition of these keys and limits may have lived through: the history's limit is the tail's, and the life's is that of base
--- and tail
+-- what a partition of these keys and limits may have lived through: the history's limit is that of the entries since the base, and the life's is that of base
+-- and history
 pub record IsLegal (keys : Range) (limits : Limits) (past : Past) : Type 0 where
   pub base : IsBase past.base
   pub stand : StandWithin keys past.base.state.rows

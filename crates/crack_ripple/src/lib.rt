@@ -1,4 +1,5 @@
-//! Merge ripple: pending rows of a range are merged, and room is made near it ("Updating a Cracked Database", SIGMOD 2007).
+//! Merge ripple: pending rows of a range are merged, and room is made near it ("Updating a Cracked Database", SIGMOD
+//! 2007).
 #![tactic(auto)]
 
 pub mod ripple;

@@ -32,12 +32,13 @@ struct Crew {
     outputs: Vec<Vec<u8>>,
 }
 
-/// Answers the lines of an input over a table of its own. Each line that isn't blank is a number, one space and a statement for the worker of
-/// that number, counted around the workers; each worker serves its own lines as a session, at the same time as the others. Then `writer` gets
-/// the line `worker w` and what its session wrote for each worker, and last the totals.
-/// Refused, in this order: as `Table::open_with` is; with 17 where the reader fails or gives more than `MOST_INPUT_BYTES`; with 1 where a line has no
-/// number; as the session of the least worker whose session is cut off; as `gather` is; with 18 where the writer fails. It is 8 wherever no
-/// memory is found for the batch's own buffers, or a thread can't be started. Nothing is written before the workers are gathered.
+/// Answers the lines of an input over a table of its own. Each line that isn't blank is a number, one space and a
+/// statement for the worker of that number, counted around the workers; each worker serves its own lines as a session,
+/// at the same time as the others. Then `writer` gets the line `worker w` and what its session wrote for each worker,
+/// and last the totals. Refused, in this order: as `Table::open_with` is; with 17 where the reader fails or gives more
+/// than `MOST_INPUT_BYTES`; with 1 where a line has no number; as the session of the least worker whose session is cut
+/// off; as `gather` is; with 18 where the writer fails. It is 8 wherever no memory is found for the batch's own
+/// buffers, or a thread can't be started. Nothing is written before the workers are gathered.
 pub fn run_batch<Rt: Threads + Wait + Sync, G: Gate + Sync, R: Read, W: Write>(
     rt: &Rt,
     alloc: Global,
@@ -75,7 +76,8 @@ fn serve_input<Rt: Threads + Wait + Sync, G: Gate + Sync, R: Read>(
     crew_of(alloc, served)
 }
 
-/// Has each worker serve its share on a thread of its own. Refused with 8 where one can't be started, once the others have ended.
+/// Has each worker serve its share on a thread of its own. Refused with 8 where one can't be started, once the others
+/// have ended.
 fn serve_all<Rt: Threads + Wait + Sync, G: Gate + Sync>(
     rt: &Rt,
     alloc: Global,
@@ -113,9 +115,11 @@ fn serve_share<Rt: Wait, G: Gate>(
     policy: Policy,
     gate: &G,
 ) -> Served
-    // Where the session wasn't cut off, its part of the output is the texts of answers to all statements of its share, made of just the calls that
-    // these fix, by the policy in force; they led the worker to what it is now.
-    ensures { IfNone result.fault ((short : Option ℕ) × AreWritten (AreAnswersOf (worker_leads table.now (G.may_refuse gate.now)) table.now.splits policy worker result.worker) (statements share.items) [] short (Some result.output.items)) }
+    // Where the session wasn't cut off, its part of the output is the texts of answers to all statements of its share,
+    // made of just the calls that these fix, by the policy in force; they led the worker to what it is now.
+    ensures { IfNone result.fault ((short : Option ℕ) × AreWritten (AreAnswersOf (worker_leads table.now
+        (G.may_refuse gate.now)) table.now.splits policy worker result.worker) (statements share.items) [] short
+        (Some result.output.items)) }
 {
     let mut desk = WorkerDesk::new(rt, table, gate, worker);
     let mut reader = Watched::new(share.as_slice());

@@ -8,8 +8,8 @@ use std::fmt::{Display, Formatter, Write};
 pub enum Notice {
     /// The server listens on this port of 127.0.0.1.
     Listening { port: u16 },
-    /// Partitions made checkpoints by themselves, since their histories were full: how many since the last such notice, 1 at least, and of the
-    /// last one its partition, and how many entries it folded.
+    /// Partitions made checkpoints by themselves, since their histories were full: how many since the last such notice,
+    /// 1 at least, and of the last one its partition, and how many entries it took.
     Checkpoints { count: u64, part: u32, entries: u64 },
     /// A session was cut off: a read or a write of its connection failed or waited too long, or no memory was found.
     CutOff { worker: usize, refusal: Refusal },
@@ -59,14 +59,16 @@ pub trait Host {
     /// Takes note of something that happened.
     fn note(&self, notice: Notice);
 
-    /// Connects to the server's own listener and lets go at once, so that one worker that waits for a connection goes on. Whether it could.
+    /// Connects to the server's own listener and lets go at once, so that one worker that waits for a connection goes
+    /// on. Whether it could.
     fn knock(&self) -> bool;
 
     /// Waits for a moment, after a call of the system that failed and is to be tried again.
     fn pause(&self);
 }
 
-/// A host that notes nothing and never waits, for servers that end after a number of sessions. Its knock reaches nobody.
+/// A host that notes nothing and never waits, for servers that end after a number of sessions. Its knock reaches
+/// nobody.
 #[derive(Clone, Copy, Drop)]
 pub struct Alone;
 

@@ -8,7 +8,8 @@ use memchr::memchr;
 use std::alloc::{AllocError, Global};
 use std::io::Read;
 
-/// The whole input. Refused with 17 where the reader fails, or gives more than `MOST_INPUT_BYTES`, and with 8 where it finds no memory.
+/// The whole input. Refused with 17 where the reader fails, or gives more than `MOST_INPUT_BYTES`, and with 8 where it
+/// finds no memory.
 pub(crate) fn read_input<R: Read>(alloc: Global, reader: &mut R) -> Result<Vec<u8>, Refusal> {
     let mut bytes = Vec::new(alloc);
     let mut watched = Watched::new(reader);
@@ -22,8 +23,8 @@ pub(crate) fn read_input<R: Read>(alloc: Global, reader: &mut R) -> Result<Vec<u
     }
 }
 
-/// Each worker's statements, in order, each with a line feed. The number in front of a line that isn't blank says whose it is, counted
-/// around the workers. Refused with 1 where a line has none, and with 8 where it finds no memory.
+/// Each worker's statements, in order, each with a line feed. The number in front of a line that isn't blank says whose
+/// it is, counted around the workers. Refused with 1 where a line has none, and with 8 where it finds no memory.
 pub(crate) fn divide(alloc: Global, input: &[u8], workers: usize) -> Result<Vec<Vec<u8>>, Refusal>
     requires { 0 < workers }
 {

@@ -11,7 +11,7 @@ pub(crate) struct Reporting<'a, G: Gate, H: Host> {
     host: &'a H,
     /// How many checkpoints were made since the last notice.
     count: AtomicU64,
-    /// How many entries have to be folded before the next one.
+    /// How many entries have to be checkpointed before the next one.
     entries_left: AtomicU64,
 }
 
@@ -26,7 +26,7 @@ impl<'a, G: Gate, H: Host> Reporting<'a, G, H> {
         }
     }
 
-    /// Whether there is to be a notice of a checkpoint that folded so many entries.
+    /// Whether there is to be a notice of a checkpoint that took so many entries.
     fn is_notice_due(&self, entries: u64) -> bool {
         let left = self.entries_left.load(Ordering::SeqCst);
         let is_due = entries >= left;

@@ -29,9 +29,10 @@ pub struct Terms {
     pub notes_checkpoints: bool,
 }
 
-/// Serves so many connections of a listener, one at a time for each worker, then gathers the workers and writes the totals. An accept that fails,
-/// and a session that is cut off, count as sessions. A client that sends nothing, or reads no reply, holds its own worker alone.
-/// Refused with 8 where a thread can't be started, before a connection is accepted; as `gather` is; with 18 where the writer fails.
+/// Serves so many connections of a listener, one at a time for each worker, then gathers the workers and writes the
+/// totals. An accept that fails, and a session that is cut off, count as sessions. A client that sends nothing, or
+/// reads no reply, holds its own worker alone. Refused with 8 where a thread can't be started, before a connection is
+/// accepted; as `gather` is; with 18 where the writer fails.
 pub fn run_server<Rt: Threads + Wait + Sync, G: Gate + Sync, W: Write>(
     rt: &Rt,
     alloc: Global,
@@ -55,10 +56,11 @@ pub fn run_server<Rt: Threads + Wait + Sync, G: Gate + Sync, W: Write>(
     )
 }
 
-/// Serves connections as `run_server` does, on these terms: with `Ending::AtEndOfInput` until `input` ends or fails. Then the workers that
-/// wait for a connection are woken by `host.knock()`, and those that have one serve it to its end. A read or a write of a connection that waits
-/// longer than `terms.idle` fails, so its session is cut off. The host is given a notice of each session that was cut off, of the end, and where
-/// the terms say so of checkpoints that were due. Refused as `run_server` is.
+/// Serves connections as `run_server` does, on these terms: with `Ending::AtEndOfInput` until `input` ends or fails.
+/// Then the workers that wait for a connection are woken by `host.knock()`, and those that have one serve it to its
+/// end. A read or a write of a connection that waits longer than `terms.idle` fails, so its session is cut off. The
+/// host is given a notice of each session that was cut off, of the end, and where the terms say so of checkpoints that
+/// were due. Refused as `run_server` is.
 pub fn run_service<Rt: Threads + Wait + Sync, G: Gate + Sync, H: Host + Sync, I: Read, W: Write>(
     rt: &Rt,
     alloc: Global,
@@ -123,8 +125,8 @@ fn desks_of<'a, Rt: Wait, G: Gate>(
     Ok(desks)
 }
 
-/// Has a worker at each desk serve sessions on a thread of its own. No ticket is given out before all threads are started: where one can't be,
-/// there are none, and the others end at once.
+/// Has a worker at each desk serve sessions on a thread of its own. No ticket is given out before all threads are
+/// started: where one can't be, there are none, and the others end at once.
 pub(crate) fn serve_desks<
     Rt: Threads + Wait + Sync,
     D: Desk + Send + Drop,
@@ -170,8 +172,9 @@ pub(crate) fn serve_desks<
     Ok(ended)
 }
 
-/// Waits until the input of a server ends that ends with it. Then no further ticket is given out, and each worker that waits for a connection is
-/// woken by one of the host's own: as many as wait then, since none begins to wait afterwards.
+/// Waits until the input of a server ends that ends with it. Then no further ticket is given out, and each worker that
+/// waits for a connection is woken by one of the host's own: as many as wait then, since none begins to wait
+/// afterwards.
 fn await_end<Rt: Wait, H: Host, I: Read>(
     rt: &Rt,
     ending: Ending,
@@ -201,7 +204,8 @@ fn read_out<I: Read>(input: &mut I) {
     }
 }
 
-/// Wakes one worker that waits for a connection. A knock that fails, as for want of a descriptor, is tried again as long as a worker waits.
+/// Wakes one worker that waits for a connection. A knock that fails, as for want of a descriptor, is tried again as
+/// long as a worker waits.
 fn wake<Rt: Wait, H: Host>(rt: &Rt, tickets: &Tickets, host: &H) {
     'tries: for _ in 0..u64::MAX {
         if host.knock() || tickets.waiting(rt) == 0 {
@@ -248,7 +252,8 @@ fn serve_tickets<Rt: Wait, D: Desk + Drop, H: Host>(
     desk
 }
 
-/// Serves one connection as a session. Its replies are kept until it reads again, and then sent at once. Why it was cut off, if it was.
+/// Serves one connection as a session. Its replies are kept until it reads again, and then sent at once. Why it was cut
+/// off, if it was.
 fn serve_stream<D: Desk>(
     alloc: Global,
     desk: &mut D,

@@ -14,9 +14,9 @@ use std::net::TcpListener;
 use std::sync::Wait;
 use std::thread::Threads;
 
-/// Serves connections as `run_service` does, over a table that witnesses its replies. Its workers are gathered by counts, so what a server takes
-/// of memory, and the time that its end takes, don't grow with the commands that it answered.
-/// Refused as `run_service` is, but that its workers are gathered as `gather` of crack_witness_table does.
+/// Serves connections as `run_service` does, over a table that witnesses its replies. Its workers are gathered by
+/// counts, so what a server takes of memory, and the time that its end takes, don't grow with the commands that it
+/// answered. Refused as `run_service` is, but that its workers are gathered as `gather` of crack_witness_table does.
 pub fn run_witnessed_service<
     Rt: Threads + Wait + Sync,
     G: Gate + Sync,

@@ -67,7 +67,7 @@ pub record IsLaidOut (splits : List Bound) (tables : List PlainView) (part : ℕ
   pub comes_out : IsLayoutOutcome (keys_of_part splits part) (slice_get tables part) outcome
   pub answer_is : answer ≡ told (Laid part) outcome
 
--- One partition is folded: the answer says how many commands it accepted since its last checkpoint, and the partitions are new afterwards.
+-- One partition is checkpointed: the answer says how many commands it accepted since its last checkpoint, and the partitions are new afterwards.
 pub record IsFolded (tables : List PlainView) (part : ℕ) (answer : Answer) (new : List PlainView) : Type 0 where
   pub outcome : Result ℕ Refusal
   pub comes_out : IsFoldOutcome (slice_get tables part) outcome

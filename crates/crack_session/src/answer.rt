@@ -8,8 +8,10 @@ ghost use Rattle.crack_plain.specs.Plain.{IsSmall};
 ghost use Rattle.crack_core.specs.Routes.{route, parts_of};
 ghost use Rattle.crack_commands.specs.Texts.{Writes};
 ghost use Rattle.crack_session.specs.Telling.{list_text, lists_text, AsksSeveral, AsksDesk};
-ghost use Rattle.crack_session.specs.Answers.{IsAnswer, IsAnswerTo, IsAsked, AsksInTurn, AsksParts, IsLaidOut, IsFolded, is_short_answer, answer_text, told};
-ghost use Rattle.crack_session.specs.Calls.{Checkpointed, Looked, IsOneAsked, AreAskedInTurn, AreSeveralAsked, ArePartsAsked, IsMadeOf, IsReadingMadeOf};
+ghost use Rattle.crack_session.specs.Answers.{IsAnswer, IsAnswerTo, IsAsked, AsksInTurn, AsksParts, IsLaidOut};
+ghost use Rattle.crack_session.specs.Answers.{IsFolded, is_short_answer, answer_text, told};
+ghost use Rattle.crack_session.specs.Calls.{Checkpointed, Looked, IsOneAsked, AreAskedInTurn, AreSeveralAsked};
+ghost use Rattle.crack_session.specs.Calls.{ArePartsAsked, IsMadeOf, IsReadingMadeOf};
 
 use crate::desk::Desk;
 use crate::query::{PartReply, Query, ReplyList, joined};
@@ -35,7 +37,7 @@ pub enum Answer {
     Listed { total: u64, lists: ReplyList },
     /// What stands where in a partition.
     Laid { part: u32, layout: Layout },
-    /// So many commands of a partition were folded.
+    /// So many commands of a partition were checkpointed.
     Folded(u64),
     /// The session's policy from now on.
     Set(Policy),
@@ -117,7 +119,8 @@ pub fn answer_reading<D: Desk>(
     policy: Policy,
     reading: Result<Statement, Refusal>,
 ) -> Answer
-    ensures { AsksDesk D.bounds D.splits D.tables D.leads (λ bounds splits tables. IsAnswer bounds splits tables reading result) (λ splits calls. IsReadingMadeOf splits policy reading result calls) desk.old desk.new }
+    ensures { AsksDesk D.bounds D.splits D.tables D.leads (λ bounds splits tables. IsAnswer bounds splits tables reading
+        result) (λ splits calls. IsReadingMadeOf splits policy reading result calls) desk.old desk.new }
 {
     match reading {
         Ok(statement) => answer_statement(alloc, desk, policy, statement),
@@ -125,15 +128,16 @@ pub fn answer_reading<D: Desk>(
     }
 }
 
-/// Answers a statement: an insert by the partition that holds its key, a delete and an update by the partition that their
-/// row number names, and what is asked of a range by each partition that holds a part of it.
+/// Answers a statement: an insert by the partition that holds its key, a delete and an update by the partition that
+/// their row number names, and what is asked of a range by each partition that holds a part of it.
 fn answer_statement<D: Desk>(
     alloc: Global,
     desk: &mut D,
     policy: Policy,
     statement: Statement,
 ) -> Answer
-    ensures { AsksDesk D.bounds D.splits D.tables D.leads (λ bounds splits tables. IsAnswerTo bounds splits tables statement result) (λ splits calls. IsMadeOf splits policy statement result calls) desk.old desk.new }
+    ensures { AsksDesk D.bounds D.splits D.tables D.leads (λ bounds splits tables. IsAnswerTo bounds splits tables
+        statement result) (λ splits calls. IsMadeOf splits policy statement result calls) desk.old desk.new }
 {
     let (part, command) = match statement {
         Statement::Insert { key, payload } => {
@@ -174,7 +178,8 @@ pub fn part_of<D: Desk>(desk: &D, key: Key) -> u32
 /// Asks one partition.
 #[inline(never)]
 fn ask_part<D: Desk>(desk: &mut D, policy: Policy, part: u32, command: Command) -> Answer
-    ensures { AsksDesk D.bounds D.splits D.tables D.leads (λ bounds splits tables. IsAsked bounds splits tables part command result) (λ splits calls. IsOneAsked policy part command result calls) desk.old desk.new }
+    ensures { AsksDesk D.bounds D.splits D.tables D.leads (λ bounds splits tables. IsAsked bounds splits tables part
+        command result) (λ splits calls. IsOneAsked policy part command result calls) desk.old desk.new }
 {
     match desk.ask(part, command, policy) {
         Ok(reply) => Answer::Replied { part, reply },
@@ -190,7 +195,9 @@ fn ask_range<D: Desk>(
     query: Query,
     range: KeyRange,
 ) -> Answer
-    ensures { AsksDesk D.bounds D.splits D.tables D.leads (λ bounds splits tables. AsksParts bounds splits tables query (parts_of splits range) result) (λ splits calls. ArePartsAsked policy query (parts_of splits range) result calls) desk.old desk.new }
+    ensures { AsksDesk D.bounds D.splits D.tables D.leads (λ bounds splits tables. AsksParts bounds splits tables query
+        (parts_of splits range) result) (λ splits calls. ArePartsAsked policy query (parts_of splits range) result
+        calls) desk.old desk.new }
 {
     if let Some(part) = only_part(desk.splits(), range) {
         return ask_part(desk, policy, part, query.over(range));
@@ -210,7 +217,9 @@ fn ask_several<D: Desk>(
     parts: &[(u32, KeyRange)],
 ) -> Answer
     requires { length parts.now ≤ 64 }
-    ensures { AsksDesk D.bounds D.splits D.tables D.leads (λ bounds splits tables. AsksSeveral bounds splits tables query parts.now result) (λ splits calls. AreSeveralAsked policy query parts.now result calls) desk.old desk.new }
+    ensures { AsksDesk D.bounds D.splits D.tables D.leads (λ bounds splits tables. AsksSeveral bounds splits tables
+        query parts.now result) (λ splits calls. AreSeveralAsked policy query parts.now result calls)
+        desk.old desk.new }
 {
     match Vec::with_capacity(alloc, parts.len()) {
         Ok(mut replies) => match ask_each(desk, policy, query, parts, &mut replies) {
@@ -232,7 +241,9 @@ fn ask_each<D: Desk>(
 ) -> Result<(), Refusal>
     requires none { replies.old.items ≡ [] }
     requires room { length parts.now ≤ vec_capacity replies.old }
-    ensures asks { AsksDesk D.bounds D.splits D.tables D.leads (λ bounds splits tables. AsksInTurn bounds splits query tables parts.now (result_and result (Ok replies.new.items))) (λ splits calls. AreAskedInTurn policy query parts.now (result_and result (Ok replies.new.items)) calls) desk.old desk.new }
+    ensures asks { AsksDesk D.bounds D.splits D.tables D.leads (λ bounds splits tables. AsksInTurn bounds splits query
+        tables parts.now (result_and result (Ok replies.new.items))) (λ splits calls. AreAskedInTurn policy query
+        parts.now (result_and result (Ok replies.new.items)) calls) desk.old desk.new }
     ensures small { All (λ (r : PartReply). IsSmall r.reply) replies.new.items }
     ensures few { length replies.new.items ≤ length parts.now }
 {
@@ -250,7 +261,9 @@ fn ask_each<D: Desk>(
 
 /// Says what stands where in one partition.
 fn lay_out<D: Desk>(desk: &D, part: u32) -> Answer
-    ensures { AsksDesk D.bounds D.splits D.tables D.leads (λ bounds splits tables new. IsLaidOut splits tables part result × (new ≡ tables)) (λ splits calls. (outcome : Result Layout Refusal) × (calls ≡ Looked part outcome ∷ []) × (result ≡ told (Answer.Laid part) outcome)) desk.now desk.now }
+    ensures { AsksDesk D.bounds D.splits D.tables D.leads (λ bounds splits tables new. IsLaidOut splits tables part
+        result × (new ≡ tables)) (λ splits calls. (outcome : Result Layout Refusal) × (calls ≡ Looked part outcome ∷
+        []) × (result ≡ told (Answer.Laid part) outcome)) desk.now desk.now }
 {
     match desk.layout(part) {
         Ok(layout) => Answer::Laid { part, layout },
@@ -260,7 +273,9 @@ fn lay_out<D: Desk>(desk: &D, part: u32) -> Answer
 
 /// Makes a checkpoint of one partition.
 fn fold_part<D: Desk>(desk: &mut D, part: u32) -> Answer
-    ensures { AsksDesk D.bounds D.splits D.tables D.leads (λ bounds splits tables. IsFolded tables part result) (λ splits calls. (outcome : Result ℕ Refusal) × (calls ≡ Checkpointed part outcome ∷ []) × (result ≡ told Answer.Folded outcome)) desk.old desk.new }
+    ensures { AsksDesk D.bounds D.splits D.tables D.leads (λ bounds splits tables. IsFolded tables part result)
+        (λ splits calls. (outcome : Result ℕ Refusal) × (calls ≡ Checkpointed part outcome ∷ []) ×
+        (result ≡ told Answer.Folded outcome)) desk.old desk.new }
 {
     match desk.checkpoint(part) {
         Ok(count) => Answer::Folded(count),

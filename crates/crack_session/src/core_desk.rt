@@ -1,7 +1,8 @@
 //! A core as a desk, asked by worker 0.
 ghost use Rattle.std.specs.Prelude.{◌≡◌, ◌+◌, [], ◌∷◌, is_ok, IfOk, OnOk, slice_get, if◌then◌else◌};
 ghost use Rattle.crack_plain.specs.Plain.{IsSmall};
-ghost use Rattle.crack_core.specs.Steps.{bounds_of, IsOutcomeAt, IsFoldOutcome, tables_of, tables_after, tables_folded, pasts_of, accepted_by};
+ghost use Rattle.crack_core.specs.Steps.{bounds_of, IsOutcomeAt, IsFoldOutcome, tables_of, tables_after, tables_folded};
+ghost use Rattle.crack_core.specs.Steps.{pasts_of, accepted_by};
 ghost use Rattle.crack_core.specs.Jobs.{performed, KeepsJobs, FoldsAt};
 ghost use Rattle.crack_core.specs.declared.step.Job.TheVariants.{Perform};
 ghost use Rattle.crack_session.specs.Calls.{Asked, Checkpointed};
@@ -29,12 +30,20 @@ impl Desk for Core {
     #[inline(always)]
     fn ask(&mut self, part: u32, command: Command, policy: Policy) -> Result<Reply, Refusal>
         // It is one step of worker 0, whose entry the partition keeps.
-        ensures kept { KeepsJobs self.old.limits (pasts_of self.old.parts) (Perform (record { worker = 0; part = part; command = command; policy = policy }) ∷ []) (performed result ∷ []) (pasts_of self.new.parts) }
-        ensures outcome { IsOutcomeAt (bounds_of self.old.limits) self.old.splits (tables_of self.old.parts) part command result }
-        ensures after { tables_of self.new.parts ≡ tables_after (bounds_of self.old.limits) (tables_of self.old.parts) part command result }
+        ensures kept { KeepsJobs self.old.limits (pasts_of self.old.parts) (Perform (record {
+          worker = 0;
+          part = part;
+          command = command;
+          policy = policy;
+        }) ∷ []) (performed result ∷ []) (pasts_of self.new.parts) }
+        ensures outcome { IsOutcomeAt (bounds_of self.old.limits) self.old.splits (tables_of self.old.parts) part
+            command result }
+        ensures after { tables_of self.new.parts ≡ tables_after (bounds_of self.old.limits) (tables_of self.old.parts)
+            part command result }
         ensures small { IfOk result IsSmall }
         ensures opened { (self.new.splits ≡ self.old.splits) × (self.new.limits ≡ self.old.limits) }
-        ensures accepted { accepted_by self.new.parts ≡ (if is_ok result then accepted_by self.old.parts + 1 else accepted_by self.old.parts) }
+        ensures accepted { accepted_by self.new.parts ≡ (if is_ok result then accepted_by self.old.parts + 1 else
+            accepted_by self.old.parts) }
         ensures leads { core_leads self.old (Asked part command policy result) self.new }
     {
         self.step(Step {
@@ -48,7 +57,7 @@ impl Desk for Core {
     fn checkpoint(&mut self, part: u32) -> Result<u64, Refusal>
         ensures outcome { IsFoldOutcome (slice_get (tables_of self.old.parts) part) result }
         ensures after { tables_of self.new.parts ≡ tables_folded (tables_of self.old.parts) part result }
-        // The partition that is named is folded, and nothing else is changed.
+        // The partition that is named is checkpointed, and nothing else is changed.
         ensures folds { OnOk result (FoldsAt part self.old.parts self.new.parts) }
         ensures opened { (self.new.splits ≡ self.old.splits) × (self.new.limits ≡ self.old.limits) }
         ensures accepted { accepted_by self.new.parts ≡ accepted_by self.old.parts }

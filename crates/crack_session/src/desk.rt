@@ -15,7 +15,8 @@ pub trait Desk {
     ghost use Rattle.crack_core.specs.Steps.{Bounds};
     ghost use Rattle.crack_session.specs.Calls.{Call};
 
-    /// The plain rows of each partition, and how many commands it accepted up to its last checkpoint and since, where they are known.
+    /// The plain rows of each partition, and how many commands it accepted up to its last checkpoint and since, where
+    /// they are known.
     ghost tables: { Self → Option (List PlainView) };
 
     /// Why a partition accepts no command more, if so, and how many cells its rows may take.
@@ -31,9 +32,9 @@ pub trait Desk {
     ghost leads: { Self → Call → Self → Type 0 };
 
     /// Asks one partition. Refused, with the rows and histories as they were, with 5 where there is no such partition,
-    /// with 4 where the command brings a key that isn't the partition's, with 6 where its history is full and no checkpoint is due, with 10
-    /// where it accepts no command more, with 9 where no cell is free for a row and it has as many as it may have, and with 8 where it
-    /// finds no memory.
+    /// with 4 where the command brings a key that isn't the partition's, with 6 where its history is full and no
+    /// checkpoint is due, with 10 where it accepts no command more, with 9 where no cell is free for a row and it has
+    /// as many as it may have, and with 8 where it finds no memory.
     fn ask(&mut self, part: u32, command: Command, policy: Policy) -> Result<Reply, Refusal>
         // It is the reply of the plain rows, or the refusal that they call for; in place of a reply it may be 8, or 9.
         ensures outcome { (known : List PlainView) → tables self.old ≡ Some known →
@@ -49,9 +50,9 @@ pub trait Desk {
         // The partition is asked this command by this policy, once, and this is what comes of that.
         ensures leads { leads self.old (Asked part command policy result) self.new };
 
-    /// Makes a checkpoint of one partition, and returns how many commands it accepted since the last one: its rows are kept as they are, and
-    /// what it was asked no more. It isn't kept itself. Refused with 5 where there is no such partition, and with 8 where no memory is
-    /// found; nothing has changed then.
+    /// Makes a checkpoint of one partition, and returns how many commands it accepted since the last one: its rows are
+    /// kept as they are, and what it was asked no more. It isn't kept itself. Refused with 5 where there is no such
+    /// partition, and with 8 where no memory is found; nothing has changed then.
     fn checkpoint(&mut self, part: u32) -> Result<u64, Refusal>
         ensures outcome { (known : List PlainView) → tables self.old ≡ Some known →
             IsFoldOutcome (slice_get known part) result }
@@ -64,10 +65,11 @@ pub trait Desk {
         ensures receipts { receipts self.new ≡ receipts self.old }
         ensures leads { leads self.old (Checkpointed part result) self.new };
 
-    /// What stands where in one partition. It cracks and merges nothing, and isn't kept. Refused with 5 where there is no
-    /// such partition, and with 8 where no memory is found.
+    /// What stands where in one partition. It cracks and merges nothing, and isn't kept. Refused with 5 where there is
+    /// no such partition, and with 8 where no memory is found.
     fn layout(&self, part: u32) -> Result<Layout, Refusal>
-        // Its pieces lead from the partition's one end to the other, its numbers fit, and its rows are as many as the plain rows.
+        // Its pieces lead from the partition's one end to the other, its numbers fit, and its rows are as many as the
+        // plain rows.
         ensures outcome { (known : List PlainView) → tables self.now ≡ Some known →
             IsLayoutOutcome (keys_of_part (splits self.now) part) (slice_get known part) result }
         ensures leads { leads self.now (Looked part result) self.now };

@@ -1,8 +1,11 @@
 //! The lines of a reader, in the place where they were read to.
-ghost use Rattle.std.specs.Prelude.{◌≡◌, ℕ, ◌+◌, ◌-◌, ◌^◌, ◌<◌, ◌≤◌, ◌++◌, ◌⊎◌, min, List, [], length, take, drop, slice_range, true, false, Some, MatchBool, IfOk, IfErr, OnErr, OnOk, IsTrue, IsFalse};
+ghost use Rattle.std.specs.Prelude.{◌≡◌, ℕ, ◌+◌, ◌-◌, ◌^◌, ◌<◌, ◌≤◌, ◌++◌, ◌⊎◌, min, List, [], length, take, drop};
+ghost use Rattle.std.specs.Prelude.{slice_range, true, false, Some, MatchBool, IfOk, IfErr, OnErr, OnOk, IsTrue};
+ghost use Rattle.std.specs.Prelude.{IsFalse};
 ghost use Rattle.std.specs.Io.KnownBytes.{Keeps};
 ghost use Rattle.crack_row.specs.Devices.{device, has_failed, reads_of};
-ghost use Rattle.crack_session.specs.Input.{has_feed, first_line, after_line, kept_of, ahead, left_of, IsNextLine, IsBegun, IsPaid, KnowsEnd};
+ghost use Rattle.crack_session.specs.Input.{has_feed, first_line, after_line, kept_of, ahead, left_of, IsNextLine};
+ghost use Rattle.crack_session.specs.Input.{IsBegun, IsPaid, KnowsEnd};
 ghost use Rattle.crack_session.specs.Readings.{reading_of};
 
 use crate::MOST_READS;
@@ -58,7 +61,8 @@ impl Model for LineReader {
 
     ghost invariant = { λ r. (r.line_start ≤ r.line_end) × (r.line_end ≤ r.at) × (r.at ≤ r.end)
         × (r.end ≤ ROOM_BYTES)
-        × IfSome r.insert (λ row. reading_of (slice_range r.bytes r.line_start r.line_end) ≡ Some (Ok (Insert row.0 row.1))) };
+        × IfSome r.insert (λ row. reading_of (slice_range r.bytes r.line_start r.line_end) ≡
+        Some (Ok (Insert row.0 row.1))) };
 }
 
 impl LineReader {
@@ -109,7 +113,8 @@ impl LineReader {
         self.insert = None;
     }
 
-    /// Takes the next line where it is an insert that is written as most are, and says whether it is: its end isn't looked for before it is read.
+    /// Takes the next line where it is an insert that is written as most are, and says whether it is: its end isn't
+    /// looked for before it is read.
     #[inline(always)]
     fn take_insert(&mut self) -> bool
         ensures found { IsTrue result → has_feed self.old.unread ≡ true }
@@ -161,9 +166,11 @@ impl LineReader {
             ahead self.new (R.remaining (device reader.new)) ≡ Some u) }
         ensures still { IfErr result (λ _. Keeps (R.remaining (device reader.old)) (R.remaining (device reader.new))) }
         ensures end { KnowsEnd self.new (R.remaining (device reader.new)) }
-        ensures paid { OnOk result (IsPaid self.old self.new (R.remaining (device reader.old)) (R.remaining (device reader.new))) }
+        ensures paid { OnOk result (IsPaid self.old self.new (R.remaining (device reader.old))
+            (R.remaining (device reader.new))) }
         ensures reads { OnOk result (self.new.reads + 1 ≡ self.old.reads) }
-        ensures counted { (reads_of reader.new ≡ min (reads_of reader.old + (self.old.reads - self.new.reads)) (2 ^ 64 - 1))
+        ensures counted { (reads_of reader.new ≡
+            min (reads_of reader.old + (self.old.reads - self.new.reads)) (2 ^ 64 - 1))
             × (self.new.reads ≤ self.old.reads) }
         ensures few { OnOk result (length self.new.unread ≤ READ_BYTES) }
         ensures unfailed { OnOk result (has_failed reader.new ≡ has_failed reader.old) }
@@ -209,8 +216,10 @@ pub fn next_line<R: Read, W: Write>(
         ahead input.old (R.remaining (device reader.old)) ≡ Some u → has_feed u ≡ false → input.new.ended ≡ true) }
     ensures goes_on { OnErr result (input.old.ended ≡ false) }
     ensures end { KnowsEnd input.new (R.remaining (device reader.new)) }
-    ensures paid { OnOk result (IsPaid input.old input.new (R.remaining (device reader.old)) (R.remaining (device reader.new))) }
-    ensures counted { (reads_of reader.new ≡ min (reads_of reader.old + (input.old.reads - input.new.reads)) (2 ^ 64 - 1))
+    ensures paid { OnOk result (IsPaid input.old input.new (R.remaining (device reader.old))
+        (R.remaining (device reader.new))) }
+    ensures counted { (reads_of reader.new ≡
+        min (reads_of reader.old + (input.old.reads - input.new.reads)) (2 ^ 64 - 1))
         × (input.new.reads ≤ input.old.reads) }
     ensures bytes { Keeps (W.contents (device writer.old)) (W.contents (device writer.new)) }
     ensures unfailed { OnOk result ((has_failed reader.new ≡ has_failed reader.old)

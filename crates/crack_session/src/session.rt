@@ -1,5 +1,6 @@
 //! A session: the statements of a reader, answered to a writer.
-ghost use Rattle.std.specs.Prelude.{◌≡◌, ℕ, ◌+◌, ◌<◌, ◌≤◌, ◌⊎◌, ◌^◌, ◌-◌, true, List, length, min, Ok, IfOk, IfErr, IfSome, OnErr, OnOk, Some};
+ghost use Rattle.std.specs.Prelude.{◌≡◌, ℕ, ◌+◌, ◌<◌, ◌≤◌, ◌⊎◌, ◌^◌, ◌-◌, true, List, length, min, Ok, IfOk, IfErr};
+ghost use Rattle.std.specs.Prelude.{IfSome, OnErr, OnOk, Some};
 ghost use Rattle.std.specs.Io.KnownBytes.{Keeps};
 ghost use Rattle.crack_row.specs.Devices.{device, has_failed, reads_of};
 ghost use Rattle.crack_plain.specs.Plain.{PlainView};
@@ -50,7 +51,8 @@ pub struct Fault {
     pub first_short: Option<u64>,
 }
 
-/// How far a session is: the statements answered, the first that was refused for want of room, and the policy by which it asks.
+/// How far a session is: the statements answered, the first that was refused for want of room, and the policy by which
+/// it asks.
 #[derive(Clone, Copy, Debug)]
 struct Progress {
     statements: u64,
@@ -84,7 +86,11 @@ impl Progress {
     /// Notes another policy, and the first want of room, at the statement after those that are answered.
     fn note(&mut self, answer: &Answer)
         requires { self.old.statements + 1 < 2 ^ 64 }
-        ensures { self.new ≡ record self.old { first_short = marked self.old.first_short (self.old.statements + 1) (is_short_answer answer.now); policy = policy_after self.old.policy answer.now } }
+        ensures { self.new ≡ record self.old {
+          first_short = marked self.old.first_short (self.old.statements + 1)
+              (is_short_answer answer.now);
+          policy = policy_after self.old.policy answer.now;
+        } }
     {
         if let Answer::Set(policy) = answer {
             self.policy = *policy;
@@ -105,7 +111,8 @@ fn respond<D: Desk, W: Write>(
     writer: &mut Watched<W>,
 ) -> Result<(), Refusal>
     requires { progress.old.statements + 1 < 2 ^ 64 }
-    ensures { Responds D.bounds D.splits D.tables D.leads W.contents reading progress.old progress.new result desk.old desk.new writer.old writer.new }
+    ensures { Responds D.bounds D.splits D.tables D.leads W.contents reading progress.old progress.new result desk.old
+        desk.new writer.old writer.new }
 {
     if let Some((key, payload)) = inserted(&reading) {
         return respond_to_insert(desk, key, payload, progress, writer);
@@ -125,7 +132,8 @@ fn respond_to_any<D: Desk, W: Write>(
     writer: &mut Watched<W>,
 ) -> Result<(), Refusal>
     requires { progress.old.statements + 1 < 2 ^ 64 }
-    ensures { Responds D.bounds D.splits D.tables D.leads W.contents reading progress.old progress.new result desk.old desk.new writer.old writer.new }
+    ensures { Responds D.bounds D.splits D.tables D.leads W.contents reading progress.old progress.new result desk.old
+        desk.new writer.old writer.new }
 {
     let answer = answer_reading(alloc, desk, progress.policy, reading);
     tell(&answer, progress, writer)
@@ -145,8 +153,8 @@ fn inserted(reading: &Result<Statement, Refusal>) -> Option<(Key, Payload)>
     }
 }
 
-/// Answers an insert, and writes the text. It asks in place, by a command that is known to be an insert, and its reply is no `Answer` before
-/// it is written.
+/// Answers an insert, and writes the text. It asks in place, by a command that is known to be an insert, and its reply
+/// is no `Answer` before it is written.
 #[inline(always)]
 fn respond_to_insert<D: Desk, W: Write>(
     desk: &mut D,
@@ -156,7 +164,8 @@ fn respond_to_insert<D: Desk, W: Write>(
     writer: &mut Watched<W>,
 ) -> Result<(), Refusal>
     requires { progress.old.statements + 1 < 2 ^ 64 }
-    ensures { Responds D.bounds D.splits D.tables D.leads W.contents (Ok (Statement.Insert key payload)) progress.old progress.new result desk.old desk.new writer.old writer.new }
+    ensures { Responds D.bounds D.splits D.tables D.leads W.contents (Ok (Statement.Insert key payload)) progress.old
+        progress.new result desk.old desk.new writer.old writer.new }
 {
     let part = part_of(desk, key);
     match desk.ask(part, Command::Insert { key, payload }, progress.policy) {
@@ -221,8 +230,16 @@ fn tell<W: Write>(
 
 /// Ends a session, once what is written is flushed.
 fn finish<W: Write>(writer: &mut Watched<W>, progress: Progress, how: How) -> Result<End, Fault>
-    ensures end { IfOk result (λ end. end ≡ record { how = how; statements = progress.statements; first_short = progress.first_short }) }
-    ensures fault { IfErr result (λ fault. fault ≡ record { refusal = Refusal.WriteFault; done = progress.statements; first_short = progress.first_short }) }
+    ensures end { IfOk result (λ end. end ≡ record {
+      how = how;
+      statements = progress.statements;
+      first_short = progress.first_short;
+    }) }
+    ensures fault { IfErr result (λ fault. fault ≡ record {
+      refusal = Refusal.WriteFault;
+      done = progress.statements;
+      first_short = progress.first_short;
+    }) }
     ensures bytes { Keeps (W.contents (device writer.old)) (W.contents (device writer.new)) }
     ensures unfailed { OnOk result (has_failed writer.new ≡ has_failed writer.old) }
     ensures failed { OnErr result (has_failed writer.new ≡ true) }
@@ -233,14 +250,15 @@ fn finish<W: Write>(writer: &mut Watched<W>, progress: Progress, how: How) -> Re
     }
 }
 
-/// Answers the statements of a reader, each whole line before it reads again, until its input ends or a statement
-/// is `quit`; what was read beyond that is dropped. An insert goes to the partition that holds its key, a delete or update to the one that
-/// its row number names, a layout to the one that it names. A range is asked of each partition that holds a part of it, in rising order: counts and
-/// sums are added, and rows are listed partition by partition, without a copy. The first refusal is the reply. A checkpoint is of the partition that it names. The desk is asked by `policy` until a statement names another.
-/// What is written is flushed before each read and at the end: after a buffer that holds the replies
-/// to one read there is at most one write more than reads. Rows and pieces are written one at a time.
-/// Takes no memory but what the desk takes, and for the replies of several partitions to one statement; none for a line, so it is
-/// never cut off by 8.
+/// Answers the statements of a reader, each whole line before it reads again, until its input ends or a statement is
+/// `quit`; what was read beyond that is dropped. An insert goes to the partition that holds its key, a delete or update
+/// to the one that its row number names, a layout to the one that it names. A range is asked of each partition that
+/// holds a part of it, in rising order: counts and sums are added, and rows are listed partition by partition, without
+/// a copy. The first refusal is the reply. A checkpoint is of the partition that it names. The desk is asked by
+/// `policy` until a statement names another. What is written is flushed before each read and at the end: after a buffer
+/// that holds the replies to one read there is at most one write more than reads. Rows and pieces are written one at a
+/// time. Takes no memory but what the desk takes, and for the replies of several partitions to one statement; none for
+/// a line, so it is never cut off by 8.
 pub fn serve<D: Desk, R: Read, W: Write>(
     alloc: Global,
     desk: &mut D,
@@ -264,14 +282,21 @@ pub fn serve<D: Desk, R: Read, W: Write>(
     ensures cut_off { IfErr result (λ fault. (bytes out : List ℕ) (tables : List PlainView) →
         R.remaining (device reader.old) ≡ Some bytes → W.contents (device writer.old) ≡ Some out →
         D.tables desk.old ≡ Some tables →
-        IsCutOff (D.bounds desk.old) (D.splits desk.old) tables bytes out fault (D.tables desk.new) (W.contents (device writer.new))) }
-    // Whatever is known of the rows: each answer is made of what came of the next calls of the desk, for just the partitions and parts that its
-    // statement fixes and by the policy in force, and what is written are the texts of the answers; no call is left over.
-    ensures written { IfOk result (λ end. (bytes out : List ℕ) → R.remaining (device reader.old) ≡ Some bytes → W.contents (device writer.old) ≡ Some out →
-        AreWritten (AreAnswersOf D.leads (D.splits desk.old) policy desk.old desk.new) (statements bytes) out end.first_short (W.contents (device writer.new))) }
-    ensures written_in_part { IfErr result (λ fault. (bytes out : List ℕ) → R.remaining (device reader.old) ≡ Some bytes → W.contents (device writer.old) ≡ Some out →
-        AreWrittenThen (AreAnswersOf D.leads (D.splits desk.old) policy desk.old desk.new) bytes out fault (W.contents (device writer.new))) }
-    // Whatever came, the desk's bounds and splits are as they were, so another session, or an export, over it goes on from there.
+        IsCutOff (D.bounds desk.old) (D.splits desk.old) tables bytes out fault (D.tables desk.new)
+        (W.contents (device writer.new))) }
+    // Whatever is known of the rows: each answer is made of what came of the next calls of the desk, for just the
+    // partitions and parts that its statement fixes and by the policy in force, and what is written are the texts of
+    // the answers; no call is left over.
+    ensures written { IfOk result (λ end. (bytes out : List ℕ) → R.remaining (device reader.old) ≡ Some bytes →
+        W.contents (device writer.old) ≡ Some out →
+        AreWritten (AreAnswersOf D.leads (D.splits desk.old) policy desk.old desk.new) (statements bytes) out
+        end.first_short (W.contents (device writer.new))) }
+    ensures written_in_part { IfErr result (λ fault. (bytes out : List ℕ) → R.remaining (device reader.old) ≡
+        Some bytes → W.contents (device writer.old) ≡ Some out →
+        AreWrittenThen (AreAnswersOf D.leads (D.splits desk.old) policy desk.old desk.new) bytes out fault
+        (W.contents (device writer.new))) }
+    // Whatever came, the desk's bounds and splits are as they were, so another session, or an export, over it goes on
+    // from there.
     ensures splits { D.splits desk.new ≡ D.splits desk.old }
     ensures bounds { D.bounds desk.new ≡ D.bounds desk.old }
     // Where it isn't cut off, no device has failed.

@@ -19,9 +19,9 @@ impl Store {
         self.inside.index.is_empty()
     }
 
-    /// Puts all pending insertions after the column's last row, in the order of arrival: where no bound stands, it leaves what the carry of
-    /// one after the other leaves. Room is made for all of them at once. O(pending insertions).
-    /// Refused with 8 where it finds no memory; all is then as it was.
+    /// Puts all pending insertions after the column's last row, in the order of arrival: where no bound stands, it
+    /// leaves what the carry of one after the other leaves. Room is made for all of them at once. O(pending
+    /// insertions). Refused with 8 where it finds no memory; all is then as it was.
     pub fn append_all(&mut self) -> Result<(), Refusal>
         requires { self.old.marks ≡ [] }
         ensures ok { OnOk result (SameButRoom (all_appended self.old) self.new) }
@@ -44,8 +44,8 @@ impl Store {
     }
 }
 
-/// Puts the rows of a list after the column's last one, in their order, each with what is to be remembered of it. O(rows), where the list has
-/// no holes; the cells are read in the order of the list.
+/// Puts the rows of a list after the column's last one, in their order, each with what is to be remembered of it.
+/// O(rows), where the list has no holes; the cells are read in the order of the list.
 fn append_rows(column: &mut CrackerColumn, rows: &PendingIn, arena: &Arena<Row>)
     requires room { length rows.now.handles ≤ column.old.room }
     requires reads { All (Reads arena.now.cells) rows.now.handles }

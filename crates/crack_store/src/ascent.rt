@@ -65,8 +65,9 @@ impl Visitor for Ascent<'_> {
     }
 }
 
-/// Pushes the hand on from place to place as long as it isn't doomed, is known to be below the ceiling, and its own piece ends before the
-/// column does. The bound where its piece ends then. O(log bounds) and the bounds at the places on its way; takes no memory.
+/// Pushes the hand on from place to place as long as it isn't doomed, is known to be below the ceiling, and its own
+/// piece ends before the column does. The bound where its piece ends then. O(log bounds) and the bounds at the places
+/// on its way; takes no memory.
 #[inline(always)]
 pub(crate) fn ascend(inside: &mut Inside, ceiling: Option<Bound>) -> Near
     requires { HasHand inside.old }
@@ -122,8 +123,8 @@ impl Visitor for Descent<'_> {
     }
 }
 
-/// Pulls the hand back from place to place as long as its own piece begins after the place. The bound where its piece begins then.
-/// O(log bounds) and the bounds at the places on its way; takes no memory.
+/// Pulls the hand back from place to place as long as its own piece begins after the place. The bound where its piece
+/// begins then. O(log bounds) and the bounds at the places on its way; takes no memory.
 #[inline(always)]
 pub(crate) fn descend(inside: &mut Inside, place: usize) -> Near
     requires { HasHand inside.old }

@@ -1,9 +1,11 @@
 //! A store with one cell in hand.
-ghost use Rattle.std.specs.Prelude.{◌≡◌, ◌-◌, ◌<◌, ◌≤◌, ◌∷◌, [], length, All, Some, IsTrue, IsFalse, IfSome, Contains, MatchOption};
+ghost use Rattle.std.specs.Prelude.{◌≡◌, ◌-◌, ◌<◌, ◌≤◌, ◌∷◌, [], length, All, Some, IsTrue, IsFalse, IfSome, Contains};
+ghost use Rattle.std.specs.Prelude.{MatchOption};
 ghost use Rattle.crack_arena.specs.Arena.{read, times, slots, IsFirstAt, IsAbsent, same_handle};
 ghost use Rattle.crack_index.specs.Marks.{piece_at, next_mark, last_mark};
 ghost use Rattle.crack_state.specs.State.{IsIntact, live_rows};
-ghost use Rattle.crack_state.specs.Steps.{hand_key, piece_start, piece_end, IsDoomed, pushed_on, pulled_back, exchanged, appended, buried, bounds_above, bounds_up_to, returned};
+ghost use Rattle.crack_state.specs.Steps.{hand_key, piece_start, piece_end, IsDoomed, pushed_on, pulled_back};
+ghost use Rattle.crack_state.specs.Steps.{exchanged, appended, buried, bounds_above, bounds_up_to, returned};
 
 use crate::Store;
 use crate::inside::Inside;
@@ -168,13 +170,14 @@ impl Carrying {
         }
     }
 
-    /// Puts the hand where its own piece ends; each bound above its key that stands there moves up by one, and the row that
-    /// stood there is in hand. O(1) on the way up and the bounds at that place; else O(log bounds) more, once.
+    /// Puts the hand where its own piece ends; each bound above its key that stands there moves up by one, and the row
+    /// that stood there is in hand. O(1) on the way up and the bounds at that place; else O(log bounds) more, once.
     pub fn push_on(&mut self)
         requires { piece_end self.old.store (hand_key self.old) < length self.old.store.column }
         ensures after { self.new ≡ pushed_on self.old }
         ensures live { live_rows self.new.store ≡ live_rows self.old.store }
-        ensures nearer { bounds_above (hand_key self.new) self.new.store.marks < bounds_above (hand_key self.old) self.old.store.marks }
+        ensures nearer { bounds_above (hand_key self.new) self.new.store.marks < bounds_above (hand_key self.old)
+            self.old.store.marks }
     {
         let Some(mark) = self.bound_above() else {
             unreachable!();
@@ -185,14 +188,15 @@ impl Carrying {
         self.inside.tally.moved = self.inside.tally.moved.saturating_add(1);
     }
 
-    /// Puts the hand at the last place before its own piece; each bound at or below its key that stands where that piece begins
-    /// moves down by one, and the row that stood there is in hand. O(1) on the way down and the bounds at that place; else
-    /// O(log bounds) more, once.
+    /// Puts the hand at the last place before its own piece; each bound at or below its key that stands where that
+    /// piece begins moves down by one, and the row that stood there is in hand. O(1) on the way down and the bounds at
+    /// that place; else O(log bounds) more, once.
     pub fn pull_back(&mut self)
         requires { 0 < piece_start self.old.store (hand_key self.old) }
         ensures after { self.new ≡ pulled_back self.old }
         ensures live { live_rows self.new.store ≡ live_rows self.old.store }
-        ensures nearer { bounds_up_to (hand_key self.new) self.new.store.marks < bounds_up_to (hand_key self.old) self.old.store.marks }
+        ensures nearer { bounds_up_to (hand_key self.new) self.new.store.marks < bounds_up_to (hand_key self.old)
+            self.old.store.marks }
     {
         let Some(mark) = self.bound_below() else {
             unreachable!();
@@ -242,7 +246,8 @@ impl Carrying {
         Store { inside }
     }
 
-    /// Puts the hand, which isn't doomed, after the last pending insertion: its row makes way for another. Takes no memory. O(1).
+    /// Puts the hand, which isn't doomed, after the last pending insertion: its row makes way for another. Takes no
+    /// memory. O(1).
     pub fn put_back(self) -> Store
         requires room { 0 < self.store.in_room }
         requires kept { times self.hand.slot (slots self.store.pending_out) ≡ 0 }
@@ -257,8 +262,8 @@ impl Carrying {
         Store { inside }
     }
 
-    /// Puts the hand after the column's last row, where its own piece ends there; each bound above its key that stands there
-    /// moves up by one. O(1) on the way up and the bounds at that place, else O(log bounds) more.
+    /// Puts the hand after the column's last row, where its own piece ends there; each bound above its key that stands
+    /// there moves up by one. O(1) on the way up and the bounds at that place, else O(log bounds) more.
     pub fn append(self) -> Store
         requires ends { piece_end self.store (hand_key self) ≡ length self.store.column }
         requires room { 0 < self.store.column_room }

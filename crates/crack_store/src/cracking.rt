@@ -44,8 +44,8 @@ impl Missing {
     }
 }
 
-/// The bound with its own piece, where the bound lies between the partition's ends and isn't in the index. O(log bounds): a bound is
-/// there just where its piece begins with it.
+/// The bound with its own piece, where the bound lies between the partition's ends and isn't in the index. O(log
+/// bounds): a bound is there just where its piece begins with it.
 fn gap_at(inside: &Inside, bound: Bound) -> Option<Gap>
     ensures bound { IfSome result (λ gap. gap.bound.0 ≡ bound.0) }
     ensures missing { IfSome result (λ gap. MissesIn (lists_of inside.now) gap.bound.0 gap.piece) }
@@ -75,8 +75,8 @@ fn end_of(piece: Piece, keys: KeyRange) -> Bound
     }
 }
 
-/// Codes the keys of pending rows that have no code yet, unless no range was read before, since the first read may merge all of them.
-/// Amortised O(1) for each pending row.
+/// Codes the keys of pending rows that have no code yet, unless no range was read before, since the first read may
+/// merge all of them. Amortised O(1) for each pending row.
 #[inline]
 pub(crate) fn code_pending(inside: &mut Inside)
     ensures { inside.new ≡ inside.old }
@@ -88,8 +88,8 @@ pub(crate) fn code_pending(inside: &mut Inside)
     inside.pending_out.code_keys();
 }
 
-/// Which ends of the range are missing. O(log bounds): each end is looked up once, and the high one not where it falls into the piece
-/// of the low one.
+/// Which ends of the range are missing. O(log bounds): each end is looked up once, and the high one not where it falls
+/// into the piece of the low one.
 pub(crate) fn missing_ends(inside: &Inside, range: KeyRange) -> Missing
     ensures { Misses (lists_of inside.now) range result }
 {
@@ -133,14 +133,16 @@ pub(crate) fn crack_at_ends(inside: &mut Inside, range: KeyRange, missing: Missi
     }
 }
 
-/// Cracks a missing bound's own piece in two by it; where the bound stands then. Takes no memory. O(size of the piece + bounds).
+/// Cracks a missing bound's own piece in two by it; where the bound stands then. Takes no memory. O(size of the piece +
+/// bounds).
 fn crack_in(inside: &mut Inside, gap: Gap) -> usize
     requires intact { KeepsIntact inside.old [] }
     requires missing { MissesIn (lists_of inside.old) gap.bound.0 gap.piece }
     requires room { 1 ≤ inside.old.index.room }
     ensures intact { KeepsIntact inside.new [] }
     ensures refined { RefinesAt (lists_of inside.old) (lists_of inside.new) gap.bound.0 }
-    ensures marks { inside.new.index.marks ≡ added (record { bound = gap.bound; position = result }) inside.old.index.marks }
+    ensures marks { inside.new.index.marks ≡ added (record { bound = gap.bound; position = result })
+        inside.old.index.marks }
     ensures room { inside.new.index.room + 1 ≡ inside.old.index.room }
 {
     let Gap { bound, piece } = gap;
@@ -151,13 +153,17 @@ fn crack_in(inside: &mut Inside, gap: Gap) -> usize
     place
 }
 
-/// Cracks the piece into which two missing bounds fall in three by them. Takes no memory. O(size of the piece + bounds).
+/// Cracks the piece into which two missing bounds fall in three by them. Takes no memory. O(size of the piece +
+/// bounds).
 fn crack_together(inside: &mut Inside, low: Gap, high: InnerBound)
     requires intact { KeepsIntact inside.old [] }
     requires missing { FallTogether (lists_of inside.old) low high }
     requires room { 2 ≤ inside.old.index.room }
     ensures intact { KeepsIntact inside.new [] }
-    ensures refined { Refines (lists_of inside.old) (lists_of inside.new) (record { low = low.bound.0; high = high.0 }) }
+    ensures refined { Refines (lists_of inside.old) (lists_of inside.new) (record {
+      low = low.bound.0;
+      high = high.0;
+    }) }
 {
     let Gap { bound: low, piece } = low;
     let (middle, upper) = inside

@@ -1,5 +1,5 @@
-//! All pending deletions of a range pulled in bulk: the doomed rows are taken out of the column's pieces from the lowest up, and then buried in
-//! the order of arrival.
+//! All pending deletions of a range pulled in bulk: the doomed rows are taken out of the column's pieces from the
+//! lowest up, and then buried in the order of arrival.
 ghost use Rattle.std.specs.Prelude.{◌≡◌, ◌<◌, ◌≤◌, [], length, map, All, IfSome, IsTrue, IsFalse};
 ghost use Rattle.crack_arena.specs.Rows.{RemembersKeys, key_at};
 ghost use Rattle.crack_bulk.specs.Carried.{inside_of};
@@ -7,7 +7,8 @@ ghost use Rattle.crack_bulk.specs.Pulled.{buried_all, pulled_from, pulled_in_bul
 ghost use Rattle.crack_column.specs.Drains.{doomed_handle};
 ghost use Rattle.crack_state.specs.Merge.{outside_of};
 ghost use Rattle.crack_state.specs.State.{live_rows};
-ghost use Rattle.crack_store.specs.Drainings.{AreBuried, CanBePulled, IsDrainedTo, IsReady, IsShortened, KeepsKeys, doomed_of};
+ghost use Rattle.crack_store.specs.Drainings.{AreBuried, CanBePulled, IsDrainedTo, IsReady, IsShortened, KeepsKeys};
+ghost use Rattle.crack_store.specs.Drainings.{doomed_of};
 ghost use Rattle.crack_store.specs.Inside.{lists_of};
 ghost use Rattle.crack_store.specs.Keeps.{KeepsIntact};
 
@@ -26,9 +27,10 @@ const FEWEST: usize = 16;
 const FEW_BOUNDS: usize = 64;
 
 impl Store {
-    /// Pulls all pending deletions of a range in bulk, each by the column's last row, and leaves what the pull of one after the other leaves;
-    /// whether it did so. It doesn't where none is in the range or few are, nor where it finds no memory to list them: all is then as it was.
-    /// O(pending deletions and holes); for each that it pulls O(bounds) without a wait for memory, and one search of its piece; O(bounds).
+    /// Pulls all pending deletions of a range in bulk, each by the column's last row, and leaves what the pull of one
+    /// after the other leaves; whether it did so. It doesn't where none is in the range or few are, nor where it finds
+    /// no memory to list them: all is then as it was. O(pending deletions and holes); for each that it pulls O(bounds)
+    /// without a wait for memory, and one search of its piece; O(bounds).
     pub fn pull_in_bulk(&mut self, range: KeyRange) -> bool
         ensures pulled { IsTrue result → self.new ≡ pulled_in_bulk range self.old }
         ensures left { IsTrue result → self.new.pending_out ≡ outside_of self.old.cells range self.old.pending_out }
@@ -58,7 +60,8 @@ fn doomed_in(
 ) -> Option<Vec<Doomed>>
     requires keys { RemembersKeys arena.now.cells rows.now.handles rows.now.keys }
     requires few { length rows.now.handles < usize.MAX }
-    ensures { IfSome result (λ doomed. doomed.items ≡ map (doomed_of arena.now.cells) (inside_of arena.now.cells range rows.now.handles)) }
+    ensures { IfSome result (λ doomed. doomed.items ≡ map (doomed_of arena.now.cells) (inside_of arena.now.cells range
+        rows.now.handles)) }
 {
     let mut doomed = Vec::new(alloc);
     let mut from = 0;
@@ -101,7 +104,8 @@ fn pull_rows(inside: &mut Inside, doomed: Vec<Doomed>)
     bury_all(inside, &doomed);
 }
 
-/// Pulls the rows out of the last piece, and takes those that were pulled out of the column, after whose last row they stand.
+/// Pulls the rows out of the last piece, and takes those that were pulled out of the column, after whose last row they
+/// stand.
 fn drain_last(drain: &mut Drain)
     requires { IsReady drain.old }
     ensures { IsDrainedTo drain.old drain.new }
@@ -141,8 +145,9 @@ fn bury_all(inside: &mut Inside, doomed: &[Doomed])
     inside.pending_out.shrink_if_empty(0);
 }
 
-/// A column on a walk over its bounds from the lowest up, out of which doomed rows are pulled: the piece that begins at the bound `low` and the place
-/// `from` is next, and those that were taken out of the pieces below stand in the `gap` places before it.
+/// A column on a walk over its bounds from the lowest up, out of which doomed rows are pulled: the piece that begins at
+/// the bound `low` and the place `from` is next, and those that were taken out of the pieces below stand in the `gap`
+/// places before it.
 #[derive(Drop)]
 pub(crate) struct Drain {
     column: CrackerColumn,

@@ -5,8 +5,8 @@ use crack_row::Refusal;
 use std::alloc::Global;
 use std::mem;
 
-/// For each cell, the place of the column where its row was seen last while it was doomed. Rows move, so a note is checked before it
-/// is used, and nothing hangs on it but time.
+/// For each cell, the place of the column where its row was seen last while it was doomed. Rows move, so a note is
+/// checked before it is used, and nothing hangs on it but time.
 #[derive(Drop)]
 pub(crate) struct Notes {
     places: Vec<u32>,
@@ -28,7 +28,8 @@ impl Notes {
         mem::replace(self, Notes::new(alloc))
     }
 
-    /// Makes room for a note of each of the first `cells` cells. Amortised O(1) for each that has none. Refused with 8 alone.
+    /// Makes room for a note of each of the first `cells` cells. Amortised O(1) for each that has none. Refused with 8
+    /// alone.
     pub(crate) fn make_places(&mut self, cells: usize) -> Result<(), Refusal>
         ensures err { IfErr result (λ e. e ≡ Refusal.OutOfMemory) }
     {

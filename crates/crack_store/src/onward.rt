@@ -1,10 +1,12 @@
-//! From one row in hand to the next: what ends the way of the one and begins that of the other, with the store where it is.
+//! From one row in hand to the next: what ends the way of the one and begins that of the other, with the store where it
+//! is.
 ghost use Rattle.std.specs.Prelude.{◌≡◌, ◌<◌, ◌≤◌, ◌↔◌, IsTrue, length, OnOk, IfErr};
 ghost use Rattle.crack_arena.specs.Arena.{times, slots, StandsAt};
 ghost use Rattle.crack_arena.specs.Rows.{keys_at};
 ghost use Rattle.crack_pending.specs.Pending.{Finds};
 ghost use Rattle.crack_state.specs.State.{live_rows};
-ghost use Rattle.crack_state.specs.Steps.{hand_key, piece_end, IsDoomed, lifted, lifted_last, appended, buried, SameButRoom, returned};
+ghost use Rattle.crack_state.specs.Steps.{hand_key, piece_end, IsDoomed, lifted, lifted_last, appended, buried};
+ghost use Rattle.crack_state.specs.Steps.{SameButRoom, returned};
 
 use crate::Carrying;
 use crate::steps::{free_hand, give_back, put_last, take_in, take_last};
@@ -32,8 +34,8 @@ impl Carrying {
         Ok(())
     }
 
-    /// Ends the way of the hand as `append` does, and takes the pending insertion at this place into the hand, as `lift` does.
-    /// It costs what the two do, and moves no store.
+    /// Ends the way of the hand as `append` does, and takes the pending insertion at this place into the hand, as
+    /// `lift` does. It costs what the two do, and moves no store.
     pub fn append_and_lift(&mut self, place: usize)
         requires ends { piece_end self.old.store (hand_key self.old) ≡ length self.old.store.column }
         requires room { 1 < self.old.store.column_room }
@@ -47,8 +49,8 @@ impl Carrying {
         self.near = take_in(&mut self.inside, place);
     }
 
-    /// Ends the way of the hand as `bury` does, and takes the pending insertion at this place into the hand, as `lift` does.
-    /// It costs what the two do, and moves no store.
+    /// Ends the way of the hand as `bury` does, and takes the pending insertion at this place into the hand, as `lift`
+    /// does. It costs what the two do, and moves no store.
     pub fn bury_and_lift(&mut self, place: usize)
         requires doomed { IsDoomed self.old }
         requires there { place < length self.old.store.pending_in }
@@ -72,9 +74,8 @@ impl Carrying {
         self.near = take_last(inside);
     }
 
-    /// Ends the way of the hand as `put_back` does, and takes the pending insertion at this place into the hand, as `lift` does; the hand
-    /// itself stands after all others.
-    /// It costs what the two do, and moves no store.
+    /// Ends the way of the hand as `put_back` does, and takes the pending insertion at this place into the hand, as
+    /// `lift` does; the hand itself stands after all others. It costs what the two do, and moves no store.
     pub fn put_back_and_lift(&mut self, place: usize)
         requires room { 0 < self.old.store.in_room }
         requires kept { times self.old.hand.slot (slots self.old.store.pending_out) ≡ 0 }
@@ -86,9 +87,9 @@ impl Carrying {
         self.near = take_in(&mut self.inside, place);
     }
 
-    /// The first pending insertion at or after the place with its key in the range; O(1) for each that it passes. Where the range holds all
-    /// of the partition's keys, it looks at none. It goes on from the place that it finds when one is lifted next: to find a row and then
-    /// to lift it is one pass.
+    /// The first pending insertion at or after the place with its key in the range; O(1) for each that it passes. Where
+    /// the range holds all of the partition's keys, it looks at none. It goes on from the place that it finds when one
+    /// is lifted next: to find a row and then to lift it is one pass.
     pub fn seek_in(&mut self, range: KeyRange, from: usize) -> Option<usize>
         ensures finds { Finds range (keys_at self.old.store.cells self.old.store.pending_in) from result }
         ensures same { self.new ≡ self.old }
@@ -103,7 +104,8 @@ impl Carrying {
         inside.pending_in.seek_in(range, from, &inside.arena)
     }
 
-    /// The first pending deletion at or after the place with its key in the range, from which the next look goes on; O(1) for each that it passes.
+    /// The first pending deletion at or after the place with its key in the range, from which the next look goes on;
+    /// O(1) for each that it passes.
     pub fn seek_out(&mut self, range: KeyRange, from: usize) -> Option<usize>
         ensures finds { Finds range (keys_at self.old.store.cells self.old.store.pending_out) from result }
         ensures same { self.new ≡ self.old }

@@ -1,5 +1,6 @@
 //! What a serial leads to, and rows that are taken out of a store or replaced.
-ghost use Rattle.std.specs.Prelude.{◌≡◌, ◌+◌, ◌-◌, ◌<◌, ◌∷◌, map, slice_get, Some, None, IsSome, IfSome, IfOk, IfErr, OnOk, OnErr, IsOk, IfNone, true, false};
+ghost use Rattle.std.specs.Prelude.{◌≡◌, ◌+◌, ◌-◌, ◌<◌, ◌∷◌, map, slice_get, Some, None, IsSome, IfSome, IfOk, IfErr};
+ghost use Rattle.std.specs.Prelude.{OnOk, OnErr, IsOk, IfNone, true, false};
 ghost use Rattle.std.specs.Option.{option_map};
 ghost use Rattle.std.specs.List.Sorted.{IsPermutation};
 ghost use Rattle.crack_row.specs.Ranges.{IsIn};
@@ -7,7 +8,8 @@ ghost use Rattle.crack_row.specs.Rows.{row_with, replaced};
 ghost use Rattle.crack_arena.specs.Arena.{read, freed, freed_at};
 ghost use Rattle.crack_state.specs.State.{live_rows, handle_of, freed_of};
 ghost use Rattle.crack_state.specs.Steps.{SameButRoom};
-ghost use Rattle.crack_state.specs.Points.{row_by, pending_by, handle_by, Maps, MayFree, IsRenewable, IsRewritable, Cancels, Dooms, Removes, Renews, Rewrites, overwritten};
+ghost use Rattle.crack_state.specs.Points.{row_by, pending_by, handle_by, Maps, MayFree, IsRenewable, IsRewritable};
+ghost use Rattle.crack_state.specs.Points.{Cancels, Dooms, Removes, Renews, Rewrites, overwritten};
 
 use crate::Store;
 use crate::inside::Serials;
@@ -33,14 +35,15 @@ impl Store {
         self.inside.arena.freed()
     }
 
-    /// Takes out the row of this serial, wherever it stands: a pending insertion is cancelled, a row of the column doomed. It comes
-    /// back; none where there is no such row. The serial is looked up once. Amortised O(1).
-    /// Refused with 8 where a row of the column finds no memory; all is then as it was.
+    /// Takes out the row of this serial, wherever it stands: a pending insertion is cancelled, a row of the column
+    /// doomed. It comes back; none where there is no such row. The serial is looked up once. Amortised O(1). Refused
+    /// with 8 where a row of the column finds no memory; all is then as it was.
     pub fn remove(&mut self, serial: Serial) -> Result<Option<Row>, Refusal>
         requires { MayFree self.old }
         ensures row { IfOk result (λ row. row ≡ row_by self.old serial.0) }
         ensures after { OnOk result (Removes (pending_by self.old serial.0) serial.0 self.old self.new) }
-        ensures live { IfOk result (λ row. IfSome row (λ r. IsPermutation (r ∷ live_rows self.new) (live_rows self.old))) }
+        ensures live { IfOk result (λ row. IfSome row (λ r. IsPermutation (r ∷ live_rows self.new)
+            (live_rows self.old))) }
         ensures none { IfOk result (λ row. IfNone row (handle_of self.old.serials serial.0 ≡ None)) }
         ensures spare { (pending_by self.old serial.0 ≡ Some false → ⊥) → IsOk result }
         ensures same { OnErr result (SameButRoom self.old self.new) }
@@ -69,8 +72,8 @@ impl Store {
         self.cancel_at(lead)
     }
 
-    /// Takes out the row of this serial, which stands in the column: it stays there as a pending deletion, and comes back.
-    /// O(1), but for a growth. Refused with 8 where it finds no memory; all is then as it was.
+    /// Takes out the row of this serial, which stands in the column: it stays there as a pending deletion, and comes
+    /// back. O(1), but for a growth. Refused with 8 where it finds no memory; all is then as it was.
     pub fn doom(&mut self, serial: Serial) -> Result<Row, Refusal>
         requires column { pending_by self.old serial.0 ≡ Some false }
         requires few { MayFree self.old }
@@ -124,15 +127,16 @@ impl Store {
         Ok(row)
     }
 
-    /// Puts this row in the place of the one of its serial, if there is one, as `rewrite` does; the row as it was comes back, and none
-    /// where there is no such row. The serial is looked up once. O(1), but for a growth.
-    /// Refused with 8 where a row of the column finds no memory; all is then as it was.
+    /// Puts this row in the place of the one of its serial, if there is one, as `rewrite` does; the row as it was comes
+    /// back, and none where there is no such row. The serial is looked up once. O(1), but for a growth. Refused with 8
+    /// where a row of the column finds no memory; all is then as it was.
     pub fn replace(&mut self, row: Row) -> Result<Option<Row>, Refusal>
         requires within { IsIn self.old.keys row.key.0 }
         requires anew { pending_by self.old row.serial.0 ≡ Some false → IsRenewable self.old }
         ensures row { IfOk result (λ before. before ≡ row_by self.old row.serial.0) }
         ensures after { OnOk result (Rewrites (pending_by self.old row.serial.0) row self.old self.new) }
-        ensures live { IfOk result (λ before. IfSome before (λ _. IsPermutation (map (replaced row) (live_rows self.old)) (live_rows self.new))) }
+        ensures live { IfOk result (λ before. IfSome before (λ _. IsPermutation (map (replaced row)
+            (live_rows self.old)) (live_rows self.new))) }
         ensures none { IfOk result (λ before. IfNone before (handle_of self.old.serials row.serial.0 ≡ None)) }
         ensures spare { (pending_by self.old row.serial.0 ≡ Some false → ⊥) → IsOk result }
         ensures same { OnErr result (SameButRoom self.old self.new) }
@@ -149,14 +153,16 @@ impl Store {
         Ok(Some(before))
     }
 
-    /// Gives the row of this serial another key and another payload. A pending insertion is written in place, which takes no
-    /// memory and always succeeds. A row of the column becomes a pending deletion, and a new one of its serial stands after
-    /// the last pending insertion. O(1), but for a growth.
-    /// Refused with 8 where it finds no memory; all is then as it was.
+    /// Gives the row of this serial another key and another payload. A pending insertion is written in place, which
+    /// takes no memory and always succeeds. A row of the column becomes a pending deletion, and a new one of its serial
+    /// stands after the last pending insertion. O(1), but for a growth. Refused with 8 where it finds no memory; all is
+    /// then as it was.
     pub fn rewrite(&mut self, serial: Serial, key: Key, payload: Payload) -> Result<(), Refusal>
         requires { IsRewritable (row_with serial key payload) self.old }
-        ensures after { OnOk result (Rewrites (pending_by self.old serial.0) (row_with serial key payload) self.old self.new) }
-        ensures live { OnOk result (IsPermutation (map (replaced (row_with serial key payload)) (live_rows self.old)) (live_rows self.new)) }
+        ensures after { OnOk result (Rewrites (pending_by self.old serial.0) (row_with serial key payload)
+            self.old self.new) }
+        ensures live { OnOk result (IsPermutation (map (replaced (row_with serial key payload)) (live_rows self.old))
+            (live_rows self.new)) }
         ensures spare { pending_by self.old serial.0 ≡ Some true → IsOk result }
         ensures same { OnErr result (SameButRoom self.old self.new) }
         ensures err { IfErr result (λ e. e ≡ Refusal.OutOfMemory) }
@@ -170,7 +176,8 @@ impl Store {
         Ok(())
     }
 
-    /// Writes the row into the cell of the pending insertion of its serial, which has this handle; the row as it was. O(1).
+    /// Writes the row into the cell of the pending insertion of its serial, which has this handle; the row as it was.
+    /// O(1).
     fn write_over(&mut self, handle: Handle<Row>, row: Row) -> Row
         requires found { handle_of self.old.serials row.serial.0 ≡ Some handle }
         requires pending { pending_by self.old row.serial.0 ≡ Some true }
@@ -185,8 +192,8 @@ impl Store {
         before
     }
 
-    /// Dooms the row of this serial, which stands in the column and was looked up, and keeps this one in a new cell; the row as it was.
-    /// O(1), but for a growth.
+    /// Dooms the row of this serial, which stands in the column and was looked up, and keeps this one in a new cell;
+    /// the row as it was. O(1), but for a growth.
     fn renew(&mut self, lead: Lead, row: Row) -> Result<Row, Refusal>
         requires serial { lead.serial ≡ row.serial }
         requires entry { slice_get self.old.serials lead.at ≡ Some (lead.serial.0, lead.handle) }

@@ -11,8 +11,8 @@ use crate::points::row_at;
 use crack_row::{KeyRange, Refusal, Row};
 
 impl Store {
-    /// The sum of the payloads of the rows that stand in the column between the ends of a range by which it was cracked.
-    /// Takes no memory. O(rows there + log bounds); it reads no cell of a row that the column knows.
+    /// The sum of the payloads of the rows that stand in the column between the ends of a range by which it was
+    /// cracked. Takes no memory. O(rows there + log bounds); it reads no cell of a row that the column knows.
     pub fn sum_between(&self, range: KeyRange) -> i128
         requires { IsCracked self.now range }
         ensures is { result ≡ sum_of (stretch_rows self.now range) }

@@ -16,17 +16,18 @@ const BLOCK: usize = 64;
 /// So few doomed rows are looked for one by one in a piece of any length.
 const FEW: usize = 16;
 
-/// In a piece of at most so many rows one row is looked for by itself where fewer rows are doomed than there are bounds, since it is likely
-/// to be the one doomed row there.
+/// In a piece of at most so many rows one row is looked for by itself where fewer rows are doomed than there are
+/// bounds, since it is likely to be the one doomed row there.
 const SHORT: usize = 4096;
 
 impl Carrying {
-    /// The place of the column where a doomed row stands, as `place_of` returns it.
-    /// O(1) where the row was noted, else O(its own piece + log bounds). Where the row is likely to be the one doomed row of its piece, it is
-    /// looked for by itself, at a fifth of the cost of a pass that notes every doomed row there; so a long piece is passed over once for all
-    /// its doomed rows, until a crack moves them. Steps that move a doomed row note its new place.
+    /// The place of the column where a doomed row stands, as `place_of` returns it. O(1) where the row was noted, else
+    /// O(its own piece + log bounds). Where the row is likely to be the one doomed row of its piece, it is looked for
+    /// by itself, at a fifth of the cost of a pass that notes every doomed row there; so a long piece is passed over
+    /// once for all its doomed rows, until a crack moves them. Steps that move a doomed row note its new place.
     pub fn find(&mut self, handle: Handle<Row>) -> Option<usize>
-        ensures value { MatchOption result (IsAbsent self.old.store.column handle) (IsFirstAt self.old.store.column handle) }
+        ensures value { MatchOption result (IsAbsent self.old.store.column handle)
+            (IsFirstAt self.old.store.column handle) }
         ensures same { self.new ≡ self.old }
     {
         let _ = &self.inside;

@@ -10,15 +10,17 @@ const NEIGHBOURS: u64 = 4;
 /// How many groups side by side are filled one after the other.
 const STRETCH: u64 = 8;
 
-/// Odd, so that stretches which follow one another have places of their own, for each power of two, and spread over all of them.
+/// Odd, so that stretches which follow one another have places of their own, for each power of two, and spread over all
+/// of them.
 const SPREAD: u64 = 0x9e37_79b9_7f4a_7c15;
 
-/// Hashes serials for `indexmap`: its table has a power of two of groups, of 12 rows each and 9 on average once it is full. The low
-/// bits of a hash choose the group, and the highest eight of its 32 distinguish rows of one group.
+/// Hashes serials for `indexmap`: its table has a power of two of groups, of 12 rows each and 9 on average once it is
+/// full. The low bits of a hash choose the group, and the highest eight of its 32 distinguish rows of one group.
 ///
-/// A partition gives its serials in order, so rows that are admitted one after the other go into a group whose line is in the cache,
-/// and a growth copies the table stretch by stretch. A client can't choose serials, so nothing has to be kept from those who would let
-/// them collide; and a hash that served worse would cost time alone, since a look-up compares serials.
+/// A partition gives its serials in order, so rows that are admitted one after the other go into a group whose line is
+/// in the cache, and a growth copies the table stretch by stretch. A client can't choose serials, so nothing has to be
+/// kept from those who would let them collide; and a hash that served worse would cost time alone, since a look-up
+/// compares serials.
 #[derive(Clone, Copy)]
 pub struct SerialHashing;
 
@@ -41,7 +43,9 @@ pub struct SerialHasher {
 impl Hasher for SerialHasher {
     ghost write = { λ s bytes. if length bytes == 8 then record { serial = from_le_bytes w64 bytes } else s };
 
-    ghost finish = { λ s. let place = bit_xor (s.serial / 32) (s.serial / 32 / 256) * 11400714819323198485 % 2 ^ 64 in ((place * 8 % 2 ^ 64 + bit_xor (s.serial / 4) (place / 2 ^ 58) % 8) % 2 ^ 64 + s.serial * 16777216 % 2 ^ 64) % 2 ^ 64 % 4294967296 };
+    ghost finish = { λ s. let place = bit_xor (s.serial / 32) (s.serial / 32 / 256) * 11400714819323198485 % 2 ^ 64 in
+        ((place * 8 % 2 ^ 64 + bit_xor (s.serial / 4) (place / 2 ^ 58) % 8) % 2 ^ 64
+        + s.serial * 16777216 % 2 ^ 64) % 2 ^ 64 % 4294967296 };
 
     fn finish(&self) -> u64 {
         let stretch = self.serial / (NEIGHBOURS * STRETCH);

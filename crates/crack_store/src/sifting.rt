@@ -1,5 +1,5 @@
-//! All pending insertions of a range carried in bulk: their rows are put after the column's last one, and sifted through its pieces from the
-//! highest down.
+//! All pending insertions of a range carried in bulk: their rows are put after the column's last one, and sifted
+//! through its pieces from the highest down.
 ghost use Rattle.std.specs.Prelude.{◌≡◌, ◌≤◌, ◌^◌, ◌++◌, [], None, Some, length, All, IsTrue, IsFalse};
 ghost use Rattle.crack_arena.specs.Rows.{RemembersKeys, keys_at};
 ghost use Rattle.crack_bulk.specs.Carried.{carried_in_bulk, inside_of};
@@ -38,11 +38,12 @@ const MANY_PENDING: usize = 4096;
 const MOST_DOOMED: usize = 64;
 
 impl Store {
-    /// Carries all pending insertions of a range in bulk, of which `first` is the first, and leaves what the carry of one after the other
-    /// leaves; whether it did so. It doesn't for few rows, nor where a doomed row may be in the way, nor where it finds no memory for
-    /// all of them, nor for a first load of all keys: all is then as it was. Room is made for all of them at once.
-    /// Two passes over the pending insertions, where many pend and none is doomed one; for each row that it carries O(pieces) without a wait
-    /// for memory; O(bounds); for each of a few doomed rows O(rows that it carries + log bounds).
+    /// Carries all pending insertions of a range in bulk, of which `first` is the first, and leaves what the carry of
+    /// one after the other leaves; whether it did so. It doesn't for few rows, nor where a doomed row may be in the
+    /// way, nor where it finds no memory for all of them, nor for a first load of all keys: all is then as it was. Room
+    /// is made for all of them at once. Two passes over the pending insertions, where many pend and none is doomed one;
+    /// for each row that it carries O(pieces) without a wait for memory; O(bounds); for each of a few doomed rows
+    /// O(rows that it carries + log bounds).
     pub fn carry_in_bulk(&mut self, range: KeyRange, first: usize) -> bool
         requires { Finds range (keys_at self.old.cells self.old.pending_in) 0 (Some first) }
         ensures carried { IsTrue result → SameButRoom (carried_in_bulk None range self.old) self.new }
@@ -73,8 +74,8 @@ impl Store {
     }
 }
 
-/// Whether a pass over the pending insertions of a range is worth it: not where many rows are doomed, nor where the range has all keys, and more
-/// rows are pending than the column has. O(1).
+/// Whether a pass over the pending insertions of a range is worth it: not where many rows are doomed, nor where the
+/// range has all keys, and more rows are pending than the column has. O(1).
 fn is_worth_a_pass(inside: &Inside, range: KeyRange) -> bool {
     let keys = inside.keys;
     let is_whole = range.low() <= keys.low() && keys.high() <= range.high();
@@ -82,21 +83,24 @@ fn is_worth_a_pass(inside: &Inside, range: KeyRange) -> bool {
     inside.pending_out.len() <= MOST_DOOMED && (fits || !is_whole)
 }
 
-/// Whether no row is doomed, and so many are pending that to count those of a range is dearer than a walk over all bounds. O(1).
+/// Whether no row is doomed, and so many are pending that to count those of a range is dearer than a walk over all
+/// bounds. O(1).
 fn is_counted_late(inside: &Inside) -> bool
     ensures { IsTrue result → inside.now.pending_out.handles ≡ [] }
 {
     inside.pending_out.is_empty() && MANY_PENDING < inside.pending_in.len()
 }
 
-/// Carries the pending insertions of a range, of which `first` is the first, where no row is doomed, with room for all pending insertions;
-/// whether it found memory for them. All is else as it was.
+/// Carries the pending insertions of a range, of which `first` is the first, where no row is doomed, with room for all
+/// pending insertions; whether it found memory for them. All is else as it was.
 fn carry_uncounted(inside: &mut Inside, range: KeyRange, first: usize) -> bool
     requires intact { KeepsIntact inside.old [] }
     requires none { inside.old.pending_out.handles ≡ [] }
     requires first { Finds range (keys_at inside.old.arena.cells inside.old.pending_in.handles) 0 (Some first) }
-    ensures carried { IsTrue result → SameButRoom (carried_in_bulk None range (lists_of inside.old)) (lists_of inside.new) }
-    ensures left { IsTrue result → inside.new.pending_in.handles ≡ outside_of inside.old.arena.cells range inside.old.pending_in.handles }
+    ensures carried { IsTrue result → SameButRoom (carried_in_bulk None range (lists_of inside.old))
+        (lists_of inside.new) }
+    ensures left { IsTrue result → inside.new.pending_in.handles ≡ outside_of inside.old.arena.cells range
+        inside.old.pending_in.handles }
     ensures live { live_rows (lists_of inside.new) ≡ live_rows (lists_of inside.old) }
     ensures same { IsFalse result → SameButRoom (lists_of inside.old) (lists_of inside.new) }
     ensures intact { KeepsIntact inside.new [] }
@@ -135,8 +139,8 @@ fn is_few(inside: &Inside, count: usize) -> bool {
     count < fewest
 }
 
-/// Whether no doomed row stands where carries of so many rows could meet it: among as many first rows of its piece. Where many rows are doomed,
-/// it says no.
+/// Whether no doomed row stands where carries of so many rows could meet it: among as many first rows of its piece.
+/// Where many rows are doomed, it says no.
 fn is_clear(inside: &Inside, count: usize) -> bool
     requires intact { KeepsIntact inside.now [] }
     requires few { count ≤ 2 ^ 32 }
@@ -166,14 +170,18 @@ fn is_in_way(inside: &Inside, handle: Handle<Row>, count: usize) -> bool
     inside.column.place_between(from, met, handle).is_some()
 }
 
-/// Carries the pending insertions of a range, the first of which is `first`, where no doomed row is in the way and there is room for them.
+/// Carries the pending insertions of a range, the first of which is `first`, where no doomed row is in the way and
+/// there is room for them.
 fn carry_rows(inside: &mut Inside, range: KeyRange, first: usize)
     requires intact { KeepsIntact inside.old [] }
-    requires clear { AreClear (length (inside_of inside.old.arena.cells range inside.old.pending_in.handles)) (lists_of inside.old) }
+    requires clear { AreClear (length (inside_of inside.old.arena.cells range inside.old.pending_in.handles))
+        (lists_of inside.old) }
     requires first { Finds range (keys_at inside.old.arena.cells inside.old.pending_in.handles) 0 (Some first) }
-    requires room { length (inside_of inside.old.arena.cells range inside.old.pending_in.handles) ≤ inside.old.column.room }
+    requires room { length (inside_of inside.old.arena.cells range inside.old.pending_in.handles) ≤
+        inside.old.column.room }
     ensures carried { SameButRoom (carried_in_bulk None range (lists_of inside.old)) (lists_of inside.new) }
-    ensures left { inside.new.pending_in.handles ≡ outside_of inside.old.arena.cells range inside.old.pending_in.handles }
+    ensures left { inside.new.pending_in.handles ≡ outside_of inside.old.arena.cells range
+        inside.old.pending_in.handles }
     ensures live { live_rows (lists_of inside.new) ≡ live_rows (lists_of inside.old) }
     ensures intact { KeepsIntact inside.new [] }
 {
@@ -201,8 +209,8 @@ fn carry_rows(inside: &mut Inside, range: KeyRange, first: usize)
     inside.tally.put_in = inside.tally.put_in.saturating_add(count as u64);
 }
 
-/// Takes the rows of a range out of a list, the first of which is `first`, and puts them after the column's last one, in their order, each
-/// with what is to be remembered of it.
+/// Takes the rows of a range out of a list, the first of which is `first`, and puts them after the column's last one,
+/// in their order, each with what is to be remembered of it.
 fn take_rows(
     rows: &mut PendingIn,
     column: &mut CrackerColumn,
@@ -232,8 +240,8 @@ fn take_rows(
     }
 }
 
-/// A column on a walk over its bounds from the highest down: the rows from the place `from` up to and without `to` came in, and are of pieces
-/// below the bounds that were passed.
+/// A column on a walk over its bounds from the highest down: the rows from the place `from` up to and without `to` came
+/// in, and are of pieces below the bounds that were passed.
 #[derive(Drop)]
 pub(crate) struct Sieve {
     column: CrackerColumn,

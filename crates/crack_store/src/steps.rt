@@ -1,9 +1,11 @@
-//! The steps between the lists and the hand, on the inside of a store: those by value and those by reference share them.
+//! The steps between the lists and the hand, on the inside of a store: those by value and those by reference share
+//! them.
 ghost use Rattle.std.specs.Prelude.{◌≡◌, ◌<◌, [], length, All, IfSome, Contains};
 ghost use Rattle.crack_arena.specs.Arena.{times, slots};
 ghost use Rattle.crack_index.specs.Marks.{next_mark};
 ghost use Rattle.crack_state.specs.State.{live_rows};
-ghost use Rattle.crack_state.specs.Steps.{hand_key, piece_end, IsDoomed, lifted, lifted_last, appended, buried, raise_next as next_raised, returned};
+ghost use Rattle.crack_state.specs.Steps.{hand_key, piece_end, IsDoomed, lifted, lifted_last, appended, buried};
+ghost use Rattle.crack_state.specs.Steps.{raise_next as next_raised, returned};
 ghost use Rattle.crack_store.specs.Keeps.{KeepsIntact, HasHand, KeepsHand};
 ghost use Rattle.crack_store.specs.Inside.{lists_of};
 ghost use Rattle.crack_store.specs.Hand.{hand_of, carried_of};
@@ -14,8 +16,9 @@ use crate::points::row_at;
 use crack_column::Remembered;
 use crack_index::{CrackerIndex, Mark};
 
-/// Takes the pending insertion at this place into the hand, with what is to be remembered of its row. No bound is looked up yet.
-/// O(1) at the first place or after the one that was taken last; takes no memory. A list that is emptied gives its memory back.
+/// Takes the pending insertion at this place into the hand, with what is to be remembered of its row. No bound is
+/// looked up yet. O(1) at the first place or after the one that was taken last; takes no memory. A list that is emptied
+/// gives its memory back.
 pub(crate) fn take_in(inside: &mut Inside, place: usize) -> Near
     requires intact { KeepsIntact inside.old [] }
     requires there { place < length inside.old.pending_in.handles }
@@ -31,8 +34,8 @@ pub(crate) fn take_in(inside: &mut Inside, place: usize) -> Near
     Near::Unsought
 }
 
-/// Takes the column's last row into the hand, with what is remembered of it; each bound that stands after it moves down by one.
-/// No bound is looked up yet. O(log bounds) and the bounds at that place; takes no memory.
+/// Takes the column's last row into the hand, with what is remembered of it; each bound that stands after it moves down
+/// by one. No bound is looked up yet. O(log bounds) and the bounds at that place; takes no memory.
 pub(crate) fn take_last(inside: &mut Inside) -> Near
     requires intact { KeepsIntact inside.old [] }
     requires some { 0 < length inside.old.column.handles }
@@ -45,8 +48,8 @@ pub(crate) fn take_last(inside: &mut Inside) -> Near
     Near::Unsought
 }
 
-/// Frees the cell of the hand, which is doomed, and strikes it from the pending deletions. Amortised O(1). A list that is emptied gives its
-/// memory back.
+/// Frees the cell of the hand, which is doomed, and strikes it from the pending deletions. Amortised O(1). A list that
+/// is emptied gives its memory back.
 pub(crate) fn free_hand(inside: &mut Inside)
     requires hand { HasHand inside.old }
     requires doomed { IsDoomed (carried_of inside.old) }
@@ -66,7 +69,8 @@ pub(crate) fn free_hand(inside: &mut Inside)
 pub(crate) fn put_last(inside: &mut Inside, above: Option<Mark>)
     requires hand { HasHand inside.old }
     requires above { above ≡ next_mark (hand_key (carried_of inside.old)) inside.old.index.marks }
-    requires ends { piece_end (lists_of inside.old) (hand_key (carried_of inside.old)) ≡ length inside.old.column.handles }
+    requires ends { piece_end (lists_of inside.old) (hand_key (carried_of inside.old)) ≡
+        length inside.old.column.handles }
     ensures after { lists_of inside.new ≡ appended (carried_of inside.old) }
     ensures intact { KeepsIntact inside.new [] }
 {

@@ -1,5 +1,6 @@
 //! The store.
-ghost use Rattle.std.specs.Prelude.{◌≡◌, ◌+◌, ◌-◌, ◌<◌, ◌≤◌, ◌∷◌, [], length, IfOk, IfErr, OnOk, OnErr, IsOk, IfNone, None};
+ghost use Rattle.std.specs.Prelude.{◌≡◌, ◌+◌, ◌-◌, ◌<◌, ◌≤◌, ◌∷◌, [], length, IfOk, IfErr, OnOk, OnErr, IsOk, IfNone};
+ghost use Rattle.std.specs.Prelude.{None};
 ghost use Rattle.std.specs.List.Sorted.{IsPermutation};
 ghost use Rattle.crack_row.specs.Layouts.{IsLayout};
 ghost use Rattle.crack_arena.specs.Rows.{keys_at};
@@ -248,8 +249,8 @@ impl Store {
         })
     }
 
-    /// Gives back what memory the pending lists have beyond their rows and the room of a growth. Contracts see no change.
-    /// O(1) where no row left a hole in them, else O(pending rows); it takes no memory and can't fail.
+    /// Gives back what memory the pending lists have beyond their rows and the room of a growth. Contracts see no
+    /// change. O(1) where no row left a hole in them, else O(pending rows); it takes no memory and can't fail.
     pub fn shrink_pending(&mut self)
         ensures { self.new ≡ self.old }
     {
@@ -336,8 +337,8 @@ impl Store {
         self.inside.pending_out.next_in(range, from, arena)
     }
 
-    /// Goes on from this place when a pending deletion is looked for next, so that those which are taken out at rising places are
-    /// passed over once. Contracts see no change.
+    /// Goes on from this place when a pending deletion is looked for next, so that those which are taken out at rising
+    /// places are passed over once. Contracts see no change.
     pub fn seek_out(&mut self, place: usize)
         requires { place < length self.old.pending_out }
         ensures { self.new ≡ self.old }

@@ -21,8 +21,8 @@ pub enum CarryEnd {
 }
 
 impl Carrying {
-    /// Pushes the hand on until a rule holds that ends its carry, and returns which. It leaves what as many `push_on` leave, in one walk over
-    /// the bounds. O(log bounds) and the bounds at the places on its way; takes no memory.
+    /// Pushes the hand on until a rule holds that ends its carry, and returns which. It leaves what as many `push_on`
+    /// leave, in one walk over the bounds. O(log bounds) and the bounds at the places on its way; takes no memory.
     pub fn carry_up(&mut self, ceiling: Option<Bound>) -> CarryEnd
         ensures pushes { PushesOn (ceiling_of ceiling) self.old self.new }
         ensures ends { EndsBy (ceiling_of ceiling) result self.new }
@@ -41,8 +41,8 @@ impl Carrying {
         }
     }
 
-    /// Pulls the hand back as long as its own piece begins after the place. It leaves what as many `pull_back` leave, in one walk over the
-    /// bounds. O(log bounds) and the bounds at the places on its way; takes no memory.
+    /// Pulls the hand back as long as its own piece begins after the place. It leaves what as many `pull_back` leave,
+    /// in one walk over the bounds. O(log bounds) and the bounds at the places on its way; takes no memory.
     pub fn pull_down(&mut self, place: usize)
         ensures pulls { PullsBack place self.old self.new }
         ensures ends { piece_start self.new.store (hand_key self.new) ≤ place }
@@ -50,7 +50,8 @@ impl Carrying {
         self.near = descend(&mut self.inside, place);
     }
 
-    /// The rule that ends a carry before its first step, where that is known without a look at any bound: where there is none. O(1).
+    /// The rule that ends a carry before its first step, where that is known without a look at any bound: where there
+    /// is none. O(1).
     #[inline(always)]
     fn end_at_once(&mut self, ceiling: Option<Bound>) -> Option<CarryEnd>
         ensures ends { IfSome result (λ end. EndsBy (ceiling_of ceiling) end self.old) }
@@ -74,7 +75,8 @@ impl Carrying {
     /// The first rule that holds of those that end a carry, if one does. O(1) on the way up, else O(log bounds).
     #[inline(always)]
     fn carry_end(&self, ceiling: Option<Bound>) -> Option<CarryEnd>
-        ensures { MatchOption result (GoesOn (ceiling_of ceiling) self.now) (λ end. EndsBy (ceiling_of ceiling) end self.now) }
+        ensures { MatchOption result (GoesOn (ceiling_of ceiling) self.now) (λ end. EndsBy (ceiling_of ceiling)
+            end self.now) }
     {
         if self.is_doomed() {
             return Some(CarryEnd::Buries);

@@ -150,7 +150,7 @@ standing_at k n e is =
 folded_at : (k : KeptState) (n : ℕ) → n < k.folded → place_at k n ≡ Some Folded
 folded_at k n lt = let below : nat_lt n k.folded ≡ true = grind (arith, nat_tests, lt) in rw below refl
 
--- the receipts of a partition come to those of its folded places and the entries that stand
+-- the receipts of a partition come to those of its checkpointed places and the entries that stand
 part_counted : (f : Entry → ℕ) (kept : List KeptState) (rs : List Receipt) → AreMet kept rs → (p : ℕ) (k : KeptState) → slice_get kept p ≡ Some k
     → sum_by (λ r. f (entry_of r)) (filter (λ r. r.part == p) rs) ≡ sum_by (λ r. f (entry_of r)) (filter (λ r. nat_lt r.position k.folded) (filter (λ r. r.part == p) rs)) + sum_by f k.tail
 part_counted f kept rs are p k k_is =
@@ -165,7 +165,7 @@ sum_ones : (n : ℕ) → sum_upto (λ k. 1) n ≡ n
 sum_ones zero = refl
 sum_ones (suc n) = let h = sum_ones n in omega (arith, h)
 
--- each folded place has one receipt
+-- each checkpointed place has one receipt
 folded_once : (kept : List KeptState) (rs : List Receipt) → AreMet kept rs → (p : ℕ) (k : KeptState) → slice_get kept p ≡ Some k
     → sum_by (λ r. 1) (filter (λ r. nat_lt r.position k.folded) (filter (λ r. r.part == p) rs)) ≡ k.folded
 folded_once kept rs are p k k_is =
@@ -174,13 +174,13 @@ folded_once kept rs are p k k_is =
     (λ n lt. place_sum (λ e. 1) rs p n Folded ((are.settled p k k_is).met n Folded (folded_at k n lt)))
     ∙ sum_ones k.folded)
 
--- the folded receipts, by their entries
+-- the checkpointed receipts, by their entries
 folded_sum : (f : Entry → ℕ) (rs : List Receipt) (p folded : ℕ) → sum_by (λ r. f (entry_of r)) (filter (λ r. nat_lt r.position folded) (filter (λ r. r.part == p) rs)) ≡ sum_by f (folded_entries rs p folded)
 folded_sum f rs p folded =
     ap (λ l. sum_by (λ r. f (entry_of r)) l) (filter_filter (λ r. r.part == p) (λ r. nat_lt r.position folded) rs)
     ∙ sum_entries f (filter (λ r. (r.part == p) && nat_lt r.position folded) rs)
 
--- receipts that cover come to what was folded, counted by f, and to the entries that stand
+-- receipts that cover come to what was checkpointed, counted by f, and to the entries that stand
 counted : (f : Entry → ℕ) (base : KeptState → ℕ) (kept : List KeptState) (rs : List Receipt) → AreMet kept rs
     → ((p : ℕ) (k : KeptState) → slice_get kept p ≡ Some k → sum_by (λ r. f (entry_of r)) (filter (λ r. nat_lt r.position k.folded) (filter (λ r. r.part == p) rs)) ≡ base k)
     → sum_by (λ r. f (entry_of r)) rs ≡ sum_by (λ k. base k + sum_by f k.tail) kept

@@ -63,7 +63,7 @@ least_unmet kept row left p rs n noted first counted =
     let there = unmet_at (place_at kept n) first.0 (filter (names p n) rs) (rw first.1 at (noted.marked n)) first.2 in
     (there.0, there.1, there.2, λ m place lt is. met_there kept row left p rs noted m place (λ k k_is. first.3 m k lt k_is) is, counted)
 
--- the gap is an first place, which is folded, or where all folded ones are counted
+-- the gap is a first place, which is checkpointed, or where all checkpointed ones are counted
 pub open_gap : (kept : KeptState) (row : List Naming) (left : KindsLeft) (n : ℕ) → IsOpenIn row n → (nat_lt n kept.folded ≡ false → (left.placed ≡ Some 0) × (left.gone ≡ Some 0)) → (p : ℕ) (rs : List Receipt) → RowNoted kept row left p rs → IsGap rs p kept n
 open_gap kept row left n first none p rs noted =
     inl (least_unmet kept row left p rs n noted first (λ above. let f : nat_lt n kept.folded ≡ false = grind (arith, nat_tests, above) in counted_now left rs p kept noted.counted (none f)))
@@ -72,7 +72,7 @@ met_up_to : (row : List Naming) (first : Option ℕ) (bound : ℕ) → MatchOpti
 met_up_to row None bound met not_below n k lt is = met n k is
 met_up_to row (Some i) bound first not_below n k lt is = let l : n < i = grind (arith, nat_tests, lt, not_below) in first.3 n k l is
 
--- there is something folded where it isn't counted
+-- there is something checkpointed where it isn't counted
 pub some_folded : (kept : KeptState) (row : List Naming) (left : KindsLeft) (p : ℕ) (rs : List Receipt) → IsKept kept → RowNoted kept row left p rs → ¬ ((left.placed ≡ Some 0) × (left.gone ≡ Some 0)) → 0 < kept.folded
 some_folded kept row left p rs few noted not_none = by kept.folded refl
   where
@@ -80,7 +80,7 @@ some_folded kept row left p rs few noted not_none = by kept.folded refl
     by zero is = absurd (not_none (counted_all left rs p kept noted.counted (counted_unfolded rs p kept few is)))
     by (suc n) is = omega (arith, is)
 
--- the gap is the last folded place, where all of these are met and not counted
+-- the gap is the last checkpointed place, where all of these are met and not counted
 pub miscount_gap : (kept : KeptState) (row : List Naming) (left : KindsLeft) (first : Option ℕ) (n : ℕ) → MatchOption first ((n : ℕ) (m : Naming) → slice_get row n ≡ Some m → m ≡ Met) (IsOpenIn row) → is_below first kept.folded ≡ false → ¬ ((left.placed ≡ Some 0) × (left.gone ≡ Some 0)) → n + 1 ≡ kept.folded → (p : ℕ) (rs : List Receipt) → RowNoted kept row left p rs → IsGap rs p kept n
 miscount_gap kept row left first n met not_below not_none last p rs noted =
     inr (last, λ counted. not_none (counted_all left rs p kept noted.counted counted), λ m place lt is. met_there kept row left p rs noted m place (λ k k_is. met_up_to row first kept.folded met not_below m k lt k_is) is)

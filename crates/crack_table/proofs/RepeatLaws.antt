@@ -50,7 +50,7 @@ key-tested keys (Some key) is = rw (le-leb keys.low key.0 is.0, lt-ltb key.0 key
 uncaused : (limits : Limits) (own full over : Bool) → own ≡ true → full ≡ false → over ≡ false → ◌≡◌ {A = Option Refusal} (if own then option_or (if full then Some (HistoryFull limits.history) else (if over then Some LifeOver else None)) None else Some KeyOutside) None
 uncaused limits own full over is goes lives = rw (is, goes, lives) refl
 
--- a past on the way to another: of the same base, with the first entries of its tail; and the commands of the others are still to come
+-- a past on the way to another: of the same base, with the first entries of its history; and the commands of the others are still to come
 record OnTheWay (past now : Past) (asks : List (ℕ × Command)) : Type 0 where
   pub rest : List Entry
   pub base : now.base ≡ past.base

@@ -15,7 +15,7 @@ use Rattle.crack_table.specs.Cover.{KeptState, told, IsKept, folded_entries, IsC
 use Rattle.crack_table.specs.Marks.{left_after, LeftIs, AreLeft, in_folded, Counted}
 use Rattle.crack_table.proofs.Places.{get_set_same, get_set_other}
 
--- whether a receipt names a folded place
+-- whether a receipt names a checkpointed place
 abbrev names_folded : ℕ → ℕ → Receipt → Bool
 names_folded part folded r = (r.part == part) && nat_lt r.position folded
 
@@ -71,7 +71,7 @@ counted_at kept kinds done r k left k_is left_is folded counted q false same j o
     let named : names_folded q j.folded r ≡ false = rw same refl in
     still_left other done r q j named (counted q j other j_is was)
 
--- one more receipt of a folded place
+-- one more receipt of a checkpointed place
 pub counted_more : (kept : List KeptState) (kinds : List KindsLeft) (done : List Receipt) (r : Receipt) (left : KindsLeft)
     → slice_get kinds r.part ≡ Some left → in_folded (slice_get kept r.part) r.position ≡ true → Counted kept kinds done → Counted kept (set kinds r.part (noted_left left r)) (done ++ r ∷ [])
 counted_more kept kinds done r left left_is folded counted q j other j_is other_is =
@@ -90,7 +90,7 @@ unnamed_by kept r q j true same j_is not_folded =
     rw (same, f) refl
 unnamed_by kept r q j false same j_is not_folded = rw same refl
 
--- a partition in which a place is folded is there
+-- a partition in which a place is checkpointed is there
 pub folded_within : (ks : List Kept) (p n : ℕ) → in_folded (slice_get (map told ks) p) n ≡ true → p < length ks
 folded_within [] p n is = cc
 folded_within (k ∷ ks) zero n is = omega arith
@@ -146,6 +146,6 @@ none_folded (r ∷ rs) p = rw (never (r.part == p) r.position) (none_folded rs p
     never : (b : Bool) (n : ℕ) → (b && nat_lt n 0) ≡ false
     never b n = grind (arith, nat_tests)
 
--- where nothing is folded, there is nothing to count
+-- where nothing is checkpointed, there is nothing to count
 pub counted_unfolded : (rs : List Receipt) (p : ℕ) (k : KeptState) → IsKept k → k.folded ≡ 0 → IsCounted rs p k
 counted_unfolded rs p k few none = rw (none, none_folded rs p) (omega (arith, few, none), omega (arith, few, none))

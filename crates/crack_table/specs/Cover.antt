@@ -11,7 +11,7 @@ use Rattle.crack_core.specs.declared.receipt.Receipt.{Receipt}
 use Rattle.crack_core.specs.Receipts.{entry_of, entries_of}
 use Rattle.crack_table.specs.declared.kept.Kept.{Kept}
 
--- what a cover is given of a partition: how many of its commands are folded, how many of these placed a row and how many took one out, and
+-- what a cover is given of a partition: how many of its commands are checkpointed, how many of these placed a row and how many took one out, and
 -- the entries since, in order
 pub record KeptState : Type 0 where
   pub folded : ℕ
@@ -27,11 +27,11 @@ told kept = record { folded = kept.folded; placed = kept.inserted; gone = kept.d
 abbrev pub kept_of : Past → KeptState
 kept_of past = record { folded = past.base.folded; placed = past.base.placed; gone = past.base.gone; tail = past.tail }
 
--- no more folded commands placed rows or took them out than there are
+-- no more checkpointed commands placed rows or took them out than there are
 abbrev pub IsKept : KeptState → Type 0
 IsKept kept = kept.placed + kept.gone ≤ kept.folded
 
--- what is known of a place: nothing but that there is one, where its entry is folded, or its entry
+-- what is known of a place: nothing but that there is one, where its entry is checkpointed, or its entry
 pub data Place : Type 0 where
   Folded : Place
   Standing : Entry → Place
@@ -48,7 +48,7 @@ place_in kept part position = option_and_then (λ k. place_at k position) (slice
 abbrev pub names : ℕ → ℕ → Receipt → Bool
 names part position r = (r.part == part) && (r.position == position)
 
--- an entry is right for a place: the one that stands there, or any where it is folded
+-- an entry is right for a place: the one that stands there, or any where it is checkpointed
 abbrev pub IsRight : Place → Entry → Type 0
 IsRight Folded entry = Unit {0}
 IsRight (Standing own) entry = entry ≡ own
@@ -61,7 +61,7 @@ IsMetBy receipts part position place = (r : Receipt) × (filter (names part posi
 abbrev pub MetBelow : List Receipt → ℕ → KeptState → ℕ → Type 0
 MetBelow receipts part kept bound = (position : ℕ) (place : Place) → position < bound → place_at kept position ≡ Some place → IsMetBy receipts part position place
 
--- the entries of the receipts that name folded places of a partition
+-- the entries of the receipts that name checkpointed places of a partition
 abbrev pub folded_entries : List Receipt → ℕ → ℕ → List Entry
 folded_entries receipts part folded = entries_of (filter (λ r. (r.part == part) && nat_lt r.position folded) receipts)
 
@@ -69,7 +69,7 @@ folded_entries receipts part folded = entries_of (filter (λ r. (r.part == part)
 abbrev pub IsCounted : List Receipt → ℕ → KeptState → Type 0
 IsCounted receipts part kept = (inserted (folded_entries receipts part kept.folded) ≡ kept.placed) × (deleted (folded_entries receipts part kept.folded) ≡ kept.gone)
 
--- the receipts settle a partition: each place is met, and the folded ones are counted
+-- the receipts settle a partition: each place is met, and the checkpointed ones are counted
 pub record IsSettled (receipts : List Receipt) (part : ℕ) (kept : KeptState) : Type 0 where
   pub met : (position : ℕ) (place : Place) → place_at kept position ≡ Some place → IsMetBy receipts part position place
   pub counted : IsCounted receipts part kept
@@ -97,13 +97,13 @@ pub record Covers (kept : List KeptState) (receipts : List Receipt) : Type 0 whe
   pub placed : All (λ r. has_place kept r ≡ true) receipts
   pub rising : AllPairs Rises receipts
 
--- the least place of a partition that isn't met, where the folded ones, if they stand below it, are counted
+-- the least place of a partition that isn't met, where the checkpointed ones, if they stand below it, are counted
 abbrev pub IsLeastUnmet : List Receipt → ℕ → KeptState → ℕ → Type 0
 IsLeastUnmet receipts part kept position =
     (place : Place) × (place_at kept position ≡ Some place) × (¬ IsMetBy receipts part position place)
     × MetBelow receipts part kept position × (kept.folded ≤ position → IsCounted receipts part kept)
 
--- what keeps a partition from being settled first: its least place that isn't met; or the last folded one, where all of these are met and
+-- what keeps a partition from being settled first: its least place that isn't met; or the last checkpointed one, where all of these are met and
 -- not counted
 abbrev pub IsGap : List Receipt → ℕ → KeptState → ℕ → Type 0
 IsGap receipts part kept position = IsLeastUnmet receipts part kept position

@@ -54,13 +54,13 @@ abbrev pub LeftIs : Option ℕ → ℕ → ℕ → Type 0
 LeftIs (Some left) told came = left + came ≡ told
 LeftIs None told came = told < came
 
--- how many folded receipts of each kind are still to come
+-- how many checkpointed receipts of each kind are still to come
 abbrev pub AreLeft : KindsLeft → List Receipt → ℕ → KeptState → Type 0
 AreLeft left receipts part kept =
     LeftIs left.placed kept.placed (inserted (folded_entries receipts part kept.folded))
     × LeftIs left.gone kept.gone (deleted (folded_entries receipts part kept.folded))
 
--- whether a position of a partition, if there is one, is folded
+-- whether a position of a partition, if there is one, is checkpointed
 abbrev pub in_folded : Option KeptState → ℕ → Bool
 in_folded None position = false
 in_folded (Some kept) position = nat_lt position kept.folded

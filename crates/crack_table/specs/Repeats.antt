@@ -32,7 +32,7 @@ first_refusal [] = None
 first_refusal (Ok reply ∷ results) = first_refusal results
 first_refusal (Err e ∷ results) = Some e
 
--- a past before its tail
+-- a past before its history
 abbrev pub at_base : Past → Past
 at_base past = record { base = past.base; tail = [] }
 
@@ -40,12 +40,12 @@ at_base past = record { base = past.base; tail = [] }
 abbrev pub said : Entry → Reply
 said entry = entry.reply
 
--- each step asks a partition of these pasts, and those of one partition ask the commands of its past's tail, in their order
+-- each step asks a partition of these pasts, and those of one partition ask the commands of its past's history, in their order
 pub record AreAsked (pasts : List Past) (steps : List Step) : Type 0 where
   pub there : All (λ (step : Step). step.part < length pasts) steps
   pub commands : (part : ℕ) (past : Past) → slice_get pasts part ≡ Some past → asked_of part steps ≡ map asked past.tail
 
--- each partition gives the replies of its past's tail, in their order: all of them where no step is refused, and else the first of them; and
+-- each partition gives the replies of its past's history, in their order: all of them where no step is refused, and else the first of them; and
 -- the first refusal is for want of memory or of a cell
 pub record AreRepeated (pasts : List Past) (steps : List Step) (results : List (Result Reply Refusal)) : Type 0 where
   pub whole : first_refusal results ≡ None → (part : ℕ) (past : Past) → slice_get pasts part ≡ Some past → map said past.tail ≡ replies_at part steps results

@@ -59,7 +59,7 @@ pub record LooksAt (table : TableState) (part : ℕ) (result : Result Layout Ref
   pub nowhere : length table.splits < part → result ≡ Err NoSuchPartition
   pub err : part ≤ length table.splits → IfErr result (λ e. e ≡ OutOfMemory)
 
--- A worker folds one partition: it is given how many entries went, or refused where there is no such partition, and for want of memory.
+-- A worker checkpoints one partition: it is given how many entries went, or refused where there is no such partition, and for want of memory.
 pub record FoldsAt (table : TableState) (part : ℕ) (result : Result ℕ Refusal) : Type 0 where
   pub there : OnOk result (part ≤ length table.splits)
   pub nowhere : length table.splits < part → result ≡ Err NoSuchPartition

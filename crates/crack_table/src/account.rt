@@ -1,5 +1,6 @@
 //! Whether partitions and workers come to one account.
-ghost use Rattle.std.specs.Prelude.{◌≡◌, ◌+◌, ◌<◌, ◌≤◌, ◌^◌, length, map, sum_by, All, IfOk, IfErr, OnOk, IfSome, IfNone, IsTrue, ◌↔◌};
+ghost use Rattle.std.specs.Prelude.{◌≡◌, ◌+◌, ◌<◌, ◌≤◌, ◌^◌, length, map, sum_by, All, IfOk, IfErr, OnOk, IfSome};
+ghost use Rattle.std.specs.Prelude.{IfNone, IsTrue, ◌↔◌};
 ghost use Rattle.std.specs.List.{flat_map};
 ghost use Rattle.crack_plain.specs.Totals.{accepted, inserted, deleted};
 ghost use Rattle.crack_part.specs.Parts.{IsSound};
@@ -26,8 +27,9 @@ pub(crate) struct Sums {
     pub(crate) held: u64,
 }
 
-/// The sums where the partitions are those of the splits and the limits, and the workers' receipts cover what they lived through.
-/// Refused with 16 at the first partition that is another, or as `cover` is; with 8 where it finds no memory.
+/// The sums where the partitions are those of the splits and the limits, and the workers' receipts cover what they
+/// lived through. Refused with 16 at the first partition that is another, or as `cover` is; with 8 where it finds no
+/// memory.
 pub(crate) fn account(
     alloc: Global,
     splits: &[Bound],

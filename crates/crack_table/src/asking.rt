@@ -8,10 +8,11 @@ use crack_core::Book;
 use crack_part::Partition;
 use crack_row::{Command, Policy, Refusal, Reply};
 
-/// Asks the gate until it says yes, and then the partition, of number `part`, for the worker of the book, which has room for the receipt.
-/// The partition stays borrowed from the gate's first turn to the reply, so its lock can't be let go in between. What comes of asking the
-/// partition, which may be a refusal, comes as the value, and `folded` is set to how many entries a checkpoint folded that was due. Refused with 7
-/// where the gate says no at each turn: book and partition are then as they were.
+/// Asks the gate until it says yes, and then the partition, of number `part`, for the worker of the book, which has
+/// room for the receipt. The partition stays borrowed from the gate's first turn to the reply, so its lock can't be let
+/// go in between. What comes of asking the partition, which may be a refusal, comes as the value, and `folded` is set
+/// to how many entries a checkpoint that was due took. Refused with 7 where the gate says no at each turn: book and
+/// partition are then as they were.
 pub(crate) fn ask_behind<G: Gate>(
     gate: &G,
     book: &mut Book,
@@ -28,7 +29,8 @@ pub(crate) fn ask_behind<G: Gate>(
 
     ensures worker { book.new.worker ≡ book.old.worker }
     ensures opened { (partition.new.keys ≡ partition.old.keys) × (partition.new.limits ≡ partition.old.limits) }
-    ensures asked { IfOk result (λ answered. AsksFor part command policy answered book.old book.new partition.old partition.new) }
+    ensures asked { IfOk result (λ answered. AsksFor part command policy answered book.old book.new partition.old
+        partition.new) }
     ensures folds { OnOk result (partition.new.past.base.folded ≡ partition.old.past.base.folded + folded.new) }
 {
     pass(gate, part)?;

@@ -1,11 +1,13 @@
 //! Whether receipts cover what partitions lived through.
-ghost use Rattle.std.specs.Prelude.{◌≡◌, ◌≤◌, ◌^◌, ℕ, List, [], ◌∷◌, ◌++◌, map, length, All, IfOk, IfErr, IfSome, IfNone, MatchOption, OnOk, None, Some, slice_get};
+ghost use Rattle.std.specs.Prelude.{◌≡◌, ◌≤◌, ◌^◌, ℕ, List, [], ◌∷◌, ◌++◌, map, length, All, IfOk, IfErr, IfSome};
+ghost use Rattle.std.specs.Prelude.{IfNone, MatchOption, OnOk, None, Some, slice_get};
 ghost use Rattle.std.specs.Bool.{Decides};
 ghost use Rattle.std.specs.List.{flat_map};
 ghost use Rattle.std.specs.Option.{option_map};
 ghost use Rattle.crack_core.specs.declared.receipt.Receipt.{Receipt};
 ghost use Rattle.crack_core.specs.Receipts.{entry_of};
-ghost use Rattle.crack_table.specs.Cover.{told, KeptState, IsKept, Place, place_in, IsRight, AllSettled, IsFirstGap, first_stranger, Covers, IsFault, MayNotCover};
+ghost use Rattle.crack_table.specs.Cover.{told, KeptState, IsKept, Place, place_in, IsRight, AllSettled, IsFirstGap};
+ghost use Rattle.crack_table.specs.Cover.{first_stranger, Covers, IsFault, MayNotCover};
 ghost use Rattle.crack_table.specs.Marks.{named_place, in_folded, Marked, Counted, AreNoted};
 
 use crate::gaps::gap_in;
@@ -17,22 +19,24 @@ use crack_core::Receipt;
 use crack_row::Refusal;
 use std::alloc::{AllocError, Global};
 
-/// What is noted of the receipts: a row of marks for each partition, and how many receipts of its folded commands are still to come.
+/// What is noted of the receipts: a row of marks for each partition, and how many receipts of its checkpointed commands
+/// are still to come.
 #[derive(Drop)]
 pub(crate) struct Notes {
     marks: Vec<MarkRow>,
     kinds: Vec<KindsLeft>,
 }
 
-/// Whether the receipts, read as one list, cover what is kept of the partitions: each place is named by exactly one receipt, which has the
-/// entry that stands there, if it isn't folded; as many receipts of folded places placed a row, and took one out, as the partition says;
-/// no receipt names another place; and one worker's receipts in one partition name rising places in the order of the list.
-/// Refused with 16 at the least place (partition first) that fails. Of one partition the folded places go first, then their totals, which
-/// fail at the last of these places, and then the entries that stand. Where all of them are met it is the place that the first stranger in
-/// the list names; where there is no stranger, that of the first receipt whose place isn't above that of an earlier one of its worker
-/// in that partition. Refused with 8 where it finds no memory, of which it takes a byte for each place.
-/// O(places + receipts), but for a logarithm of the workers and partitions that the receipts name.
-/// The partitions are at most as many as 32 bits number, since a refusal names one of them by its number.
+/// Whether the receipts, read as one list, cover what is kept of the partitions: each place is named by exactly one
+/// receipt, which has the entry that stands there, if it isn't checkpointed; as many receipts of checkpointed places
+/// placed a row, and took one out, as the partition says; no receipt names another place; and one worker's receipts in
+/// one partition name rising places in the order of the list. Refused with 16 at the least place (partition first) that
+/// fails. Of one partition the checkpointed places go first, then their totals, which fail at the last of these places,
+/// and then the entries that stand. Where all of them are met it is the place that the first stranger in the list
+/// names; where there is no stranger, that of the first receipt whose place isn't above that of an earlier one of its
+/// worker in that partition. Refused with 8 where it finds no memory, of which it takes a byte for each place. O(places
+/// + receipts), but for a logarithm of the workers and partitions that the receipts name. The partitions are at most as
+/// many as 32 bits number, since a refusal names one of them by its number.
 pub fn cover(alloc: Global, kept: &[Kept<'_>], receipts: &[&[Receipt]]) -> Result<(), Refusal>
     requires few { length kept.now ≤ 2 ^ 32 }
     requires kept { All IsKept (map told kept.now) }
@@ -53,9 +57,11 @@ pub fn cover(alloc: Global, kept: &[Kept<'_>], receipts: &[&[Receipt]]) -> Resul
     Ok(())
 }
 
-/// States that receipts with a fault don't cover what partitions lived through, so that `cover` answers Ok exactly where they do, and does nothing.
+/// States that receipts with a fault don't cover what partitions lived through, so that `cover` answers Ok exactly
+/// where they do, and does nothing.
 pub fn a_fault_is_no_cover()
-    ensures { (kept : List KeptState) (receipts : List Receipt) (part position : ℕ) → IsFault kept receipts part position → ¬ Covers kept receipts }
+    ensures { (kept : List KeptState) (receipts : List Receipt) (part position : ℕ) → IsFault kept receipts part
+        position → ¬ Covers kept receipts }
 {}
 
 /// The notes of no receipts.
@@ -82,7 +88,7 @@ fn blank_marks(alloc: Global, kept: &[Kept<'_>]) -> Result<Vec<MarkRow>, Refusal
     Ok(marks)
 }
 
-/// Of each partition all folded receipts are still to come.
+/// Of each partition all checkpointed receipts are still to come.
 fn all_kinds(alloc: Global, kept: &[Kept<'_>]) -> Result<Vec<KindsLeft>, AllocError>
     ensures long { IfOk result (λ v. length v.items ≡ length kept.now) }
     ensures counted { IfOk result (λ v. Counted (map told kept.now) v.items []) }
@@ -100,8 +106,10 @@ fn all_kinds(alloc: Global, kept: &[Kept<'_>]) -> Result<Vec<KindsLeft>, AllocEr
 /// Notes the receipts of all lists, and answers the place of the first that names none.
 fn note_lists(kept: &[Kept<'_>], notes: &mut Notes, receipts: &[&[Receipt]]) -> Option<(u32, u64)>
     requires { AreNoted (map told kept.now) notes.old.marks.items notes.old.kinds.items [] }
-    ensures noted { AreNoted (map told kept.now) notes.new.marks.items notes.new.kinds.items (flat_map (λ r. r.now) receipts.now) }
-    ensures stranger { result ≡ option_map named_place (first_stranger (map told kept.now) (flat_map (λ r. r.now) receipts.now)) }
+    ensures noted { AreNoted (map told kept.now) notes.new.marks.items notes.new.kinds.items (flat_map (λ r.
+        r.now) receipts.now) }
+    ensures stranger { result ≡ option_map named_place (first_stranger (map told kept.now) (flat_map (λ r.
+        r.now) receipts.now)) }
 {
     let mut stranger = None;
     'lists: for list in receipts {
@@ -114,7 +122,8 @@ fn note_lists(kept: &[Kept<'_>], notes: &mut Notes, receipts: &[&[Receipt]]) -> 
 /// Notes the receipts of one list, and answers the place of the first that names none.
 fn note_all(kept: &[Kept<'_>], notes: &mut Notes, list: &[Receipt]) -> Option<(u32, u64)>
     requires { (done : List Receipt) × AreNoted (map told kept.now) notes.old.marks.items notes.old.kinds.items done }
-    ensures noted { (done : List Receipt) → AreNoted (map told kept.now) notes.old.marks.items notes.old.kinds.items done → AreNoted (map told kept.now) notes.new.marks.items notes.new.kinds.items (done ++ list.now) }
+    ensures noted { (done : List Receipt) → AreNoted (map told kept.now) notes.old.marks.items notes.old.kinds.items
+        done → AreNoted (map told kept.now) notes.new.marks.items notes.new.kinds.items (done ++ list.now) }
     ensures stranger { result ≡ option_map named_place (first_stranger (map told kept.now) list.now) }
 {
     let mut stranger = None;
@@ -128,18 +137,20 @@ fn note_all(kept: &[Kept<'_>], notes: &mut Notes, list: &[Receipt]) -> Option<(u
 /// Notes one receipt, and answers its place if there is none such.
 fn note(kept: &[Kept<'_>], notes: &mut Notes, receipt: &Receipt) -> Option<(u32, u64)>
     requires { (done : List Receipt) × AreNoted (map told kept.now) notes.old.marks.items notes.old.kinds.items done }
-    ensures noted { (done : List Receipt) → AreNoted (map told kept.now) notes.old.marks.items notes.old.kinds.items done → AreNoted (map told kept.now) notes.new.marks.items notes.new.kinds.items (done ++ receipt.now ∷ []) }
+    ensures noted { (done : List Receipt) → AreNoted (map told kept.now) notes.old.marks.items notes.old.kinds.items
+        done → AreNoted (map told kept.now) notes.new.marks.items notes.new.kinds.items (done ++ receipt.now ∷ []) }
     ensures stranger { result ≡ option_map named_place (first_stranger (map told kept.now) (receipt.now ∷ [])) }
 {
     count(kept, &mut notes.kinds, receipt);
     mark(kept, &mut notes.marks, receipt)
 }
 
-/// Counts one receipt, where it names a folded place.
+/// Counts one receipt, where it names a checkpointed place.
 fn count(kept: &[Kept<'_>], kinds: &mut Vec<KindsLeft>, receipt: &Receipt)
     requires { length kinds.old.items ≡ length kept.now }
     ensures long { length kinds.new.items ≡ length kinds.old.items }
-    ensures counted { (done : List Receipt) → Counted (map told kept.now) kinds.old.items done → Counted (map told kept.now) kinds.new.items (done ++ receipt.now ∷ []) }
+    ensures counted { (done : List Receipt) → Counted (map told kept.now) kinds.old.items done →
+        Counted (map told kept.now) kinds.new.items (done ++ receipt.now ∷ []) }
 {
     if is_folded(kept, receipt) {
         let left = &mut kinds[receipt.part as usize];
@@ -147,7 +158,7 @@ fn count(kept: &[Kept<'_>], kinds: &mut Vec<KindsLeft>, receipt: &Receipt)
     }
 }
 
-/// Whether a receipt names a folded place.
+/// Whether a receipt names a checkpointed place.
 fn is_folded(kept: &[Kept<'_>], receipt: &Receipt) -> bool
     ensures { result ≡ in_folded (slice_get (map told kept.now) receipt.now.part) receipt.now.position }
 {
@@ -161,7 +172,8 @@ fn is_folded(kept: &[Kept<'_>], receipt: &Receipt) -> bool
 fn mark(kept: &[Kept<'_>], marks: &mut Vec<MarkRow>, receipt: &Receipt) -> Option<(u32, u64)>
     requires { (done : List Receipt) × Marked (map told kept.now) marks.old.items done }
     ensures long { length marks.new.items ≡ length marks.old.items }
-    ensures marked { (done : List Receipt) → Marked (map told kept.now) marks.old.items done → Marked (map told kept.now) marks.new.items (done ++ receipt.now ∷ []) }
+    ensures marked { (done : List Receipt) → Marked (map told kept.now) marks.old.items done →
+        Marked (map told kept.now) marks.new.items (done ++ receipt.now ∷ []) }
     ensures stranger { result ≡ option_map named_place (first_stranger (map told kept.now) (receipt.now ∷ [])) }
 {
     let Some(right) = is_right(kept, receipt) else {
@@ -174,7 +186,9 @@ fn mark(kept: &[Kept<'_>], marks: &mut Vec<MarkRow>, receipt: &Receipt) -> Optio
 
 /// Whether a receipt's entry is right for its place. `None` where there is no such place.
 fn is_right(kept: &[Kept<'_>], receipt: &Receipt) -> Option<bool>
-    ensures { MatchOption result (place_in (map told kept.now) receipt.now.part receipt.now.position ≡ None) (λ right. (place : Place) × (place_in (map told kept.now) receipt.now.part receipt.now.position ≡ Some place) × Decides right (IsRight place (entry_of receipt.now))) }
+    ensures { MatchOption result (place_in (map told kept.now) receipt.now.part receipt.now.position ≡ None) (λ right.
+        (place : Place) × (place_in (map told kept.now) receipt.now.part receipt.now.position ≡ Some place) ×
+        Decides right (IsRight place (entry_of receipt.now))) }
 {
     kept.get(receipt.part as usize)?.is_right(receipt)
 }
@@ -183,9 +197,13 @@ fn is_right(kept: &[Kept<'_>], receipt: &Receipt) -> Option<bool>
 fn first_gap(kept: &[Kept<'_>], notes: &Notes) -> Option<(u32, u64)>
     requires few { length kept.now ≤ 2 ^ 32 }
     requires kept { All IsKept (map told kept.now) }
-    requires noted { (receipts : List Receipt) × AreNoted (map told kept.now) notes.now.marks.items notes.now.kinds.items receipts }
-    ensures none { IfNone result ((receipts : List Receipt) → AreNoted (map told kept.now) notes.now.marks.items notes.now.kinds.items receipts → AllSettled (map told kept.now) receipts) }
-    ensures some { IfSome result (λ place. (receipts : List Receipt) → AreNoted (map told kept.now) notes.now.marks.items notes.now.kinds.items receipts → IsFirstGap (map told kept.now) receipts place.0 place.1) }
+    requires noted { (receipts : List Receipt) × AreNoted (map told kept.now) notes.now.marks.items
+        notes.now.kinds.items receipts }
+    ensures none { IfNone result ((receipts : List Receipt) → AreNoted (map told kept.now) notes.now.marks.items
+        notes.now.kinds.items receipts → AllSettled (map told kept.now) receipts) }
+    ensures some { IfSome result (λ place. (receipts : List Receipt) → AreNoted (map told kept.now)
+        notes.now.marks.items notes.now.kinds.items receipts → IsFirstGap (map told kept.now) receipts
+        place.0 place.1) }
 {
     'parts: for (part, each) in kept.iter().enumerate() {
         if let Some(position) = gap_in(each, &notes.marks[part], &notes.kinds[part]) {

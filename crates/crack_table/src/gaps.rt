@@ -8,12 +8,15 @@ use crate::kept::Kept;
 use crate::kinds::KindsLeft;
 use crate::marks::MarkRow;
 
-/// The first gap of a partition: its least place that isn't met, but that the totals of the folded places go before the entries that stand.
+/// The first gap of a partition: its least place that isn't met, but that the totals of the checkpointed places go
+/// before the entries that stand.
 pub(crate) fn gap_in(kept: &Kept<'_>, row: &MarkRow, left: &KindsLeft) -> Option<u64>
     requires kept { IsKept (told kept.now) }
     requires noted { (part : ℕ) × (receipts : List Receipt) × RowNoted (told kept.now) row.now left.now part receipts }
-    ensures none { IfNone result ((part : ℕ) (receipts : List Receipt) → RowNoted (told kept.now) row.now left.now part receipts → IsSettled receipts part (told kept.now)) }
-    ensures some { IfSome result (λ position. (part : ℕ) (receipts : List Receipt) → RowNoted (told kept.now) row.now left.now part receipts → IsGap receipts part (told kept.now) position) }
+    ensures none { IfNone result ((part : ℕ) (receipts : List Receipt) → RowNoted (told kept.now) row.now left.now part
+        receipts → IsSettled receipts part (told kept.now)) }
+    ensures some { IfSome result (λ position. (part : ℕ) (receipts : List Receipt) → RowNoted (told kept.now) row.now
+        left.now part receipts → IsGap receipts part (told kept.now) position) }
 {
     let open = row.first_open();
     let is_folded = is_below(open, kept.folded);

@@ -6,18 +6,20 @@ ghost use Rattle.crack_table.specs.declared.TheConstants.{GATE_TURNS};
 use crate::GATE_TURNS;
 use crack_row::Refusal;
 
-/// What is asked, while a partition's lock is held, whether a command may go on. A server or a test hangs what it waits for on it.
+/// What is asked, while a partition's lock is held, whether a command may go on. A server or a test hangs what it waits
+/// for on it.
 pub trait Gate {
     /// When it may say no: at this partition, at this turn.
     ghost may_refuse: { Self → ℕ → ℕ → Type 0 };
 
-    /// Whether a command may go on. It is asked under the lock of partition `part`, with turn 0, 1, .. until it says yes,
-    /// at most `GATE_TURNS` times in one call.
+    /// Whether a command may go on. It is asked under the lock of partition `part`, with turn 0, 1, .. until it says
+    /// yes, at most `GATE_TURNS` times in one call.
     fn inside(&self, part: u32, turn: u32) -> bool
         ensures { OnFalse result (may_refuse self.now part turn) };
 
-    /// Takes note of a checkpoint that partition `part` made by itself, since one was due, and of how many entries it folded. The worker whose
-    /// command found the history full calls it, once for each such checkpoint, after it has let go of the lock.
+    /// Takes note of a checkpoint that partition `part` made by itself, since one was due, and of how many entries it
+    /// took. The worker whose command found the history full calls it, once for each such checkpoint, after it has let
+    /// go of the lock.
     fn note_checkpoint(&self, part: u32, entries: u64) {
         let _ = (part, entries);
     }

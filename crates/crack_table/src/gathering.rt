@@ -39,11 +39,12 @@ pub struct GatherRefused {
     pub workers: Vec<Worker>,
 }
 
-/// Ends a table whose workers all come back: their receipts are found to be the entries of the histories, one by one, and to name each place
-/// that is folded once, with as many of each kind as the partition says.
-/// Refused with 15, one bit for each missing number, where a worker of the table isn't there; then with 16 at the first partition that isn't
-/// the table's; then as `cover` is; and after 15 with 8 wherever it finds no memory. The table and the workers are then handed back.
-/// O(entries + folded places + receipts), but for a logarithm of the workers and partitions.
+/// Ends a table whose workers all come back: their receipts are found to be the entries of the histories, one by one,
+/// and to name each place that is checkpointed once, with as many of each kind as the partition says. Refused with 15,
+/// one bit for each missing number, where a worker of the table isn't there; then with 16 at the first partition that
+/// isn't the table's; then as `cover` is; and after 15 with 8 wherever it finds no memory. The table and the workers
+/// are then handed back. O(entries + checkpointed places + receipts), but for a logarithm of the workers and
+/// partitions.
 pub fn gather(alloc: Global, table: Table, workers: Vec<Worker>) -> Result<Closed, GatherRefused>
     ensures all { OnOk result (missing_below workers.items table.workers ≡ 0) }
     ensures parts { IfOk result (λ c. AreParts table.splits table.limits c.parts.items) }
@@ -84,8 +85,8 @@ pub fn gather(alloc: Global, table: Table, workers: Vec<Worker>) -> Result<Close
     }
 }
 
-/// Takes the partitions out of their locks, and finds whether they and the workers come to one account; else what `settle` gives back goes
-/// behind the locks again.
+/// Takes the partitions out of their locks, and finds whether they and the workers come to one account; else what
+/// `settle` gives back goes behind the locks again.
 fn close(
     alloc: Global,
     locks: &mut Vec<Mutex<Partition>>,
@@ -113,8 +114,8 @@ fn close(
     }
 }
 
-/// Finds whether the partitions that were taken out of the locks, and the workers, come to one account. The list that goes behind the locks
-/// again is the one that was taken out.
+/// Finds whether the partitions that were taken out of the locks, and the workers, come to one account. The list that
+/// goes behind the locks again is the one that was taken out.
 fn settle(
     alloc: Global,
     splits: &[Bound],

@@ -7,10 +7,10 @@ ghost use Rattle.crack_table.specs.Cover.{told, place_at, IsRight, Place};
 use crack_core::Receipt;
 use crack_row::{Entry, Refusal};
 
-/// What a partition keeps of the commands that it answered: totals of those folded, and the entries since.
+/// What a partition keeps of the commands that it answered: totals of those checkpointed, and the entries since.
 #[derive(Clone, Copy, Drop)]
 pub struct Kept<'a> {
-    /// How many commands are folded.
+    /// How many commands are checkpointed.
     pub folded: u64,
     /// How many of these placed a row.
     pub inserted: u64,
@@ -32,9 +32,12 @@ impl Kept<'_> {
         }
     }
 
-    /// Whether a receipt's entry is right for its place: any is where that is folded. `None` where there is no such place.
+    /// Whether a receipt's entry is right for its place: any is where that is checkpointed. `None` where there is no
+    /// such place.
     pub(crate) fn is_right(&self, receipt: &Receipt) -> Option<bool>
-        ensures { MatchOption result (place_at (told self.now) receipt.now.position ≡ None) (λ right. (place : Place) × (place_at (told self.now) receipt.now.position ≡ Some place) × Decides right (IsRight place (entry_of receipt.now))) }
+        ensures { MatchOption result (place_at (told self.now) receipt.now.position ≡ None) (λ right. (place : Place) ×
+            (place_at (told self.now) receipt.now.position ≡ Some place) × Decides right (IsRight place
+            (entry_of receipt.now))) }
     {
         if receipt.position < self.folded {
             return Some(true);

@@ -1,11 +1,12 @@
-//! How many folded receipts of each kind are still to come.
+//! How many checkpointed receipts of each kind are still to come.
 ghost use Rattle.std.specs.Prelude.{◌≡◌, Some, IsTrue, ◌↔◌, true};
 ghost use Rattle.crack_plain.specs.Totals.{is_placed, is_gone};
 ghost use Rattle.crack_table.specs.Marks.{left_after};
 
 use crack_row::Reply;
 
-/// How many receipts that placed a row, and that took one out, are still to come of those that a partition folded; `None` where more came.
+/// How many receipts that placed a row, and that took one out, are still to come of those that a partition
+/// checkpointed; `None` where more came.
 #[derive(Clone, Copy, Debug, Drop)]
 pub(crate) struct KindsLeft {
     pub(crate) placed: Option<u64>,
@@ -15,7 +16,11 @@ pub(crate) struct KindsLeft {
 impl KindsLeft {
     /// Notes a receipt with this reply.
     pub(crate) fn note(&mut self, reply: &Reply)
-        ensures { self.new ≡ record { placed = left_after (is_placed reply.now) self.old.placed; gone = left_after (is_gone reply.now) self.old.gone } }
+        ensures { self.new ≡ record {
+          placed = left_after (is_placed reply.now) self.old.placed;
+          gone = left_after
+              (is_gone reply.now) self.old.gone;
+        } }
     {
         match reply {
             Reply::Placed(_) => self.placed = one_less(self.placed),

@@ -45,7 +45,8 @@ impl MarkRow {
     /// Notes one more receipt of a place, by whether its entry is right there.
     pub(crate) fn note(&mut self, place: usize, right: bool)
         requires { place < length self.old }
-        ensures { (m : Naming) → slice_get self.old place ≡ Some m → self.new ≡ slice_set self.old place (mark_after m right) }
+        ensures { (m : Naming) → slice_get self.old place ≡ Some m → self.new ≡ slice_set self.old place
+            (mark_after m right) }
     {
         self.marks[place] = match self.marks[place] {
             Naming::Unnamed if right => Naming::Met,
@@ -55,7 +56,8 @@ impl MarkRow {
 
     /// The first place whose mark isn't `Met`: O(places).
     pub(crate) fn first_open(&self) -> Option<usize>
-        ensures { MatchOption result ((n : ℕ) (m : Naming) → slice_get self.now n ≡ Some m → m ≡ Met) (IsOpenIn self.now) }
+        ensures { MatchOption result ((n : ℕ) (m : Naming) → slice_get self.now n ≡ Some m → m ≡ Met)
+            (IsOpenIn self.now) }
     {
         'places: for (place, mark) in self.marks.iter().enumerate() {
             if *mark != Naming::Met {

@@ -33,8 +33,10 @@ fn first_late_in(
     last: &mut BTreeMap<(u32, u32), u64>,
     list: &[Receipt],
 ) -> Result<Option<(u32, u64)>, AllocError>
-    ensures late { IfOk result (λ o. (done : List Receipt) → Tracks (get pair_cmp last.old) done → o ≡ option_map named_place (first_late done list.now)) }
-    ensures tracks { IfOk result (λ o. (done : List Receipt) → Tracks (get pair_cmp last.old) done → o ≡ None → Tracks (get pair_cmp last.new) (done ++ list.now)) }
+    ensures late { IfOk result (λ o. (done : List Receipt) → Tracks (get pair_cmp last.old) done → o ≡
+        option_map named_place (first_late done list.now)) }
+    ensures tracks { IfOk result (λ o. (done : List Receipt) → Tracks (get pair_cmp last.old) done → o ≡ None →
+        Tracks (get pair_cmp last.new) (done ++ list.now)) }
 {
     'list: for receipt in list {
         let before = last.insert((receipt.worker, receipt.part), receipt.position)?;

@@ -8,11 +8,12 @@ ghost use Rattle.crack_table.specs.Repeats.{Repeats};
 
 use crate::gathering::Closed;
 
-/// States that a core of the same splits and limits, whose partitions stand at the bases of a gathered table's, repeats what the table's
-/// workers were answered: whatever list of steps asks each partition the commands of its history, in their order, gets the replies of the
-/// history. Does nothing.
+/// States that a core of the same splits and limits, whose partitions stand at the bases of a gathered table's, repeats
+/// what the table's workers were answered: whatever list of steps asks each partition the commands of its history, in
+/// their order, gets the replies of the history. Does nothing.
 pub fn one_thread_repeats(closed: &Closed)
-    ensures { (splits : List Bound) (limits : Limits) → AreParts splits limits closed.now.parts.items → Repeats splits limits (pasts_of closed.now.parts.items) }
+    ensures { (splits : List Bound) (limits : Limits) → AreParts splits limits closed.now.parts.items →
+        Repeats splits limits (pasts_of closed.now.parts.items) }
 {
     let _ = &closed.parts;
 }

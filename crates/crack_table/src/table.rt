@@ -32,14 +32,20 @@ impl Model for Table {
 
     ghost Value = { TableState };
 
-    ghost view = { λ t. record { splits = t.splits.items; limits = t.limits; workers = t.workers; locks = vec_len t.locks } };
+    ghost view = { λ t. record {
+      splits = t.splits.items;
+      limits = t.limits;
+      workers = t.workers;
+      locks = vec_len t.locks;
+    } };
 
     ghost invariant = { λ t. IsTable t.splits.items t.limits t.workers (vec_len t.locks) };
 }
 
 impl Table {
-    /// A table without rows, and its workers, numbered from 0: each split ends one partition and begins the next, and each partition's history
-    /// may have `limit` entries, with the greatest of the other limits. Refused as `open_with` is. O(partitions + workers).
+    /// A table without rows, and its workers, numbered from 0: each split ends one partition and begins the next, and
+    /// each partition's history may have `limit` entries, with the greatest of the other limits. Refused as `open_with`
+    /// is. O(partitions + workers).
     pub fn open(
         alloc: Global,
         splits: &[Bound],
@@ -51,10 +57,11 @@ impl Table {
         Table::open_with(alloc, splits, Limits::of_history(limit), workers)
     }
 
-    /// A table without rows, and its workers, numbered from 0: each split ends one partition and begins the next, and each partition has these
-    /// limits. Refused, in this order: with 11 where the splits don't rise strictly or one isn't 1 to `GREATEST_KEY`, with 12
-    /// where there are more than `MOST_SPLITS` of crack_core, with 13 where there aren't 1 to `MOST_WORKERS` workers, with 14 where a limit
-    /// isn't 1 to the greatest of its kind, with 8 where it finds no memory. O(partitions + workers).
+    /// A table without rows, and its workers, numbered from 0: each split ends one partition and begins the next, and
+    /// each partition has these limits. Refused, in this order: with 11 where the splits don't rise strictly or one
+    /// isn't 1 to `GREATEST_KEY`, with 12 where there are more than `MOST_SPLITS` of crack_core, with 13 where there
+    /// aren't 1 to `MOST_WORKERS` workers, with 14 where a limit isn't 1 to the greatest of its kind, with 8 where it
+    /// finds no memory. O(partitions + workers).
     pub fn open_with(
         alloc: Global,
         splits: &[Bound],

@@ -116,14 +116,15 @@ fn a_full_history_goes_on_behind_a_checkpoint(rt: HostRuntime) -> Result<(), Fai
     ];
     let text = told(&rt, alloc, &mut worker, &table, &turns);
     let wanted =
-        b"row 0.0\nrow 0.1\nrefused 6 2\nfolded 2\ncount 2\nrow 0.2\nrefused 6 2\nfolded 2\nfolded 0\ngone 1 1\nrefused 5\n";
+        b"row 0.0\nrow 0.1\nrefused 6 2\nfolded 2\ncount 2\nrow 0.2\nrefused 6 2\nfolded 2\nfolded 0\ngone 1
+        1\nrefused 5\n";
     assert_eq!(rt; text.as_slice(), wanted.as_slice());
     workers.push(worker)?;
     assert_eq!(rt; totals(alloc, table, workers), Ok([5, 3, 1, 2]));
     Ok(())
 }
 
-/// A layout folds nothing: the checkpoint after it counts all entries, and the one after that none.
+/// A layout makes no checkpoint: the checkpoint after it counts all entries, and the one after that none.
 #[test]
 fn a_layout_folds_nothing(rt: HostRuntime) -> Result<(), Fail> {
     let alloc: Global = rt.alloc();
@@ -138,7 +139,8 @@ fn a_layout_folds_nothing(rt: HostRuntime) -> Result<(), Fail> {
     ];
     let text = told(&rt, alloc, &mut worker, &table, &turns);
     let wanted =
-        b"row 0.0\ncount 1\nlayout 0 rows 1 column 1 out 0 in 0 cells 1 free 0 pieces 1\npiece 0 18446744073709551616 1\nfolded 2\nfolded 0\n";
+        b"row 0.0\ncount 1\nlayout 0 rows 1 column 1 out 0 in 0 cells 1 free 0 pieces 1\npiece 0 18446744073709551616
+        1\nfolded 2\nfolded 0\n";
     assert_eq!(rt; text.as_slice(), wanted.as_slice());
     workers.push(worker)?;
     assert_eq!(rt; totals(alloc, table, workers), Ok([2, 1, 0, 1]));
@@ -195,7 +197,7 @@ fn a_worker_is_refused_where_the_life_is_over(rt: HostRuntime) -> Result<(), Fai
     Ok(())
 }
 
-/// Commands of two workers are folded by one of them, and the other goes on: receipts keep their positions.
+/// Commands of two workers are checkpointed by one of them, and the other goes on: receipts keep their positions.
 #[test]
 fn a_checkpoint_folds_for_all_workers(rt: HostRuntime) -> Result<(), Fail> {
     let alloc: Global = rt.alloc();
@@ -221,7 +223,8 @@ fn fill<R: Wait>(rt: &R, worker: &mut Worker, table: &Table, gate: &Due, count: 
     fine
 }
 
-/// A checkpoint that is due is noted once, with its partition and the length of its history; one that was asked for isn't.
+/// A checkpoint that is due is noted once, with its partition and the length of its history; one that was asked for
+/// isn't.
 #[test]
 fn a_checkpoint_that_is_due_is_noted(rt: HostRuntime) -> Result<(), Fail> {
     let alloc: Global = rt.alloc();

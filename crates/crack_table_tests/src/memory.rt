@@ -1,6 +1,7 @@
 //! A worker that finds no memory for a command: nothing has changed.
 //!
-//! The tests `sweep_..` hold whichever one of their allocations is refused, so they may be run with each of them refused in turn.
+//! The tests `sweep_..` hold whichever one of their allocations is refused, so they may be run with each of them
+//! refused in turn.
 use crate::values::insert;
 use crack_core::Book;
 use crack_plain::PlainTable;

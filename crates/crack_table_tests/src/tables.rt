@@ -211,7 +211,7 @@ fn a_table_that_a_stranger_was_refused_is_gathered_by_its_own_worker(
     Ok(())
 }
 
-/// A gathering that is refused folds nothing: each partition has its entries yet, which a checkpoint then counts.
+/// A gathering that is refused makes no checkpoint: each partition has its entries yet, which a checkpoint then counts.
 #[test]
 fn a_refused_gathering_folds_nothing(rt: HostRuntime) -> Result<(), Fail> {
     let alloc: Global = rt.alloc();
@@ -238,8 +238,8 @@ fn insert_rows<R: Wait>(rt: &R, worker: &mut Worker, table: &Table, part: u32) -
     fine
 }
 
-/// A checkpoint folds the partition that it names, and no other: each still counts its own entries, in whatever order
-/// they are folded.
+/// A checkpoint is of the partition that it names, and of no other: each still counts its own entries, in whatever
+/// order they are checkpointed.
 #[test]
 fn a_checkpoint_folds_its_own_partition_alone(rt: HostRuntime) -> Result<(), Fail> {
     let alloc: Global = rt.alloc();

@@ -213,7 +213,7 @@ fn work<R: Wait>(rt: &R, mut worker: Worker, table: &Table) -> (Worker, bool) {
     (worker, placed && seen)
 }
 
-/// Whether a worker that folds both partitions is answered that they were.
+/// Whether a worker that checkpoints both partitions is answered that they were.
 fn folds_both<R: Wait>(rt: &R, worker: &Worker, table: &Table) -> bool {
     worker.checkpoint(rt, table, 0).is_ok() && worker.checkpoint(rt, table, 1).is_ok()
 }
@@ -248,7 +248,7 @@ fn four_workers_come_to_one_account(rt: HostRuntime) -> Result<(), Fail> {
     Ok(())
 }
 
-/// The same totals, where partitions are folded amid the work.
+/// The same totals, where partitions are checkpointed amid the work.
 #[test]
 fn four_workers_come_to_one_account_over_folded_histories(rt: HostRuntime) -> Result<(), Fail> {
     let alloc: Global = rt.alloc();

@@ -52,7 +52,7 @@ base_of state folded placed gone = record { state = state; folded = folded; plac
 pub same_base : (s t : PlainState) (a b c d e f : ℕ) → s ≡ t → a ≡ b → c ≡ d → e ≡ f → base_of s a c e ≡ base_of t b d f
 same_base s t a b c d e f p q r u = λ i. base_of (p i) (q i) (r i) (u i)
 
--- all of it is folded
+-- all of it is checkpointed
 pub IsPastOf-folded : (h : List Entry) (past : Past) → IsPastOf h past → IsPastOf h (folded past)
 IsPastOf-folded h past k = record {
   folded = h;

@@ -39,7 +39,7 @@ AreOfWorkers workers es = All (λ (e : Entry). e.worker < workers) es
 abbrev pub calls_at : (ℕ → ℕ) → ℕ → ℕ → List Event → List Entry
 calls_at owner part worker log = calls_by worker (history_of (owner part) log)
 
--- what a partition keeps is its whole history: its base is what the first entries left, and its tail is the rest
+-- what a partition keeps is its whole history: its base is what the first entries left, and its history is the rest
 pub record IsPastOf (history : List Entry) (past : Past) : Type 0 where
   pub folded : List Entry
   pub base : past.base ≡ base_after (record { base = no_base; tail = folded })

@@ -1,5 +1,6 @@
 //! Who asks witnessed partitions.
-ghost use Rattle.std.specs.Prelude.{◌≡◌, ◌⊎◌, ◌+◌, ◌<◌, ◌≤◌, ◌++◌, ◌∷◌, [], length, sum_by, ℕ, ◌^◌, Some, IfOk, IfErr, OnErr, OnOk, Err, IsTrue, List, slice_index_or, slice_set};
+ghost use Rattle.std.specs.Prelude.{◌≡◌, ◌⊎◌, ◌+◌, ◌<◌, ◌≤◌, ◌++◌, ◌∷◌, [], length, sum_by, ℕ, ◌^◌, Some, IfOk, IfErr};
+ghost use Rattle.std.specs.Prelude.{OnErr, OnOk, Err, IsTrue, List, slice_index_or, slice_set};
 ghost use mathlib.Core.List.{IsPrefix};
 ghost use Rattle.crack_row.specs.declared.command.Entry.{Entry};
 ghost use Rattle.crack_plain.specs.Plain.{IsSmall, reply_to};
@@ -8,7 +9,8 @@ ghost use Rattle.crack_part.specs.Parts.{state_of};
 ghost use Rattle.crack_part.specs.Upkeep.{upkept};
 ghost use Rattle.crack_part.specs.Refusals.{refusal_of};
 ghost use Rattle.crack_witness.specs.Histories.{history_of, calls_at, AreHistories, AreEmpty};
-ghost use Rattle.crack_witness.specs.Witnesses.{IsInStep, IsGiven, HasJustItsOwn, Knows, MayRefuseAt, replies_at, replies_to};
+ghost use Rattle.crack_witness.specs.Witnesses.{IsInStep, IsGiven, HasJustItsOwn, Knows, MayRefuseAt, replies_at};
+ghost use Rattle.crack_witness.specs.Witnesses.{replies_to};
 
 use crate::opening::Naming;
 use crate::scribe::Front;
@@ -17,8 +19,9 @@ use crack_row::{Command, Policy, Refusal, Reply};
 use std::alloc::{AllocError, Global};
 use std::marker::Model;
 
-/// A worker's side of the witness: its number, what it has seen of the book, and how many replies each partition has given it, 8 bytes each.
-/// Contracts see the number, the events that it has seen, those that it had seen after its last reply of each partition, and these numbers.
+/// A worker's side of the witness: its number, what it has seen of the book, and how many replies each partition has
+/// given it, 8 bytes each. Contracts see the number, the events that it has seen, those that it had seen after its last
+/// reply of each partition, and these numbers.
 #[derive(Drop)]
 pub struct Asker<J: Naming> {
     number: u32,
@@ -33,7 +36,12 @@ impl<J: Naming> Model for Asker<J> {
 
     ghost Value = { AskerState };
 
-    ghost view = { λ a. record { worker = a.number; seen = a.front; fronts = a.fronts.items; counts = a.counts.items } };
+    ghost view = { λ a. record {
+      worker = a.number;
+      seen = a.front;
+      fronts = a.fronts.items;
+      counts = a.counts.items;
+    } };
 
     ghost invariant = { λ a. IsAsker J.owner a.number a.front a.fronts.items a.counts.items };
 }
@@ -88,10 +96,10 @@ impl<J: Naming> Asker<J> {
         &self.front
     }
 
-    /// Asks a partition, whose number is to be `part`: O(1) besides `Partition::apply`, and no memory.
-    /// Refused with 5 where the worker knows of no such partition; with 16, with the number and the count of its replies there, where the
-    /// partition has another number, or its history another number of the worker's entries; then as `Partition::apply` is. After each
-    /// refusal nothing was seen or written.
+    /// Asks a partition, whose number is to be `part`: O(1) besides `Partition::apply`, and no memory. Refused with 5
+    /// where the worker knows of no such partition; with 16, with the number and the count of its replies there, where
+    /// the partition has another number, or its history another number of the worker's entries; then as
+    /// `Partition::apply` is. After each refusal nothing was seen or written.
     pub fn ask(
         &mut self,
         witnessed: &mut Witnessed<J>,
@@ -101,20 +109,30 @@ impl<J: Naming> Asker<J> {
     ) -> Result<Reply, Refusal>
         ensures reply { IfOk result (λ reply. reply ≡ reply_to (state_of witnessed.old.held) command) }
         ensures small { IfOk result IsSmall }
-        ensures given { IfOk result (λ reply. IsGiven J.owner part (record { worker = self.old.worker; command = command; reply = reply }) self.old.seen self.new.seen) }
-        ensures mine { IfOk result (λ reply. calls_at J.owner part self.old.worker self.new.seen ≡ calls_at J.owner part self.old.worker (slice_index_or self.old.fronts part []) ++ record { worker = self.old.worker; command = command; reply = reply } ∷ []) }
+        ensures given { IfOk result (λ reply. IsGiven J.owner part (record {
+          worker = self.old.worker;
+          command = command;
+          reply = reply;
+        }) self.old.seen self.new.seen) }
+        ensures mine { IfOk result (λ reply. calls_at J.owner part self.old.worker self.new.seen ≡
+            calls_at J.owner part self.old.worker (slice_index_or self.old.fronts part []) ++
+            record { worker = self.old.worker; command = command; reply = reply } ∷ []) }
         ensures replies { OnOk result (replies_to self.new ≡ replies_to self.old + 1) }
         ensures fronts { OnOk result (self.new.fronts ≡ slice_set self.old.fronts part self.new.seen) }
         ensures legal { OnOk result (AreHistories self.new.seen) }
         ensures whole { OnOk result ((witnessed.old.part ≡ part) × (self.new.seen ≡ witnessed.new.log)) }
-        ensures kept { IfOk result (λ reply. witnessed.new.held.past ≡ with_entry (upkept witnessed.old.held.limits witnessed.old.held.past) (record { worker = self.old.worker; command = command; reply = reply })) }
-        ensures opened { (witnessed.new.held.keys ≡ witnessed.old.held.keys) × (witnessed.new.held.limits ≡ witnessed.old.held.limits) × (witnessed.new.part ≡ witnessed.old.part) }
+        ensures kept { IfOk result (λ reply. witnessed.new.held.past ≡ with_entry (upkept witnessed.old.held.limits
+            witnessed.old.held.past) (record { worker = self.old.worker; command = command; reply = reply })) }
+        ensures opened { (witnessed.new.held.keys ≡ witnessed.old.held.keys) × (witnessed.new.held.limits ≡
+            witnessed.old.held.limits) × (witnessed.new.part ≡ witnessed.old.part) }
         ensures seen { IsPrefix self.old.seen self.new.seen × IsPrefix witnessed.old.log witnessed.new.log }
         ensures worker { self.new.worker ≡ self.old.worker }
         ensures nowhere { length self.old.fronts ≤ part → result ≡ Err Refusal.NoSuchPartition }
-        ensures strange { part < length self.old.fronts → (Knows J.owner self.old part witnessed.old → ⊥) → (result ≡ Err (Refusal.StrangeReceipt part (replies_at self.old part))) × (witnessed.new ≡ witnessed.old) }
+        ensures strange { part < length self.old.fronts → (Knows J.owner self.old part witnessed.old → ⊥) →
+            (result ≡ Err (Refusal.StrangeReceipt part (replies_at self.old part))) × (witnessed.new ≡ witnessed.old) }
         ensures causes { IfErr result (MayRefuseAt J.owner witnessed.old part command self.old) }
-        ensures err { OnErr result ((self.new ≡ self.old) × (witnessed.new.log ≡ witnessed.old.log) × (witnessed.new.held.past ≡ witnessed.old.held.past)) }
+        ensures err { OnErr result ((self.new ≡ self.old) × (witnessed.new.log ≡ witnessed.old.log) ×
+            (witnessed.new.held.past ≡ witnessed.old.held.past)) }
     {
         let Some(count) = count_at(self.counts.as_slice(), part) else {
             return Err(Refusal::NoSuchPartition);
@@ -131,13 +149,15 @@ impl<J: Naming> Asker<J> {
         Ok(reply)
     }
 
-    /// Whether a partition's history has just the entries of this worker that it was given replies for. What the worker has seen of that
-    /// history is found to be a beginning of it. O(1).
+    /// Whether a partition's history has just the entries of this worker that it was given replies for. What the worker
+    /// has seen of that history is found to be a beginning of it. O(1).
     pub fn agrees(&self, witnessed: &mut Witnessed<J>) -> bool
         ensures same { witnessed.new ≡ witnessed.old }
-        ensures covered { IsPrefix (history_of (J.owner witnessed.old.part) self.now.seen) (history_of (J.owner witnessed.old.part) witnessed.old.log) }
+        ensures covered { IsPrefix (history_of (J.owner witnessed.old.part) self.now.seen)
+            (history_of (J.owner witnessed.old.part) witnessed.old.log) }
         ensures mine { IsTrue result → HasJustItsOwn J.owner self.now witnessed.old }
-        ensures others { witnessed.old.part < length self.now.fronts → self.now.worker < witnessed.old.workers → HasJustItsOwn J.owner self.now witnessed.old → IsTrue result }
+        ensures others { witnessed.old.part < length self.now.fronts → self.now.worker < witnessed.old.workers →
+            HasJustItsOwn J.owner self.now witnessed.old → IsTrue result }
     {
         witnessed.covers(&self.front);
         self.counts_agree(witnessed)
@@ -152,9 +172,11 @@ impl<J: Naming> Asker<J> {
 
     /// The same of a partition that covers what the worker has seen.
     fn counts_agree(&self, witnessed: &Witnessed<J>) -> bool
-        requires covered { IsPrefix (history_of (J.owner witnessed.now.part) self.now.seen) (history_of (J.owner witnessed.now.part) witnessed.now.log) }
+        requires covered { IsPrefix (history_of (J.owner witnessed.now.part) self.now.seen)
+            (history_of (J.owner witnessed.now.part) witnessed.now.log) }
         ensures mine { IsTrue result → HasJustItsOwn J.owner self.now witnessed.now }
-        ensures others { witnessed.now.part < length self.now.fronts → self.now.worker < witnessed.now.workers → HasJustItsOwn J.owner self.now witnessed.now → IsTrue result }
+        ensures others { witnessed.now.part < length self.now.fronts → self.now.worker < witnessed.now.workers →
+            HasJustItsOwn J.owner self.now witnessed.now → IsTrue result }
     {
         let number = witnessed.part();
         match (

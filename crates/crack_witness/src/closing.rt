@@ -1,21 +1,24 @@
 //! The end of a book: its partitions and its workers come together.
 ghost use Rattle.std.specs.Prelude.{◌≡◌, All, Any, IfNone, IfSome, IfErr, OnOk};
-ghost use Rattle.crack_witness.specs.Witnesses.{AskerState, WitnessedState, IsSettledFor, Differs, MayDiffer, replies_at};
+ghost use Rattle.crack_witness.specs.Witnesses.{AskerState, WitnessedState, IsSettledFor, Differs, MayDiffer};
+ghost use Rattle.crack_witness.specs.Witnesses.{replies_at};
 
 use crate::asker::Asker;
 use crate::opening::Naming;
 use crate::witnessed::Witnessed;
 use crack_row::Refusal;
 
-/// Finds that what each worker has seen of each partition's history is a beginning of it, and that of its entries that history has just
-/// those that it was given replies for: by their numbers, pair by pair. Takes no memory. O(partitions × workers), however many entries there are.
-/// Refused with 16 at the first partition that differs from a worker, with its number, and with how many replies it gave the first such worker.
+/// Finds that what each worker has seen of each partition's history is a beginning of it, and that of its entries that
+/// history has just those that it was given replies for: by their numbers, pair by pair. Takes no memory. O(partitions
+/// × workers), however many entries there are. Refused with 16 at the first partition that differs from a worker, with
+/// its number, and with how many replies it gave the first such worker.
 pub fn settle<J: Naming>(
     askers: &Vec<Asker<J>>,
     parts: &mut Vec<Witnessed<J>>,
 ) -> Result<(), Refusal>
     ensures same { parts.new.items ≡ parts.old.items }
-    ensures settled { OnOk result (All (λ (w : WitnessedState). All (λ (a : AskerState). IsSettledFor J.owner a w) askers.now.items) parts.old.items) }
+    ensures settled { OnOk result (All (λ (w : WitnessedState). All (λ (a : AskerState). IsSettledFor J.owner a w)
+        askers.now.items) parts.old.items) }
     ensures differs { IfErr result (MayDiffer J.owner askers.now.items parts.old.items) }
 {
     'parts: for place in 0..parts.len() {
@@ -31,7 +34,8 @@ pub fn settle<J: Naming>(
 fn first_difference<J: Naming>(askers: &Vec<Asker<J>>, part: &mut Witnessed<J>) -> Option<u64>
     ensures same { part.new ≡ part.old }
     ensures none { IfNone result (All (λ (a : AskerState). IsSettledFor J.owner a part.old) askers.now.items) }
-    ensures some { IfSome result (λ position. Any (λ (a : AskerState). Differs J.owner a part.old × (position ≡ replies_at a part.old.part)) askers.now.items) }
+    ensures some { IfSome result (λ position. Any (λ (a : AskerState). Differs J.owner a part.old ×
+        (position ≡ replies_at a part.old.part)) askers.now.items) }
 {
     'askers: for asker in askers {
         if !asker.agrees(part) {

@@ -1,10 +1,12 @@
-//! The book of a table: its events, the rule that they keep, and the steps that add to them. None of it has bytes but one word a partition.
+//! The book of a table: its events, the rule that they keep, and the steps that add to them. None of it has bytes but
+//! one word a partition.
 ghost use Rattle.std.specs.Prelude.{◌≡◌};
 
 use crack_row::Entry;
 use logbook::{Gain, Offer, Opening, Plain, Play, Rule, Seen, Word};
 
-/// An event of a book: the entry of an owner, and the cell that the owner's next event brings home. No value of it is made.
+/// An event of a book: the entry of an owner, and the cell that the owner's next event brings home. No value of it is
+/// made.
 pub struct Event {
     pub owner: u64,
     pub next: u64,

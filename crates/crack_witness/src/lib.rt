@@ -1,4 +1,5 @@
-//! A witness for each reply: one history of each partition, which every worker sees, and what lies under a lock beside its partition.
+//! A witness for each reply: one history of each partition, which every worker sees, and what lies under a lock beside
+//! its partition.
 #![tactic(auto)]
 
 pub mod asker;

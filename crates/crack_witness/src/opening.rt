@@ -49,11 +49,13 @@ impl Model for Owner {
 
     ghost view = { λ o. record { book = o.seen.book; id = o.pen.nib.key; log = o.seen.log } };
 
-    ghost invariant = { λ o. IsScribe o.seen.book o.pen.nib.key o.word o.pen.book o.pen.nib.key o.pen.nib.right o.seen.book o.seen.log × AreHistories o.seen.log };
+    ghost invariant = { λ o. IsScribe o.seen.book o.pen.nib.key o.word o.pen.book o.pen.nib.key o.pen.nib.right
+        o.seen.book o.seen.log × AreHistories o.seen.log };
 }
 
 impl Owner {
-    /// Makes a word out to an owner of its own, by one step on it. The owner had no event among those seen before, and has one now.
+    /// Makes a word out to an owner of its own, by one step on it. The owner had no event among those seen before, and
+    /// has one now.
     fn open(word: Head, seen: &mut Token) -> Owner
         requires { (word.tracked ≡ true) × (seen.old.book ≡ word.book) × HasWord word.key seen.old.log }
         ensures book { (result.book ≡ seen.old.book) × (seen.new.book ≡ seen.old.book) }
@@ -92,9 +94,15 @@ impl Model for Opened {
 
     ghost Value = { OpenedState };
 
-    ghost view = { λ o. record { book = o.seen.book; log = o.seen.log; ids = map (λ (w : OwnerState). w.id) o.owners.items } };
+    ghost view = { λ o. record {
+      book = o.seen.book;
+      log = o.seen.log;
+      ids = map (λ (w : OwnerState).
+          w.id) o.owners.items;
+    } };
 
-    ghost invariant = { λ o. AreEmpty o.seen.log × All (IsNew o.seen.book) o.owners.items × AreDistinct (map (λ (w : OwnerState). w.id) o.owners.items) × (length o.owners.items < 2 ^ 32) };
+    ghost invariant = { λ o. AreEmpty o.seen.log × All (IsNew o.seen.book) o.owners.items ×
+        AreDistinct (map (λ (w : OwnerState). w.id) o.owners.items) × (length o.owners.items < 2 ^ 32) };
 }
 
 impl Opened {
@@ -114,8 +122,8 @@ impl Opened {
         Ok(Opened { seen, owners })
     }
 
-    /// The partitions, each with its scribe, by their numbers, and what a worker begins with, once the book has its name. Each counts the
-    /// entries of so many workers. O(partitions × workers).
+    /// The partitions, each with its scribe, by their numbers, and what a worker begins with, once the book has its
+    /// name. Each counts the entries of so many workers. O(partitions × workers).
     pub fn witness<J: Naming>(
         self,
         alloc: Global,
@@ -150,9 +158,11 @@ impl Opened {
 
 /// The owner of the next word of a row.
 fn next_owner(pens: &mut Pens, seen: &mut Token) -> Owner
-    requires { (0 < pens.old.left) × (pens.old.book ≡ seen.old.book) × IsPrefix (row (pens.old.next + pens.old.left)) seen.old.log }
+    requires { (0 < pens.old.left) × (pens.old.book ≡ seen.old.book) × IsPrefix (row (pens.old.next + pens.old.left))
+        seen.old.log }
     ensures owner { IsNew seen.old.book result }
-    ensures rest { (pens.new.book ≡ pens.old.book) × (pens.new.next ≡ pens.old.next + 1) × (pens.new.left + 1 ≡ pens.old.left) }
+    ensures rest { (pens.new.book ≡ pens.old.book) × (pens.new.next ≡ pens.old.next + 1) ×
+        (pens.new.left + 1 ≡ pens.old.left) }
     ensures book { seen.new.book ≡ seen.old.book }
     ensures fresh { NoneOf result.id seen.old.log }
     ensures known { HasOwner result.id seen.new.log }

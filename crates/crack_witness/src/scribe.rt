@@ -76,12 +76,18 @@ pub(crate) struct Asked<'a, J: Naming> {
 impl<'a, J: Naming> Plain<Asked<'a, J>, Event, u64> for Add {
     ghost use Rattle.std.specs.Prelude.{None, Some};
 
-    ghost ask = { λ a. record { owner = J.owner a.part; next = a.next.now.nib.key; word = a.word.now.key; entry = Some (record { worker = a.worker; command = a.command.now; reply = a.reply.now }) } };
+    ghost ask = { λ a. record {
+      owner = J.owner a.part;
+      next = a.next.now.nib.key;
+      word = a.word.now.key;
+      entry = Some (record { worker = a.worker; command = a.command.now; reply = a.reply.now });
+    } };
 
     ghost state = { λ a. None };
 }
 
-/// Who writes the entries of one partition into the book. Contracts see the partition's number, and the events that were seen.
+/// Who writes the entries of one partition into the book. Contracts see the partition's number, and the events that
+/// were seen.
 #[derive(Drop)]
 pub(crate) struct Scribe<J: Naming> {
     part: u32,
@@ -100,7 +106,8 @@ impl<J: Naming> Model for Scribe<J> {
 
     ghost view = { λ s. record { part = s.part; log = s.seen.log } };
 
-    ghost invariant = { λ s. IsScribe J.book (J.owner s.part) s.word s.pen.book s.pen.nib.key s.pen.nib.right s.seen.book s.seen.log × AreHistories s.seen.log };
+    ghost invariant = { λ s. IsScribe J.book (J.owner s.part) s.word s.pen.book s.pen.nib.key s.pen.nib.right
+        s.seen.book s.seen.log × AreHistories s.seen.log };
 }
 
 impl<J: Naming> Scribe<J> {
@@ -128,14 +135,21 @@ impl<J: Naming> Scribe<J> {
         self.part
     }
 
-    /// Writes an entry after all that the scribe and the one who asks have seen. O(1): two steps on the partition's own word.
+    /// Writes an entry after all that the scribe and the one who asks have seen. O(1): two steps on the partition's own
+    /// word.
     pub(crate) fn write(&mut self, me: &mut Front<J>, worker: u32, command: &Command, reply: &Reply)
-        requires { IsHistory (history_of (J.owner self.old.part) self.old.log ++ record { worker = worker; command = command.now; reply = reply.now } ∷ []) }
+        requires { IsHistory (history_of (J.owner self.old.part) self.old.log ++ record {
+          worker = worker;
+          command = command.now;
+          reply = reply.now;
+        } ∷ []) }
         ensures part { self.new.part ≡ self.old.part }
         ensures seen { me.new ≡ self.new.log }
         ensures begins { IsPrefix self.old.log self.new.log × IsPrefix me.old self.new.log }
-        ensures history { history_of (J.owner self.old.part) self.new.log ≡ history_of (J.owner self.old.part) self.old.log ++ record { worker = worker; command = command.now; reply = reply.now } ∷ [] }
-        ensures before { IsPrefix (history_of (J.owner self.old.part) me.old) (history_of (J.owner self.old.part) self.old.log) }
+        ensures history { history_of (J.owner self.old.part) self.new.log ≡ history_of (J.owner self.old.part)
+            self.old.log ++ record { worker = worker; command = command.now; reply = reply.now } ∷ [] }
+        ensures before { IsPrefix (history_of (J.owner self.old.part) me.old) (history_of (J.owner self.old.part)
+            self.old.log) }
         ensures legal { AreHistories self.new.log }
     {
         let next = fresh(&self.word, &self.seen);
@@ -161,7 +175,8 @@ impl<J: Naming> Scribe<J> {
     /// Finds that what anyone has seen of its partition's history is a beginning of its own. O(1).
     pub(crate) fn covers(&mut self, front: &Front<J>)
         ensures same { self.new ≡ self.old }
-        ensures begins { IsPrefix (history_of (J.owner self.old.part) front.now) (history_of (J.owner self.old.part) self.old.log) }
+        ensures begins { IsPrefix (history_of (J.owner self.old.part) front.now) (history_of (J.owner self.old.part)
+            self.old.log) }
     {
         let mut token = self.seen.again();
         token.learn(&front.seen);

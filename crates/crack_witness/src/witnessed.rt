@@ -1,5 +1,6 @@
 //! What lies under a lock: a partition, and the scribe of its whole history.
-ghost use Rattle.std.specs.Prelude.{◌≡◌, ◌⊎◌, ◌+◌, ◌<◌, ◌≤◌, [], ◌∷◌, ◌++◌, length, vec_len, IfOk, IfErr, IfSome, IsTrue, OnErr, OnOk, Err, None, ◌≢◌, ◌↔◌, ◌^◌, slice_index_or};
+ghost use Rattle.std.specs.Prelude.{◌≡◌, ◌⊎◌, ◌+◌, ◌<◌, ◌≤◌, [], ◌∷◌, ◌++◌, length, vec_len, IfOk, IfErr, IfSome};
+ghost use Rattle.std.specs.Prelude.{IsTrue, OnErr, OnOk, Err, None, ◌≢◌, ◌↔◌, ◌^◌, slice_index_or};
 ghost use mathlib.Core.List.{IsPrefix};
 ghost use Rattle.crack_row.specs.Commands.{range_of};
 ghost use Rattle.crack_plain.specs.Past.{no_past, with_entry};
@@ -18,8 +19,8 @@ use crack_row::{Command, Policy, Refusal, Reply};
 use std::alloc::{AllocError, Global};
 use std::marker::Model;
 
-/// A partition with the scribe of its whole history since it was opened, and a count of each worker's entries there. Contracts see the
-/// partition, its number, and the events that the scribe has seen.
+/// A partition with the scribe of its whole history since it was opened, and a count of each worker's entries there.
+/// Contracts see the partition, its number, and the events that the scribe has seen.
 #[derive(Drop)]
 pub struct Witnessed<J: Naming> {
     partition: Partition,
@@ -35,9 +36,16 @@ impl<J: Naming> Model for Witnessed<J> {
 
     ghost Value = { WitnessedState };
 
-    ghost view = { λ w. record { part = w.scribe.part; log = w.scribe.log; held = w.partition; workers = length w.answered.items } };
+    ghost view = { λ w. record {
+      part = w.scribe.part;
+      log = w.scribe.log;
+      held = w.partition;
+      workers = length w.answered.items;
+    } };
 
-    ghost invariant = { λ w. IsPastOf (history_of (J.owner w.scribe.part) w.scribe.log) w.partition.past × AreCounts w.answered.items (history_of (J.owner w.scribe.part) w.scribe.log) × AreOfWorkers (length w.answered.items) (history_of (J.owner w.scribe.part) w.scribe.log) };
+    ghost invariant = { λ w. IsPastOf (history_of (J.owner w.scribe.part) w.scribe.log) w.partition.past ×
+        AreCounts w.answered.items (history_of (J.owner w.scribe.part) w.scribe.log) ×
+        AreOfWorkers (length w.answered.items) (history_of (J.owner w.scribe.part) w.scribe.log) };
 }
 
 impl<J: Naming> Witnessed<J> {
@@ -82,8 +90,8 @@ impl<J: Naming> Witnessed<J> {
         self.answered.len()
     }
 
-    /// States what is true of each, and does nothing: its history is one, what the partition keeps is all of it, and each entry is one of its
-    /// workers'.
+    /// States what is true of each, and does nothing: its history is one, what the partition keeps is all of it, and
+    /// each entry is one of its workers'.
     pub fn facts(&self)
         ensures legal { AreHistories self.now.log }
         ensures kept { IsPastOf (history_of (J.owner self.now.part) self.now.log) self.now.held.past }
@@ -96,16 +104,17 @@ impl<J: Naming> Witnessed<J> {
 
     /// How many entries of a worker stand in its history: O(1). `None` where that is no worker of the table.
     pub fn answered(&self, worker: u32) -> Option<u64>
-        ensures some { IfSome result (λ n. (worker < self.now.workers) × (n ≡ length (calls_by worker (history_of (J.owner self.now.part) self.now.log)))) }
+        ensures some { IfSome result (λ n. (worker < self.now.workers) ×
+            (n ≡ length (calls_by worker (history_of (J.owner self.now.part) self.now.log)))) }
         ensures none { worker < self.now.workers → result ≢ None }
     {
         count_at(self.answered.as_slice(), worker)
     }
 
-    /// Answers a command of a worker, who has been given `count` replies by this partition before, and writes it into the history: O(1)
-    /// besides `Partition::apply`, and no memory.
-    /// Refused with 16, with the partition's number and that count, where the history hasn't just as many entries of the worker, or the
-    /// worker isn't one of the table's; nothing has changed then. Else refused as `Partition::apply` is, and nothing is written.
+    /// Answers a command of a worker, who has been given `count` replies by this partition before, and writes it into
+    /// the history: O(1) besides `Partition::apply`, and no memory. Refused with 16, with the partition's number and
+    /// that count, where the history hasn't just as many entries of the worker, or the worker isn't one of the table's;
+    /// nothing has changed then. Else refused as `Partition::apply` is, and nothing is written.
     pub fn ask(
         &mut self,
         me: &mut Front<J>,
@@ -116,23 +125,36 @@ impl<J: Naming> Witnessed<J> {
     ) -> Result<Reply, Refusal>
         ensures reply { IfOk result (λ reply. reply ≡ reply_to (state_of self.old.held) command) }
         ensures small { IfOk result IsSmall }
-        ensures written { IfOk result (λ reply. history_of (J.owner self.old.part) self.new.log ≡ history_of (J.owner self.old.part) self.old.log ++ record { worker = worker; command = command; reply = reply } ∷ []) }
-        ensures kept { IfOk result (λ reply. self.new.held.past ≡ with_entry (upkept self.old.held.limits self.old.held.past) (record { worker = worker; command = command; reply = reply })) }
-        ensures store { OnOk result (Serves policy self.old.held.keys self.old.held.next command self.old.held.store self.new.held.store) }
+        ensures written { IfOk result (λ reply. history_of (J.owner self.old.part) self.new.log ≡
+            history_of (J.owner self.old.part) self.old.log ++ record {
+              worker = worker;
+              command = command;
+              reply = reply;
+            } ∷ []) }
+        ensures kept { IfOk result (λ reply. self.new.held.past ≡ with_entry (upkept self.old.held.limits
+            self.old.held.past) (record { worker = worker; command = command; reply = reply })) }
+        ensures store { OnOk result (Serves policy self.old.held.keys self.old.held.next command self.old.held.store
+            self.new.held.store) }
         ensures opened { (self.new.held.keys ≡ self.old.held.keys) × (self.new.held.limits ≡ self.old.held.limits) }
         ensures part { (self.new.part ≡ self.old.part) × (self.new.workers ≡ self.old.workers) }
         ensures seen { OnOk result ((me.new ≡ self.new.log) × AreHistories me.new) }
-        ensures before { OnOk result (IsPrefix (history_of (J.owner self.old.part) me.old) (history_of (J.owner self.old.part) self.old.log)) }
+        ensures before { OnOk result (IsPrefix (history_of (J.owner self.old.part) me.old)
+            (history_of (J.owner self.old.part) self.old.log)) }
         ensures begins { IsPrefix me.old me.new × IsPrefix self.old.log self.new.log }
         ensures in_step { OnOk result (IsInStep J.owner self.old worker count) }
         ensures few { OnOk result (count < 2 ^ 41) }
 
-        ensures strange { (IsInStep J.owner self.old worker count → ⊥) → (result ≡ Err (Refusal.StrangeReceipt self.old.part count)) × (self.new ≡ self.old) }
-        ensures err { OnErr result ((self.new.log ≡ self.old.log) × (self.new.held.past ≡ self.old.held.past) × (me.new ≡ me.old)) }
-        ensures spared { IsInStep J.owner self.old worker count → OnErr result (Spares policy self.old.held.keys (range_of command) self.old.held.store self.new.held.store) }
-        ensures refused { IsInStep J.owner self.old worker count → IfSome (refusal_of self.old.held command) (λ e. (result ≡ Err e) × (self.new ≡ self.old)) }
+        ensures strange { (IsInStep J.owner self.old worker count → ⊥) →
+            (result ≡ Err (Refusal.StrangeReceipt self.old.part count)) × (self.new ≡ self.old) }
+        ensures err { OnErr result ((self.new.log ≡ self.old.log) × (self.new.held.past ≡ self.old.held.past) ×
+            (me.new ≡ me.old)) }
+        ensures spared { IsInStep J.owner self.old worker count → OnErr result (Spares policy self.old.held.keys
+            (range_of command) self.old.held.store self.new.held.store) }
+        ensures refused { IsInStep J.owner self.old worker count → IfSome (refusal_of self.old.held command) (λ e.
+            (result ≡ Err e) × (self.new ≡ self.old)) }
         ensures causes { IfErr result (MayRefuseIt J.owner self.old worker count command) }
-        ensures memory { IsInStep J.owner self.old worker count → refusal_of self.old.held command ≡ None → IfErr result (λ e. e ≡ Refusal.OutOfMemory) }
+        ensures memory { IsInStep J.owner self.old worker count → refusal_of self.old.held command ≡ None →
+            IfErr result (λ e. e ≡ Refusal.OutOfMemory) }
     {
         let part = self.scribe.part();
         self.partition.facts();
@@ -153,7 +175,8 @@ impl<J: Naming> Witnessed<J> {
     pub fn checkpoint(&mut self) -> Result<u64, Refusal>
         ensures ok { IfOk result (λ count. count ≡ length self.old.held.past.tail) }
         ensures folded { OnOk result (self.new.held ≡ folded_part self.old.held) }
-        ensures witness { (self.new.part ≡ self.old.part) × (self.new.log ≡ self.old.log) × (self.new.workers ≡ self.old.workers) }
+        ensures witness { (self.new.part ≡ self.old.part) × (self.new.log ≡ self.old.log) ×
+            (self.new.workers ≡ self.old.workers) }
         ensures err { IfErr result (λ e. e ≡ Refusal.OutOfMemory) }
         ensures same { OnErr result (self.new ≡ self.old) }
     {
@@ -163,7 +186,8 @@ impl<J: Naming> Witnessed<J> {
     /// Finds that what anyone has seen of the partition's history is a beginning of it. O(1).
     pub fn covers(&mut self, front: &Front<J>)
         ensures same { self.new ≡ self.old }
-        ensures begins { IsPrefix (history_of (J.owner self.old.part) front.now) (history_of (J.owner self.old.part) self.old.log) }
+        ensures begins { IsPrefix (history_of (J.owner self.old.part) front.now) (history_of (J.owner self.old.part)
+            self.old.log) }
     {
         self.scribe.covers(front);
     }

@@ -1,5 +1,6 @@
 //! A command behind its gate, under a lock that is held.
-ghost use Rattle.std.specs.Prelude.{◌≡◌, ◌⊎◌, ℕ, ◌+◌, ◌<◌, ◌≤◌, [], ◌∷◌, ◌++◌, length, Err, IfOk, IfErr, OnErr, OnOk, slice_index_or, slice_set};
+ghost use Rattle.std.specs.Prelude.{◌≡◌, ◌⊎◌, ℕ, ◌+◌, ◌<◌, ◌≤◌, [], ◌∷◌, ◌++◌, length, Err, IfOk, IfErr, OnErr, OnOk};
+ghost use Rattle.std.specs.Prelude.{slice_index_or, slice_set};
 ghost use mathlib.Core.List.{IsPrefix};
 ghost use Rattle.crack_plain.specs.Past.{with_entry};
 ghost use Rattle.crack_plain.specs.Plain.{IsSmall, reply_to};
@@ -13,10 +14,11 @@ use crack_table::Gate;
 use crack_table::gate::pass;
 use crack_witness::{Asker, Naming, Witnessed};
 
-/// Asks the gate until it says yes, and then the partition, which is to have number `part`, for the worker. The partition stays borrowed from the
-/// gate's first turn to the reply, so its lock can't be let go in between. What comes of asking the partition, which may be a refusal, comes
-/// as the value, and `folded` is set to how many entries a checkpoint folded that was due. Refused with 7 where the gate says no at each turn:
-/// worker and partition are then as they were.
+/// Asks the gate until it says yes, and then the partition, which is to have number `part`, for the worker. The
+/// partition stays borrowed from the gate's first turn to the reply, so its lock can't be let go in between. What comes
+/// of asking the partition, which may be a refusal, comes as the value, and `folded` is set to how many entries a
+/// checkpoint that was due took. Refused with 7 where the gate says no at each turn: worker and partition are then as
+/// they were.
 pub(crate) fn ask_behind<J: Naming, G: Gate>(
     gate: &G,
     asker: &mut Asker<J>,
@@ -30,23 +32,40 @@ pub(crate) fn ask_behind<J: Naming, G: Gate>(
     ensures turns { OnErr result ((turn : ℕ) → turn < 1000 → G.may_refuse gate.now part turn) }
     ensures kept_out { OnErr result ((asker.new ≡ asker.old) × (witnessed.new ≡ witnessed.old)) }
 
-    ensures reply { IfOk result (λ answered. IfOk answered (λ reply. reply ≡ reply_to (state_of witnessed.old.held) command)) }
+    ensures reply { IfOk result (λ answered. IfOk answered (λ reply. reply ≡
+        reply_to (state_of witnessed.old.held) command)) }
     ensures small { IfOk result (λ answered. IfOk answered IsSmall) }
-    ensures given { IfOk result (λ answered. IfOk answered (λ reply. IsGiven J.owner part (record { worker = asker.old.worker; command = command; reply = reply }) asker.old.seen asker.new.seen)) }
-    ensures mine { IfOk result (λ answered. IfOk answered (λ reply. calls_at J.owner part asker.old.worker asker.new.seen ≡ calls_at J.owner part asker.old.worker (slice_index_or asker.old.fronts part []) ++ record { worker = asker.old.worker; command = command; reply = reply } ∷ [])) }
+    ensures given { IfOk result (λ answered. IfOk answered (λ reply. IsGiven J.owner part
+        (record { worker = asker.old.worker; command = command; reply = reply }) asker.old.seen asker.new.seen)) }
+    ensures mine { IfOk result (λ answered. IfOk answered (λ reply. calls_at J.owner part asker.old.worker
+        asker.new.seen ≡ calls_at J.owner part asker.old.worker (slice_index_or asker.old.fronts part []) ++
+        record { worker = asker.old.worker; command = command; reply = reply } ∷ [])) }
     ensures replies { IfOk result (λ answered. OnOk answered (replies_to asker.new ≡ replies_to asker.old + 1)) }
-    ensures fronts { IfOk result (λ answered. OnOk answered (asker.new.fronts ≡ slice_set asker.old.fronts part asker.new.seen)) }
+    ensures fronts { IfOk result (λ answered. OnOk answered (asker.new.fronts ≡ slice_set asker.old.fronts part
+        asker.new.seen)) }
     ensures legal { IfOk result (λ answered. OnOk answered (AreHistories asker.new.seen)) }
-    ensures whole { IfOk result (λ answered. OnOk answered ((witnessed.old.part ≡ part) × (asker.new.seen ≡ witnessed.new.log))) }
-    ensures kept { IfOk result (λ answered. IfOk answered (λ reply. witnessed.new.held.past ≡ with_entry (upkept witnessed.old.held.limits witnessed.old.held.past) (record { worker = asker.old.worker; command = command; reply = reply }))) }
-    ensures folds { OnOk result (witnessed.new.held.past.base.folded ≡ witnessed.old.held.past.base.folded + folded.new) }
-    ensures opened { (witnessed.new.held.keys ≡ witnessed.old.held.keys) × (witnessed.new.held.limits ≡ witnessed.old.held.limits) × (witnessed.new.part ≡ witnessed.old.part) }
+    ensures whole { IfOk result (λ answered. OnOk answered ((witnessed.old.part ≡ part) ×
+        (asker.new.seen ≡ witnessed.new.log))) }
+    ensures kept { IfOk result (λ answered. IfOk answered (λ reply. witnessed.new.held.past ≡
+        with_entry (upkept witnessed.old.held.limits witnessed.old.held.past) (record {
+          worker = asker.old.worker;
+          command = command;
+          reply = reply;
+        }))) }
+    ensures folds { OnOk result (witnessed.new.held.past.base.folded ≡ witnessed.old.held.past.base.folded
+        + folded.new) }
+    ensures opened { (witnessed.new.held.keys ≡ witnessed.old.held.keys) × (witnessed.new.held.limits ≡
+        witnessed.old.held.limits) × (witnessed.new.part ≡ witnessed.old.part) }
     ensures seen { IsPrefix asker.old.seen asker.new.seen × IsPrefix witnessed.old.log witnessed.new.log }
     ensures worker { asker.new.worker ≡ asker.old.worker }
 
-    ensures strange { IfOk result (λ answered. part < length asker.old.fronts → (Knows J.owner asker.old part witnessed.old → ⊥) → (answered ≡ Err (Refusal.StrangeReceipt part (replies_at asker.old part))) × (witnessed.new ≡ witnessed.old)) }
-    ensures causes { IfOk result (λ answered. IfErr answered (MayRefuseAt J.owner witnessed.old part command asker.old)) }
-    ensures err { IfOk result (λ answered. OnErr answered ((asker.new ≡ asker.old) × (witnessed.new.log ≡ witnessed.old.log) × (witnessed.new.held.past ≡ witnessed.old.held.past))) }
+    ensures strange { IfOk result (λ answered. part < length asker.old.fronts →
+        (Knows J.owner asker.old part witnessed.old → ⊥) →
+        (answered ≡ Err (Refusal.StrangeReceipt part (replies_at asker.old part))) × (witnessed.new ≡ witnessed.old)) }
+    ensures causes { IfOk result (λ answered. IfErr answered (MayRefuseAt J.owner witnessed.old part
+        command asker.old)) }
+    ensures err { IfOk result (λ answered. OnErr answered ((asker.new ≡ asker.old) ×
+        (witnessed.new.log ≡ witnessed.old.log) × (witnessed.new.held.past ≡ witnessed.old.held.past))) }
 {
     pass(gate, part)?;
     let before = witnessed.partition().folded();

@@ -1,12 +1,14 @@
 //! The end of a table that witnesses its replies: its workers come together, by counts.
-ghost use Rattle.std.specs.Prelude.{◌≡◌, ◌+◌, ◌≤◌, ◌==◌, length, All, IfOk, IfErr, IfNone, IfSome, IsTrue, OnOk, OnErr, ◌↔◌, vec_len};
+ghost use Rattle.std.specs.Prelude.{◌≡◌, ◌+◌, ◌≤◌, ◌==◌, length, All, IfOk, IfErr, IfNone, IfSome, IsTrue, OnOk, OnErr};
+ghost use Rattle.std.specs.Prelude.{◌↔◌, vec_len};
 ghost use Rattle.std.specs.List.{list_any};
 ghost use Rattle.crack_part.specs.Parts.{IsSound};
 ghost use Rattle.crack_core.specs.Opening.{AreParts};
 ghost use Rattle.crack_core.specs.Routes.{AreSplits};
 ghost use Rattle.crack_witness.specs.Witnesses.{AskerState, WitnessedState};
 ghost use Rattle.crack_table.specs.Gather.{AreTotals};
-ghost use Rattle.crack_witness_table.specs.Gather.{held_by, AreNumbered, IsWhole, AreSettled, missing_askers, IsTablesAt, IsFirstStrange, MayNotMatch, MayNotGather};
+ghost use Rattle.crack_witness_table.specs.Gather.{held_by, AreNumbered, IsWhole, AreSettled, missing_askers};
+ghost use Rattle.crack_witness_table.specs.Gather.{IsTablesAt, IsFirstStrange, MayNotMatch, MayNotGather};
 
 use crate::locks::{lock, unlock};
 use crate::table::WitnessedTable;
@@ -41,18 +43,19 @@ pub struct GatherRefused<J: Naming> {
     pub askers: Vec<Asker<J>>,
 }
 
-/// Ends a table whose workers all come back: each partition's history since its opening is the one whose beginnings all workers saw, and of each
-/// worker it has just the entries that it was given replies for, as many as both have counted.
-/// Refused with 15, one bit for each missing number, where a worker of the table isn't there; then with 8 where it finds no memory; then with
-/// 16 at the first partition that isn't the table's, and then as `settle` of crack_witness is. The table and the workers are then handed back.
-/// O(partitions × workers), however many entries there are.
+/// Ends a table whose workers all come back: each partition's history since its opening is the one whose beginnings all
+/// workers saw, and of each worker it has just the entries that it was given replies for, as many as both have counted.
+/// Refused with 15, one bit for each missing number, where a worker of the table isn't there; then with 8 where it
+/// finds no memory; then with 16 at the first partition that isn't the table's, and then as `settle` of crack_witness
+/// is. The table and the workers are then handed back. O(partitions × workers), however many entries there are.
 pub fn gather<J: Naming>(
     alloc: Global,
     table: WitnessedTable<J>,
     askers: Vec<Asker<J>>,
 ) -> Result<Gathered<J>, GatherRefused<J>>
     ensures all { OnOk result (missing_askers askers.items table.workers ≡ 0) }
-    ensures parts { IfOk result (λ s. AreParts table.splits table.limits (held_by s.parts.items) × AreNumbered table.workers s.parts.items) }
+    ensures parts { IfOk result (λ s. AreParts table.splits table.limits (held_by s.parts.items) ×
+        AreNumbered table.workers s.parts.items) }
     ensures whole { IfOk result (λ s. All (λ (w : WitnessedState). IsWhole J.owner w) s.parts.items) }
     ensures settled { IfOk result (λ s. AreSettled J.owner askers.items s.parts.items) }
     ensures totals { IfOk result (λ s. AreTotals (held_by s.parts.items) s.accepted s.inserted s.deleted s.held) }
@@ -90,7 +93,8 @@ pub fn gather<J: Naming>(
     }
 }
 
-/// Takes the partitions out of their locks, and finds whether they and the workers come together; else they go behind the locks again.
+/// Takes the partitions out of their locks, and finds whether they and the workers come together; else they go behind
+/// the locks again.
 fn close<J: Naming>(
     alloc: Global,
     locks: &mut Vec<Mutex<Witnessed<J>>>,
@@ -101,7 +105,8 @@ fn close<J: Naming>(
 ) -> Result<Gathered<J>, Refusal>
     requires all { vec_len locks.old ≡ length splits.now + 1 }
     requires rising { AreSplits splits.now }
-    ensures parts { IfOk result (λ s. AreParts splits.now limits (held_by s.parts.items) × AreNumbered workers s.parts.items) }
+    ensures parts { IfOk result (λ s. AreParts splits.now limits (held_by s.parts.items) ×
+        AreNumbered workers s.parts.items) }
     ensures whole { IfOk result (λ s. All (λ (w : WitnessedState). IsWhole J.owner w) s.parts.items) }
     ensures settled { IfOk result (λ s. AreSettled J.owner askers.now.items s.parts.items) }
     ensures totals { IfOk result (λ s. AreTotals (held_by s.parts.items) s.accepted s.inserted s.deleted s.held) }
@@ -136,7 +141,8 @@ fn match_all<J: Naming>(
     requires count { length parts.old.items ≡ length splits.now + 1 }
     requires rising { AreSplits splits.now }
     ensures same { parts.new.items ≡ parts.old.items }
-    ensures parts { OnOk result (AreParts splits.now limits (held_by parts.old.items) × AreNumbered workers parts.old.items) }
+    ensures parts { OnOk result (AreParts splits.now limits (held_by parts.old.items) ×
+        AreNumbered workers parts.old.items) }
     ensures whole { OnOk result (All (λ (w : WitnessedState). IsWhole J.owner w) parts.old.items) }
     ensures settled { OnOk result (AreSettled J.owner askers.now.items parts.old.items) }
     ensures totals { IfOk result (λ s. AreTotals (held_by parts.old.items) s.accepted s.inserted s.deleted s.held) }
@@ -170,7 +176,8 @@ fn first_strange<J: Naming>(
     requires count { length parts.now.items ≡ length splits.now + 1 }
     requires rising { AreSplits splits.now }
     requires sound { All (λ (w : WitnessedState). IsSound w.held) parts.now.items }
-    ensures none { IfNone result (AreParts splits.now limits (held_by parts.now.items) × AreNumbered workers parts.now.items) }
+    ensures none { IfNone result (AreParts splits.now limits (held_by parts.now.items) ×
+        AreNumbered workers parts.now.items) }
     ensures some { IfSome result (IsFirstStrange splits.now limits workers parts.now.items) }
 {
     'parts: for (place, part) in parts.iter().enumerate() {
@@ -181,7 +188,8 @@ fn first_strange<J: Naming>(
     None
 }
 
-/// Whether a partition has the number of its place, counts the table's workers, and has the table's keys and limits there.
+/// Whether a partition has the number of its place, counts the table's workers, and has the table's keys and limits
+/// there.
 fn is_tables_at<J: Naming>(
     splits: &[Bound],
     limits: Limits,

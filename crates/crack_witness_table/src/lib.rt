@@ -1,4 +1,5 @@
-//! Tables whose replies are proved as they are given: a witnessed partition under each lock, and workers that keep no receipts.
+//! Tables whose replies are proved as they are given: a witnessed partition under each lock, and workers that keep no
+//! receipts.
 #![tactic(auto)]
 
 mod asking;

@@ -14,8 +14,8 @@ use crack_witness::{Asker, Front, Naming, Opened};
 use std::alloc::{AllocError, Global};
 use std::marker::Model;
 
-/// A table that is to be opened, and the book of its replies, which has no name yet. Contracts see with what it is to be opened, and the
-/// book, with an owner for each partition.
+/// A table that is to be opened, and the book of its replies, which has no name yet. Contracts see with what it is to
+/// be opened, and the book, with an owner for each partition.
 #[derive(Drop)]
 pub struct UnnamedTable {
     opened: Opened,
@@ -36,8 +36,8 @@ impl Model for UnnamedTable {
 }
 
 impl UnnamedTable {
-    /// The first step: what a table is to be opened with, and its book. Refused as `Table::open_with` of crack_table is, in the same order.
-    /// O(partitions).
+    /// The first step: what a table is to be opened with, and its book. Refused as `Table::open_with` of crack_table
+    /// is, in the same order. O(partitions).
     pub fn open(
         alloc: Global,
         splits: &[Bound],
@@ -64,14 +64,19 @@ impl UnnamedTable {
         })
     }
 
-    /// The second step, once its book has its name: the table, without rows, and its workers, numbered from 0. Refused with 8 where it finds
-    /// no memory. O(partitions × workers).
+    /// The second step, once its book has its name: the table, without rows, and its workers, numbered from 0. Refused
+    /// with 8 where it finds no memory. O(partitions × workers).
     pub fn named<J: Naming>(
         self,
         alloc: Global,
     ) -> Result<(WitnessedTable<J>, Vec<Asker<J>>), Refusal>
         requires names { AreNames J.book J.owner self.opened }
-        ensures table { IfOk result (λ r. r.0 ≡ record { splits = self.splits; limits = self.limits; workers = self.workers; locks = length self.splits + 1 }) }
+        ensures table { IfOk result (λ r. r.0 ≡ record {
+          splits = self.splits;
+          limits = self.limits;
+          workers = self.workers;
+          locks = length self.splits + 1;
+        }) }
         ensures askers { IfOk result (λ r. AreNewAskers self.workers (length self.splits + 1) r.1.items) }
         ensures apart { OnOk result (AreApart J.owner (length self.splits + 1)) }
         ensures err { IfErr result (λ e. e ≡ Refusal.OutOfMemory) }

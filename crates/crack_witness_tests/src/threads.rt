@@ -14,8 +14,8 @@ use std::test::Fail;
 use std::thread;
 use std::thread::Threads;
 
-/// Inserts 1000 rows into the partitions in turn, and deletes each of them whose number is 3 more than a multiple of 4; and tells whether each
-/// command was answered so. A checkpoint comes in between.
+/// Inserts 1000 rows into the partitions in turn, and deletes each of them whose number is 3 more than a multiple of 4;
+/// and tells whether each command was answered so. A checkpoint comes in between.
 fn work<J: Naming, R: Wait>(
     rt: &R,
     table: &WitnessedTable<J>,

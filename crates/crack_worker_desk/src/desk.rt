@@ -53,12 +53,15 @@ impl<'a, R: Wait, G: Gate> Desk for WorkerDesk<'a, R, G> {
 
     ghost receipts = { λ d. length d.worker.receipts };
 
-    ghost leads = { λ d call e. (e.table.now ≡ d.table.now) × (e.gate.now ≡ d.gate.now) × worker_leads d.table.now (G.may_refuse d.gate.now) d.worker call e.worker };
+    ghost leads = { λ d call e. (e.table.now ≡ d.table.now) × (e.gate.now ≡ d.gate.now) × worker_leads d.table.now
+        (G.may_refuse d.gate.now) d.worker call e.worker };
 
     fn ask(&mut self, part: u32, command: Command, policy: Policy) -> Result<Reply, Refusal>
         // The worker asks its table; nothing is known of a reply but that it's small.
-        ensures asks { AsksTable self.old.table.now (G.may_refuse self.old.gate.now part) part command result self.old.worker self.new.worker }
-        ensures receipts { length self.new.worker.receipts ≡ (if is_ok result then length self.old.worker.receipts + 1 else length self.old.worker.receipts) }
+        ensures asks { AsksTable self.old.table.now (G.may_refuse self.old.gate.now part) part command result
+            self.old.worker self.new.worker }
+        ensures receipts { length self.new.worker.receipts ≡ (if is_ok result then length self.old.worker.receipts + 1
+            else length self.old.worker.receipts) }
         ensures table { (self.new.table.now ≡ self.old.table.now) × (self.new.gate.now ≡ self.old.gate.now) }
     {
         self.worker
@@ -66,7 +69,7 @@ impl<'a, R: Wait, G: Gate> Desk for WorkerDesk<'a, R, G> {
     }
 
     fn checkpoint(&mut self, part: u32) -> Result<u64, Refusal>
-        // The worker folds a partition of its table, for all workers; nothing is known of how many entries went.
+        // The worker checkpoints a partition of its table, for all workers; nothing is known of how many entries went.
         ensures folds { FoldsAt self.old.table.now part result }
         ensures worker { self.new.worker ≡ self.old.worker }
         ensures table { (self.new.table.now ≡ self.old.table.now) × (self.new.gate.now ≡ self.old.gate.now) }

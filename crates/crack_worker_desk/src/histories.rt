@@ -14,19 +14,27 @@ use crack_table::Gate;
 use crack_witness::Naming;
 use std::sync::Wait;
 
-/// States of a desk whose worker goes to be gathered: each session over it, whatever came later, wrote the texts of answers that are made of
-/// replies in the one history of each partition that the statement meets, each of them the reply of the plain rows there, at places that rise.
-/// Does nothing.
+/// States of a desk whose worker goes to be gathered: each session over it, whatever came later, wrote the texts of
+/// answers that are made of replies in the one history of each partition that the statement meets, each of them the
+/// reply of the plain rows there, at places that rise. Does nothing.
 pub fn lines_stand_in_histories<'a, R: Wait, G: Gate, J: Naming>(desk: &WitnessedDesk<'a, R, G, J>)
     // `old` and `new` are the desk before and after the session, which is what `serve` says of it.
-    ensures written { (old new : _) (later : List Call) (parts : List WitnessedState) (policy : Policy) (readings : List Reading) (out : List ℕ) (short : Option ℕ) (whole : Option (List ℕ)) →
-        Calls ⟦<WitnessedDesk<'a, R, G, J> as Desk>⟧.leads new later desk.now → IsGathered J.owner desk.now.table.now parts desk.now.asker →
-        AreWritten (AreAnswersOf ⟦<WitnessedDesk<'a, R, G, J> as Desk>⟧.leads old.table.now.splits policy old new) readings out short whole →
-        AreWritten (AreOfHistories J.owner parts old.asker.worker old.table.now.splits policy) readings out short whole }
-    ensures written_in_part { (old new : _) (later : List Call) (parts : List WitnessedState) (policy : Policy) (bytes out : List ℕ) (fault : Fault) (whole : Option (List ℕ)) →
-        Calls ⟦<WitnessedDesk<'a, R, G, J> as Desk>⟧.leads new later desk.now → IsGathered J.owner desk.now.table.now parts desk.now.asker →
-        AreWrittenThen (AreAnswersOf ⟦<WitnessedDesk<'a, R, G, J> as Desk>⟧.leads old.table.now.splits policy old new) bytes out fault whole →
-        AreWrittenThen (AreOfHistories J.owner parts old.asker.worker old.table.now.splits policy) bytes out fault whole }
+    ensures written { (old new : _) (later : List Call) (parts : List WitnessedState) (policy : Policy)
+        (readings : List Reading) (out : List ℕ) (short : Option ℕ) (whole : Option (List ℕ)) →
+        Calls ⟦<WitnessedDesk<'a, R, G, J> as Desk>⟧.leads new later desk.now → IsGathered J.owner desk.now.table.now
+        parts desk.now.asker →
+        AreWritten (AreAnswersOf ⟦<WitnessedDesk<'a, R, G, J> as Desk>⟧.leads old.table.now.splits policy old new)
+        readings out short whole →
+        AreWritten (AreOfHistories J.owner parts old.asker.worker old.table.now.splits policy) readings
+        out short whole }
+    ensures written_in_part { (old new : _) (later : List Call) (parts : List WitnessedState) (policy : Policy)
+        (bytes out : List ℕ) (fault : Fault) (whole : Option (List ℕ)) →
+        Calls ⟦<WitnessedDesk<'a, R, G, J> as Desk>⟧.leads new later desk.now → IsGathered J.owner desk.now.table.now
+        parts desk.now.asker →
+        AreWrittenThen (AreAnswersOf ⟦<WitnessedDesk<'a, R, G, J> as Desk>⟧.leads old.table.now.splits policy old new)
+        bytes out fault whole →
+        AreWrittenThen (AreOfHistories J.owner parts old.asker.worker old.table.now.splits policy) bytes
+        out fault whole }
 {
     let _desk = desk;
 }

@@ -11,7 +11,8 @@ use crack_witness::{Asker, Naming};
 use crack_witness_table::WitnessedTable;
 use std::sync::Wait;
 
-/// A worker at its table, behind a gate, that keeps no receipts. Each call may wait for the lock of the partition that it asks.
+/// A worker at its table, behind a gate, that keeps no receipts. Each call may wait for the lock of the partition that
+/// it asks.
 #[derive(Drop)]
 pub struct WitnessedDesk<'a, R: Wait, G: Gate, J: Naming> {
     rt: &'a R,
@@ -40,7 +41,8 @@ impl<'a, R: Wait, G: Gate, J: Naming> WitnessedDesk<'a, R, G, J> {
         }
     }
 
-    /// The worker, with what it has seen of the histories and how many replies it was given. Takes no lock and no memory.
+    /// The worker, with what it has seen of the histories and how many replies it was given. Takes no lock and no
+    /// memory.
     pub fn into_asker(self) -> Asker<J>
         ensures { result ≡ self.entry.asker }
     {
@@ -63,12 +65,16 @@ impl<'a, R: Wait, G: Gate, J: Naming> Desk for WitnessedDesk<'a, R, G, J> {
 
     ghost receipts = { λ d. replies_to d.asker };
 
-    ghost leads = { λ d call e. (e.table.now ≡ d.table.now) × (e.gate.now ≡ d.gate.now) × witnessed_leads J.owner d.table.now (G.may_refuse d.gate.now) d.asker call e.asker };
+    ghost leads = { λ d call e. (e.table.now ≡ d.table.now) × (e.gate.now ≡ d.gate.now) × witnessed_leads J.owner
+        d.table.now (G.may_refuse d.gate.now) d.asker call e.asker };
 
     fn ask(&mut self, part: u32, command: Command, policy: Policy) -> Result<Reply, Refusal>
-        // The worker asks its table: the reply stands at the end of the partition's one history, as the worker now sees it.
-        ensures asks { AsksWitnessed J.owner self.old.table.now (G.may_refuse self.old.gate.now part) part command result self.old.asker self.new.asker }
-        ensures replies { replies_to self.new.asker ≡ (if is_ok result then replies_to self.old.asker + 1 else replies_to self.old.asker) }
+        // The worker asks its table: the reply stands at the end of the partition's one history, as the worker now sees
+        // it.
+        ensures asks { AsksWitnessed J.owner self.old.table.now (G.may_refuse self.old.gate.now part) part command
+            result self.old.asker self.new.asker }
+        ensures replies { replies_to self.new.asker ≡ (if is_ok result then replies_to self.old.asker + 1 else
+            replies_to self.old.asker) }
         ensures table { (self.new.table.now ≡ self.old.table.now) × (self.new.gate.now ≡ self.old.gate.now) }
     {
         self.table
@@ -76,7 +82,7 @@ impl<'a, R: Wait, G: Gate, J: Naming> Desk for WitnessedDesk<'a, R, G, J> {
     }
 
     fn checkpoint(&mut self, part: u32) -> Result<u64, Refusal>
-        // A partition of the table is folded, for all workers, and its history stays whole.
+        // A partition of the table is checkpointed, for all workers, and its history stays whole.
         ensures folds { FoldsAt self.old.table.now part result }
         ensures asker { self.new.asker ≡ self.old.asker }
         ensures table { (self.new.table.now ≡ self.old.table.now) × (self.new.gate.now ≡ self.old.gate.now) }

@@ -61,7 +61,7 @@ AreEqual count (n ∷ others) = (n ≡ count) × AreEqual count others
 abbrev pub bounds_at : List ℕ → List Bound
 bounds_at splits = map (λ (split : ℕ). record { 0 = split }) splits
 
--- the plain rows of a table, as folds leave them
+-- the plain rows of a table, as checkpoints leave them
 abbrev pub rows_of : CoreState → List PlainView
 rows_of core = lasting (tables_of core.parts)
 
@@ -90,7 +90,7 @@ GoesOn call count old new status done = StaysOpen old new × ((progress : Progre
 abbrev pub Shows : CoreState → ℕ → ℕ → Totals → List ℕ → List ℕ → Type 0 → Type 0
 Shows core part status totals lows sizes unwritten = (outcome : Result Layout Refusal) × IsLayoutOutcome (keys_of_part core.splits part) (slice_get (tables_of core.parts) part) outcome × MatchResult outcome (λ layout. (status ≡ 0) × (totals ≡ totals_in layout) × PiecesIn layout.pieces lows sizes) (λ e. (status ≡ code_of e) × unwritten)
 
--- the history of a partition is folded, and how many entries went is written
+-- the history of a partition is checkpointed, and how many entries went is written
 abbrev pub FoldsOne : Handle → Handle → ℕ → ℕ → ℕ → Type 0 → Type 0
 FoldsOne old new part status folded unwritten = StaysOpen old new × ((outcome : Result ℕ Refusal) × IsFoldOutcome (slice_get (tables_of old.core.parts) part) outcome × (tables_of new.core.parts ≡ tables_folded (tables_of old.core.parts) part outcome) × MatchResult outcome (λ count. (status ≡ 0) × (folded ≡ count)) (λ e. (status ≡ code_of e) × unwritten))
 

@@ -3,10 +3,12 @@
 
 ghost use Rattle.std.specs.Prelude.{◌≡◌, true, false, None, IsSome, MatchOption, length, [], ◌∷◌};
 ghost use Rattle.crack_core.specs.Asking.{Inserts};
-ghost use Rattle.crack_core.specs.Bulk.{CountsKeys, SumsKeys, joined, InsertsAt, DeletesAt, UpdatesAt, CountsAt, SumsAt};
+ghost use Rattle.crack_core.specs.Bulk.{CountsKeys, SumsKeys, joined, InsertsAt, DeletesAt, UpdatesAt, CountsAt};
+ghost use Rattle.crack_core.specs.Bulk.{SumsAt};
 ghost use Rattle.crack_core.specs.Listing.{SelectsKeys};
 ghost use Rattle.crack_core.specs.Steps.{accepted_by};
-ghost use Rattle.crackd_c.specs.Calls.{policy_at, AreEqual, ComesOut, TakesOut, ChangesRow, GoesOn, Shows, FoldsOne, OpensHandle};
+ghost use Rattle.crackd_c.specs.Calls.{policy_at, AreEqual, ComesOut, TakesOut, ChangesRow, GoesOn, Shows, FoldsOne};
+ghost use Rattle.crackd_c.specs.Calls.{OpensHandle};
 
 pub mod handle;
 pub mod opening;
@@ -33,7 +35,8 @@ pub extern "C" fn crackd_open(
     life: u64,
 ) -> u32
     ensures open { handle.old.is_open ≡ true → (result ≡ ALREADY_OPEN) × (handle.new ≡ handle.old) }
-    ensures opens { handle.old.is_open ≡ false → OpensHandle handle.old handle.new splits.now (record { history = history; cells = cells; life = life; upkeep = Upkeep.OnRequest }) result }
+    ensures opens { handle.old.is_open ≡ false → OpensHandle handle.old handle.new splits.now
+        (record { history = history; cells = cells; life = life; upkeep = Upkeep.OnRequest }) result }
 {
     if handle.is_open() {
         return ALREADY_OPEN;
@@ -75,8 +78,13 @@ pub extern "C" fn crackd_insert(
     part: &mut u32,
     serial: &mut u64,
 ) -> u32
-    ensures closed { handle.old.is_open ≡ false → (result ≡ CLOSED) × (handle.new ≡ handle.old) × (part.new ≡ part.old) × (serial.new ≡ serial.old) }
-    ensures inserts { handle.old.is_open ≡ true → ComesOut (Inserts handle.old.core.limits handle.old.core.splits (record { 0 = key }) (record { 0 = payload })) handle.old handle.new result (record { part = part.new; serial = record { 0 = serial.new } }) ((part.new ≡ part.old) × (serial.new ≡ serial.old)) }
+    ensures closed { handle.old.is_open ≡ false → (result ≡ CLOSED) × (handle.new ≡ handle.old) ×
+        (part.new ≡ part.old) × (serial.new ≡ serial.old) }
+    ensures inserts { handle.old.is_open ≡ true → ComesOut (Inserts handle.old.core.limits handle.old.core.splits
+        (record { 0 = key }) (record { 0 = payload })) handle.old handle.new result (record {
+          part = part.new;
+          serial = record { 0 = serial.new };
+        }) ((part.new ≡ part.old) × (serial.new ≡ serial.old)) }
 {
     if !handle.is_open() {
         return CLOSED;
@@ -104,8 +112,14 @@ pub extern "C" fn crackd_delete(
     key: &mut u64,
     payload: &mut i64,
 ) -> u32
-    ensures closed { handle.old.is_open ≡ false → (result ≡ CLOSED) × (handle.new ≡ handle.old) × (gone.new ≡ gone.old) × (key.new ≡ key.old) × (payload.new ≡ payload.old) }
-    ensures deletes { handle.old.is_open ≡ true → TakesOut handle.old handle.new (record { part = part; serial = record { 0 = serial } }) result (λ went. MatchOption went ((gone.new ≡ 0) × (key.new ≡ key.old) × (payload.new ≡ payload.old)) (λ row. (gone.new ≡ 1) × (key.new ≡ row.key.0) × (payload.new ≡ row.payload.0))) ((gone.new ≡ gone.old) × (key.new ≡ key.old) × (payload.new ≡ payload.old)) }
+    ensures closed { handle.old.is_open ≡ false → (result ≡ CLOSED) × (handle.new ≡ handle.old) ×
+        (gone.new ≡ gone.old) × (key.new ≡ key.old) × (payload.new ≡ payload.old) }
+    ensures deletes { handle.old.is_open ≡ true → TakesOut handle.old handle.new (record {
+      part = part;
+      serial = record { 0 = serial };
+    }) result (λ went. MatchOption went ((gone.new ≡ 0) × (key.new ≡ key.old) ×
+        (payload.new ≡ payload.old)) (λ row. (gone.new ≡ 1) × (key.new ≡ row.key.0) × (payload.new ≡ row.payload.0)))
+        ((gone.new ≡ gone.old) × (key.new ≡ key.old) × (payload.new ≡ payload.old)) }
 {
     if !handle.is_open() {
         return CLOSED;
@@ -139,8 +153,13 @@ pub extern "C" fn crackd_update(
     payload: i64,
     found: &mut u8,
 ) -> u32
-    ensures closed { handle.old.is_open ≡ false → (result ≡ CLOSED) × (handle.new ≡ handle.old) × (found.new ≡ found.old) }
-    ensures updates { handle.old.is_open ≡ true → ChangesRow handle.old handle.new (record { part = part; serial = record { 0 = serial } }) (record { 0 = key }) (record { 0 = payload }) result found.new (found.new ≡ found.old) }
+    ensures closed { handle.old.is_open ≡ false → (result ≡ CLOSED) × (handle.new ≡ handle.old) ×
+        (found.new ≡ found.old) }
+    ensures updates { handle.old.is_open ≡ true → ChangesRow handle.old handle.new (record {
+      part = part;
+      serial = record { 0 = serial };
+    }) (record { 0 = key }) (record { 0 = payload }) result found.new
+        (found.new ≡ found.old) }
 {
     if !handle.is_open() {
         return CLOSED;
@@ -170,9 +189,12 @@ pub extern "C" fn crackd_count(
     last: u64,
     count: &mut u64,
 ) -> u32
-    ensures closed { handle.old.is_open ≡ false → (result ≡ CLOSED) × (handle.new ≡ handle.old) × (count.new ≡ count.old) }
-    ensures stranger { handle.old.is_open ≡ true → policy_at policy ≡ None → (result ≡ NO_SUCH_POLICY) × (handle.new ≡ handle.old) × (count.new ≡ count.old) }
-    ensures counts { handle.old.is_open ≡ true → IsSome (policy_at policy) → ComesOut (CountsKeys handle.old.core.limits handle.old.core.splits first last) handle.old handle.new result count.new (count.new ≡ count.old) }
+    ensures closed { handle.old.is_open ≡ false → (result ≡ CLOSED) × (handle.new ≡ handle.old) ×
+        (count.new ≡ count.old) }
+    ensures stranger { handle.old.is_open ≡ true → policy_at policy ≡ None → (result ≡ NO_SUCH_POLICY) ×
+        (handle.new ≡ handle.old) × (count.new ≡ count.old) }
+    ensures counts { handle.old.is_open ≡ true → IsSome (policy_at policy) → ComesOut (CountsKeys handle.old.core.limits
+        handle.old.core.splits first last) handle.old handle.new result count.new (count.new ≡ count.old) }
 {
     if !handle.is_open() {
         return CLOSED;
@@ -189,7 +211,8 @@ pub extern "C" fn crackd_count(
     }
 }
 
-/// Adds up the payloads of the rows whose keys are `first` to `last`, both included: the low 64 bits of the sum, and those above them.
+/// Adds up the payloads of the rows whose keys are `first` to `last`, both included: the low 64 bits of the sum, and
+/// those above them.
 #[unsafe(no_mangle)]
 pub extern "C" fn crackd_sum(
     handle: &mut Handle,
@@ -199,9 +222,13 @@ pub extern "C" fn crackd_sum(
     low: &mut u64,
     high: &mut i64,
 ) -> u32
-    ensures closed { handle.old.is_open ≡ false → (result ≡ CLOSED) × (handle.new ≡ handle.old) × (low.new ≡ low.old) × (high.new ≡ high.old) }
-    ensures stranger { handle.old.is_open ≡ true → policy_at policy ≡ None → (result ≡ NO_SUCH_POLICY) × (handle.new ≡ handle.old) × (low.new ≡ low.old) × (high.new ≡ high.old) }
-    ensures sums { handle.old.is_open ≡ true → IsSome (policy_at policy) → ComesOut (SumsKeys handle.old.core.limits handle.old.core.splits first last) handle.old handle.new result (joined low.new high.new) ((low.new ≡ low.old) × (high.new ≡ high.old)) }
+    ensures closed { handle.old.is_open ≡ false → (result ≡ CLOSED) × (handle.new ≡ handle.old) × (low.new ≡ low.old) ×
+        (high.new ≡ high.old) }
+    ensures stranger { handle.old.is_open ≡ true → policy_at policy ≡ None → (result ≡ NO_SUCH_POLICY) ×
+        (handle.new ≡ handle.old) × (low.new ≡ low.old) × (high.new ≡ high.old) }
+    ensures sums { handle.old.is_open ≡ true → IsSome (policy_at policy) → ComesOut (SumsKeys handle.old.core.limits
+        handle.old.core.splits first last) handle.old handle.new result (joined low.new high.new) ((low.new ≡ low.old) ×
+        (high.new ≡ high.old)) }
 {
     if !handle.is_open() {
         return CLOSED;
@@ -220,7 +247,8 @@ pub extern "C" fn crackd_sum(
     }
 }
 
-/// Lists the rows whose keys are `first` to `last`, both included, as far as the lists have room, and writes how many there are.
+/// Lists the rows whose keys are `first` to `last`, both included, as far as the lists have room, and writes how many
+/// there are.
 #[unsafe(no_mangle)]
 pub extern "C" fn crackd_select(
     handle: &mut Handle,
@@ -233,10 +261,22 @@ pub extern "C" fn crackd_select(
     payloads: &mut [i64],
     found: &mut u64,
 ) -> u32
-    ensures closed { handle.old.is_open ≡ false → (result ≡ CLOSED) × (handle.new ≡ handle.old) × (parts.new ≡ parts.old) × (serials.new ≡ serials.old) × (keys.new ≡ keys.old) × (payloads.new ≡ payloads.old) × (found.new ≡ found.old) }
-    ensures lengths { handle.old.is_open ≡ true → (AreEqual (length parts.old) (length serials.old ∷ length keys.old ∷ length payloads.old ∷ []) → ⊥) → (result ≡ LENGTHS_DIFFER) × (handle.new ≡ handle.old) × (parts.new ≡ parts.old) × (serials.new ≡ serials.old) × (keys.new ≡ keys.old) × (payloads.new ≡ payloads.old) × (found.new ≡ found.old) }
-    ensures stranger { handle.old.is_open ≡ true → AreEqual (length parts.old) (length serials.old ∷ length keys.old ∷ length payloads.old ∷ []) → policy_at policy ≡ None → (result ≡ NO_SUCH_POLICY) × (handle.new ≡ handle.old) × (parts.new ≡ parts.old) × (serials.new ≡ serials.old) × (keys.new ≡ keys.old) × (payloads.new ≡ payloads.old) × (found.new ≡ found.old) }
-    ensures selects { handle.old.is_open ≡ true → AreEqual (length parts.old) (length serials.old ∷ length keys.old ∷ length payloads.old ∷ []) → IsSome (policy_at policy) → ComesOut (SelectsKeys handle.old.core.limits handle.old.core.splits parts.new serials.new keys.new payloads.new first last) handle.old handle.new result found.new ((parts.new ≡ parts.old) × (serials.new ≡ serials.old) × (keys.new ≡ keys.old) × (payloads.new ≡ payloads.old) × (found.new ≡ found.old)) }
+    ensures closed { handle.old.is_open ≡ false → (result ≡ CLOSED) × (handle.new ≡ handle.old) ×
+        (parts.new ≡ parts.old) × (serials.new ≡ serials.old) × (keys.new ≡ keys.old) × (payloads.new ≡ payloads.old) ×
+        (found.new ≡ found.old) }
+    ensures lengths { handle.old.is_open ≡ true → (AreEqual (length parts.old) (length serials.old ∷ length keys.old ∷
+        length payloads.old ∷ []) → ⊥) → (result ≡ LENGTHS_DIFFER) × (handle.new ≡ handle.old) ×
+        (parts.new ≡ parts.old) × (serials.new ≡ serials.old) × (keys.new ≡ keys.old) × (payloads.new ≡ payloads.old) ×
+        (found.new ≡ found.old) }
+    ensures stranger { handle.old.is_open ≡ true → AreEqual (length parts.old) (length serials.old ∷ length keys.old ∷
+        length payloads.old ∷ []) → policy_at policy ≡ None → (result ≡ NO_SUCH_POLICY) × (handle.new ≡ handle.old) ×
+        (parts.new ≡ parts.old) × (serials.new ≡ serials.old) × (keys.new ≡ keys.old) × (payloads.new ≡ payloads.old) ×
+        (found.new ≡ found.old) }
+    ensures selects { handle.old.is_open ≡ true → AreEqual (length parts.old) (length serials.old ∷ length keys.old ∷
+        length payloads.old ∷ []) → IsSome (policy_at policy) → ComesOut (SelectsKeys handle.old.core.limits
+        handle.old.core.splits parts.new serials.new keys.new payloads.new first last) handle.old handle.new result
+        found.new ((parts.new ≡ parts.old) × (serials.new ≡ serials.old) × (keys.new ≡ keys.old) ×
+        (payloads.new ≡ payloads.old) × (found.new ≡ found.old)) }
 {
     if !handle.is_open() {
         return CLOSED;
@@ -260,7 +300,8 @@ pub extern "C" fn crackd_select(
     }
 }
 
-/// Writes what stands where in a partition: the totals, and the least key and the size of each piece, as far as the lists have room.
+/// Writes what stands where in a partition: the totals, and the least key and the size of each piece, as far as the
+/// lists have room.
 #[unsafe(no_mangle)]
 pub extern "C" fn crackd_layout(
     handle: &mut Handle,
@@ -269,10 +310,14 @@ pub extern "C" fn crackd_layout(
     lows: &mut [u64],
     sizes: &mut [u64],
 ) -> u32
-    ensures closed { handle.old.is_open ≡ false → (result ≡ CLOSED) × (handle.new ≡ handle.old) × (totals.new ≡ totals.old) × (lows.new ≡ lows.old) × (sizes.new ≡ sizes.old) }
+    ensures closed { handle.old.is_open ≡ false → (result ≡ CLOSED) × (handle.new ≡ handle.old) ×
+        (totals.new ≡ totals.old) × (lows.new ≡ lows.old) × (sizes.new ≡ sizes.old) }
     ensures kept { handle.old.is_open ≡ true → (handle.new.is_open ≡ true) × (handle.new.core ≡ handle.old.core) }
-    ensures lengths { handle.old.is_open ≡ true → ((length sizes.old ≡ length lows.old) → ⊥) → (result ≡ LENGTHS_DIFFER) × (handle.new ≡ handle.old) × (totals.new ≡ totals.old) × (lows.new ≡ lows.old) × (sizes.new ≡ sizes.old) }
-    ensures shows { handle.old.is_open ≡ true → length sizes.old ≡ length lows.old → Shows handle.old.core part result totals.new lows.new sizes.new ((totals.new ≡ totals.old) × (lows.new ≡ lows.old) × (sizes.new ≡ sizes.old)) }
+    ensures lengths { handle.old.is_open ≡ true → ((length sizes.old ≡ length lows.old) → ⊥) →
+        (result ≡ LENGTHS_DIFFER) × (handle.new ≡ handle.old) × (totals.new ≡ totals.old) × (lows.new ≡ lows.old) ×
+        (sizes.new ≡ sizes.old) }
+    ensures shows { handle.old.is_open ≡ true → length sizes.old ≡ length lows.old → Shows handle.old.core part result
+        totals.new lows.new sizes.new ((totals.new ≡ totals.old) × (lows.new ≡ lows.old) × (sizes.new ≡ sizes.old)) }
 {
     if !handle.is_open() {
         return CLOSED;
@@ -293,8 +338,10 @@ pub extern "C" fn crackd_layout(
 /// Folds the history of a partition, and writes how many entries went.
 #[unsafe(no_mangle)]
 pub extern "C" fn crackd_checkpoint(handle: &mut Handle, part: u32, folded: &mut u64) -> u32
-    ensures closed { handle.old.is_open ≡ false → (result ≡ CLOSED) × (handle.new ≡ handle.old) × (folded.new ≡ folded.old) }
-    ensures folds { handle.old.is_open ≡ true → FoldsOne handle.old handle.new part result folded.new (folded.new ≡ folded.old) }
+    ensures closed { handle.old.is_open ≡ false → (result ≡ CLOSED) × (handle.new ≡ handle.old) ×
+        (folded.new ≡ folded.old) }
+    ensures folds { handle.old.is_open ≡ true → FoldsOne handle.old handle.new part result folded.new
+        (folded.new ≡ folded.old) }
 {
     if !handle.is_open() {
         return CLOSED;
@@ -311,7 +358,8 @@ pub extern "C" fn crackd_checkpoint(handle: &mut Handle, part: u32, folded: &mut
 /// Writes how many commands the partitions have answered since they were opened.
 #[unsafe(no_mangle)]
 pub extern "C" fn crackd_accepted(handle: &mut Handle, accepted: &mut u64) -> u32
-    ensures closed { handle.old.is_open ≡ false → (result ≡ CLOSED) × (handle.new ≡ handle.old) × (accepted.new ≡ accepted.old) }
+    ensures closed { handle.old.is_open ≡ false → (result ≡ CLOSED) × (handle.new ≡ handle.old) ×
+        (accepted.new ≡ accepted.old) }
     ensures kept { handle.old.is_open ≡ true → (handle.new.is_open ≡ true) × (handle.new.core ≡ handle.old.core) }
     ensures accepted { handle.old.is_open ≡ true → (result ≡ 0) × (accepted.new ≡ accepted_by handle.old.core.parts) }
 {
@@ -332,9 +380,14 @@ pub extern "C" fn crackd_insert_many(
     serials: &mut [u64],
     done: &mut u64,
 ) -> u32
-    ensures closed { handle.old.is_open ≡ false → (result ≡ CLOSED) × (handle.new ≡ handle.old) × (parts.new ≡ parts.old) × (serials.new ≡ serials.old) × (done.new ≡ done.old) }
-    ensures lengths { handle.old.is_open ≡ true → (AreEqual (length keys.now) (length payloads.now ∷ length parts.old ∷ length serials.old ∷ []) → ⊥) → (result ≡ LENGTHS_DIFFER) × (handle.new ≡ handle.old) × (parts.new ≡ parts.old) × (serials.new ≡ serials.old) × (done.new ≡ done.old) }
-    ensures inserts { handle.old.is_open ≡ true → AreEqual (length keys.now) (length payloads.now ∷ length parts.old ∷ length serials.old ∷ []) → GoesOn (InsertsAt handle.old.core.limits handle.old.core.splits keys.now payloads.now parts.new serials.new) (length keys.now) handle.old handle.new result done.new }
+    ensures closed { handle.old.is_open ≡ false → (result ≡ CLOSED) × (handle.new ≡ handle.old) ×
+        (parts.new ≡ parts.old) × (serials.new ≡ serials.old) × (done.new ≡ done.old) }
+    ensures lengths { handle.old.is_open ≡ true → (AreEqual (length keys.now) (length payloads.now ∷ length parts.old ∷
+        length serials.old ∷ []) → ⊥) → (result ≡ LENGTHS_DIFFER) × (handle.new ≡ handle.old) ×
+        (parts.new ≡ parts.old) × (serials.new ≡ serials.old) × (done.new ≡ done.old) }
+    ensures inserts { handle.old.is_open ≡ true → AreEqual (length keys.now) (length payloads.now ∷ length parts.old ∷
+        length serials.old ∷ []) → GoesOn (InsertsAt handle.old.core.limits handle.old.core.splits keys.now payloads.now
+        parts.new serials.new) (length keys.now) handle.old handle.new result done.new }
 {
     if !handle.is_open() {
         return CLOSED;
@@ -356,9 +409,14 @@ pub extern "C" fn crackd_delete_many(
     gone: &mut [u8],
     done: &mut u64,
 ) -> u32
-    ensures closed { handle.old.is_open ≡ false → (result ≡ CLOSED) × (handle.new ≡ handle.old) × (gone.new ≡ gone.old) × (done.new ≡ done.old) }
-    ensures lengths { handle.old.is_open ≡ true → (AreEqual (length parts.now) (length serials.now ∷ length gone.old ∷ []) → ⊥) → (result ≡ LENGTHS_DIFFER) × (handle.new ≡ handle.old) × (gone.new ≡ gone.old) × (done.new ≡ done.old) }
-    ensures deletes { handle.old.is_open ≡ true → AreEqual (length parts.now) (length serials.now ∷ length gone.old ∷ []) → GoesOn (DeletesAt handle.old.core.limits handle.old.core.splits parts.now serials.now gone.new) (length parts.now) handle.old handle.new result done.new }
+    ensures closed { handle.old.is_open ≡ false → (result ≡ CLOSED) × (handle.new ≡ handle.old) ×
+        (gone.new ≡ gone.old) × (done.new ≡ done.old) }
+    ensures lengths { handle.old.is_open ≡ true → (AreEqual (length parts.now) (length serials.now ∷ length gone.old ∷
+        []) → ⊥) → (result ≡ LENGTHS_DIFFER) × (handle.new ≡ handle.old) × (gone.new ≡ gone.old) ×
+        (done.new ≡ done.old) }
+    ensures deletes { handle.old.is_open ≡ true → AreEqual (length parts.now) (length serials.now ∷ length gone.old ∷
+        []) → GoesOn (DeletesAt handle.old.core.limits handle.old.core.splits parts.now serials.now gone.new)
+        (length parts.now) handle.old handle.new result done.new }
 {
     if !handle.is_open() {
         return CLOSED;
@@ -382,9 +440,15 @@ pub extern "C" fn crackd_update_many(
     found: &mut [u8],
     done: &mut u64,
 ) -> u32
-    ensures closed { handle.old.is_open ≡ false → (result ≡ CLOSED) × (handle.new ≡ handle.old) × (found.new ≡ found.old) × (done.new ≡ done.old) }
-    ensures lengths { handle.old.is_open ≡ true → (AreEqual (length parts.now) (length serials.now ∷ length keys.now ∷ length payloads.now ∷ length found.old ∷ []) → ⊥) → (result ≡ LENGTHS_DIFFER) × (handle.new ≡ handle.old) × (found.new ≡ found.old) × (done.new ≡ done.old) }
-    ensures updates { handle.old.is_open ≡ true → AreEqual (length parts.now) (length serials.now ∷ length keys.now ∷ length payloads.now ∷ length found.old ∷ []) → GoesOn (UpdatesAt handle.old.core.limits handle.old.core.splits parts.now serials.now keys.now payloads.now found.new) (length parts.now) handle.old handle.new result done.new }
+    ensures closed { handle.old.is_open ≡ false → (result ≡ CLOSED) × (handle.new ≡ handle.old) ×
+        (found.new ≡ found.old) × (done.new ≡ done.old) }
+    ensures lengths { handle.old.is_open ≡ true → (AreEqual (length parts.now) (length serials.now ∷ length keys.now ∷
+        length payloads.now ∷ length found.old ∷ []) → ⊥) → (result ≡ LENGTHS_DIFFER) × (handle.new ≡ handle.old) ×
+        (found.new ≡ found.old) × (done.new ≡ done.old) }
+    ensures updates { handle.old.is_open ≡ true → AreEqual (length parts.now) (length serials.now ∷ length keys.now ∷
+        length payloads.now ∷ length found.old ∷ []) → GoesOn (UpdatesAt handle.old.core.limits handle.old.core.splits
+        parts.now serials.now keys.now payloads.now found.new) (length parts.now) handle.old handle.new
+        result done.new }
 {
     if !handle.is_open() {
         return CLOSED;
@@ -412,10 +476,17 @@ pub extern "C" fn crackd_count_many(
     counts: &mut [u64],
     done: &mut u64,
 ) -> u32
-    ensures closed { handle.old.is_open ≡ false → (result ≡ CLOSED) × (handle.new ≡ handle.old) × (counts.new ≡ counts.old) × (done.new ≡ done.old) }
-    ensures lengths { handle.old.is_open ≡ true → (AreEqual (length firsts.now) (length lasts.now ∷ length counts.old ∷ []) → ⊥) → (result ≡ LENGTHS_DIFFER) × (handle.new ≡ handle.old) × (counts.new ≡ counts.old) × (done.new ≡ done.old) }
-    ensures stranger { handle.old.is_open ≡ true → AreEqual (length firsts.now) (length lasts.now ∷ length counts.old ∷ []) → policy_at policy ≡ None → (result ≡ NO_SUCH_POLICY) × (handle.new ≡ handle.old) × (counts.new ≡ counts.old) × (done.new ≡ done.old) }
-    ensures counts { handle.old.is_open ≡ true → AreEqual (length firsts.now) (length lasts.now ∷ length counts.old ∷ []) → IsSome (policy_at policy) → GoesOn (CountsAt handle.old.core.limits handle.old.core.splits firsts.now lasts.now counts.new) (length firsts.now) handle.old handle.new result done.new }
+    ensures closed { handle.old.is_open ≡ false → (result ≡ CLOSED) × (handle.new ≡ handle.old) ×
+        (counts.new ≡ counts.old) × (done.new ≡ done.old) }
+    ensures lengths { handle.old.is_open ≡ true → (AreEqual (length firsts.now) (length lasts.now ∷ length counts.old ∷
+        []) → ⊥) → (result ≡ LENGTHS_DIFFER) × (handle.new ≡ handle.old) × (counts.new ≡ counts.old) ×
+        (done.new ≡ done.old) }
+    ensures stranger { handle.old.is_open ≡ true → AreEqual (length firsts.now) (length lasts.now ∷ length counts.old ∷
+        []) → policy_at policy ≡ None → (result ≡ NO_SUCH_POLICY) × (handle.new ≡ handle.old) ×
+        (counts.new ≡ counts.old) × (done.new ≡ done.old) }
+    ensures counts { handle.old.is_open ≡ true → AreEqual (length firsts.now) (length lasts.now ∷ length counts.old ∷
+        []) → IsSome (policy_at policy) → GoesOn (CountsAt handle.old.core.limits handle.old.core.splits firsts.now
+        lasts.now counts.new) (length firsts.now) handle.old handle.new result done.new }
 {
     if !handle.is_open() {
         return CLOSED;
@@ -431,7 +502,8 @@ pub extern "C" fn crackd_count_many(
     close_list(progress, done)
 }
 
-/// Adds up the payloads of each range, from its first key to its last, both included: the low 64 bits of each sum, and those above them.
+/// Adds up the payloads of each range, from its first key to its last, both included: the low 64 bits of each sum, and
+/// those above them.
 #[unsafe(no_mangle)]
 pub extern "C" fn crackd_sum_many(
     handle: &mut Handle,
@@ -442,10 +514,18 @@ pub extern "C" fn crackd_sum_many(
     highs: &mut [i64],
     done: &mut u64,
 ) -> u32
-    ensures closed { handle.old.is_open ≡ false → (result ≡ CLOSED) × (handle.new ≡ handle.old) × (lows.new ≡ lows.old) × (highs.new ≡ highs.old) × (done.new ≡ done.old) }
-    ensures lengths { handle.old.is_open ≡ true → (AreEqual (length firsts.now) (length lasts.now ∷ length lows.old ∷ length highs.old ∷ []) → ⊥) → (result ≡ LENGTHS_DIFFER) × (handle.new ≡ handle.old) × (lows.new ≡ lows.old) × (highs.new ≡ highs.old) × (done.new ≡ done.old) }
-    ensures stranger { handle.old.is_open ≡ true → AreEqual (length firsts.now) (length lasts.now ∷ length lows.old ∷ length highs.old ∷ []) → policy_at policy ≡ None → (result ≡ NO_SUCH_POLICY) × (handle.new ≡ handle.old) × (lows.new ≡ lows.old) × (highs.new ≡ highs.old) × (done.new ≡ done.old) }
-    ensures sums { handle.old.is_open ≡ true → AreEqual (length firsts.now) (length lasts.now ∷ length lows.old ∷ length highs.old ∷ []) → IsSome (policy_at policy) → GoesOn (SumsAt handle.old.core.limits handle.old.core.splits firsts.now lasts.now lows.new highs.new) (length firsts.now) handle.old handle.new result done.new }
+    ensures closed { handle.old.is_open ≡ false → (result ≡ CLOSED) × (handle.new ≡ handle.old) ×
+        (lows.new ≡ lows.old) × (highs.new ≡ highs.old) × (done.new ≡ done.old) }
+    ensures lengths { handle.old.is_open ≡ true → (AreEqual (length firsts.now) (length lasts.now ∷ length lows.old ∷
+        length highs.old ∷ []) → ⊥) → (result ≡ LENGTHS_DIFFER) × (handle.new ≡ handle.old) × (lows.new ≡ lows.old) ×
+        (highs.new ≡ highs.old) × (done.new ≡ done.old) }
+    ensures stranger { handle.old.is_open ≡ true → AreEqual (length firsts.now) (length lasts.now ∷ length lows.old ∷
+        length highs.old ∷ []) → policy_at policy ≡ None → (result ≡ NO_SUCH_POLICY) × (handle.new ≡ handle.old) ×
+        (lows.new ≡ lows.old) × (highs.new ≡ highs.old) × (done.new ≡ done.old) }
+    ensures sums { handle.old.is_open ≡ true → AreEqual (length firsts.now) (length lasts.now ∷ length lows.old ∷
+        length highs.old ∷ []) → IsSome (policy_at policy) → GoesOn (SumsAt handle.old.core.limits
+        handle.old.core.splits firsts.now lasts.now lows.new highs.new) (length firsts.now) handle.old handle.new
+        result done.new }
 {
     if !handle.is_open() {
         return CLOSED;

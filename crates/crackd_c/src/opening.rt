@@ -10,7 +10,8 @@ use crack_core::Core;
 use crack_row::{Bound, BoundNumber, Limits, Refusal};
 use std::alloc::Global;
 
-/// Partitions between these splits, on the heap. Refused as `Core::open_with` is, and with 8 where the splits find no memory.
+/// Partitions between these splits, on the heap. Refused as `Core::open_with` is, and with 8 where the splits find no
+/// memory.
 pub fn open(alloc: Global, splits: &[u64], limits: Limits) -> Result<Box<Core>, Refusal>
     ensures opened { IfOk result (λ core. (core.value.splits ≡ bounds_at splits.now) × (core.value.limits ≡ limits)) }
     ensures fresh { IfOk result (λ core. All (λ (part : Part). part.past ≡ no_past) core.value.parts) }
