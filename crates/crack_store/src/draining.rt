@@ -16,7 +16,7 @@ use crate::Store;
 use crate::inside::Inside;
 use crack_arena::{Arena, key_of};
 use crack_column::{CrackerColumn, Doomed};
-use crack_index::{Mark, Placer};
+use crack_index::{Mark, Piece, Placer};
 use crack_pending::PendingOut;
 use crack_row::{KeyNumber, KeyRange, Row};
 use std::alloc::Global;
@@ -26,11 +26,14 @@ const FEWEST: usize = 16;
 
 const FEW_BOUNDS: usize = 64;
 
+/// In a piece of more rows than this one pass finds all doomed rows there, which a search for each doesn't.
+const SHORT: usize = 4096;
+
 impl Store {
     /// Pulls all pending deletions of a range in bulk, each by the column's last row, and leaves what the pull of one
-    /// after the other leaves; whether it did so. It doesn't where none is in the range or few are, nor where it finds
-    /// no memory to list them: all is then as it was. O(pending deletions and holes); for each that it pulls O(bounds)
-    /// without a wait for memory, and one search of its piece; O(bounds).
+    /// after the other leaves; whether it did so. It doesn't where none is in the range or few are, nor where one is in
+    /// a long piece or it finds no memory to list them: all is then as it was. O(pending deletions and holes); for each
+    /// that it pulls O(bounds) without a wait for memory, and one search of its piece, which is short; O(bounds).
     pub fn pull_in_bulk(&mut self, range: KeyRange) -> bool
         ensures pulled { IsTrue result → self.new ≡ pulled_in_bulk range self.old }
         ensures left { IsTrue result → self.new.pending_out ≡ outside_of self.old.cells range self.old.pending_out }
@@ -43,7 +46,7 @@ impl Store {
         else {
             return false;
         };
-        if doomed.is_empty() || doomed.len() < FEWEST && FEW_BOUNDS < self.inside.index.len() {
+        if doomed.is_empty() || !is_worth_bulk(&self.inside, &doomed) {
             return false;
         }
         pull_rows(&mut self.inside, doomed);
@@ -74,6 +77,21 @@ fn doomed_in(
         from = place + 1;
     }
     Some(doomed)
+}
+
+/// Whether a walk over all bounds is worth it for these rows. O(rows · log bounds).
+fn is_worth_bulk(inside: &Inside, doomed: &[Doomed]) -> bool {
+    if doomed.len() < FEWEST && FEW_BOUNDS < inside.index.len() {
+        return false;
+    }
+    'rows: for i in 0..doomed.len() {
+        let key = key_of(&inside.arena, doomed[i].handle);
+        let Piece { from, to, .. } = inside.index.piece_of(key, inside.column.len());
+        if SHORT < to.saturating_sub(from) {
+            return false;
+        }
+    }
+    true
 }
 
 /// Pulls these pending deletions out of the column, and buries them.
