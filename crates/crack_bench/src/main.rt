@@ -486,7 +486,7 @@ fn run(rt: &HostRuntime, words: &[&str]) -> anyhow::Result<()> {
             run_partition(rt, policy_of(policy)?, rows.parse()?, work)
         }
         _ => Err(anyhow::anyhow!(
-            "arena, cells, column, index or all, or counts, sums, each, cold, pass, updates, merge, pulls or fold
+            "arena, cells, column, index or all, or counts, sums, each, cold, pass, updates, merge, pulls or fold \
             with a policy"
         )),
     }

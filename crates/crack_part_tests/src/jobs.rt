@@ -119,8 +119,8 @@ fn a_checkpoint_empties_the_history(rt: HostRuntime) -> Result<(), Refusal> {
         Job::Fold(1),
     ];
     let wanted =
-        b"row 0.0\nrow 0.1\nrefused 6 2\nfolded 2\ncount 2\nrow 0.2\nrefused 6 2\nfolded 2\nfolded 0\ngone 1
-        1\nrefused 5\n";
+        b"row 0.0\nrow 0.1\nrefused 6 2\nfolded 2\ncount 2\nrow 0.2\nrefused 6 2\nfolded 2\nfolded 0\ngone 1 1\n\
+        refused 5\n";
     assert_jobs(&rt, rt.alloc(), Limits::of_history(2), &jobs, wanted)
 }
 

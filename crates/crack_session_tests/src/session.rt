@@ -232,8 +232,8 @@ fn spaces_and_zeros_are_passed_over(rt: HostRuntime) -> Result<(), Fail> {
     assert_alike(
         &rt,
         rt.alloc(),
-        b"  insert   007   08  \r\n   \n\r\ncount 00000000000000000007 8\ncount 000000000000000000007 8\ncount 6 5\nquit
-        now\nInsert 1 1",
+        b"  insert   007   08  \r\n   \n\r\ncount 00000000000000000007 8\ncount 000000000000000000007 8\ncount 6 5\n\
+        quit now\nInsert 1 1",
         b"row 0.0\ncount 1\nrefused 1\nrefused 2\nrefused 1\nrefused 1\n",
         ends(How::InputEnded, 6),
     )
@@ -278,14 +278,14 @@ fn assert_policy(rt: &impl Abort, alloc: Global, name: &str, layout: &str) -> Re
 #[test]
 fn a_policy_holds_for_the_rest(rt: HostRuntime) -> Result<(), Fail> {
     let all =
-        "layout 0 rows 6 column 6 out 0 in 0 cells 6 free 0 pieces 3\npiece 0 15 1\npiece 15 25 2\npiece 25
-        18446744073709551616 3\n";
+        "layout 0 rows 6 column 6 out 0 in 0 cells 6 free 0 pieces 3\npiece 0 15 1\npiece 15 25 2\n\
+        piece 25 18446744073709551616 3\n";
     let some =
-        "layout 0 rows 6 column 5 out 0 in 1 cells 6 free 0 pieces 3\npiece 0 15 1\npiece 15 25 2\npiece 25
-        18446744073709551616 2\n";
+        "layout 0 rows 6 column 5 out 0 in 1 cells 6 free 0 pieces 3\npiece 0 15 1\npiece 15 25 2\n\
+        piece 25 18446744073709551616 2\n";
     let near =
-        "layout 0 rows 6 column 4 out 0 in 2 cells 6 free 0 pieces 3\npiece 0 15 1\npiece 15 25 2\npiece 25
-        18446744073709551616 1\n";
+        "layout 0 rows 6 column 4 out 0 in 2 cells 6 free 0 pieces 3\npiece 0 15 1\npiece 15 25 2\n\
+        piece 25 18446744073709551616 1\n";
     assert_policy(&rt, rt.alloc(), "complete", all)?;
     assert_policy(&rt, rt.alloc(), "gradual", some)?;
     assert_policy(&rt, rt.alloc(), "ripple", near)?;
@@ -301,8 +301,8 @@ insert 170 1\ninsert 180 1\ninsert 190 1\ninsert 200 1\ninsert 210 1\ninsert 220
 /// What these are answered.
 const ROWS_TOLD: &str =
     "row 0.0\nrow 0.1\nrow 0.2\nrow 0.3\nrow 0.4\nrow 0.5\nrow 0.6\nrow 0.7\nrow 0.8\nrow 0.9\nrow 0.10\n\
-row 0.11\nrow 0.12\nrow 0.13\nrow 0.14\nrow 0.15\nrow 0.16\nrow 0.17\nrow 0.18\nrow 0.19\nrow 0.20\nrow
-0.21\ncount 1\n";
+row 0.11\nrow 0.12\nrow 0.13\nrow 0.14\nrow 0.15\nrow 0.16\nrow 0.17\nrow 0.18\nrow 0.19\nrow 0.20\nrow 0.21\n\
+count 1\n";
 
 /// One pending insertion beside 22 rows in three pieces is few: room for it is made near the range. Two are many: all
 /// are merged.
@@ -311,11 +311,11 @@ fn auto_makes_room_where_few_rows_are_pending(rt: HostRuntime) -> Result<(), Fai
     let more =
         "delete 0.10\ndelete 0.11\ninsert 17 2\nsum 15 25\nlayout 0\ninsert 16 3\nselect 15 25\nlayout 0\n";
     let told = "gone 110 1\ngone 120 1\nrow 0.22\nsum 3\n\
-layout 0 rows 21 column 22 out 2 in 1 cells 23 free 0 pieces 3\npiece 0 15 1\npiece 15 25 2\npiece 25
-18446744073709551616 19\n\
+layout 0 rows 21 column 22 out 2 in 1 cells 23 free 0 pieces 3\npiece 0 15 1\npiece 15 25 2\n\
+piece 25 18446744073709551616 19\n\
 row 0.23\nrows 3\n0.1 20 1\n0.22 17 2\n0.23 16 3\n\
-layout 0 rows 22 column 22 out 0 in 0 cells 24 free 2 pieces 3\npiece 0 15 1\npiece 15 25 3\npiece 25
-18446744073709551616 18\n";
+layout 0 rows 22 column 22 out 0 in 0 cells 24 free 2 pieces 3\npiece 0 15 1\npiece 15 25 3\n\
+piece 25 18446744073709551616 18\n";
     let input = format!(in rt.alloc(); "policy auto\n{ROWS_IN_PIECES}{more}")?;
     let replies = format!(in rt.alloc(); "policy auto\n{ROWS_TOLD}{told}")?;
     let end = ends(How::InputEnded, 32);
@@ -337,8 +337,8 @@ fn layouts_of_other_desks(rt: HostRuntime) -> Result<(), Fail> {
         rt.alloc(),
         PlainTable::new(rt.alloc()),
         b"insert 7 70\ninsert 9 90\ncount 8 9\nlayout 0",
-        b"row 0.0\nrow 0.1\ncount 0\nlayout 0 rows 2 column 2 out 0 in 0 cells 2 free 0 pieces 1\npiece 0
-        18446744073709551616 2\n",
+        b"row 0.0\nrow 0.1\ncount 0\nlayout 0 rows 2 column 2 out 0 in 0 cells 2 free 0 pieces 1\n\
+        piece 0 18446744073709551616 2\n",
         ends(How::InputEnded, 4),
     )?;
     let refusal = Refusal::OutOfMemory;

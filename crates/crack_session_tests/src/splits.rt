@@ -74,8 +74,8 @@ fn ranges_end_at_splits_and_beside_them(rt: HostRuntime) -> Result<(), Fail> {
         rt.alloc(),
         &[Bound::from_number(100), Bound::from_number(200)],
         b"insert 99 1\ninsert 100 2\ninsert 199 3\ninsert 200 4\ncount 99 100\ncount 99 101\ncount 100 200\n\
-sum 100 201\nsum 99 200\nselect 100 100\nselect 199 18446744073709551616\nselect 18446744073709551616
-18446744073709551616\ncount 200 200\n",
+sum 100 201\nsum 99 200\nselect 100 100\nselect 199 18446744073709551616\n\
+select 18446744073709551616 18446744073709551616\ncount 200 200\n",
         b"row 0.0\nrow 1.0\nrow 1.1\nrow 2.0\ncount 1\ncount 2\ncount 2\nsum 9\nsum 6\nrows 0\n\
 rows 2\n1.1 199 3\n2.0 200 4\nrows 0\ncount 0\n",
         ends(How::InputEnded, 13),

@@ -116,8 +116,8 @@ fn a_full_history_goes_on_behind_a_checkpoint(rt: HostRuntime) -> Result<(), Fai
     ];
     let text = told(&rt, alloc, &mut worker, &table, &turns);
     let wanted =
-        b"row 0.0\nrow 0.1\nrefused 6 2\nfolded 2\ncount 2\nrow 0.2\nrefused 6 2\nfolded 2\nfolded 0\ngone 1
-        1\nrefused 5\n";
+        b"row 0.0\nrow 0.1\nrefused 6 2\nfolded 2\ncount 2\nrow 0.2\nrefused 6 2\nfolded 2\nfolded 0\ngone 1 1\n\
+        refused 5\n";
     assert_eq!(rt; text.as_slice(), wanted.as_slice());
     workers.push(worker)?;
     assert_eq!(rt; totals(alloc, table, workers), Ok([5, 3, 1, 2]));
@@ -138,9 +138,8 @@ fn a_layout_folds_nothing(rt: HostRuntime) -> Result<(), Fail> {
         Turn::Fold(0),
     ];
     let text = told(&rt, alloc, &mut worker, &table, &turns);
-    let wanted =
-        b"row 0.0\ncount 1\nlayout 0 rows 1 column 1 out 0 in 0 cells 1 free 0 pieces 1\npiece 0 18446744073709551616
-        1\nfolded 2\nfolded 0\n";
+    let wanted = b"row 0.0\ncount 1\nlayout 0 rows 1 column 1 out 0 in 0 cells 1 free 0 pieces 1\n\
+        piece 0 18446744073709551616 1\nfolded 2\nfolded 0\n";
     assert_eq!(rt; text.as_slice(), wanted.as_slice());
     workers.push(worker)?;
     assert_eq!(rt; totals(alloc, table, workers), Ok([2, 1, 0, 1]));
