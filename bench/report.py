@@ -239,25 +239,25 @@ def rival_text(measured):
     *merges, passing = rivals.merges
     carry, pull = rivals.steps
     return f"""- **Inserts: {load.ratio():.1f} times as long.** `crackd` keeps each command with its reply in a history, a number for each row as long as it
-  lives, and a map from these numbers to cells; the column has none of them. A pending row takes {measured.memory["pending"]:.0f} bytes of `crackd`'s memory, and
-  {FAST_BYTES} of the column's lists. Memory that is written for the first time comes from the system page by page.
+  lives, and a map from these numbers to cells; the column has none of these. A pending row takes {measured.memory["pending"]:.0f} bytes of `crackd`'s memory, and
+  {FAST_BYTES} of the column's lists. The system supplies memory page by page when it is first written.
 - **A first count of everything: {everything.ratio():.1f} times as long.** Each row is read through its handle, whose generation says that the cell is still
-  its own; then a step of its own writes what the column needs of it, and its generation. The other column reads each row by its slot alone.
+  its own; then a separate step writes what the column needs of it, and its generation. The other column reads each row by its slot alone.
 - **Counts and sums with nothing pending: {spread(queries)} times as long.** Both crack by the same loop, which moves 24 bytes a row in `crackd`, and 20 in the
-  column. There a payload stands beside its key, and a sum reads 16 bytes a row; `crackd` has payloads side by side, and reads 8. Besides,
+  column. There a payload is beside its key, and a sum reads 16 bytes a row; `crackd` stores payloads separately, and reads 8. Also,
   each query is clipped to the partition's keys, and kept in the history with its reply.
-- **A crack in three.** Where both ends of a range are missing and fall into one piece, `crackd` and the column divide it by both in one pass. A step writes
-  three rows, and one of a crack by one bound two; that spares the second pass, mostly over a quarter of the piece. Compared with an earlier `crackd` that cracked
-  by one end after the other, the first count over half a million rows took as long, over 10,000 rows 1.5 times, 1,000 counts 1.1 times as long.
+- **A crack in three.** If both ends of a range are missing and fall into one piece, `crackd` and the column divide it by both in one pass. A step writes
+  three rows, and a step of a crack by one bound two; this saves the second pass, mostly over a quarter of the piece. Compared with an earlier `crackd` that
+  cracked by one end after the other, the first count over half a million rows took as long, over 10,000 rows 1.5 times, 1,000 counts 1.1 times as long.
 - **A step of a carry: {carry.ratio():.1f} times as long; of a pull: {pull.ratio():.1f} times.** Each step puts the row in hand at a place
-  and moves a bound. In the other column bounds stand side by side, and one loop does all steps. In `crackd` a bound is a node of a tree, so that many of them
-  can be added, and one recursion goes through the nodes in order, with the row in hand in memory beside the column.
-- **Sums that merge: {spread(merges)} times as long.** These are such steps, and what comes with each row besides: a delete looks the row's
-  number up and takes it out of the map, its reply has the row, and the history keeps that; a row that is put in is read through its handle.
+  and moves a bound. In the other column bounds are adjacent, and one loop does all steps. In `crackd` a bound is a node of a tree, so that many of them
+  can be added, and one recursion visits the nodes in order, with the row in hand in memory beside the column.
+- **Sums that merge: {spread(merges)} times as long.** These are such steps, and more work for each row: a delete looks the row's
+  number up and removes it from the map, its reply has the row, and the history keeps that; a row that is put in is read through its handle.
 - **A pass over pending keys that finds none: {passing.ratio():.1f} times as long.** Both look at 16 rows at a time: `crackd` at keys, 8 bytes each, of which some
-  may not be known yet; the column at floats of 4 bytes, and at a key only where its float lies between those of the ends.
+  may not be known yet; the column at floats of 4 bytes, and at a key only if its float lies between those of the ends.
 - **A BTreeMap** has nothing to merge and nothing to crack: an insert or a delete walks down from its root. A sum goes from node to node,
-  where a column's rows stand side by side."""
+  while a column's rows are adjacent."""
 
 
 def loading_table(measured):
@@ -286,9 +286,10 @@ def set_text(measured):
     for it in measured.sets:
         theirs = f"{shown(it.theirs)} | {it.theirs / it.ours:,.2f}" if it.theirs else "| "
         lines.append(f"| {it.what} | {shown(it.ours)} | {theirs} |")
-    return f"""One client in Python asks both for the same over one connection, and each answers a line for a line. It sends without waiting and
-reads meanwhile, but for the round trips. There a row's number is the member of a sorted set, and its key the score (`ZADD`, `ZCOUNT` and `ZREM`); it keeps no
-payloads and writes nothing to disk. It puts each row in its place as it comes, and needs no warm-up: its counts are the same before and after. The counts are of a hundredth of the keys, {measured.ranges} of them.
+    return f"""One client in Python sends both the same requests over one connection, and each answers line by line. Except for the round trips, the client sends without
+waiting and reads at the same time. In Redis a row's number is the member of a sorted set, and its key the score (`ZADD`, `ZCOUNT` and `ZREM`); Redis keeps no
+payloads here and writes nothing to disk. It puts each row in its place on insertion, and needs no warm-up: its counts take the same time before and after.
+The counts are of a hundredth of the keys, {measured.ranges} of them.
 
 {chr(10).join(lines)}"""
 
@@ -349,51 +350,51 @@ and then {measured.ranges} sums, each of a hundredth of these keys at a random p
 
 ## Memory a row
 
-A key and a payload are 16 bytes, and a sorted array of them needs no more. `crackd` also keeps the row's cell, its number, its place in the column
-or among the pending rows, and in the history the insert with its reply, in whose place a checkpoint keeps 24 bytes:
+A key and a payload are 16 bytes, and a sorted array needs no more. `crackd` also keeps the row's cell, its number, its place in the column or among
+the pending rows, and the insert with its reply in the history; a checkpoint replaces the latter by 24 bytes:
 
 ![bytes a row](memory.svg)
 
 ## What each policy moves
 
-How often a row is put in, taken out, put back, or moved from one piece to the next, in millions of steps. The same in each run, and for the column in plain Rust:
+How often a row is put in, taken out, put back, or moved from one piece to the next, in millions of steps. The numbers are the same in each run, and for the
+column in plain Rust:
 
 ![steps of rows under each policy](moves.svg)
 
 ## Where crackd is slower
 
-Each line says how many times as fast the other is.
+Each row says how many times as fast the other is.
 
 {contest_table([it for it in contests if it.ours >= it.theirs], lambda it: it.ours / it.theirs)}
 
-A sorted array sorts, and SQLite makes its index, before the first count is answered; afterwards neither cracks anything. A scan looks at each row
-and puts nothing in order; so does SQLite without an index, of which one run was made. Of all these only plain Rust of the same representation keeps a
-history, as `crackd` does. SQLite is asked through Python, and its times
-include that; counts of one key are asked of `crackd script`, and include the reading of lines and the writing of replies.
+A sorted array is sorted, and SQLite builds its index, before the first count is answered; after that neither cracks anything. A scan looks at each row
+and sorts nothing; so does SQLite without an index, which ran once. Of all these only plain Rust with the same representation keeps a history, as `crackd`
+does. SQLite is called from Python, and its times include that; counts of one key are sent to `crackd script`, and include reading lines and writing replies.
 
 ## Where it is faster
 
-Each line says how many times as fast `crackd` is.
+Each row says how many times as fast `crackd` is.
 
 {contest_table([it for it in contests if it.ours < it.theirs], lambda it: it.theirs / it.ours)}
 
-## Beside what is fast in its own way
+## Compared with a column and a tree built for speed
 
-The cracker column for speed alone is plain Rust that takes the same steps. It keeps no history, and a row is named by its slot, which a
-later row may get; pending rows stand in plain vectors, and whether a row is doomed is a bit beside the column. The BTreeMap has payloads by key
-and number, and sums ranges; no policy changes it. All get the same inserts, deletes and queries and answer the same, and `crackd` and the
-column put in, put back, move, pull and take out as many rows.
+The cracker column for speed alone is plain Rust that takes the same steps. It keeps no history, and identifies a row by its slot, which a
+later row may get; pending rows are in plain vectors, and a bit beside the column says whether a row is doomed. The BTreeMap has payloads by key
+and number, and sums ranges; no policy changes it. All get the same inserts, deletes and queries and give the same answers, and `crackd` and the
+column put in, put back, move, pull and take out the same number of rows.
 
 {rival_table(measured.rivals)}
 
-What `crackd` does besides, and what that costs:
+What else `crackd` does, and what that costs:
 
 {rival_text(measured)}
 
 ## Loading by statements, by CSV and over TCP
 
 {measured.rows} rows, and all of them listed: by a `select`, and by `csv` as records. The client over TCP sends without waiting, and reads
-meanwhile.
+at the same time.
 
 ![rows a second](ways.svg)
 
@@ -402,7 +403,7 @@ meanwhile.
 ## Counts after a load
 
 After a load all rows are pending, and the column is empty. Under `ripple` a count puts its rows into it, and the next one, of another
-range, puts these back: so each looks through all pending rows. One count of everything under `complete` ends that, and `auto` begins with it. {measured.ranges} counts of a hundredth of the keys, each at a random place, by `crackd script`:
+range, puts these back: so each looks through all pending rows. One count of everything under `complete` ends this, and `auto` starts with it. {measured.ranges} counts of a hundredth of the keys, each at a random place, by `crackd script`:
 
 {count_table(measured.counts)}
 
@@ -412,14 +413,14 @@ range, puts these back: so each looks through all pending rows. One count of eve
 
 ## Workers
 
-Half of their statements are sums of a hundredth of a partition's keys, a quarter deletes, and a quarter inserts. Where a gain is below 1, more
-workers answer fewer statements in the same time: those who share a partition wait for its lock.
+Half of their statements are sums of a hundredth of a partition's keys, a quarter deletes, and a quarter inserts. If a gain is below 1, more
+workers answer fewer statements in the same time: those that share a partition wait for its lock.
 
 ![statements a second](workers.svg)
 
 {worker_table(measured.workers)}
 
-A server's workers, but for an audit, are those of a table that witnesses its replies: they keep no receipts, and are gathered by counts.
+Except for an audit, a server's workers are those of a table that witnesses its replies: they keep no receipts, and are gathered by counts.
 
 {witnessed_table(measured.witnessed)}
 """
