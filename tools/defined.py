@@ -18,8 +18,8 @@ PAGE = crates.TOP / "docs" / "DEFINITIONS.md"
 PRIVATE = "-- What private clauses alone cite."
 HEAD = """# Definitions
 
-The words that public contracts cite, with the comments that stand above them in the crates' `specs` folders. Every definition is over lists, finite maps and
-whole numbers. [PROOFS.md](PROOFS.md) says what is proved with them, and `make trust` prints those that a promise needs, whole.
+The names that public contracts cite, with the comments above them in the crates' `specs` folders. Every definition is over lists, finite maps and integers.
+[PROOFS.md](PROOFS.md) says what is proved with them, and `make trust` prints the full text of those that a promise needs.
 
 This page is written by `python3 tools/defined.py`.
 """
