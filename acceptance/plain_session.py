@@ -7,7 +7,9 @@ has their key buries them. A row that came or was changed since the last range w
 was in that range stands there. So an insert is refused with 9 where rows, and those that went from the column since
 the last range, are as many as there may be cells; it isn't where rows and all that may wait for their burial are fewer;
 after a layout of its partition it is so exactly where that reported as many cells as there may be, and none free. An
-update is refused so where an insert is, if its row stands in the column, and isn't if that waits beside it.
+update is refused so where an insert is, if its row stands in the column, and isn't if that waits beside it. Where
+checkpoints are made when they are due, rows that wait for their burial are buried where a cell lacks, so an insert is
+refused with 9 exactly where rows are as many as there may be cells.
 """
 
 from __future__ import annotations
@@ -158,8 +160,22 @@ class Part:
         return self.folded + self.kept == self.limits.life
 
     def has_no_cell(self) -> bool:
-        """Whether it is known that there is no cell for one row more."""
+        """Whether it is known that there is no cell for one row more, and that upkeep frees none."""
+        if self.limits.is_automatic:
+            return len(self.rows) >= self.limits.cells
         return self.has_cell is False or len(self.rows) + self.waiting >= self.limits.cells
+
+    def has_a_cell(self) -> bool:
+        """Whether it is known that there is a cell for one row more, or that upkeep frees one."""
+        if self.limits.is_automatic:
+            return not self.has_no_cell()
+        return self.has_cell or len(self.rows) + len(self.doomed) < self.limits.cells
+
+    def clear(self) -> None:
+        """Where a cell may lack, upkeep may bury all that wait for it, and put all rows into the column."""
+        if self.limits.is_automatic and len(self.rows) + len(self.doomed) >= self.limits.cells:
+            self.fresh.clear()
+            self.waiting = 0
 
     def test(self, key: int | None = None) -> None:
         """Refuses a command that brings this key, or none, where no more is accepted."""
@@ -186,7 +202,7 @@ class Part:
     def lack_cell(self, serial: int | None, key: int) -> None:
         """An insert, or an update of a serial, that is refused with 9, if it may be."""
         self.test(key)
-        if self.has_cell or len(self.rows) + len(self.doomed) < self.limits.cells:
+        if self.has_a_cell():
             raise Refused(f"no {NO_CELL}: there is a cell")
         if serial is not None and (serial not in self.rows or serial in self.fresh):
             raise Refused(f"no {NO_CELL}: the row {serial} stands in no column")
@@ -219,6 +235,7 @@ class Part:
         self.test()
         if self.has_no_cell():
             raise Refused(NO_CELL)
+        self.clear()
         self.keep()
         self.put(self.next, key, payload)
         self.next += 1
@@ -235,6 +252,8 @@ class Part:
         self.keep()
         if serial not in self.rows:
             return ["none"]
+        if serial not in self.fresh:
+            self.clear()
         self.take(serial)
         self.put(serial, key, payload)
         return ["changed"]
@@ -312,12 +331,14 @@ class Session:
 
     def leave_without_memory(self, said: Said) -> None:
         """What was said is refused for want of memory. Partitions of a range may have merged their rows, and those
-        before the last one have kept it."""
-        parts = self.parts_of(said) if said[0] in RANGES else []
-        for part in parts:
+        before the last one have kept it; one whose cells were to be freed may have merged them, too."""
+        parts = self.parts_of(said)
+        for part in parts if said[0] in RANGES else []:
             part.forget()
         for part in parts[:-1]:
             part.untold += 1
+        if said[0] in ("insert", "update"):
+            parts[0].clear()
 
 
 def text_of(lines: typing.Iterable[str]) -> bytes:

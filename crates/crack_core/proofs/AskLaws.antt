@@ -100,12 +100,12 @@ without-history true true over limit said Lacks r other comes = elim comes [
 ]
 
 -- what comes out of a partition, by its test
-last-same : (limits : Limits) (keys : Range) (t : PlainView) (command : Command) (r : Result Reply Refusal) → Comes (by_tests (is_key_in keys (key_of command)) false (nat_le limits.life (accepted_of t)) limits.history (reply_to t.state command)) (MayLackCell limits.cells (Some t) command) r → IsOutcome (lasting_bounds limits) keys (Some (checkpointed t)) command r
+last-same : (limits : Limits) (keys : Range) (t : PlainView) (command : Command) (r : Result Reply Refusal) → Comes (by_tests (is_key_in keys (key_of command)) false (nat_le limits.life (accepted_of t)) limits.history (reply_to t.state command)) (MayLackCell (bounds_of limits) (Some t) command) r → IsOutcome (lasting_bounds limits) keys (Some (checkpointed t)) command r
 last-same limits keys t command r comes = rw (accepted-same t) comes
 
 outcome-lasting : (limits : Limits) (keys : Range) (table : Option PlainView) (command : Command) (r : Result Reply Refusal) → (r ≡ Err (HistoryFull limits.history) → ⊥) → IsOutcome (bounds_of limits) keys table command r → IsOutcome (lasting_bounds limits) keys (option_map checkpointed table) command r
 outcome-lasting limits keys None command r other comes = comes
-outcome-lasting limits keys (Some t) command r other comes = last-same limits keys t command r (without-history (is_key_in keys (key_of command)) (shuts limits t.since) (nat_le limits.life (accepted_of t)) limits.history (reply_to t.state command) (MayLackCell limits.cells (Some t) command) r other comes)
+outcome-lasting limits keys (Some t) command r other comes = last-same limits keys t command r (without-history (is_key_in keys (key_of command)) (shuts limits t.since) (nat_le limits.life (accepted_of t)) limits.history (reply_to t.state command) (MayLackCell (bounds_of limits) (Some t) command) r other comes)
 
 -- a history that is empty isn't full
 not-full : (limits : Limits) → 1 ≤ limits.history → shuts limits 0 ≡ false
@@ -117,7 +117,7 @@ not-full limits some = ap (λ (b : Bool). b && not (is_automatic limits.upkeep))
 
 outcome-folded : (limits : Limits) (keys : Range) (table : Option PlainView) (command : Command) (r : Result Reply Refusal) → 1 ≤ limits.history → IsOutcome (bounds_of limits) keys (option_map checkpointed table) command r → IsOutcome (lasting_bounds limits) keys (option_map checkpointed table) command r
 outcome-folded limits keys None command r some comes = comes
-outcome-folded limits keys (Some t) command r some comes = subst (λ (b : Bool). Comes (by_tests (is_key_in keys (key_of command)) b (nat_le limits.life (accepted_of (checkpointed t))) limits.history (reply_to t.state command)) (MayLackCell limits.cells (Some (checkpointed t)) command) r) (not-full limits some) comes
+outcome-folded limits keys (Some t) command r some comes = subst (λ (b : Bool). Comes (by_tests (is_key_in keys (key_of command)) b (nat_le limits.life (accepted_of (checkpointed t))) limits.history (reply_to t.state command)) (MayLackCell (bounds_of limits) (Some (checkpointed t)) command) r) (not-full limits some) comes
 
 -- a partition that isn't checkpointed is asked
 pub asked-plain : (limits : Limits) (splits : List Bound) (tables new : List PlainView) (part : ℕ) (command : Command) (r : Result Reply Refusal) → (r ≡ Err (HistoryFull limits.history) → ⊥) → IsOutcomeAt (bounds_of limits) splits tables part command r → new ≡ tables_after (bounds_of limits) tables part command r → Asks limits splits part command r (lasting tables) (lasting new)
@@ -158,7 +158,7 @@ abbrev Shortly : Limits → Range → Option PlainView → Command → Result Re
 Shortly limits keys table command r = IsOutcome (lasting_bounds limits) keys table command r ⊎ ((r ≡ Err OutOfMemory) × (expected (lasting_bounds limits) keys table command ≡ Err LifeOver))
 
 short-some : (limits : Limits) (keys : Range) (t : PlainView) (command : Command) (r : Result Reply Refusal) → is_full r ≡ true → IsOutcome (bounds_of limits) keys (Some t) command r → Shortly limits keys (Some (checkpointed t)) command (Err OutOfMemory)
-short-some limits keys t command r full outcome = rw (accepted-same t) (short (is_key_in keys (key_of command)) (shuts limits t.since) (nat_le limits.life (accepted_of t)) limits.history (reply_to t.state command) (MayLackCell limits.cells (Some t) command) (MayLackCell limits.cells (Some t) command) r full outcome)
+short-some limits keys t command r full outcome = rw (accepted-same t) (short (is_key_in keys (key_of command)) (shuts limits t.since) (nat_le limits.life (accepted_of t)) limits.history (reply_to t.state command) (MayLackCell (bounds_of limits) (Some t) command) (MayLackCell (bounds_of limits) (Some t) command) r full outcome)
 
 outcome-short : (limits : Limits) (keys : Range) (table : Option PlainView) (command : Command) (r : Result Reply Refusal) (e : Refusal) → is_full r ≡ true → IsOutcome (bounds_of limits) keys table command r → IsFoldOutcome table (Err e) → Shortly limits keys (option_map checkpointed table) command (Err e)
 outcome-short limits keys None command r e full outcome fold = elim outcome [
@@ -191,13 +191,13 @@ said-by limits keys None command reply outcome = elim outcome [
 ]
 said-by limits keys (Some t) command reply outcome = (t.state, by_test (is_key_in keys (key_of command)) (nat_le limits.life (accepted_of t)) outcome)
   where
-    none : (x : Refusal) → Comes (refused_with x) (MayLackCell limits.cells (Some t) command) (Ok reply) → reply ≡ reply_to t.state command
+    none : (x : Refusal) → Comes (refused_with x) (MayLackCell (bounds_of limits) (Some t) command) (Ok reply) → reply ≡ reply_to t.state command
     none x comes = elim comes [
       | inl is ↦ cc is
       | inr both ↦ no-ok x both.0
     ]
 
-    by_test : (is_own over : Bool) → Comes (by_tests is_own false over limits.history (reply_to t.state command)) (MayLackCell limits.cells (Some t) command) (Ok reply) → reply ≡ reply_to t.state command
+    by_test : (is_own over : Bool) → Comes (by_tests is_own false over limits.history (reply_to t.state command)) (MayLackCell (bounds_of limits) (Some t) command) (Ok reply) → reply ≡ reply_to t.state command
     by_test false over comes = none KeyOutside comes
     by_test true true comes = none LifeOver comes
     by_test true false comes = elim comes [

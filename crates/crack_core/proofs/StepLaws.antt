@@ -25,7 +25,8 @@ use Rattle.crack_core.specs.declared.step.Job.TheVariants.{Perform}
 use Rattle.crack_core.specs.declared.step.Done.TheVariants.{Replied}
 use Rattle.crack_core.specs.Routes.{keys_of_part}
 use Rattle.crack_core.specs.Opening.{AreParts}
-use Rattle.crack_part.specs.Refusals.{is_key_in, table_of, stopped_by, lacks_cell, refusal_of}
+use Rattle.crack_part.specs.Cells.{is_without_cell}
+use Rattle.crack_part.specs.Refusals.{is_key_in, table_of, stopped_by, refusal_of}
 use Rattle.crack_part.specs.Upkeep.{upkept}
 use Rattle.crack_part.proofs.RefusalLaws.{if_refused}
 use Rattle.crack_part.proofs.UpkeepLaws.{upkept_table, table_of-upkept, accepted_in-upkept}
@@ -70,9 +71,9 @@ by_cause true true None said Lacks r refused rest lack = inr (refl, inr (refused
 by_cause true false None said Lacks r refused rest lack = ⊎_elim (λ (is : r ≡ Ok said). inl is) (λ (short : r ≡ Err OutOfMemory). inr (refl, inl short)) (rest refl)
 
 -- what a partition answers is the reply of its plain rows, or the refusal that they call for, or a want of memory or of a cell in place of a reply
-pub outcome-given : (p q : Part) (command : Command) (a : Result (Reply × Reply) Refusal) (r : Result Reply Refusal) → Gives a r → IfOk a (λ (replies : Reply × Reply). (replies.0 ≡ reply_to (state_after p.past) command) × (replies.1 ≡ replies.0)) → IfSome (refusal_of p command) (λ e. (a ≡ Err e) × (q ≡ p)) → (refusal_of p command ≡ None → IfErr a (λ e. e ≡ OutOfMemory)) → (lacks_cell p.limits.cells p.store (change_of command) ≡ true → MayLackCell p.limits.cells (Some (table_of p.past)) command) → IsOutcome (bounds_of p.limits) p.keys (Some (table_of p.past)) command r
+pub outcome-given : (p q : Part) (command : Command) (a : Result (Reply × Reply) Refusal) (r : Result Reply Refusal) → Gives a r → IfOk a (λ (replies : Reply × Reply). (replies.0 ≡ reply_to (state_after p.past) command) × (replies.1 ≡ replies.0)) → IfSome (refusal_of p command) (λ e. (a ≡ Err e) × (q ≡ p)) → (refusal_of p command ≡ None → IfErr a (λ e. e ≡ OutOfMemory)) → (is_without_cell p.limits p.store (change_of command) ≡ true → MayLackCell (bounds_of p.limits) (Some (table_of p.past)) command) → IsOutcome (bounds_of p.limits) p.keys (Some (table_of p.past)) command r
 outcome-given p q command a r gives said refused memory lack =
-    by_cause (is_key_in p.keys (key_of command)) (lacks_cell p.limits.cells p.store (change_of command)) (stopped_by p.limits (table_of p.past)) (reply_to (state_after p.past) command) (MayLackCell p.limits.cells (Some (table_of p.past)) command) r
+    by_cause (is_key_in p.keys (key_of command)) (is_without_cell p.limits p.store (change_of command)) (stopped_by p.limits (table_of p.past)) (reply_to (state_after p.past) command) (MayLackCell (bounds_of p.limits) (Some (table_of p.past)) command) r
     (if_refused (refusal_of p command) (λ e. (a ≡ Err e) × (q ≡ p)) (λ e. r ≡ Err e) (λ e is. given-err a r e gives is.0) refused)
     (λ none. kept-or-short (reply_to (state_after p.past) command) a r gives said (memory none))
     lack

@@ -16,13 +16,13 @@ use Rattle.crack_row.specs.declared.refusal.Refusal.{Refusal}
 use Rattle.crack_row.specs.declared.refusal.Refusal.TheVariants.{OutOfMemory, LifeOver}
 use Rattle.crack_plain.specs.Plain.{PlainView, accepted_of, checkpointed}
 use Rattle.crack_core.specs.Routes.{keys_of_part, route, parts_of}
-use Rattle.crack_core.specs.Steps.{Bounds, expected, IsOutcomeAt, fresh_table, table_after}
+use Rattle.crack_core.specs.Steps.{Bounds, taken_where_full, expected, IsOutcomeAt, fresh_table, table_after}
 use Rattle.crack_core.specs.declared.asking.Query.{Query}
 use Rattle.crack_core.specs.declared.asking.Query.TheVariants.{CountRows, SumPayloads, SelectRows}
 
 -- what bounds partitions whose full histories are checkpointed: no history, but their lives, and the cells of their rows
 abbrev pub lasting_bounds : Limits → Bounds
-lasting_bounds limits = record { stop = λ table. if nat_le limits.life (accepted_of table) then Some LifeOver else None; cells = limits.cells; due = λ table. false }
+lasting_bounds limits = record { stop = λ table. if nat_le limits.life (accepted_of table) then Some LifeOver else None; cells = limits.cells; taken = taken_where_full limits; due = λ table. false }
 
 -- the partitions as checkpoints leave them: their plain rows, and how many commands each accepted; so no checkpoint shows here
 abbrev pub lasting : List PlainView → List PlainView

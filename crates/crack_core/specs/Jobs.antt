@@ -1,7 +1,6 @@
 -- What steps and checkpoints, one after the other, are to be answered, and what they leave.
 use Rattle.std.specs.Prelude.{◌≡◌, ◌≢◌, ℕ, ◌==◌, List, [], ◌∷◌, length, take, Option, Some, Result, Ok, Err, OnOk, OnErr, IfErr, slice_get, if◌then◌else◌}
 use Rattle.std.specs.Option.{option_map}
-use Rattle.crack_row.specs.Commands.{range_of}
 use Rattle.crack_row.specs.declared.Bound.{Bound}
 use Rattle.crack_row.specs.declared.limit.Limits.{Limits}
 use Rattle.crack_row.specs.declared.command.Reply.{Reply}
@@ -62,8 +61,8 @@ pub record Makes (splits : List Bound) (limits : Limits) (step : Step) (result :
   pub parts : AreParts splits limits new
   pub kept : KeepsJobs limits (pasts_of old) (Perform step ∷ []) (performed result ∷ []) (pasts_of new)
   pub others : (k : ℕ) → k ≢ step.part → slice_get new k ≡ slice_get old k
-  pub store : OnOk result (AtPart step.part (λ p q. Serves step.policy p.keys p.next step.command p.store q.store) old new)
-  pub spared : OnErr result (AtPart step.part (λ p q. Spares step.policy p.keys (range_of step.command) p.store q.store) old new)
+  pub store : OnOk result (AtPart step.part (λ p q. Serves step.policy p step.command q.store) old new)
+  pub spared : OnErr result (AtPart step.part (λ p q. Spares step.policy p step.command q.store) old new)
   pub same : IfErr result (λ e. e ≢ OutOfMemory → new ≡ old)
 
 -- what comes of a job whose partition is this: a step comes out as its partition is to answer, and a checkpoint reports how many commands it

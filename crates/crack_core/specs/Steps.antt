@@ -14,19 +14,24 @@ use Rattle.crack_plain.specs.Plain.{PlainView, accepted_of, checkpointed, no_row
 use Rattle.crack_plain.specs.Past.{Past, accepted_in}
 use Rattle.crack_part.specs.Parts.{Part}
 use Rattle.crack_part.specs.Refusals.{table_of, stopped_by, first_cause}
-use Rattle.crack_part.specs.Upkeep.{is_due}
+use Rattle.crack_part.specs.Upkeep.{is_automatic, is_due}
 use Rattle.crack_core.specs.Routes.{keys_of_part}
 
--- what bounds the partitions of a table: why one accepts no command more, if so, how many cells its rows may take, and whether a checkpoint
--- is made before the next command is added
+-- what bounds the partitions of a table: why one accepts no command more, if so, how many cells its rows may take, how many may be taken
+-- where one lacks, and whether a checkpoint is made before the next command is added
 pub record Bounds : Type 0 where
   pub stop : PlainView → Option Refusal
   pub cells : ℕ
+  pub taken : PlainView → ℕ
   pub due : PlainView → Bool
+
+-- how many cells may be taken where one lacks: where upkeep is automatic, each is some row's; else there are no more than commands accepted
+abbrev pub taken_where_full : Limits → PlainView → ℕ
+taken_where_full limits table = if is_automatic limits.upkeep then length table.state.rows else accepted_of table
 
 -- what these limits are for the partitions of a table
 abbrev pub bounds_of : Limits → Bounds
-bounds_of limits = record { stop = stopped_by limits; cells = limits.cells; due = λ table. is_due limits table.since }
+bounds_of limits = record { stop = stopped_by limits; cells = limits.cells; taken = taken_where_full limits; due = λ table. is_due limits table.since }
 
 -- a reply, unless there is a refusal
 abbrev pub reply_unless : Option Refusal → Reply → Result Reply Refusal
@@ -38,14 +43,14 @@ abbrev pub expected : Bounds → Range → Option PlainView → Command → Resu
 expected bounds keys None command = Err NoSuchPartition
 expected bounds keys (Some table) command = reply_unless (first_cause keys (bounds.stop table) false command) (reply_to table.state command)
 
--- a partition may lack a cell for a command that brings a key, once it has accepted as many commands as its rows may take cells
-abbrev pub MayLackCell : ℕ → Option PlainView → Command → Type 0
-MayLackCell cells None command = ⊥
-MayLackCell cells (Some table) command = (is_some (key_of command) ≡ true) × (cells ≤ accepted_of table)
+-- a partition may lack a cell for a command that brings a key, once as many may be taken as its rows may take
+abbrev pub MayLackCell : Bounds → Option PlainView → Command → Type 0
+MayLackCell bounds None command = ⊥
+MayLackCell bounds (Some table) command = (is_some (key_of command) ≡ true) × (bounds.cells ≤ bounds.taken table)
 
 -- what comes out of asking a partition is what is expected, or, in place of a reply, a want of memory, or of a cell where one may lack
 abbrev pub IsOutcome : Bounds → Range → Option PlainView → Command → Result Reply Refusal → Type 0
-IsOutcome bounds keys table command outcome = (outcome ≡ expected bounds keys table command) ⊎ (IsOk (expected bounds keys table command) × ((outcome ≡ Err OutOfMemory) ⊎ ((outcome ≡ Err NoCell) × MayLackCell bounds.cells table command)))
+IsOutcome bounds keys table command outcome = (outcome ≡ expected bounds keys table command) ⊎ (IsOk (expected bounds keys table command) × ((outcome ≡ Err OutOfMemory) ⊎ ((outcome ≡ Err NoCell) × MayLackCell bounds table command)))
 
 -- what comes out of asking the partition of this number
 abbrev pub IsOutcomeAt : Bounds → List Bound → List PlainView → ℕ → Command → Result Reply Refusal → Type 0

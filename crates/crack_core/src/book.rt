@@ -1,6 +1,5 @@
 //! The book of a worker.
 ghost use Rattle.std.specs.Prelude.{◌≡◌, ◌<◌, [], ◌∷◌, ◌++◌, None, IsOk, IfOk, IfErr, IfSome, OnErr, OnOk, Err};
-ghost use Rattle.crack_row.specs.Commands.{range_of};
 ghost use Rattle.crack_plain.specs.Past.{with_entry, accepted_in};
 ghost use Rattle.crack_plain.specs.Plain.{IsSmall, reply_to, after};
 ghost use Rattle.crack_plain.specs.Totals.{accepted, inserted, deleted, is_placed, is_gone};
@@ -128,14 +127,12 @@ impl Book {
             partition.new.past ≡ with_entry (upkept partition.old.limits partition.old.past)
             (record { worker = self.old.worker; command = command; reply = reply })) }
         ensures state { OnOk result (state_of partition.new ≡ after (state_of partition.old) command) }
-        ensures store { OnOk result (Serves policy partition.old.keys partition.old.next command partition.old.store
-            partition.new.store) }
+        ensures store { OnOk result (Serves policy partition.old command partition.new.store) }
         ensures opened { (partition.new.keys ≡ partition.old.keys) × (partition.new.limits ≡ partition.old.limits) }
 
         ensures err { OnErr result ((self.new.receipts ≡ self.old.receipts) ×
             (partition.new.past ≡ partition.old.past)) }
-        ensures spared { OnErr result
-            (Spares policy partition.old.keys (range_of command) partition.old.store partition.new.store) }
+        ensures spared { OnErr result (Spares policy partition.old command partition.new.store) }
         ensures refused { IfSome (refusal_of partition.old command) (λ e. (result ≡ Err e) ×
             (partition.new ≡ partition.old)) }
         ensures memory { refusal_of partition.old command ≡ None → IfErr result (λ e. e ≡ Refusal.OutOfMemory) }

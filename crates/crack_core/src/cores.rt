@@ -1,7 +1,6 @@
 //! Partitions that one thread asks.
 ghost use Rattle.std.specs.Prelude.{◌≡◌, ◌≢◌, ℕ, ◌+◌, ◌≤◌, vec_capacity, List, [], ◌∷◌, length, map, All, is_ok, IsOk};
 ghost use Rattle.std.specs.Prelude.{None, Some, IfOk, IfErr, OnErr, OnOk, Ok, Err, slice_get, if◌then◌else◌};
-ghost use Rattle.crack_row.specs.Commands.{range_of};
 ghost use Rattle.crack_row.specs.Limits.{of_history};
 ghost use Rattle.crack_row.specs.declared.Bound.{Bound};
 ghost use Rattle.crack_row.specs.declared.limit.Limits.{Limits};
@@ -142,8 +141,8 @@ impl Core {
     /// Asks one partition, by one `Partition::apply`. Refused, in this order: with 5 where there is no such partition,
     /// with 4 where the command brings a key that isn't the partition's, with 6 where its history is full and upkeep
     /// is on request, with 10 where it has accepted as many commands as it may in all, with 9 where no cell is free
-    /// for a row and it has as many as it may have, and with 8 where no memory is found. Nothing has changed then, but
-    /// after 8, which leaves what `Partition::apply` says.
+    /// for a row, upkeep frees none and it has as many as it may have, and with 8 where no memory is found. Nothing
+    /// has changed then, but after 8, which leaves what `Partition::apply` says.
     #[inline(always)]
     pub fn step(&mut self, step: Step) -> Result<Reply, Refusal>
         // It is the reply of the partition's plain rows, or the refusal that they call for; in place of a reply it may
@@ -162,9 +161,9 @@ impl Core {
 
         ensures others { (k : ℕ) → k ≢ step.part → slice_get self.new.parts k ≡ slice_get self.old.parts k }
         ensures store { OnOk result (AtPart step.part (λ (p q : Part).
-            Serves step.policy p.keys p.next step.command p.store q.store) self.old.parts self.new.parts) }
+            Serves step.policy p step.command q.store) self.old.parts self.new.parts) }
         ensures spared { OnErr result (AtPart step.part (λ (p q : Part).
-            Spares step.policy p.keys (range_of step.command) p.store q.store) self.old.parts self.new.parts) }
+            Spares step.policy p step.command q.store) self.old.parts self.new.parts) }
         ensures same { IfErr result (λ e. e ≢ Refusal.OutOfMemory → self.new ≡ self.old) }
     {
         ask_at(&mut self.partitions, step)
@@ -260,9 +259,9 @@ fn ask_at(partitions: &mut [Partition], step: Step) -> Result<Reply, Refusal>
     ensures small { IfOk result IsSmall }
     ensures others { (k : ℕ) → k ≢ step.part → slice_get partitions.new k ≡ slice_get partitions.old k }
     ensures store { OnOk result (AtPart step.part (λ (p q : Part).
-        Serves step.policy p.keys p.next step.command p.store q.store) partitions.old partitions.new) }
+        Serves step.policy p step.command q.store) partitions.old partitions.new) }
     ensures spared { OnErr result (AtPart step.part (λ (p q : Part).
-        Spares step.policy p.keys (range_of step.command) p.store q.store) partitions.old partitions.new) }
+        Spares step.policy p step.command q.store) partitions.old partitions.new) }
     ensures same { IfErr result (λ e. e ≢ Refusal.OutOfMemory → partitions.new ≡ partitions.old) }
 {
     let part = step.part as usize;

@@ -146,7 +146,7 @@ pub replied_rows : (bounds : Bounds) (keys : Range) (there : Option PlainView) (
 replied_rows bounds keys None range reply (inl same) = cc same
 replied_rows bounds keys None range reply (inr (ok, inl short)) = cc short
 replied_rows bounds keys None range reply (inr (ok, inr short)) = cc (short.0)
-replied_rows bounds keys (Some table) range reply outcome = (table, refl, reply_is (first_cause keys (bounds.stop table) false (Select range)) (Rows (rows_in range table.state.rows)) reply (MayLackCell bounds.cells (Some table) (Select range)) outcome)
+replied_rows bounds keys (Some table) range reply outcome = (table, refl, reply_is (first_cause keys (bounds.stop table) false (Select range)) (Rows (rows_in range table.state.rows)) reply (MayLackCell bounds (Some table) (Select range)) outcome)
 
 pub index_there : (tables : List PlainView) (i : ℕ) (table other : PlainView) → slice_get tables i ≡ Some table → slice_index_or tables i other ≡ table
 index_there [] i table other e = cc e

@@ -19,8 +19,8 @@ use Rattle.crack_arena.specs.Arena.{Cell, cell_at, slots, cells_with}
 use Rattle.crack_state.specs.State.{State, live_at, live_rows}
 use Rattle.crack_state.specs.Steps.{SameButRoom, admitted}
 use Rattle.crack_state.specs.Points.{pending_by, handle_by, Removes, Rewrites}
-use Rattle.crack_part.specs.Parts.{Performs, Serves, placed}
-use Rattle.crack_part.specs.Refusals.{takes_cell, lacks_cell}
+use Rattle.crack_part.specs.Parts.{Performs, ServesCleared, placed}
+use Rattle.crack_part.specs.Cells.{takes_cell, lacks_cell}
 use Rattle.crack_part.proofs.KeepLemmas.{Keeps-prepared}
 
 length-cons_option : (o : Option Row) (rows : List Row) → length (cons_option o rows) ≤ length rows + 1
@@ -79,7 +79,7 @@ fits-performed most next (Some (Rewrite serial key payload)) s t few not replace
     fits-replaced most (row_with serial key payload) s t (pending_by s serial.0) few (λ stands. room most s (Some (Rewrite serial key payload)) not (rw stands refl)) replaces
 
 -- no more do a command's merges: they make no cell
-pub fits-served : (policy : Policy) (keys : Range) (most next : ℕ) (command : Command) (s t : State) → length s.cells ≤ most → lacks_cell most s (change_of command) ≡ false → Serves policy keys next command s t → length t.cells ≤ most
+pub fits-served : (policy : Policy) (keys : Range) (most next : ℕ) (command : Command) (s t : State) → length s.cells ≤ most → lacks_cell most s (change_of command) ≡ false → ServesCleared policy keys next command s t → length t.cells ≤ most
 fits-served policy keys most next (Insert key payload) s t few not served = fits-performed most next (Some (Place key payload)) s t few not (rw served.prepared at served.performed)
 fits-served policy keys most next (Delete serial) s t few not served = fits-performed most next (Some (Remove serial)) s t few not (rw served.prepared at served.performed)
 fits-served policy keys most next (Update serial key payload) s t few not served = fits-performed most next (Some (Rewrite serial key payload)) s t few not (rw served.prepared at served.performed)

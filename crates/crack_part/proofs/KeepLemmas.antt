@@ -16,7 +16,7 @@ use Rattle.crack_state.proofs.StepLaws.{IsIntact-room}
 use Rattle.crack_state.proofs.CrackLaws.{keys-refined, live_rows-refined, cells-refined, pending_out-refined}
 use Rattle.crack_state.proofs.FollowLaws.{Follows-trans, Follows-room, Tallies-trans, Tallies-room, length_marks-Follows}
 use Rattle.crack_merge.specs.Merges.{EvictsFirst, LeavesRest, Stops}
-use Rattle.crack_part.specs.Parts.{is_merged_first, read_by, CracksAndMerges, Readies, Settles, ReadsRange, StopsAt, StopsRead, Prepares, Spares}
+use Rattle.crack_part.specs.Parts.{is_merged_first, read_by, CracksAndMerges, Readies, Settles, ReadsRange, StopsAt, StopsRead, Prepares, SparesCleared}
 
 -- the same rows for commands to see, as many cells, and as many of them freed or still to be
 pub record Keeps (s t : State) : Type 0 where
@@ -96,13 +96,13 @@ pub IsIntact-prepared : (policy : Policy) (keys : Range) (range : Option Range) 
 IsIntact-prepared policy keys None s t same intact = rw same intact
 IsIntact-prepared policy keys (Some range) s t reads intact = IsIntact-reads policy s t (clipped range keys) reads intact
 
-Keeps-stopped : (policy : Policy) (s t : State) (r : Range) → StopsAt policy s t r → Keeps s t
+pub Keeps-stopped : (policy : Policy) (s t : State) (r : Range) → StopsAt policy s t r → Keeps s t
 Keeps-stopped policy s t r read = elim read [
   | inl same ↦ Keeps-room s t same
   | inr done ↦ Keeps-trans s done.cracked t (Keeps-refined s done.cracked r done.refines) (Keeps-follows done.cracked t done.stops.follows)
 ]
 
-IsIntact-stopped : (policy : Policy) (s t : State) (r : Range) → StopsAt policy s t r → IsIntact s [] → IsIntact t []
+pub IsIntact-stopped : (policy : Policy) (s t : State) (r : Range) → StopsAt policy s t r → IsIntact s [] → IsIntact t []
 IsIntact-stopped policy s t r read intact = elim read [
   | inl same ↦ IsIntact-room s t [] same intact
   | inr done ↦ done.stops.intact
@@ -115,11 +115,11 @@ Keeps-stops policy s t r read = elim read [
 ]
 
 -- a command that found no memory leaves the live rows as they were
-pub Keeps-spared : (policy : Policy) (keys : Range) (range : Option Range) (s t : State) → Spares policy keys range s t → Keeps s t
+pub Keeps-spared : (policy : Policy) (keys : Range) (range : Option Range) (s t : State) → SparesCleared policy keys range s t → Keeps s t
 Keeps-spared policy keys None s t spared = Keeps-room s t spared
 Keeps-spared policy keys (Some range) s t spared = Keeps-stops policy s t (clipped range keys) spared
 
-pub IsIntact-spared : (policy : Policy) (keys : Range) (range : Option Range) (s t : State) → Spares policy keys range s t → IsIntact s [] → IsIntact t []
+pub IsIntact-spared : (policy : Policy) (keys : Range) (range : Option Range) (s t : State) → SparesCleared policy keys range s t → IsIntact s [] → IsIntact t []
 IsIntact-spared policy keys None s t spared intact = IsIntact-room s t [] spared intact
 IsIntact-spared policy keys (Some range) s t spared intact = elim spared [
   | inl first ↦ IsIntact-stopped Complete s t s.keys first.1 intact
@@ -205,7 +205,7 @@ StopsRead-room policy s t r same = by_test (is_merged_first policy s) refl
     by_test false undue = inr (record { ready = s; readies = inl (undue, refl); stops = inl same })
 
 -- nothing was read
-pub Spares-same : (policy : Policy) (keys : Range) (range : Option Range) (s : State) → Spares policy keys range s s
+pub Spares-same : (policy : Policy) (keys : Range) (range : Option Range) (s : State) → SparesCleared policy keys range s s
 Spares-same policy keys None s = record { same = refl }
 Spares-same policy keys (Some range) s = StopsRead-room policy s s (clipped range keys) (record { same = refl })
 
@@ -221,6 +221,6 @@ StopsRead-read policy s u t r reads room = elim (cases_lt r.low r.high) [
 ]
 
 -- prepared, and then not performed
-pub Spares-prepared : (policy : Policy) (keys : Range) (range : Option Range) (s u t : State) → Prepares policy keys range s u → SameButRoom u t → Spares policy keys range s t
+pub Spares-prepared : (policy : Policy) (keys : Range) (range : Option Range) (s u t : State) → Prepares policy keys range s u → SameButRoom u t → SparesCleared policy keys range s t
 Spares-prepared policy keys None s u t prepared same = subst (λ (x : State). SameButRoom x t) prepared same
 Spares-prepared policy keys (Some range) s u t prepared same = StopsRead-read policy s u t (clipped range keys) prepared same

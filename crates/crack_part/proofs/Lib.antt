@@ -8,3 +8,5 @@ pub mod RefusalLaws
 pub mod SoundLemmas
 pub mod Crosses
 pub mod UpkeepLaws
+pub mod ClearLaws
+pub mod ApplyLaws

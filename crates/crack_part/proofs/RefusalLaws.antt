@@ -1,7 +1,7 @@
 -- What follows where a partition refuses no command, or one for a cause.
-use Rattle.std.specs.Prelude.{◌≡◌, ◌<◌, Bool, true, false, Option, None, Some, IfSome, length, nat_le, nat_lt, if◌then◌else◌}
+use Rattle.std.specs.Prelude.{◌≡◌, ◌<◌, Bool, true, false, Option, None, Some, IfSome, length, ◌&&◌, not, nat_le, nat_lt, if◌then◌else◌}
 use Rattle.std.specs.Option.{option_or}
-use Rattle.std.proofs.Common.{refl}
+use Rattle.std.proofs.Common.{refl, ap, ◌∙◌}
 use Rattle.std.proofs.lemmas.Bool.{and_parts, leb-true, leb-false, ltb-true}
 use Rattle.crack_row.specs.Commands.{change_of, key_of}
 use Rattle.crack_row.specs.Ranges.{Range, IsIn}
@@ -12,7 +12,9 @@ use Rattle.crack_row.specs.declared.refusal.Refusal.TheVariants.{KeyOutside, His
 use Rattle.crack_plain.specs.Past.{accepted_in}
 use Rattle.crack_plain.specs.Plain.{IsWithin}
 use Rattle.crack_part.specs.Parts.{Part}
-use Rattle.crack_part.specs.Refusals.{is_key_in, lacks_cell, refusal_of}
+use Rattle.crack_part.specs.Refusals.{is_key_in, table_of, stopped_by, refusal_of}
+use Rattle.crack_part.specs.Inside.{early_refusal_of}
+use Rattle.crack_part.specs.Cells.{lacks_cell, may_clear, is_without_cell}
 use Rattle.crack_part.specs.Upkeep.{is_full}
 
 -- whether a command brings a key of others, by the test
@@ -27,28 +29,53 @@ pub record MayKeep (p : Part) (command : Command) : Type 0 where
   pub within : IsWithin p.keys command
   pub goes_on : is_full p.limits (length p.past.tail) ≡ false
   pub lives : accepted_in p.past < p.limits.life
-  pub cell : lacks_cell p.limits.cells p.store (change_of command) ≡ false
 
-pub may-keep : (p : Part) (command : Command) → refusal_of p command ≡ None → MayKeep p command
+pub may-keep : (p : Part) (command : Command) → early_refusal_of p command ≡ None → MayKeep p command
 may-keep p command none =
     let own = is_key_in p.keys (key_of command) in
     let full = is_full p.limits (length p.past.tail) in
     let over = nat_le p.limits.life (accepted_in p.past) in
-    let lacks = lacks_cell p.limits.cells p.store (change_of command) in
-    let tests = passed own full over lacks none in
+    let tests = passed own full over none in
     record {
       within = within-true p.keys (key_of command) tests.0;
       goes_on = tests.1;
       lives = leb-false p.limits.life (accepted_in p.past) tests.2;
-      cell = tests.3;
     }
   where
-    passed : (own full over lacks : Bool) → ◌≡◌ {A = Option Refusal} (if own then option_or (if full then Some (HistoryFull p.limits.history) else (if over then Some LifeOver else None)) (if lacks then Some NoCell else None) else Some KeyOutside) None → (own ≡ true) × (full ≡ false) × (over ≡ false) × (lacks ≡ false)
-    passed true false false false is = (refl, refl, refl, refl)
-    passed true false false true is = cc is
-    passed true false true lacks is = cc is
-    passed true true over lacks is = cc is
-    passed false full over lacks is = cc is
+    passed : (own full over : Bool) → ◌≡◌ {A = Option Refusal} (if own then option_or (if full then Some (HistoryFull p.limits.history) else (if over then Some LifeOver else None)) None else Some KeyOutside) None → (own ≡ true) × (full ≡ false) × (over ≡ false)
+    passed true false false is = (refl, refl, refl)
+    passed true false true is = cc is
+    passed true true over is = cc is
+    passed false full over is = cc is
+
+-- the first cause, by whether the key is the partition's, what stops it, and whether a cell lacks
+abbrev cause : Bool → Option Refusal → Bool → Option Refusal
+cause own stop lacks = if own then option_or stop (if lacks then Some NoCell else None) else Some KeyOutside
+
+-- what refuses a command whatever cells there are refuses it
+cause-early : (own : Bool) (stop : Option Refusal) (lacks : Bool) (e : Refusal) → cause own stop false ≡ Some e → cause own stop lacks ≡ Some e
+cause-early true (Some x) lacks e is = is
+cause-early true None lacks e is = cc is
+cause-early false stop lacks e is = is
+
+pub refused-early : (p : Part) (command : Command) (e : Refusal) → early_refusal_of p command ≡ Some e → refusal_of p command ≡ Some e
+refused-early p command e is = cause-early (is_key_in p.keys (key_of command)) (stopped_by p.limits (table_of p.past)) (is_without_cell p.limits p.store (change_of command)) e is
+
+-- where nothing else refuses it, it is refused where it is without a cell, and nowhere else
+cause-late : (own : Bool) (stop : Option Refusal) (lacks : Bool) → cause own stop false ≡ None → cause own stop lacks ≡ (if lacks then Some NoCell else None)
+cause-late true (Some x) lacks none = cc none
+cause-late true None lacks none = refl
+cause-late false stop lacks none = cc none
+
+pub refused-late-none : (p : Part) (command : Command) → early_refusal_of p command ≡ None → is_without_cell p.limits p.store (change_of command) ≡ false → refusal_of p command ≡ None
+refused-late-none p command none has = cause-late (is_key_in p.keys (key_of command)) (stopped_by p.limits (table_of p.past)) (is_without_cell p.limits p.store (change_of command)) none ∙ ap (λ (b : Bool). if b then Some NoCell else None) has
+
+pub refused-late-cell : (p : Part) (command : Command) → early_refusal_of p command ≡ None → is_without_cell p.limits p.store (change_of command) ≡ true → refusal_of p command ≡ Some NoCell
+refused-late-cell p command none lacks = cause-late (is_key_in p.keys (key_of command)) (stopped_by p.limits (table_of p.past)) (is_without_cell p.limits p.store (change_of command)) none ∙ ap (λ (b : Bool). if b then Some NoCell else None) lacks
+
+-- where no cell lacks, no other cause is tested
+pub refused-with_cell : (p : Part) (command : Command) → lacks_cell p.limits.cells p.store (change_of command) ≡ false → refusal_of p command ≡ early_refusal_of p command
+refused-with_cell p command has = ap (λ (b : Bool). cause (is_key_in p.keys (key_of command)) (stopped_by p.limits (table_of p.past)) (b && not (may_clear p.limits p.store))) has
 
 -- what follows of a refusal, if there is one
 pub if_refused : (o : Option Refusal) (P Q : Refusal → Type 0) → ((e : Refusal) → P e → Q e) → IfSome o P → IfSome o Q

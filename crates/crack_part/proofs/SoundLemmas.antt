@@ -36,7 +36,7 @@ use Rattle.crack_state.proofs.AdmitLaws.{live_rows-admitted, freed-admitted, cel
 use Rattle.crack_state.proofs.PointLaws.{Spends, Spends-cancels, Spends-dooms, Spends-rewrites, found_by}
 use Rattle.crack_state.proofs.LookUpLaws.{row_by-find, row_by-pending}
 use Rattle.crack_store.specs.Inside.{no_cells}
-use Rattle.crack_part.specs.Parts.{Part, IsLimit, IsSound, folded_part, IsFaithful, Serves, Prepares, Performs, state_of, placed}
+use Rattle.crack_part.specs.Parts.{Part, IsLimit, IsSound, folded_part, IsFaithful, ServesCleared, Prepares, Performs, state_of, placed}
 use Rattle.crack_part.specs.Inside.{MayPerform}
 use Rattle.crack_part.proofs.CellLemmas.{rows-le-cells}
 use Rattle.crack_part.proofs.KeepLemmas.{Keeps, Keeps-room, Keeps-prepared, IsIntact-prepared}
@@ -186,7 +186,7 @@ Spends-performed next plain (Count range) s t intact faithful may same = Spends-
 Spends-performed next plain (Sum range) s t intact faithful may same = Spends-same _ _ s t same
 Spends-performed next plain (Select range) s t intact faithful may same = Spends-same _ _ s t same
 
-pub Spends-served : (policy : Policy) (p : Part) (command : Command) (t : State) → IsSound p → IsWithin p.keys command → Serves policy p.keys p.next command p.store t → Spends (made (reply_to (state_of p) command)) (spent (reply_to (state_of p) command)) p.store t
+pub Spends-served : (policy : Policy) (p : Part) (command : Command) (t : State) → IsSound p → IsWithin p.keys command → ServesCleared policy p.keys p.next command p.store t → Spends (made (reply_to (state_of p) command)) (spent (reply_to (state_of p) command)) p.store t
 Spends-served policy p command t sound within served =
     let before = IsSound-prepared policy p (range_of command) served.ready sound served.prepared in
     let keeps = Keeps-prepared policy p.keys (range_of command) p.store served.ready served.prepared in

@@ -1,14 +1,25 @@
 -- What private clauses alone cite.
-use Rattle.std.specs.Prelude.{◌≡◌, ℕ, ◌<◌, ◌≤◌, List, Option, Some, None}
+use Rattle.std.specs.Prelude.{◌≡◌, ◌⊎◌, ℕ, ◌<◌, ◌≤◌, true, false, List, Option, Some, None, Result, Err, IfOk, IfErr, IfSome, OnOk, OnErr}
+use Rattle.crack_row.specs.Commands.{change_of}
 use Rattle.crack_row.specs.Ranges.{Range, IsIn, clipped}
 use Rattle.crack_row.specs.declared.Row.{Row}
 use Rattle.crack_row.specs.declared.command.Change.{Change}
 use Rattle.crack_row.specs.declared.command.Change.TheVariants.{Place, Remove, Rewrite}
-use Rattle.crack_plain.specs.Past.{Base}
+use Rattle.crack_row.specs.declared.command.Command.{Command}
+use Rattle.crack_row.specs.declared.command.Policy.{Policy}
+use Rattle.crack_row.specs.declared.command.Policy.TheVariants.{Complete}
+use Rattle.crack_row.specs.declared.command.Reply.{Reply}
+use Rattle.crack_row.specs.declared.refusal.Refusal.{Refusal}
+use Rattle.crack_row.specs.declared.refusal.Refusal.TheVariants.{OutOfMemory, NoCell}
+use Rattle.crack_plain.specs.Past.{Base, with_entry}
+use Rattle.crack_plain.specs.Plain.{IsSmall, reply_to, after}
 use Rattle.crack_state.specs.State.{State}
 use Rattle.crack_state.specs.Steps.{IsAdmissible}
 use Rattle.crack_state.specs.Points.{MayFree, IsRenewable}
-use Rattle.crack_part.specs.Parts.{placed}
+use Rattle.crack_part.specs.Parts.{Part, state_of, StopsAt, Clears, Serves, Spares, placed}
+use Rattle.crack_part.specs.Cells.{lacks_cell, is_without_cell, is_cleared_first}
+use Rattle.crack_part.specs.Refusals.{table_of, stopped_by, first_cause, refusal_of}
+use Rattle.crack_part.specs.Upkeep.{upkept}
 
 -- what a range has in common with the keys, if anything
 abbrev pub IsCommon : Range → Range → Option Range → Type 0
@@ -30,3 +41,33 @@ MayPerform next (Some (Rewrite serial key payload)) s = IsIn s.keys key.0 × IsR
 -- a base by its fields
 abbrev pub base_of : List Row → ℕ → ℕ → ℕ → Base
 base_of rows folded placed gone = record { state = record { rows = rows; next = placed }; folded = folded; placed = placed; gone = gone }
+
+-- what a partition refuses a command with, if anything, whatever cells there are
+abbrev pub early_refusal_of : Part → Command → Option Refusal
+early_refusal_of part command = first_cause part.keys (stopped_by part.limits (table_of part.past)) false command
+
+-- cells are freed where that is due, so that a command lacks none
+abbrev pub Frees : Part → Command → Part → Type 0
+Frees p command q = (lacks_cell q.limits.cells q.store (change_of command) ≡ false) × (is_without_cell p.limits p.store (change_of command) ≡ false) × Clears p command q.store
+
+-- none is freed: that isn't due, or there is no memory for it
+abbrev pub FreesNone : Part → Command → Refusal → Part → Type 0
+FreesNone p command e q = ((e ≡ NoCell) × (is_without_cell p.limits p.store (change_of command) ≡ true) × (q ≡ p)) ⊎ ((e ≡ OutOfMemory) × (is_cleared_first p.limits p.store (change_of command) ≡ true) × StopsAt Complete p.store q.store p.store.keys)
+
+-- What comes of a worker's command at a partition that refuses it for this cause, if any, and serves or spares its store so: the reply of its
+-- plain rows, and an entry more; or a refusal, which leaves its past.
+pub record AppliesBy (worker : ℕ) (command : Command) (cause : Option Refusal) (Served Spared : State → Type 0) (old : Part) (result : Result (Reply × Reply) Refusal) (new : Part) : Type 0 where
+  pub replies : IfOk result (λ replies. (replies.0 ≡ reply_to (state_of old) command) × (replies.1 ≡ replies.0))
+  pub small : IfOk result (λ replies. IsSmall replies.0)
+  pub kept : IfOk result (λ replies. new.past ≡ with_entry (upkept old.limits old.past) (record { worker = worker; command = command; reply = replies.0 }))
+  pub state : OnOk result (state_of new ≡ after (state_of old) command)
+  pub store : OnOk result (Served new.store)
+  pub opened : (new.keys ≡ old.keys) × (new.limits ≡ old.limits)
+  pub err : OnErr result (new.past ≡ old.past)
+  pub spared : OnErr result (Spared new.store)
+  pub refused : IfSome cause (λ e. (result ≡ Err e) × (new ≡ old))
+  pub memory : cause ≡ None → IfErr result (λ e. e ≡ OutOfMemory)
+
+-- what comes of it in all
+abbrev pub Applies : Policy → ℕ → Command → Part → Result (Reply × Reply) Refusal → Part → Type 0
+Applies policy worker command old result new = AppliesBy worker command (refusal_of old command) (Serves policy old command) (Spares policy old command) old result new

@@ -24,6 +24,7 @@ use Rattle.crack_state.specs.Points.{pending_by, Removes, Rewrites}
 use Rattle.crack_state.specs.Merge.{Refines, Merges, Tallies}
 use Rattle.crack_merge.specs.Merges.{Stops}
 use Rattle.crack_ripple.specs.Near.{MergesNear}
+use Rattle.crack_part.specs.Cells.{is_cleared_first}
 
 -- its keys, its limits, what it lived through, the serial of the next row, and the store of its rows
 pub record Part : Type 0 where
@@ -138,10 +139,11 @@ abbrev pub Prepares : Policy → Range → Option Range → State → State → 
 Prepares policy keys None s t = t ≡ s
 Prepares policy keys (Some range) s t = ReadsRange policy s t (clipped range keys)
 
--- what a command that found no memory did to a store: its range, if it reads one, may have been read in part
-abbrev pub Spares : Policy → Range → Option Range → State → State → Type 0
-Spares policy keys None s t = SameButRoom s t
-Spares policy keys (Some range) s t = StopsRead policy s t (clipped range keys)
+-- what a command that found no memory did to a store once cells were freed where that is due: its range, if it reads one, may have been read
+-- in part
+abbrev pub SparesCleared : Policy → Range → Option Range → State → State → Type 0
+SparesCleared policy keys None s t = SameButRoom s t
+SparesCleared policy keys (Some range) s t = StopsRead policy s t (clipped range keys)
 
 -- what is done to a store once a command is replied: the change that it makes, if any, is made
 abbrev pub Performs : ℕ → Option Change → State → State → Type 0
@@ -150,8 +152,29 @@ Performs next (Some (Place key payload)) s t = SameButRoom (admitted (placed nex
 Performs next (Some (Remove serial)) s t = Removes (pending_by s serial.0) serial.0 s t
 Performs next (Some (Rewrite serial key payload)) s t = Rewrites (pending_by s serial.0) (row_with serial key payload) s t
 
--- what an answered command does to a store of these keys: the store is prepared, and then the change is made
-pub record Serves (policy : Policy) (keys : Range) (next : ℕ) (command : Command) (s t : State) : Type 0 where
+-- what an answered command does to a store of these keys once cells were freed where that is due: the store is prepared, and then the change
+-- is made
+pub record ServesCleared (policy : Policy) (keys : Range) (next : ℕ) (command : Command) (s t : State) : Type 0 where
   pub ready : State
   pub prepared : Prepares policy keys (range_of command) s ready
   pub performed : Performs next (change_of command) ready t
+
+-- what is done to a partition's store before a command: where cells are freed first, that is done by a read of all keys under complete
+abbrev pub Clears : Part → Command → State → Type 0
+Clears p command t = ((is_cleared_first p.limits p.store (change_of command) ≡ false) × (t ≡ p.store)) ⊎ ((is_cleared_first p.limits p.store (change_of command) ≡ true) × CracksAndMerges Complete p.store t p.store.keys)
+
+-- what an answered command does to a partition's store: cells are freed where that is due, and then it is served
+pub record Serves (policy : Policy) (p : Part) (command : Command) (t : State) : Type 0 where
+  pub cleared : State
+  pub clears : Clears p command cleared
+  pub served : ServesCleared policy p.keys p.next command cleared t
+
+-- cells are freed where that is due, and the command found no memory
+pub record ClearsAndSpares (policy : Policy) (p : Part) (command : Command) (t : State) : Type 0 where
+  pub cleared : State
+  pub clears : Clears p command cleared
+  pub spared : SparesCleared policy p.keys (range_of command) cleared t
+
+-- what a command that found no memory did to a partition's store: it stopped where cells are freed first, or afterwards
+abbrev pub Spares : Policy → Part → Command → State → Type 0
+Spares policy p command t = ((is_cleared_first p.limits p.store (change_of command) ≡ true) × StopsAt Complete p.store t p.store.keys) ⊎ ClearsAndSpares policy p command t

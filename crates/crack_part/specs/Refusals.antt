@@ -4,18 +4,15 @@ use Rattle.std.specs.Option.{option_or}
 use Rattle.crack_row.specs.Commands.{change_of, key_of}
 use Rattle.crack_row.specs.Ranges.{Range, is_in}
 use Rattle.crack_row.specs.declared.Key.{Key}
-use Rattle.crack_row.specs.declared.command.Change.{Change}
-use Rattle.crack_row.specs.declared.command.Change.TheVariants.{Place, Rewrite}
 use Rattle.crack_row.specs.declared.command.Command.{Command}
 use Rattle.crack_row.specs.declared.limit.Limits.{Limits}
 use Rattle.crack_row.specs.declared.refusal.Refusal.{Refusal}
 use Rattle.crack_row.specs.declared.refusal.Refusal.TheVariants.{KeyOutside, HistoryFull, NoCell, LifeOver}
 use Rattle.crack_plain.specs.Past.{Past, state_after}
 use Rattle.crack_plain.specs.Plain.{PlainView, accepted_of}
-use Rattle.crack_state.specs.State.{State}
-use Rattle.crack_state.specs.Points.{pending_by}
 use Rattle.crack_part.specs.Parts.{Part}
 use Rattle.crack_part.specs.Upkeep.{is_full}
+use Rattle.crack_part.specs.Cells.{is_without_cell}
 
 -- the plain rows that a past left, how many commands its base comes to, and how many entries its history has
 abbrev pub table_of : Past → PlainView
@@ -25,16 +22,6 @@ table_of past = record { state = state_after past; folded = past.base.folded; si
 abbrev pub is_key_in : Range → Option Key → Bool
 is_key_in keys None = true
 is_key_in keys (Some key) = is_in keys key.0
-
--- whether a change needs a cell more for a row: for one that is placed, and for one that takes the place of a row of the column
-abbrev pub takes_cell : State → Option Change → Bool
-takes_cell s (Some (Place key payload)) = true
-takes_cell s (Some (Rewrite serial key payload)) = unwrap_or (option_map not (pending_by s serial.0)) false
-takes_cell s _ = false
-
--- whether a change needs a cell where none is free, and there are as many as may be
-abbrev pub lacks_cell : ℕ → State → Option Change → Bool
-lacks_cell most s change = nat_le most (length s.cells) && ((length s.free == 0) && takes_cell s change)
 
 -- why a partition of these limits accepts no command more: as many were accepted since its last checkpoint as its history may have, and it
 -- makes none by itself, or as many since its opening as it may accept in all
@@ -47,4 +34,4 @@ first_cause keys stop lacks command = if is_key_in keys (key_of command) then op
 
 -- what a partition refuses a command with, if anything
 abbrev pub refusal_of : Part → Command → Option Refusal
-refusal_of part command = first_cause part.keys (stopped_by part.limits (table_of part.past)) (lacks_cell part.limits.cells part.store (change_of command)) command
+refusal_of part command = first_cause part.keys (stopped_by part.limits (table_of part.past)) (is_without_cell part.limits part.store (change_of command)) command

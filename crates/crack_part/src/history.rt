@@ -1,7 +1,7 @@
-//! The list of a history.
+//! The list of a history, and the base before it.
 ghost use Rattle.std.specs.Prelude.{◌≡◌, ◌<◌, ◌++◌, [], ◌∷◌, IfOk, IfErr, IfSome, OnOk, vec_len, vec_capacity};
 
-use crack_row::{Entry, Refusal};
+use crack_row::{Entry, Refusal, Row};
 use std::alloc::Global;
 
 /// How many entries a history has room for at first: so large a block of memory is mapped by itself, so that it grows
@@ -10,6 +10,24 @@ const FIRST_ENTRIES: usize = 2048;
 
 /// For how many entries a history that was checkpointed keeps its room.
 const KEPT_ENTRIES: usize = 4096;
+
+/// What commands that are kept no more left: the rows, in rising serial (24 bytes each), how many commands these were,
+/// and how many rows they placed and took out.
+#[derive(Drop)]
+pub(crate) struct Base {
+    pub(crate) rows: Vec<Row>,
+    pub(crate) folded: u64,
+    pub(crate) placed: u64,
+    pub(crate) gone: u64,
+}
+
+/// What a checkpoint needs, before it is made.
+#[derive(Drop)]
+pub(crate) struct Fold {
+    pub(crate) base: Base,
+    /// The list of the history that begins anew; `None` where the present one is emptied.
+    pub(crate) fresh: Option<Vec<Entry>>,
+}
 
 /// Makes room for one entry: O(1), amortised. Takes no memory where there is room.
 #[inline(always)]
@@ -55,4 +73,18 @@ pub(crate) fn push_reserved<T: Drop>(items: &mut Vec<T>, item: T)
     ensures { items.new.items ≡ items.old.items ++ item ∷ [] }
 {
     items.push_reserved(item);
+}
+
+/// Puts a base in the place of what was kept, and empties the history, which has room if it had. Takes no memory.
+pub(crate) fn begin_anew(base: &mut Base, history: &mut Vec<Entry>, fold: Fold)
+    requires fresh { IfSome fold.fresh (λ list. (list.items ≡ []) × (0 < vec_capacity list)) }
+    ensures base { base.new ≡ fold.base }
+    ensures empty { history.new.items ≡ [] }
+    ensures room { 0 < vec_capacity history.old → vec_len history.new < vec_capacity history.new }
+{
+    *base = fold.base;
+    match fold.fresh {
+        Some(fresh) => *history = fresh,
+        None => history.clear(),
+    }
 }

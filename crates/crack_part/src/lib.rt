@@ -1,10 +1,12 @@
 //! A partition: the rows of a range of keys, and every command that it answered.
 #![tactic(auto)]
 
+mod changes;
 mod history;
 pub mod partition;
 mod reads;
 mod replies;
+mod settling;
 pub mod totals;
 
 pub use partition::Partition;

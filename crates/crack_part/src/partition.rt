@@ -1,60 +1,35 @@
 //! Commands and their history.
-ghost use Rattle.std.specs.Prelude.{◌≡◌, ◌⊎◌, None, Some, ◌+◌, ◌<◌, ◌≤◌, ◌^◌, List, [], ◌∷◌, ◌++◌, length, map, filter};
-ghost use Rattle.std.specs.Prelude.{true, false, IsOk, IfOk, IfErr, IfSome, OnErr, OnOk, Err, vec_len, vec_capacity};
-ghost use Rattle.std.specs.List.Sorted.{IsPermutation};
+ghost use Rattle.std.specs.Prelude.{◌≡◌, ◌⊎◌, None, Some, ◌+◌, ◌<◌, ◌≤◌, ◌^◌, [], length, vec_capacity};
+ghost use Rattle.std.specs.Prelude.{true, false, IsTrue, IsFalse, ◌↔◌, IsOk, IfOk, IfErr, IfSome, OnErr, OnOk, Err};
 ghost use Rattle.crack_row.specs.Commands.{change_of, key_of, range_of};
-ghost use Rattle.crack_row.specs.Ranges.{IsIn};
 ghost use Rattle.crack_row.specs.Replies.{IsFlat};
-ghost use Rattle.crack_row.specs.Rows.{is_other, replaced};
 ghost use Rattle.crack_row.specs.Layouts.{IsLayout};
 ghost use Rattle.crack_row.specs.Limits.{AreLimits, of_history};
-ghost use Rattle.crack_plain.specs.Plain.{PlainState, IsNumbered, reply_to, row_in, after, IsSmall};
+ghost use Rattle.crack_plain.specs.Plain.{PlainState, IsNumbered, reply_to, after, IsSmall};
 ghost use Rattle.crack_plain.specs.Past.{no_past, with_entry, accepted_in, base_after, IsLegal};
-ghost use Rattle.crack_plain.specs.Inside.{gone, rewritten};
 ghost use Rattle.crack_state.specs.State.{State, IsIntact, live_rows};
-ghost use Rattle.crack_state.specs.Steps.{SameButRoom, admitted, IsAdmissible};
-ghost use Rattle.crack_state.specs.Points.{pending_by, MayFree, IsRenewable, Removes, Rewrites};
-ghost use Rattle.crack_state.specs.Merge.{IsCracked, IsSettled, Merges, Tallies};
-ghost use Rattle.crack_merge.specs.Merges.{Stops};
+ghost use Rattle.crack_state.specs.Steps.{SameButRoom};
+ghost use Rattle.crack_state.specs.Merge.{IsSettled};
 ghost use Rattle.crack_store.specs.Inside.{no_cells, IsLayoutOf};
-ghost use Rattle.crack_part.specs.Parts.{state_of, folded_part, IsLimit, IsSound, IsFaithful, LeavesNear};
-ghost use Rattle.crack_part.specs.Parts.{has_many_pending, is_merged_first, read_by, CracksAndMerges, Readies, Settles};
-ghost use Rattle.crack_part.specs.Parts.{StopsAt, StopsRead, Serves, Spares, Prepares, Performs, placed};
-ghost use Rattle.crack_part.specs.Refusals.{is_key_in, takes_cell, lacks_cell, refusal_of};
+ghost use Rattle.crack_part.specs.Parts.{state_of, folded_part, IsLimit, IsSound, IsFaithful, CracksAndMerges, StopsAt};
+ghost use Rattle.crack_part.specs.Parts.{Serves, ServesCleared, Spares, SparesCleared, Prepares, Performs};
+ghost use Rattle.crack_part.specs.Refusals.{is_key_in, refusal_of};
+ghost use Rattle.crack_part.specs.Cells.{takes_cell, lacks_cell, may_clear};
 ghost use Rattle.crack_part.specs.Upkeep.{is_automatic, is_full, upkept};
-ghost use Rattle.crack_part.specs.Inside.{IsCommon, AreCommon, MayPerform, base_of};
+ghost use Rattle.crack_part.specs.Inside.{AreCommon, MayPerform, base_of, early_refusal_of, Frees, FreesNone, Applies};
 
-use crate::history::{fresh_list, make_room, push_reserved};
+use crate::changes::{place, remove, rewrite};
+use crate::history::{Base, Fold, begin_anew, fresh_list, make_room, push_reserved};
 use crate::reads::{count, select, sum};
-use crate::replies::{copied, gone, rewritten};
-use crack_merge::{merge_complete, merge_gradual};
-use crack_ripple::merge_ripple;
+use crate::replies::copied;
+use crate::settling::{crack_and_merge, settle};
 use crack_row::{
-    Command, Entry, GREATEST_LIMIT, Key, KeyRange, Layout, Limits, Payload, Policy, Refusal, Reply,
-    Row, RowList, Serial, Upkeep,
+    Command, Entry, GREATEST_LIMIT, KeyRange, Layout, Limits, Policy, Refusal, Reply, Row, RowList,
+    Upkeep,
 };
 use crack_store::{MergeReport, Store};
 use std::alloc::Global;
 use std::marker::Model;
-use std::mem;
-
-/// What commands that are kept no more left: the rows, in rising serial (24 bytes each), how many commands these were,
-/// and how many rows they placed and took out.
-#[derive(Drop)]
-struct Base {
-    rows: Vec<Row>,
-    folded: u64,
-    placed: u64,
-    gone: u64,
-}
-
-/// What a checkpoint needs, before it is made.
-#[derive(Drop)]
-struct Fold {
-    base: Base,
-    /// The list of the history that begins anew; `None` where the present one is emptied.
-    fresh: Option<Vec<Entry>>,
-}
 
 /// The rows whose keys lie in one range, and every command that was answered since the last checkpoint, with the worker
 /// who asked and the reply, after a base: what the commands before it left. Contracts see besides what stands where in
@@ -286,15 +261,17 @@ impl Partition {
     }
 
     /// Answers one command of a worker and keeps it in the history. The second reply is a copy, for a receipt. Where
-    /// the history is full and upkeep is automatic, it makes a checkpoint first, as `checkpoint` does. Refused, in this
-    /// order: with 4 where the command brings a key that isn't the partition's, with 6 where the history is full and
-    /// upkeep is on request, with 10 where it has accepted as many commands as its life, with 9 where an insert, or an
-    /// update of a row of the column, finds no free cell and as many cells as their limit, with 8 where no memory is
-    /// found. After 4, 6, 10 and 9 nothing has changed. After 8 no checkpoint is made; a command that reads no range
-    /// has changed nothing, and one that reads a range has at most cracked the column at its ends and merged in part,
-    /// or in whole. An insert, a delete and an update are O(1), amortised. A command that reads a range cracks the
-    /// pieces in which its ends fall and merges by the policy what its range needs; a count is then O(log pieces), a
-    /// sum O(m), and a select O(m log m) for m rows in the range.
+    /// upkeep is automatic, it makes a checkpoint first, as `checkpoint` does, if the history is full; and if an
+    /// insert, or an update of a row of the column, finds no free cell and as many cells as their limit, while doomed
+    /// rows wait, it merges all pending rows first, as a count of all keys does under `Policy::Complete`. Refused, in
+    /// this order: with 4 where the command brings a key that isn't the partition's, with 6 where the history is full
+    /// and upkeep is on request, with 10 where it has accepted as many commands as its life, with 9 where no cell is
+    /// free and upkeep frees none, with 8 where no memory is found. After 4, 6, 10 and 9 nothing has changed. After 8
+    /// no checkpoint is made; that merge may be made in part, or in whole; else a command that reads no range has
+    /// changed nothing, and one that reads a range has at most cracked the column at its ends and merged in part, or in
+    /// whole. An insert, a delete and an update are O(1), amortised, without upkeep. A command that reads a range
+    /// cracks the pieces in which its ends fall and merges by the policy what its range needs; a count is then O(log
+    /// pieces), a sum O(m), and a select O(m log m) for m rows in the range.
     #[inline(always)]
     pub fn apply(
         &mut self,
@@ -308,18 +285,47 @@ impl Partition {
         ensures kept { IfOk result (λ replies. self.new.past ≡ with_entry (upkept self.old.limits self.old.past)
             (record { worker = worker; command = command; reply = replies.0 })) }
         ensures state { OnOk result (state_of self.new ≡ after (state_of self.old) command) }
-        ensures store { OnOk result (Serves policy self.old.keys self.old.next command self.old.store self.new.store) }
+        ensures store { OnOk result (Serves policy self.old command self.new.store) }
         ensures opened { (self.new.keys ≡ self.old.keys) × (self.new.limits ≡ self.old.limits) }
 
         ensures err { OnErr result (self.new.past ≡ self.old.past) }
-        ensures spared { OnErr result (Spares policy self.old.keys (range_of command) self.old.store self.new.store) }
+        ensures spared { OnErr result (Spares policy self.old command self.new.store) }
         ensures refused { IfSome (refusal_of self.old command) (λ e. (result ≡ Err e) × (self.new ≡ self.old)) }
         ensures memory { refusal_of self.old command ≡ None → IfErr result (λ e. e ≡ Refusal.OutOfMemory) }
     {
-        if self.history.len() as u64 >= self.limits.history {
+        if self.may_need_upkeep(&command) {
             let asked = command;
             return self.apply_apart(worker, asked, policy);
         }
+        self.apply_with_room(worker, command, policy)
+    }
+
+    /// Answers a command where the history has room and no cell is missing, as `apply` does.
+    #[inline(always)]
+    fn apply_with_room(
+        &mut self,
+        worker: u32,
+        command: Command,
+        policy: Policy,
+    ) -> Result<(Reply, Reply), Refusal>
+        requires room { length self.old.past.tail < self.old.limits.history }
+        requires cell { lacks_cell self.old.limits.cells self.old.store (change_of command) ≡ false }
+        ensures replies { IfOk result (λ replies. (replies.0 ≡ reply_to (state_of self.old) command) ×
+            (replies.1 ≡ replies.0)) }
+        ensures small { IfOk result (λ replies. IsSmall replies.0) }
+        ensures kept { IfOk result (λ replies. self.new.past ≡ with_entry (upkept self.old.limits self.old.past)
+            (record { worker = worker; command = command; reply = replies.0 })) }
+        ensures state { OnOk result (state_of self.new ≡ after (state_of self.old) command) }
+        ensures store { OnOk result (ServesCleared policy self.old.keys self.old.next command self.old.store
+            self.new.store) }
+        ensures opened { (self.new.keys ≡ self.old.keys) × (self.new.limits ≡ self.old.limits) }
+
+        ensures err { OnErr result (self.new.past ≡ self.old.past) }
+        ensures spared { OnErr result (SparesCleared policy self.old.keys (range_of command) self.old.store
+            self.new.store) }
+        ensures refused { IfSome (early_refusal_of self.old command) (λ e. (result ≡ Err e) × (self.new ≡ self.old)) }
+        ensures memory { early_refusal_of self.old command ≡ None → IfErr result (λ e. e ≡ Refusal.OutOfMemory) }
+    {
         self.may_keep(&command)?;
         make_room(&mut self.history)?;
         let reply = answer(
@@ -341,8 +347,8 @@ impl Partition {
         Ok((copies.reply, copies.receipt))
     }
 
-    /// Answers a command where the history is full. What comes of it has its place in memory here, so that where
-    /// `apply` begins none is cleared for it.
+    /// Answers a command that may need upkeep. What comes of it has its place in memory here, so that where `apply`
+    /// begins none is cleared for it.
     #[inline(always)]
     fn apply_apart(
         &mut self,
@@ -350,22 +356,27 @@ impl Partition {
         command: Command,
         policy: Policy,
     ) -> Result<(Reply, Reply), Refusal>
-        requires full { self.old.limits.history ≤ length self.old.past.tail }
-        ensures replies { IfOk result (λ replies. (replies.0 ≡ reply_to (state_of self.old) command) ×
-            (replies.1 ≡ replies.0)) }
-        ensures small { IfOk result (λ replies. IsSmall replies.0) }
-        ensures kept { IfOk result (λ replies. self.new.past ≡ with_entry (upkept self.old.limits self.old.past)
-            (record { worker = worker; command = command; reply = replies.0 })) }
-        ensures state { OnOk result (state_of self.new ≡ after (state_of self.old) command) }
-        ensures store { OnOk result (Serves policy self.old.keys self.old.next command self.old.store self.new.store) }
-        ensures opened { (self.new.keys ≡ self.old.keys) × (self.new.limits ≡ self.old.limits) }
-
-        ensures err { OnErr result (self.new.past ≡ self.old.past) }
-        ensures spared { OnErr result (Spares policy self.old.keys (range_of command) self.old.store self.new.store) }
-        ensures refused { IfSome (refusal_of self.old command) (λ e. (result ≡ Err e) × (self.new ≡ self.old)) }
-        ensures memory { refusal_of self.old command ≡ None → IfErr result (λ e. e ≡ Refusal.OutOfMemory) }
+        ensures applies { Applies policy worker command self.old result self.new }
     {
-        handed_on(self.apply_when_full(worker, command, policy))
+        handed_on(self.apply_with_upkeep(worker, command, policy))
+    }
+
+    /// Answers a command that may need upkeep, as `apply` does.
+    #[inline(never)]
+    fn apply_with_upkeep(
+        &mut self,
+        worker: u32,
+        command: Command,
+        policy: Policy,
+    ) -> Result<(Reply, Reply), Refusal>
+        ensures applies { Applies policy worker command self.old result self.new }
+    {
+        self.may_keep(&command)?;
+        self.make_cell(&command)?;
+        if self.is_at_limit() {
+            return self.apply_when_full(worker, command, policy);
+        }
+        self.apply_with_room(worker, command, policy)
     }
 
     /// Answers a command where the history is full, as `apply` does. What a checkpoint needs of memory is taken before
@@ -378,19 +389,22 @@ impl Partition {
         policy: Policy,
     ) -> Result<(Reply, Reply), Refusal>
         requires full { self.old.limits.history ≤ length self.old.past.tail }
+        requires cell { lacks_cell self.old.limits.cells self.old.store (change_of command) ≡ false }
         ensures replies { IfOk result (λ replies. (replies.0 ≡ reply_to (state_of self.old) command) ×
             (replies.1 ≡ replies.0)) }
         ensures small { IfOk result (λ replies. IsSmall replies.0) }
         ensures kept { IfOk result (λ replies. self.new.past ≡ with_entry (upkept self.old.limits self.old.past)
             (record { worker = worker; command = command; reply = replies.0 })) }
         ensures state { OnOk result (state_of self.new ≡ after (state_of self.old) command) }
-        ensures store { OnOk result (Serves policy self.old.keys self.old.next command self.old.store self.new.store) }
+        ensures store { OnOk result (ServesCleared policy self.old.keys self.old.next command self.old.store
+            self.new.store) }
         ensures opened { (self.new.keys ≡ self.old.keys) × (self.new.limits ≡ self.old.limits) }
 
         ensures err { OnErr result (self.new.past ≡ self.old.past) }
-        ensures spared { OnErr result (Spares policy self.old.keys (range_of command) self.old.store self.new.store) }
-        ensures refused { IfSome (refusal_of self.old command) (λ e. (result ≡ Err e) × (self.new ≡ self.old)) }
-        ensures memory { refusal_of self.old command ≡ None → IfErr result (λ e. e ≡ Refusal.OutOfMemory) }
+        ensures spared { OnErr result (SparesCleared policy self.old.keys (range_of command) self.old.store
+            self.new.store) }
+        ensures refused { IfSome (early_refusal_of self.old command) (λ e. (result ≡ Err e) × (self.new ≡ self.old)) }
+        ensures memory { early_refusal_of self.old command ≡ None → IfErr result (λ e. e ≡ Refusal.OutOfMemory) }
     {
         self.may_keep(&command)?;
         let ready = self.fold()?;
@@ -415,6 +429,73 @@ impl Partition {
         Ok((copies.reply, copies.receipt))
     }
 
+    /// Whether the history has as many entries as it may, or a command lacks a cell.
+    #[inline(always)]
+    fn may_need_upkeep(&self, command: &Command) -> bool
+        ensures { IsFalse result → (length self.now.past.tail < self.now.limits.history) ×
+            (lacks_cell self.now.limits.cells self.now.store (change_of command.now) ≡ false) }
+    {
+        self.is_at_limit() || self.wants_cell(command)
+    }
+
+    /// Whether the history has as many entries as it may.
+    #[inline(always)]
+    fn is_at_limit(&self) -> bool
+        ensures { IsTrue result ↔ self.now.limits.history ≤ length self.now.past.tail }
+    {
+        self.history.len() as u64 >= self.limits.history
+    }
+
+    /// Whether a command needs a cell where none is free and there are as many as may be. O(1).
+    #[inline(always)]
+    fn wants_cell(&self, command: &Command) -> bool
+        ensures { result ≡ lacks_cell self.now.limits.cells self.now.store (change_of command.now) }
+    {
+        lacks_cell(&self.store, self.limits.cells, command)
+    }
+
+    /// Whether doomed rows wait whose cells upkeep may free. O(1).
+    fn may_clear(&self) -> bool
+        ensures { result ≡ may_clear self.now.limits self.now.store }
+    {
+        is_automatic(self.limits.upkeep) && self.store.pending_out() != 0
+    }
+
+    /// Frees cells where a command lacks one: the doomed rows that wait are taken out, by a merge of all pending rows.
+    /// Refused with 9 where upkeep is on request or none wait, and with 8 where no memory is found.
+    fn make_cell(&mut self, command: &Command) -> Result<(), Refusal>
+        ensures frees { OnOk result (Frees self.old command.now self.new) }
+        ensures err { IfErr result (λ e. FreesNone self.old command.now e self.new) }
+        ensures same { self.new ≡ record self.old { store = self.new.store } }
+    {
+        if !self.wants_cell(command) {
+            return Ok(());
+        }
+        if !self.may_clear() {
+            return Err(Refusal::NoCell);
+        }
+        self.clear()
+    }
+
+    /// Merges all pending rows, so that the cells of the doomed ones are free.
+    fn clear(&mut self) -> Result<(), Refusal>
+        requires waits { 0 < length self.old.store.pending_out }
+        ensures cleared { OnOk result (CracksAndMerges Policy.Complete self.old.store self.new.store
+            self.old.store.keys) }
+        ensures free { OnOk result (0 < length self.new.store.free) }
+        ensures stopped { OnErr result (StopsAt Policy.Complete self.old.store self.new.store self.old.store.keys) }
+        ensures err { IfErr result (λ e. e ≡ Refusal.OutOfMemory) }
+        ensures same { self.new ≡ record self.old { store = self.new.store } }
+    {
+        crack_and_merge(
+            &mut self.store,
+            self.alloc,
+            self.keys,
+            self.keys,
+            Policy::Complete,
+        )
+    }
+
     /// Whether the history is full, and upkeep is on request.
     #[inline(always)]
     fn is_full(&self) -> bool
@@ -423,11 +504,11 @@ impl Partition {
         self.history.len() as u64 >= self.limits.history && !is_automatic(self.limits.upkeep)
     }
 
-    /// Refuses a command for the first cause, before any memory is looked for.
+    /// Refuses a command for the first cause but want of a cell, before any memory is looked for.
     #[inline(always)]
     fn may_keep(&self, command: &Command) -> Result<(), Refusal>
-        ensures ok { OnOk result (refusal_of self.now command.now ≡ None) }
-        ensures err { IfErr result (λ e. refusal_of self.now command.now ≡ Some e) }
+        ensures ok { OnOk result (early_refusal_of self.now command.now ≡ None) }
+        ensures err { IfErr result (λ e. early_refusal_of self.now command.now ≡ Some e) }
     {
         if !allows(self.keys, command) {
             return Err(Refusal::KeyOutside);
@@ -439,9 +520,6 @@ impl Partition {
         }
         if self.accepted() >= self.limits.life {
             return Err(Refusal::LifeOver);
-        }
-        if lacks_cell(&self.store, self.limits.cells, command) {
-            return Err(Refusal::NoCell);
         }
         Ok(())
     }
@@ -510,11 +588,11 @@ fn answer(
         → length plain.rows < 2 ^ 32 → IsSmall reply) }
     ensures lists { IfOk result (λ reply. (Prepares policy keys (range_of command.now) store.old store.new ×
         (next.new ≡ next.old)) ⊎ IsFlat reply) }
-    ensures served { OnOk result (Serves policy keys next.old command.now store.old store.new) }
+    ensures served { OnOk result (ServesCleared policy keys next.old command.now store.old store.new) }
     ensures faithful { OnOk result ((plain : PlainState) → IsFaithful store.old next.old plain →
         IsFaithful store.new next.new (after plain command.now)) }
     ensures intact { OnOk result (IsIntact store.new []) }
-    ensures spared { OnErr result (Spares policy keys (range_of command.now) store.old store.new ×
+    ensures spared { OnErr result (SparesCleared policy keys (range_of command.now) store.old store.new ×
         (next.new ≡ next.old)) }
     ensures err { IfErr result (λ e. e ≡ Refusal.OutOfMemory) }
 {
@@ -536,7 +614,7 @@ fn prepare(
     ensures prepared { OnOk result (Prepares policy keys range store.old store.new) }
     ensures common { IfOk result (λ common. AreCommon range keys common) }
     ensures settled { IfOk result (λ common. IfSome common (λ r. IsSettled store.new r)) }
-    ensures spared { OnErr result (Spares policy keys range store.old store.new) }
+    ensures spared { OnErr result (SparesCleared policy keys range store.old store.new) }
     ensures err { IfErr result (λ e. e ≡ Refusal.OutOfMemory) }
 {
     match range {
@@ -613,211 +691,5 @@ fn handed_on(answered: Result<(Reply, Reply), Refusal>) -> Result<(Reply, Reply)
     match answered {
         Ok((reply, receipt)) => Ok((reply, receipt)),
         Err(refusal) => Err(refusal),
-    }
-}
-
-/// Settles the store for a range. Under `Policy::Auto` all pending rows are merged first where many insertions are
-/// pending, as a count of all keys under `Policy::Complete` does, and the range is then read under `Policy::Ripple`.
-#[inline(never)]
-fn settle(
-    store: &mut Store,
-    alloc: Global,
-    keys: KeyRange,
-    range: KeyRange,
-    policy: Policy,
-) -> Result<(), Refusal>
-    requires ends { store.old.keys ≡ keys }
-    requires filled { range.low < range.high }
-    requires low { keys.low ≤ range.low }
-    requires high { range.high ≤ keys.high }
-    ensures settled { OnOk result (Settles policy store.old store.new range) }
-    ensures stopped { OnErr result (StopsRead policy store.old store.new range) }
-    ensures err { IfErr result (λ e. e ≡ Refusal.OutOfMemory) }
-{
-    make_ready(store, alloc, keys, policy)?;
-    crack_and_merge(store, alloc, keys, range, policy)
-}
-
-/// Merges all pending rows, where that is due before a range is read.
-#[inline(always)]
-fn make_ready(
-    store: &mut Store,
-    alloc: Global,
-    keys: KeyRange,
-    policy: Policy,
-) -> Result<(), Refusal>
-    requires ends { store.old.keys ≡ keys }
-    requires filled { keys.low < keys.high }
-    ensures ready { OnOk result (Readies policy store.old store.new) }
-    ensures stopped { OnErr result ((is_merged_first policy store.old ≡ true) × StopsAt Policy.Complete store.old
-        store.new store.old.keys) }
-    ensures err { IfErr result (λ e. e ≡ Refusal.OutOfMemory) }
-{
-    if is_merged_first(policy, store) {
-        return crack_and_merge(store, alloc, keys, keys, Policy::Complete);
-    }
-    Ok(())
-}
-
-/// Whether all pending rows are merged before a range is read. O(1).
-#[inline(always)]
-fn is_merged_first(policy: Policy, store: &Store) -> bool
-    ensures { result ≡ is_merged_first policy store.now }
-{
-    match policy {
-        Policy::Auto => has_many_pending(store),
-        _ => false,
-    }
-}
-
-/// Cracks the store at the ends of a range, and merges by the policy what the range needs.
-#[inline(never)]
-fn crack_and_merge(
-    store: &mut Store,
-    alloc: Global,
-    keys: KeyRange,
-    range: KeyRange,
-    policy: Policy,
-) -> Result<(), Refusal>
-    requires filled { range.low < range.high }
-    requires low { store.old.keys.low ≤ range.low }
-    requires high { range.high ≤ store.old.keys.high }
-    ensures settled { OnOk result (CracksAndMerges (read_by policy) store.old store.new range) }
-    ensures stopped { OnErr result (StopsAt (read_by policy) store.old store.new range) }
-    ensures err { IfErr result (λ e. e ≡ Refusal.OutOfMemory) }
-{
-    if let Err(refusal) = store.crack(range) {
-        return Err(refusal);
-    }
-    store.facts();
-    if store.pending_in() == 0 && store.pending_out() == 0 {
-        return Ok(());
-    }
-    let cracked = mem::replace(store, Store::new(alloc, keys));
-    match merge(cracked, range, policy) {
-        Ok((merged, _)) => {
-            *store = merged;
-            Ok(())
-        }
-        Err((left, refusal)) => {
-            *store = left;
-            Err(refusal)
-        }
-    }
-}
-
-/// Merges by the policy what a range needs by whose ends the store was cracked; `Policy::Auto` merges as
-/// `Policy::Ripple` here.
-fn merge(
-    store: Store,
-    range: KeyRange,
-    policy: Policy,
-) -> Result<(Store, MergeReport), (Store, Refusal)>
-    requires filled { range.low < range.high }
-    requires low { store.keys.low ≤ range.low }
-    requires high { range.high ≤ store.keys.high }
-    requires cracked { IsCracked store range }
-    ensures merged { IfOk result (λ r. Merges (read_by policy) store r.0 range) }
-    ensures near { IfOk result (λ r. LeavesNear (read_by policy) store r.0 range) }
-    ensures tallied { IfOk result (λ r. Tallies (read_by policy) store r.0) }
-    ensures stopped { IfErr result (λ e. Stops (read_by policy) store e.0 range) }
-    ensures err { IfErr result (λ e. e.1 ≡ Refusal.OutOfMemory) }
-{
-    match policy {
-        Policy::Complete => merge_complete(store, range),
-        Policy::Gradual => merge_gradual(store, range),
-        Policy::Ripple => merge_ripple(store, range),
-        Policy::Auto => merge_ripple(store, range),
-    }
-}
-
-/// Whether so many insertions are pending that merging all of them is expected to cost less than passing over them
-/// again and again. O(1).
-fn has_many_pending(store: &Store) -> bool
-    ensures { result ≡ has_many_pending store.now }
-{
-    let pieces = store.bounds() as u128 + 1;
-    (store.column_len() as u128).saturating_mul(pieces) <= store.pending_in() as u128 * 64
-}
-
-/// Puts in a row, which gets this serial; the reply. O(1), amortised.
-#[inline(always)]
-fn place(store: &mut Store, next: &mut u64, key: Key, payload: Payload) -> Result<Reply, Refusal>
-    requires intact { IsIntact store.old [] }
-    requires admissible { IsAdmissible (placed next.old key payload) store.old }
-    requires small { next.old + 1 < 2 ^ 64 }
-    ensures reply { IfOk result (λ reply. reply ≡ Reply.Placed (record { 0 = next.old })) }
-    ensures placed { OnOk result (SameButRoom (admitted (placed next.old key payload) store.old) store.new) }
-    ensures faithful { OnOk result ((plain : PlainState) → IsFaithful store.old next.old plain →
-        IsFaithful store.new next.new (after plain (Command.Insert key payload))) }
-    ensures intact { OnOk result (IsIntact store.new []) }
-    ensures same { OnErr result (SameButRoom store.old store.new × (next.new ≡ next.old)) }
-    ensures err { IfErr result (λ e. e ≡ Refusal.OutOfMemory) }
-{
-    let row = Row {
-        serial: Serial(*next),
-        key,
-        payload,
-    };
-    store.admit(row)?;
-    *next += 1;
-    store.facts();
-    Ok(Reply::Placed(row.serial))
-}
-
-/// Takes out the row of a serial, if there is one; the reply. O(1), amortised.
-#[inline(never)]
-fn remove(store: &mut Store, serial: Serial) -> Result<Reply, Refusal>
-    requires few { MayFree store.old }
-    ensures reply { IfOk result (λ reply. (plain : List Row) → IsPermutation (live_rows store.old) plain → reply ≡
-        gone (row_in plain serial)) }
-    ensures flat { IfOk result (λ reply. IsFlat reply) }
-    ensures small { IfOk result (λ reply. IsSmall reply) }
-    ensures removed { OnOk result (Removes (pending_by store.old serial.0) serial.0 store.old store.new) }
-    ensures live { OnOk result ((plain : List Row) → IsPermutation (live_rows store.old) plain →
-        IsPermutation (live_rows store.new) (filter (is_other serial.0) plain)) }
-    ensures intact { OnOk result (IsIntact store.new []) }
-    ensures same { OnErr result (SameButRoom store.old store.new) }
-    ensures err { IfErr result (λ e. e ≡ Refusal.OutOfMemory) }
-{
-    store.facts();
-    let row = store.remove(serial)?;
-    store.facts();
-    Ok(gone(row))
-}
-
-/// Puts a row in the place of the one of its serial, if there is one; the reply. O(1), amortised.
-#[inline(never)]
-fn rewrite(store: &mut Store, row: Row) -> Result<Reply, Refusal>
-    requires within { IsIn store.old.keys row.key.0 }
-    requires renewable { IsRenewable store.old }
-    ensures reply { IfOk result (λ reply. (plain : List Row) → IsPermutation (live_rows store.old) plain → reply ≡
-        rewritten (row_in plain row.serial)) }
-    ensures flat { IfOk result (λ reply. IsFlat reply) }
-    ensures small { IfOk result (λ reply. IsSmall reply) }
-    ensures replaced { OnOk result (Rewrites (pending_by store.old row.serial.0) row store.old store.new) }
-    ensures live { OnOk result ((plain : List Row) → IsPermutation (live_rows store.old) plain →
-        IsPermutation (live_rows store.new) (map (replaced row) plain)) }
-    ensures intact { OnOk result (IsIntact store.new []) }
-    ensures same { OnErr result (SameButRoom store.old store.new) }
-    ensures err { IfErr result (λ e. e ≡ Refusal.OutOfMemory) }
-{
-    store.facts();
-    let before = store.replace(row)?;
-    store.facts();
-    Ok(rewritten(before))
-}
-
-/// Puts a base in the place of what was kept, and empties the history, which has room if it had. Takes no memory.
-fn begin_anew(base: &mut Base, history: &mut Vec<Entry>, fold: Fold)
-    requires fresh { IfSome fold.fresh (λ list. (list.items ≡ []) × (0 < vec_capacity list)) }
-    ensures base { base.new ≡ fold.base }
-    ensures empty { history.new.items ≡ [] }
-    ensures room { 0 < vec_capacity history.old → vec_len history.new < vec_capacity history.new }
-{
-    *base = fold.base;
-    match fold.fresh {
-        Some(fresh) => *history = fresh,
-        None => history.clear(),
     }
 }

@@ -5,6 +5,8 @@
 #[cfg(test)]
 mod book;
 #[cfg(test)]
+mod cells;
+#[cfg(test)]
 mod changes;
 #[cfg(test)]
 mod commands;

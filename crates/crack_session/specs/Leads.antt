@@ -1,6 +1,5 @@
 -- What calls of a core and of a plain table lead to.
 use Rattle.std.specs.Prelude.{◌≡◌, ℕ, [], ◌∷◌, List, OnOk, OnErr, slice_get}
-use Rattle.crack_row.specs.Commands.{range_of}
 use Rattle.crack_row.specs.declared.Bound.{Bound}
 use Rattle.crack_row.specs.declared.command.Command.{Command}
 use Rattle.crack_row.specs.declared.command.Policy.{Policy}
@@ -22,7 +21,7 @@ rows_lead bounds splits old (Looked part outcome) new = IsLayoutOutcome (keys_of
 
 -- what a call does to the stores of a core's partitions: the one that is asked is served or spared by the policy
 abbrev pub stores_lead : List Part → Call → List Part → Type 0
-stores_lead old (Asked part command policy outcome) new = OnOk outcome (AtPart part (λ p q. Serves policy p.keys p.next command p.store q.store) old new) × OnErr outcome (AtPart part (λ p q. Spares policy p.keys (range_of command) p.store q.store) old new)
+stores_lead old (Asked part command policy outcome) new = OnOk outcome (AtPart part (λ p q. Serves policy p command q.store) old new) × OnErr outcome (AtPart part (λ p q. Spares policy p command q.store) old new)
 stores_lead old call new = Unit {0}
 
 -- what a call of a core leads to

@@ -33,8 +33,8 @@ pub trait Desk {
 
     /// Asks one partition. Refused, with the rows and histories as they were, with 5 where there is no such partition,
     /// with 4 where the command brings a key that isn't the partition's, with 6 where its history is full and no
-    /// checkpoint is due, with 10 where it accepts no command more, with 9 where no cell is free for a row and it has
-    /// as many as it may have, and with 8 where it finds no memory.
+    /// checkpoint is due, with 10 where it accepts no command more, with 9 where no cell is free for a row, upkeep
+    /// frees none and it has as many as it may have, and with 8 where it finds no memory.
     fn ask(&mut self, part: u32, command: Command, policy: Policy) -> Result<Reply, Refusal>
         // It is the reply of the plain rows, or the refusal that they call for; in place of a reply it may be 8, or 9.
         ensures outcome { (known : List PlainView) → tables self.old ≡ Some known →

@@ -9,7 +9,8 @@ use Rattle.crack_row.specs.declared.refusal.Refusal.{Refusal}
 use Rattle.crack_row.specs.declared.refusal.Refusal.TheVariants.{KeyOutside, HistoryFull, GateGaveUp, OutOfMemory, NoCell, LifeOver}
 use Rattle.crack_part.specs.Parts.{Part}
 use Rattle.crack_plain.specs.Past.{accepted_in}
-use Rattle.crack_part.specs.Refusals.{is_key_in, lacks_cell, refusal_of}
+use Rattle.crack_part.specs.Cells.{is_without_cell}
+use Rattle.crack_part.specs.Refusals.{is_key_in, refusal_of}
 use Rattle.crack_part.specs.Upkeep.{is_full}
 use Rattle.crack_table.specs.Tables.{TableState, MayRefuse, with_limit}
 
@@ -62,4 +63,4 @@ told-no-gate limit p q command (Err e) r refused memory told gate = by_cause (re
         cc (ap (with_limit limit) short, is)
     by_cause (Some x) at refused memory =
         let cause : e ≡ x = cc refused.0 in
-        not-gate (is_key_in p.keys (key_of command)) (is_full p.limits (length p.past.tail)) (nat_le p.limits.life (accepted_in p.past)) (lacks_cell p.limits.cells p.store (change_of command)) p.limits.history limit x at (ap (with_limit limit) (sym cause) ∙ is)
+        not-gate (is_key_in p.keys (key_of command)) (is_full p.limits (length p.past.tail)) (nat_le p.limits.life (accepted_in p.past)) (is_without_cell p.limits p.store (change_of command)) p.limits.history limit x at (ap (with_limit limit) (sym cause) ∙ is)

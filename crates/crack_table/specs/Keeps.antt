@@ -1,7 +1,6 @@
 -- What private clauses alone cite.
 -- What a table keeps, and what comes of asking a partition for a worker.
 use Rattle.std.specs.Prelude.{◌≡◌, ℕ, ◌+◌, ◌≤◌, List, [], ◌∷◌, ◌++◌, length, None, Result, Err, IfOk, IfErr, IfSome, OnOk, OnErr}
-use Rattle.crack_row.specs.Commands.{range_of}
 use Rattle.crack_row.specs.Limits.{AreLimits}
 use Rattle.crack_row.specs.declared.Bound.{Bound}
 use Rattle.crack_row.specs.declared.command.Command.{Command}
@@ -35,8 +34,8 @@ pub record AsksFor (part : ℕ) (command : Command) (policy : Policy) (answered 
   pub small : IfOk answered IsSmall
   pub kept : IfOk answered (λ reply. new.past ≡ with_entry (upkept old.limits old.past) (record { worker = book.worker; command = command; reply = reply }))
   pub state : OnOk answered (state_of new ≡ after (state_of old) command)
-  pub store : OnOk answered (Serves policy old.keys old.next command old.store new.store)
+  pub store : OnOk answered (Serves policy old command new.store)
   pub err : OnErr answered ((book'.receipts ≡ book.receipts) × (new.past ≡ old.past))
-  pub spared : OnErr answered (Spares policy old.keys (range_of command) old.store new.store)
+  pub spared : OnErr answered (Spares policy old command new.store)
   pub refused : IfSome (refusal_of old command) (λ e. (answered ≡ Err e) × (new ≡ old))
   pub memory : refusal_of old command ≡ None → IfErr answered (λ e. e ≡ OutOfMemory)

@@ -80,3 +80,8 @@ calls-le-accepted worker h past k = omega (arith, accepted_in-whole h past k, le
 pub refused-for : (o : Option Refusal) (e : Refusal) (Same : Type 0) → IfSome o (λ x. (◌≡◌ {A = Result (Reply × Reply) Refusal} (Err e) (Err x)) × Same) → (o ≡ None → e ≡ OutOfMemory) → (e ≡ OutOfMemory) ⊎ (o ≡ Some e)
 refused-for None e Same refused memory = inl (memory refl)
 refused-for (Some x) e Same refused memory = inr (let is : x ≡ e = cc refused.0 in ap Some is)
+
+-- one that replied refuses for no cause
+pub replied-for : (o : Option Refusal) (replies : Reply × Reply) (Same : Type 0) → IfSome o (λ x. (◌≡◌ {A = Result (Reply × Reply) Refusal} (Ok replies) (Err x)) × Same) → o ≡ None
+replied-for None replies Same refused = refl
+replied-for (Some x) replies Same refused = absurd (cc refused.0)

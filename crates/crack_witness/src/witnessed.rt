@@ -2,7 +2,6 @@
 ghost use Rattle.std.specs.Prelude.{◌≡◌, ◌⊎◌, ◌+◌, ◌<◌, ◌≤◌, [], ◌∷◌, ◌++◌, length, vec_len, IfOk, IfErr, IfSome};
 ghost use Rattle.std.specs.Prelude.{IsTrue, OnErr, OnOk, Err, None, ◌≢◌, ◌↔◌, ◌^◌, slice_index_or};
 ghost use mathlib.Core.List.{IsPrefix};
-ghost use Rattle.crack_row.specs.Commands.{range_of};
 ghost use Rattle.crack_plain.specs.Past.{no_past, with_entry};
 ghost use Rattle.crack_plain.specs.Plain.{IsSmall, reply_to};
 ghost use Rattle.crack_part.specs.Parts.{IsSound, state_of, folded_part, Serves, Spares};
@@ -133,8 +132,7 @@ impl<J: Naming> Witnessed<J> {
             } ∷ []) }
         ensures kept { IfOk result (λ reply. self.new.held.past ≡ with_entry (upkept self.old.held.limits
             self.old.held.past) (record { worker = worker; command = command; reply = reply })) }
-        ensures store { OnOk result (Serves policy self.old.held.keys self.old.held.next command self.old.held.store
-            self.new.held.store) }
+        ensures store { OnOk result (Serves policy self.old.held command self.new.held.store) }
         ensures opened { (self.new.held.keys ≡ self.old.held.keys) × (self.new.held.limits ≡ self.old.held.limits) }
         ensures part { (self.new.part ≡ self.old.part) × (self.new.workers ≡ self.old.workers) }
         ensures seen { OnOk result ((me.new ≡ self.new.log) × AreHistories me.new) }
@@ -148,8 +146,8 @@ impl<J: Naming> Witnessed<J> {
             (result ≡ Err (Refusal.StrangeReceipt self.old.part count)) × (self.new ≡ self.old) }
         ensures err { OnErr result ((self.new.log ≡ self.old.log) × (self.new.held.past ≡ self.old.held.past) ×
             (me.new ≡ me.old)) }
-        ensures spared { IsInStep J.owner self.old worker count → OnErr result (Spares policy self.old.held.keys
-            (range_of command) self.old.held.store self.new.held.store) }
+        ensures spared { IsInStep J.owner self.old worker count → OnErr result (Spares policy self.old.held command
+            self.new.held.store) }
         ensures refused { IsInStep J.owner self.old worker count → IfSome (refusal_of self.old.held command) (λ e.
             (result ≡ Err e) × (self.new ≡ self.old)) }
         ensures causes { IfErr result (MayRefuseIt J.owner self.old worker count command) }

@@ -1,6 +1,5 @@
 use Rattle.std.proofs.Common.{◌≡◌, ◌≢◌, ◌<◌, length, get_or, set, arith, ap, subst, [], ◌∷◌, ◌∙◌, Result, Ok, Err, IfErr}
 use Rattle.std.proofs.lemmas.List.{set-get_or}
-use Rattle.crack_row.specs.Commands.{range_of}
 use Rattle.crack_row.specs.declared.command.Reply.{Reply}
 use Rattle.crack_row.specs.declared.refusal.Refusal.{Refusal}
 use Rattle.crack_row.specs.declared.refusal.Refusal.TheVariants.{OutOfMemory}
@@ -75,8 +74,8 @@ returns-clause-store c =
     let old = asked c in
     let new = c.apply-answered.new.self in
     let within : s.part < length c.args.partitions.now = omega arith in
-    ok_given c.apply-answered.result c.without_receipt.result (gives c) c.apply-answered.ensures.store (λ (serves : Serves s.policy old.keys old.next s.command old.store new.store).
-    replaced-at (λ (x y : Part). Serves s.policy x.keys x.next s.command x.store y.store) c.args.partitions.now s.part new c.index-partitions-part.result within serves)
+    ok_given c.apply-answered.result c.without_receipt.result (gives c) c.apply-answered.ensures.store (λ (serves : Serves s.policy old s.command new.store).
+    replaced-at (λ (x y : Part). Serves s.policy x s.command y.store) c.args.partitions.now s.part new c.index-partitions-part.result within serves)
 
 pub returns-clause-spared : goal.returns-clause-spared
 returns-clause-spared c =
@@ -84,8 +83,8 @@ returns-clause-spared c =
     let old = asked c in
     let new = c.apply-answered.new.self in
     let within : s.part < length c.args.partitions.now = omega arith in
-    err_given c.apply-answered.result c.without_receipt.result (gives c) c.apply-answered.ensures.spared (λ (spares : Spares s.policy old.keys (range_of s.command) old.store new.store).
-    replaced-at (λ (x y : Part). Spares s.policy x.keys (range_of s.command) x.store y.store) c.args.partitions.now s.part new c.index-partitions-part.result within spares)
+    err_given c.apply-answered.result c.without_receipt.result (gives c) c.apply-answered.ensures.spared (λ (spares : Spares s.policy old s.command new.store).
+    replaced-at (λ (x y : Part). Spares s.policy x s.command y.store) c.args.partitions.now s.part new c.index-partitions-part.result within spares)
 
 pub returns-clause-same : goal.returns-clause-same
 returns-clause-same c =

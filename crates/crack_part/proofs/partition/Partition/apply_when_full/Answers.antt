@@ -1,6 +1,7 @@
 use Rattle.std.proofs.Common.{◌≡◌, ◌≤◌, ◌<◌, ◌^◌, length, List, [], ◌∷◌, ◌++◌, arith, ap, sym, subst, refl, ◌∙◌, inl, inr}
+use Rattle.std.specs.Prelude.{false}
 use Rattle.std.proofs.lemmas.Bool.{false≢true}
-use Rattle.crack_row.specs.Commands.{range_of}
+use Rattle.crack_row.specs.Commands.{change_of, range_of}
 use Rattle.crack_row.specs.declared.command.Entry.{Entry}
 use Rattle.crack_row.specs.declared.command.Reply.{Reply}
 use Rattle.crack_plain.specs.Past.{Base, Past, base_after, folded, state_after, with_entry}
@@ -8,6 +9,7 @@ use Rattle.crack_plain.specs.Plain.{IsSmall}
 use Rattle.crack_plain.proofs.PastLaws.{IsNumbered-after_past}
 use Rattle.crack_part.specs.Parts.{Part, IsSound, folded_part}
 use Rattle.crack_part.specs.Inside.{base_of}
+use Rattle.crack_part.specs.Cells.{lacks_cell}
 use Rattle.crack_part.proofs.CellLemmas.{fits-served}
 use Rattle.crack_part.proofs.KeepLemmas.{Keeps-spared, IsIntact-spared, Keeps-prepared, Spares-same, Spares-prepared}
 use Rattle.crack_part.proofs.SoundLemmas.{lived, few_rows, next-le-life, MayPerform-prepared, IsSound-kept, IsSound-folded, IsSound-served, Spends-served}
@@ -68,7 +70,8 @@ invariant_of-self-2 c =
     let said = c.in_ok-reply.ensures.replies plain (IsNumbered-after_past part.past c.self.invariant.legal.base) c.self.invariant.faithful in
     let faithful = c.in_ok-reply.ensures.faithful plain c.self.invariant.faithful in
     let spends = Spends-served c.args.policy _ c.args.command c.answer.new.store c.self.invariant kept.within c.in_ok-reply.ensures.served in
-    let fits = fits-served c.args.policy at.keys _ at.next c.args.command at.store c.answer.new.store c.self.invariant.cells kept.cell c.in_ok-reply.ensures.served in
+    let cell : lacks_cell c.self.inside.limits.cells c.self.inside.store (change_of c.args.command) ≡ false = rw (← c.self.view_is) at c.requires.cell in
+    let fits = fits-served c.args.policy at.keys _ at.next c.args.command at.store c.answer.new.store c.self.invariant.cells cell c.in_ok-reply.ensures.served in
     let folded = IsSound-folded part c.self.invariant in
     let served = IsSound-served (folded_part part) e c.answer.new.next c.answer.new.store folded (omega (arith, c.self.invariant.limited.history.0)) (omega (arith, kept.lives)) fits kept.within (c.in_ok-copies.ensures.ok.2 ∙ said) c.in_ok-reply.ensures.intact faithful spends in
     rw (alone, c.shrink_pending.ensures) (subst (λ (b : Base). IsSound (record part { past = record { base = b; tail = e ∷ [] }; next = c.answer.new.next; store = c.answer.new.store })) (sym base) served)

@@ -1,4 +1,4 @@
-use Rattle.std.proofs.Common.{rules, Err, inr, ◌≡◌, ◌<◌, ◌+◌, ◌∙◌, ap, sym, subst, ℕ, List, [], ◌∷◌, ◌++◌, length, arith, slice_set, slice_index_or}
+use Rattle.std.proofs.Common.{rules, None, Err, inr, ◌≡◌, ◌<◌, ◌+◌, ◌∙◌, ap, sym, subst, ℕ, List, [], ◌∷◌, ◌++◌, length, arith, slice_set, slice_index_or}
 use Rattle.std.proofs.lemmas.List.{length-set}
 use Rattle.std.proofs.lemmas.List.Elements.{All-push}
 use Rattle.crack_row.specs.declared.command.Entry.{Entry}
@@ -10,7 +10,7 @@ use Rattle.crack_part.specs.Upkeep.{upkept}
 use Rattle.crack_part.proofs.RefusalLaws.{if_refused}
 use Rattle.crack_row.specs.declared.refusal.Refusal.{Refusal}
 use Rattle.crack_witness.specs.Witnesses.{MayRefuseIt}
-use Rattle.crack_witness.proofs.Keeping.{refused-for}
+use Rattle.crack_witness.proofs.Keeping.{refused-for, replied-for}
 use Rattle.crack_witness.specs.Histories.{history_of, calls_by, AreOfWorkers, IsPastOf}
 use Rattle.crack_witness.specs.Witnesses.{WitnessedState}
 use Rattle.crack_witness.specs.Keeps.{AreCounts}
@@ -62,6 +62,12 @@ returns-clause-few g c =
     let is : slice_index_or c.self.inside.answered.items c.args.worker 0 ≡ c.args.count = subst (λ (l : List ℕ). slice_index_or l c.args.worker 0 ≡ c.args.count) items at.1 in
     let counted : slice_index_or c.self.inside.answered.items c.args.worker 0 ≡ length (calls_by c.args.worker h) = c.self.invariant.1 c.args.worker less in
     omega (arith, is, counted, calls-le-accepted c.args.worker h c.self.inside.partition.past c.self.invariant.0, c.facts.ensures.legal.lived, c.facts.ensures.limited.life.1)
+
+pub returns-clause-refused : goal.returns-clause-refused
+returns-clause-refused g c = λ in_step.
+    let p = c.self.inside.partition in
+    let none : refusal_of p c.args.command ≡ None = replied-for (refusal_of p c.args.command) (c.in_ok-reply.reply, c.in_ok-reply._copy) (c.apply.new.self ≡ p) c.in_ok-reply.ensures.refused in
+    rw (← c.self.view_is, none) tt
 
 pub returns-in_err-reply-clause-refused : goal.returns-in_err-reply-clause-refused
 returns-in_err-reply-clause-refused g c = λ in_step.

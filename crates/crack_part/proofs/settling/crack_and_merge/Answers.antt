@@ -1,7 +1,7 @@
 use Rattle.std.proofs.Common.{inl, inr, sym, ◌∙◌, arith}
 use Rattle.std.proofs.lemmas.List.{nil_from_length}
 use Rattle.crack_part.proofs.IdleLemmas.{CracksAndMerges-idle}
-use Rattle.crack_part.proofs.partition.crack_and_merge.Goals as goal
+use Rattle.crack_part.proofs.settling.crack_and_merge.Goals as goal
 
 pub merge-requires-clause-cracked : goal.merge-requires-clause-cracked
 merge-requires-clause-cracked c = rw c.replace-cracked.ensures.value c.in_default.ensures.cracked

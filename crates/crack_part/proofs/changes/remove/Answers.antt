@@ -2,7 +2,7 @@ use Rattle.std.proofs.Common.{ap, ◌∙◌}
 use Rattle.crack_plain.specs.Inside.{gone}
 use Rattle.crack_state.proofs.LookUpLaws.{row_by-find}
 use Rattle.crack_part.proofs.PointLemmas.{live-taken}
-use Rattle.crack_part.proofs.partition.remove.Goals as goal
+use Rattle.crack_part.proofs.changes.remove.Goals as goal
 
 pub returns-clause-reply : goal.returns-clause-reply
 returns-clause-reply c = λ plain same.

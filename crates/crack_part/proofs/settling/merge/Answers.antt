@@ -1,5 +1,5 @@
 use Rattle.std.proofs.Common.{rules}
-use Rattle.crack_part.proofs.partition.merge.Goals as goal
+use Rattle.crack_part.proofs.settling.merge.Goals as goal
 
 pub returns-in-Complete-clause-merged : goal.returns-in-Complete-clause-merged
 returns-in-Complete-clause-merged c = search rules

@@ -1,5 +1,5 @@
 use Rattle.crack_part.proofs.SoundLemmas.{IsFaithful-placed}
-use Rattle.crack_part.proofs.partition.place.Goals as goal
+use Rattle.crack_part.proofs.changes.place.Goals as goal
 
 pub returns-clause-faithful : goal.returns-clause-faithful
 returns-clause-faithful c = λ plain faithful.

@@ -2,7 +2,7 @@ use Rattle.std.proofs.Common.{ap, ◌∙◌}
 use Rattle.crack_plain.specs.Inside.{rewritten}
 use Rattle.crack_state.proofs.LookUpLaws.{row_by-find}
 use Rattle.crack_part.proofs.PointLemmas.{live-put}
-use Rattle.crack_part.proofs.partition.rewrite.Goals as goal
+use Rattle.crack_part.proofs.changes.rewrite.Goals as goal
 
 pub returns-clause-reply : goal.returns-clause-reply
 returns-clause-reply c = λ plain same.

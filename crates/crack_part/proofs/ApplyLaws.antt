@@ -1,0 +1,95 @@
+-- What comes of a command at a partition, by how it comes to its end.
+use Rattle.std.specs.Prelude.{◌≡◌, ℕ, ◌<◌, true, false, length, Option, None, Some, Result, Ok, Err, IfErr, OnOk, OnErr}
+use Rattle.std.proofs.Common.{ap, refl, subst, sym, ◌∙◌, inl, inr}
+use Rattle.std.proofs.lemmas.Bool.{and_parts}
+use Rattle.crack_row.specs.Commands.{change_of, range_of}
+use Rattle.crack_row.specs.declared.command.Command.{Command}
+use Rattle.crack_row.specs.declared.command.Policy.{Policy}
+use Rattle.crack_row.specs.declared.command.Policy.TheVariants.{Complete}
+use Rattle.crack_row.specs.declared.command.Reply.{Reply}
+use Rattle.crack_row.specs.declared.refusal.Refusal.{Refusal}
+use Rattle.crack_row.specs.declared.refusal.Refusal.TheVariants.{OutOfMemory, NoCell}
+use Rattle.crack_state.specs.State.{State}
+use Rattle.crack_part.specs.Cells.{lacks_cell, may_clear}
+use Rattle.crack_part.specs.Parts.{Part, CracksAndMerges, StopsAt, Serves, ServesCleared, Spares, SparesCleared}
+use Rattle.crack_part.specs.Refusals.{refusal_of}
+use Rattle.crack_part.specs.Inside.{early_refusal_of, Frees, FreesNone, AppliesBy, Applies}
+use Rattle.crack_part.proofs.RefusalLaws.{refused-late-none, refused-late-cell}
+use Rattle.crack_part.proofs.ClearLaws.{has-cell, cleared-first, not-without, not-without-cell, uncleared, served-upkept, spared-upkept, refused-upkept, Spares-unchanged}
+
+-- what comes of it where no cell lacks, whatever came before
+abbrev pub AppliesCleared : Policy → ℕ → Command → Part → Result (Reply × Reply) Refusal → Part → Type 0
+AppliesCleared policy worker command old result new = AppliesBy worker command (early_refusal_of old command) (ServesCleared policy old.keys old.next command old.store) (SparesCleared policy old.keys (range_of command) old.store) old result new
+
+-- it is refused for its cause
+pub applies-refused : (Served Spared : State → Type 0) (worker : ℕ) (command : Command) (cause : Option Refusal) (p q : Part) (r : Result (Reply × Reply) Refusal) (e : Refusal) → r ≡ Err e → cause ≡ Some e → q ≡ p → Spared q.store → AppliesBy worker command cause Served Spared p r q
+applies-refused Served Spared worker command cause p q r e is by same spared = rw (is, by) (record {
+  replies = tt;
+  small = tt;
+  kept = tt;
+  state = tt;
+  store = tt;
+  opened = (ap (λ (x : Part). x.keys) same, ap (λ (x : Part). x.limits) same);
+  err = ap (λ (x : Part). x.past) same;
+  spared = spared;
+  refused = (refl, same);
+  memory = λ none. cc none;
+})
+
+-- it finds no memory
+pub applies-short : (Served Spared : State → Type 0) (worker : ℕ) (command : Command) (cause : Option Refusal) (p q : Part) (r : Result (Reply × Reply) Refusal) (e : Refusal) → r ≡ Err e → e ≡ OutOfMemory → cause ≡ None → q ≡ record p { store = q.store } → Spared q.store → AppliesBy worker command cause Served Spared p r q
+applies-short Served Spared worker command cause p q r e is short none same spared = rw (is, none) (record {
+  replies = tt;
+  small = tt;
+  kept = tt;
+  state = tt;
+  store = tt;
+  opened = (ap (λ (x : Part). x.keys) same, ap (λ (x : Part). x.limits) same);
+  err = ap (λ (x : Part). x.past) same;
+  spared = spared;
+  refused = tt;
+  memory = λ _. short;
+})
+
+-- cells are freed where that is due, or none
+pub frees-none-due : (p : Part) (command : Command) → lacks_cell p.limits.cells p.store (change_of command) ≡ false → Frees p command p
+frees-none-due p command has = (has, not-without-cell p.limits p.store (change_of command) has, inl (uncleared p.limits p.store (change_of command) has, refl))
+
+pub frees-cleared : (p q : Part) (command : Command) (r : Result (Unit {0}) Refusal) → lacks_cell p.limits.cells p.store (change_of command) ≡ true → may_clear p.limits p.store ≡ true → OnOk r (CracksAndMerges Complete p.store q.store p.store.keys) → OnOk r (0 < length q.store.free) → OnOk r (Frees p command q)
+frees-cleared p q command (Err e) lacks may cleared free = tt
+frees-cleared p q command (Ok x) lacks may cleared free = (has-cell q.limits.cells q.store (change_of command) free, not-without p.limits p.store (change_of command) may, inr (cleared-first p.limits p.store (change_of command) lacks may, cleared))
+
+pub frees-stopped : (p q : Part) (command : Command) (r : Result (Unit {0}) Refusal) → lacks_cell p.limits.cells p.store (change_of command) ≡ true → may_clear p.limits p.store ≡ true → IfErr r (λ e. e ≡ OutOfMemory) → OnErr r (StopsAt Complete p.store q.store p.store.keys) → IfErr r (λ e. FreesNone p command e q)
+frees-stopped p q command (Err e) lacks may short stopped = inr (short, cleared-first p.limits p.store (change_of command) lacks may, stopped)
+frees-stopped p q command (Ok x) lacks may short stopped = tt
+
+-- none was freed
+pub applies-without : (policy : Policy) (worker : ℕ) (command : Command) (p q : Part) (r : Result (Reply × Reply) Refusal) (e : Refusal) → r ≡ Err e → early_refusal_of p command ≡ None → FreesNone p command e q → q ≡ record p { store = q.store } → Applies policy worker command p r q
+applies-without policy worker command p q r e is none frees same = elim frees [
+  | inl without ↦
+      let by = refused-late-cell p command none without.1 ∙ ap Some (sym without.0) in
+      applies-refused (Serves policy p command) (Spares policy p command) worker command (refusal_of p command) p q r e is by without.2 (subst (λ (x : Part). Spares policy p command x.store) (sym without.2) (Spares-unchanged policy p command))
+  | inr short ↦
+      let may = (and_parts (lacks_cell p.limits.cells p.store (change_of command)) (may_clear p.limits p.store) short.1).1 in
+      let late = refused-late-none p command none (not-without p.limits p.store (change_of command) may) in
+      applies-short (Serves policy p command) (Spares policy p command) worker command (refusal_of p command) p q r e is short.0 late same (inl (short.1, short.2))
+]
+
+-- it goes on once cells were freed where that is due
+pub applies-upkept : (policy : Policy) (worker : ℕ) (command : Command) (p q t : Part) (r : Result (Reply × Reply) Refusal) → early_refusal_of p command ≡ None → Frees p command q → q ≡ record p { store = q.store } → AppliesCleared policy worker command q r t → Applies policy worker command p r t
+applies-upkept policy worker command p q t r none frees same done =
+    let early : early_refusal_of q command ≡ None = refused-upkept p q command same ∙ none in
+    let late = refused-late-none p command none frees.1 in
+    let moved = subst (λ (x : Part). AppliesCleared policy worker command x r t) same done in
+    record {
+      replies = moved.replies;
+      small = done.small;
+      kept = moved.kept;
+      state = moved.state;
+      store = served-upkept p q policy command t.store r same frees.2 done.store;
+      opened = moved.opened;
+      err = moved.err;
+      spared = spared-upkept p q policy command t.store r same frees.2 done.spared;
+      refused = rw late tt;
+      memory = λ _. done.memory early;
+    }

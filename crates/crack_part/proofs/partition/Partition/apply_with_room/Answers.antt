@@ -1,0 +1,108 @@
+use Rattle.std.proofs.Common.{◌≡◌, ◌<◌, ◌^◌, length, List, [], ◌∷◌, ◌++◌, arith, ap, sym, subst, refl, ◌∙◌, inl, inr}
+use Rattle.std.specs.Prelude.{false}
+use Rattle.std.proofs.lemmas.Bool.{false≢true}
+use Rattle.crack_row.specs.Commands.{change_of, range_of}
+use Rattle.crack_row.specs.declared.command.Entry.{Entry}
+use Rattle.crack_row.specs.declared.command.Reply.{Reply}
+use Rattle.crack_plain.specs.Past.{Past, state_after, with_entry}
+use Rattle.crack_plain.specs.Plain.{IsSmall}
+use Rattle.crack_plain.proofs.PastLaws.{state_after-push, IsNumbered-after_past}
+use Rattle.crack_part.specs.Parts.{Part}
+use Rattle.crack_part.specs.Cells.{lacks_cell}
+use Rattle.crack_part.proofs.CellLemmas.{fits-served}
+use Rattle.crack_part.proofs.KeepLemmas.{Keeps-spared, IsIntact-spared, Keeps-prepared, Spares-same, Spares-prepared}
+use Rattle.crack_part.proofs.SoundLemmas.{lived, few_rows, next-le-life, MayPerform-prepared, IsSound-kept, IsSound-served, Spends-served}
+use Rattle.crack_part.proofs.PointLemmas.{on_err}
+use Rattle.crack_part.proofs.RefusalLaws.{may-keep}
+use Rattle.crack_part.proofs.UpkeepLaws.{upkept-room}
+use Rattle.crack_part.proofs.partition.Partition.apply_with_room.Goals as goal
+
+pub answer-requires-clause-admissible : goal.answer-requires-clause-admissible
+answer-requires-clause-admissible c =
+    let at = c.self.inside in
+    let part : Part = record { keys = at.keys; limits = at.limits; past = lived at.base.rows.items at.base.folded at.base.placed at.base.gone at.history.items; next = at.next; store = at.store } in
+    let kept = may-keep part c.args.command (rw (← c.self.view_is) at c.in_ok-may_keep.ensures.ok) in
+    λ ready prepared. MayPerform-prepared c.args.policy _ c.args.command ready c.self.invariant kept.within prepared
+
+pub answer-requires-clause-small : goal.answer-requires-clause-small
+answer-requires-clause-small c = let next = next-le-life _ c.self.invariant in omega (arith, next)
+
+pub invariant_of-self-in_err-reply : goal.invariant_of-self-in_err-reply
+invariant_of-self-in_err-reply c =
+    let spared = c.in_err-reply.ensures.spared in
+    let keeps = Keeps-spared c.args.policy c.self.inside.keys (range_of c.args.command) _ c.answer.new.store spared.0 in
+    let intact = IsIntact-spared c.args.policy c.self.inside.keys (range_of c.args.command) _ c.answer.new.store spared.0 c.self.invariant.intact in
+    rw (c.make_room.ensures.same, spared.1) (IsSound-kept _ c.answer.new.store c.self.invariant keeps intact)
+
+pub invariant_of-self-in_err-copies : goal.invariant_of-self-in_err-copies
+invariant_of-self-in_err-copies c = elim c.in_ok-reply.ensures.lists [
+  | inl read ↦
+      let keeps = Keeps-prepared c.args.policy c.self.inside.keys (range_of c.args.command) _ c.answer.new.store read.0 in
+      rw (c.make_room.ensures.same, read.1) (IsSound-kept _ c.answer.new.store c.self.invariant keeps c.in_ok-reply.ensures.intact)
+  | inr flat ↦ absurd (false≢true (c.in_err-copies.ensures.flat flat))
+]
+
+pub returns-in_err-may_keep-clause-spared : goal.returns-in_err-may_keep-clause-spared
+returns-in_err-may_keep-clause-spared c = on_err _ (Spares-same c.args.policy _ (range_of c.args.command) _)
+
+pub returns-in_err-make_room-clause-spared : goal.returns-in_err-make_room-clause-spared
+returns-in_err-make_room-clause-spared c = rw (← c.self.view_is) (on_err _ (Spares-same c.args.policy _ (range_of c.args.command) _))
+
+pub returns-in_err-copies-clause-spared : goal.returns-in_err-copies-clause-spared
+returns-in_err-copies-clause-spared c = elim c.in_ok-reply.ensures.lists [
+  | inl read ↦
+      let spared = Spares-prepared c.args.policy c.self.inside.keys (range_of c.args.command) _ c.answer.new.store c.answer.new.store read.0 (record { same = refl }) in
+      rw (← c.self.view_is) (on_err c.from_residual-in_err-copies.result spared)
+  | inr flat ↦ absurd (false≢true (c.in_err-copies.ensures.flat flat))
+]
+
+pub invariant_of-self-2 : goal.invariant_of-self-2
+invariant_of-self-2 c =
+    let e : Entry = record { worker = c.args.worker; command = c.args.command; reply = c.in_ok-copies.copies.kept } in
+    let at = c.self.inside in
+    let part : Part = record { keys = at.keys; limits = at.limits; past = lived at.base.rows.items at.base.folded at.base.placed at.base.gone at.history.items; next = at.next; store = at.store } in
+    let kept = may-keep part c.args.command (rw (← c.self.view_is) at c.in_ok-may_keep.ensures.ok) in
+    let past = lived c.self.inside.base.rows.items c.self.inside.base.folded c.self.inside.base.placed c.self.inside.base.gone c.self.inside.history.items in
+    let plain = state_after past in
+    let said = c.in_ok-reply.ensures.replies plain (IsNumbered-after_past past c.self.invariant.legal.base) c.self.invariant.faithful in
+    let faithful = c.in_ok-reply.ensures.faithful plain c.self.invariant.faithful in
+    let spends = Spends-served c.args.policy _ c.args.command c.answer.new.store c.self.invariant kept.within c.in_ok-reply.ensures.served in
+    let grown = c.push_reserved.ensures ∙ ap (λ (h : List Entry). h ++ e ∷ []) c.make_room.ensures.same in
+    let cell : lacks_cell c.self.inside.limits.cells c.self.inside.store (change_of c.args.command) ≡ false = rw (← c.self.view_is) at c.requires.cell in
+    let fits = fits-served c.args.policy c.self.inside.keys _ c.self.inside.next c.args.command c.self.inside.store c.answer.new.store c.self.invariant.cells cell c.in_ok-reply.ensures.served in
+    let room : length at.history.items < at.limits.history = rw (← c.self.view_is) at c.requires.room in
+    rw grown (IsSound-served _ e c.answer.new.next c.answer.new.store c.self.invariant room kept.lives fits kept.within (c.in_ok-copies.ensures.ok.2 ∙ said) c.in_ok-reply.ensures.intact faithful spends)
+
+pub returns-clause-state : goal.returns-clause-state
+returns-clause-state c =
+    let e : Entry = record { worker = c.args.worker; command = c.args.command; reply = c.in_ok-copies.copies.kept } in
+    let grown = c.push_reserved.ensures ∙ ap (λ (h : List Entry). h ++ e ∷ []) c.make_room.ensures.same in
+    let lived_with : List Entry → Past = λ h. lived c.self.inside.base.rows.items c.self.inside.base.folded c.self.inside.base.placed c.self.inside.base.gone h in
+    rw (← c.self.view_is) (ap (λ (h : List Entry). state_after (lived_with h)) grown ∙ state_after-push (lived_with c.self.inside.history.items) e)
+
+pub returns-clause-replies : goal.returns-clause-replies
+returns-clause-replies c =
+    let past = lived c.self.inside.base.rows.items c.self.inside.base.folded c.self.inside.base.placed c.self.inside.base.gone c.self.inside.history.items in
+    let said = c.in_ok-reply.ensures.replies (state_after past) (IsNumbered-after_past past c.self.invariant.legal.base) c.self.invariant.faithful in
+    rw (← c.self.view_is) (c.in_ok-copies.ensures.ok.0 ∙ said, c.in_ok-copies.ensures.ok.1 ∙ sym c.in_ok-copies.ensures.ok.0)
+
+pub returns-clause-kept : goal.returns-clause-kept
+returns-clause-kept c =
+    let entry : Reply → Entry = λ r. record { worker = c.args.worker; command = c.args.command; reply = r } in
+    let grown = c.push_reserved.ensures ∙ ap (λ (h : List Entry). h ++ entry c.in_ok-copies.copies.kept ∷ []) c.make_room.ensures.same in
+    let at = c.self.inside in
+    let past = lived at.base.rows.items at.base.folded at.base.placed at.base.gone at.history.items in
+    let room : length at.history.items < at.limits.history = rw (← c.self.view_is) at c.requires.room in
+    rw (← c.self.view_is) (
+    ap (λ (h : List Entry). lived at.base.rows.items at.base.folded at.base.placed at.base.gone h) (grown ∙ ap (λ r. at.history.items ++ entry r ∷ []) (c.in_ok-copies.ensures.ok.2 ∙ sym c.in_ok-copies.ensures.ok.0))
+    ∙ ap (λ (p : Past). with_entry p (entry c.in_ok-copies.copies.reply)) (sym (upkept-room at.limits past room))
+    )
+
+pub returns-clause-store : goal.returns-clause-store
+returns-clause-store c = rw (← c.self.view_is) c.in_ok-reply.ensures.served
+
+pub returns-clause-small : goal.returns-clause-small
+returns-clause-small c =
+    let past = lived c.self.inside.base.rows.items c.self.inside.base.folded c.self.inside.base.placed c.self.inside.base.gone c.self.inside.history.items in
+    let few : length (state_after past).rows < 2 ^ 32 = few_rows _ c.self.invariant in
+    subst IsSmall (sym c.in_ok-copies.ensures.ok.0) (c.in_ok-reply.ensures.small (state_after past) (IsNumbered-after_past past c.self.invariant.legal.base) c.self.invariant.faithful few)

@@ -1,0 +1,30 @@
+-- Which changes lack a cell, and what is done for it.
+use Rattle.std.specs.Prelude.{ℕ, Bool, true, false, ◌&&◌, ◌==◌, not, length, Option, Some, None, nat_le, unwrap_or, option_map}
+use Rattle.crack_row.specs.declared.command.Change.{Change}
+use Rattle.crack_row.specs.declared.command.Change.TheVariants.{Place, Rewrite}
+use Rattle.crack_row.specs.declared.limit.Limits.{Limits}
+use Rattle.crack_state.specs.State.{State}
+use Rattle.crack_state.specs.Points.{pending_by}
+use Rattle.crack_part.specs.Upkeep.{is_automatic}
+
+-- whether a change needs a cell more for a row: for one that is placed, and for one that takes the place of a row of the column
+abbrev pub takes_cell : State → Option Change → Bool
+takes_cell s (Some (Place key payload)) = true
+takes_cell s (Some (Rewrite serial key payload)) = unwrap_or (option_map not (pending_by s serial.0)) false
+takes_cell s _ = false
+
+-- whether a change needs a cell where none is free, and there are as many as may be
+abbrev pub lacks_cell : ℕ → State → Option Change → Bool
+lacks_cell most s change = nat_le most (length s.cells) && ((length s.free == 0) && takes_cell s change)
+
+-- whether doomed rows wait whose cells upkeep may free
+abbrev pub may_clear : Limits → State → Bool
+may_clear limits s = is_automatic limits.upkeep && not (length s.pending_out == 0)
+
+-- whether a change lacks a cell, and upkeep frees none
+abbrev pub is_without_cell : Limits → State → Option Change → Bool
+is_without_cell limits s change = lacks_cell limits.cells s change && not (may_clear limits s)
+
+-- whether a change lacks a cell, and upkeep frees some
+abbrev pub is_cleared_first : Limits → State → Option Change → Bool
+is_cleared_first limits s change = lacks_cell limits.cells s change && may_clear limits s

@@ -1,0 +1,89 @@
+//! The changes that commands make to a store, and their replies.
+ghost use Rattle.std.specs.Prelude.{◌≡◌, ◌+◌, ◌<◌, ◌^◌, List, [], map, filter, IfOk, IfErr, OnErr, OnOk};
+ghost use Rattle.std.specs.List.Sorted.{IsPermutation};
+ghost use Rattle.crack_row.specs.Ranges.{IsIn};
+ghost use Rattle.crack_row.specs.Replies.{IsFlat};
+ghost use Rattle.crack_row.specs.Rows.{is_other, replaced};
+ghost use Rattle.crack_plain.specs.Plain.{PlainState, row_in, after, IsSmall};
+ghost use Rattle.crack_plain.specs.Inside.{gone, rewritten};
+ghost use Rattle.crack_state.specs.State.{IsIntact, live_rows};
+ghost use Rattle.crack_state.specs.Steps.{SameButRoom, admitted, IsAdmissible};
+ghost use Rattle.crack_state.specs.Points.{pending_by, MayFree, IsRenewable, Removes, Rewrites};
+ghost use Rattle.crack_part.specs.Parts.{IsFaithful, placed};
+
+use crate::replies::{gone, rewritten};
+use crack_row::{Command, Key, Payload, Refusal, Reply, Row, Serial};
+use crack_store::Store;
+
+/// Puts in a row, which gets this serial; the reply. O(1), amortised.
+#[inline(always)]
+pub(crate) fn place(
+    store: &mut Store,
+    next: &mut u64,
+    key: Key,
+    payload: Payload,
+) -> Result<Reply, Refusal>
+    requires intact { IsIntact store.old [] }
+    requires admissible { IsAdmissible (placed next.old key payload) store.old }
+    requires small { next.old + 1 < 2 ^ 64 }
+    ensures reply { IfOk result (λ reply. reply ≡ Reply.Placed (record { 0 = next.old })) }
+    ensures placed { OnOk result (SameButRoom (admitted (placed next.old key payload) store.old) store.new) }
+    ensures faithful { OnOk result ((plain : PlainState) → IsFaithful store.old next.old plain →
+        IsFaithful store.new next.new (after plain (Command.Insert key payload))) }
+    ensures intact { OnOk result (IsIntact store.new []) }
+    ensures same { OnErr result (SameButRoom store.old store.new × (next.new ≡ next.old)) }
+    ensures err { IfErr result (λ e. e ≡ Refusal.OutOfMemory) }
+{
+    let row = Row {
+        serial: Serial(*next),
+        key,
+        payload,
+    };
+    store.admit(row)?;
+    *next += 1;
+    store.facts();
+    Ok(Reply::Placed(row.serial))
+}
+
+/// Takes out the row of a serial, if there is one; the reply. O(1), amortised.
+#[inline(never)]
+pub(crate) fn remove(store: &mut Store, serial: Serial) -> Result<Reply, Refusal>
+    requires few { MayFree store.old }
+    ensures reply { IfOk result (λ reply. (plain : List Row) → IsPermutation (live_rows store.old) plain → reply ≡
+        gone (row_in plain serial)) }
+    ensures flat { IfOk result (λ reply. IsFlat reply) }
+    ensures small { IfOk result (λ reply. IsSmall reply) }
+    ensures removed { OnOk result (Removes (pending_by store.old serial.0) serial.0 store.old store.new) }
+    ensures live { OnOk result ((plain : List Row) → IsPermutation (live_rows store.old) plain →
+        IsPermutation (live_rows store.new) (filter (is_other serial.0) plain)) }
+    ensures intact { OnOk result (IsIntact store.new []) }
+    ensures same { OnErr result (SameButRoom store.old store.new) }
+    ensures err { IfErr result (λ e. e ≡ Refusal.OutOfMemory) }
+{
+    store.facts();
+    let row = store.remove(serial)?;
+    store.facts();
+    Ok(gone(row))
+}
+
+/// Puts a row in the place of the one of its serial, if there is one; the reply. O(1), amortised.
+#[inline(never)]
+pub(crate) fn rewrite(store: &mut Store, row: Row) -> Result<Reply, Refusal>
+    requires within { IsIn store.old.keys row.key.0 }
+    requires renewable { IsRenewable store.old }
+    ensures reply { IfOk result (λ reply. (plain : List Row) → IsPermutation (live_rows store.old) plain → reply ≡
+        rewritten (row_in plain row.serial)) }
+    ensures flat { IfOk result (λ reply. IsFlat reply) }
+    ensures small { IfOk result (λ reply. IsSmall reply) }
+    ensures replaced { OnOk result (Rewrites (pending_by store.old row.serial.0) row store.old store.new) }
+    ensures live { OnOk result ((plain : List Row) → IsPermutation (live_rows store.old) plain →
+        IsPermutation (live_rows store.new) (map (replaced row) plain)) }
+    ensures intact { OnOk result (IsIntact store.new []) }
+    ensures same { OnErr result (SameButRoom store.old store.new) }
+    ensures err { IfErr result (λ e. e ≡ Refusal.OutOfMemory) }
+{
+    store.facts();
+    let before = store.replace(row)?;
+    store.facts();
+    Ok(rewritten(before))
+}

@@ -1,0 +1,137 @@
+//! What a range needs of the store before it is read, by the policy.
+ghost use Rattle.std.specs.Prelude.{◌≡◌, ◌<◌, ◌≤◌, true, IfOk, IfErr, OnErr, OnOk};
+ghost use Rattle.crack_state.specs.Merge.{IsCracked, Merges, Tallies};
+ghost use Rattle.crack_merge.specs.Merges.{Stops};
+ghost use Rattle.crack_part.specs.Parts.{has_many_pending, is_merged_first, read_by, CracksAndMerges, Readies, Settles};
+ghost use Rattle.crack_part.specs.Parts.{LeavesNear, StopsAt, StopsRead};
+
+use crack_merge::{merge_complete, merge_gradual};
+use crack_ripple::merge_ripple;
+use crack_row::{KeyRange, Policy, Refusal};
+use crack_store::{MergeReport, Store};
+use std::alloc::Global;
+use std::mem;
+
+/// Settles the store for a range. Under `Policy::Auto` all pending rows are merged first where many insertions are
+/// pending, as a count of all keys under `Policy::Complete` does, and the range is then read under `Policy::Ripple`.
+#[inline(never)]
+pub(crate) fn settle(
+    store: &mut Store,
+    alloc: Global,
+    keys: KeyRange,
+    range: KeyRange,
+    policy: Policy,
+) -> Result<(), Refusal>
+    requires ends { store.old.keys ≡ keys }
+    requires filled { range.low < range.high }
+    requires low { keys.low ≤ range.low }
+    requires high { range.high ≤ keys.high }
+    ensures settled { OnOk result (Settles policy store.old store.new range) }
+    ensures stopped { OnErr result (StopsRead policy store.old store.new range) }
+    ensures err { IfErr result (λ e. e ≡ Refusal.OutOfMemory) }
+{
+    make_ready(store, alloc, keys, policy)?;
+    crack_and_merge(store, alloc, keys, range, policy)
+}
+
+/// Merges all pending rows, where that is due before a range is read.
+#[inline(always)]
+fn make_ready(
+    store: &mut Store,
+    alloc: Global,
+    keys: KeyRange,
+    policy: Policy,
+) -> Result<(), Refusal>
+    requires ends { store.old.keys ≡ keys }
+    requires filled { keys.low < keys.high }
+    ensures ready { OnOk result (Readies policy store.old store.new) }
+    ensures stopped { OnErr result ((is_merged_first policy store.old ≡ true) × StopsAt Policy.Complete store.old
+        store.new store.old.keys) }
+    ensures err { IfErr result (λ e. e ≡ Refusal.OutOfMemory) }
+{
+    if is_merged_first(policy, store) {
+        return crack_and_merge(store, alloc, keys, keys, Policy::Complete);
+    }
+    Ok(())
+}
+
+/// Whether all pending rows are merged before a range is read. O(1).
+#[inline(always)]
+fn is_merged_first(policy: Policy, store: &Store) -> bool
+    ensures { result ≡ is_merged_first policy store.now }
+{
+    match policy {
+        Policy::Auto => has_many_pending(store),
+        _ => false,
+    }
+}
+
+/// Cracks the store at the ends of a range, and merges by the policy what the range needs.
+#[inline(never)]
+pub(crate) fn crack_and_merge(
+    store: &mut Store,
+    alloc: Global,
+    keys: KeyRange,
+    range: KeyRange,
+    policy: Policy,
+) -> Result<(), Refusal>
+    requires filled { range.low < range.high }
+    requires low { store.old.keys.low ≤ range.low }
+    requires high { range.high ≤ store.old.keys.high }
+    ensures settled { OnOk result (CracksAndMerges (read_by policy) store.old store.new range) }
+    ensures stopped { OnErr result (StopsAt (read_by policy) store.old store.new range) }
+    ensures err { IfErr result (λ e. e ≡ Refusal.OutOfMemory) }
+{
+    if let Err(refusal) = store.crack(range) {
+        return Err(refusal);
+    }
+    store.facts();
+    if store.pending_in() == 0 && store.pending_out() == 0 {
+        return Ok(());
+    }
+    let cracked = mem::replace(store, Store::new(alloc, keys));
+    match merge(cracked, range, policy) {
+        Ok((merged, _)) => {
+            *store = merged;
+            Ok(())
+        }
+        Err((left, refusal)) => {
+            *store = left;
+            Err(refusal)
+        }
+    }
+}
+
+/// Merges by the policy what a range needs by whose ends the store was cracked; `Policy::Auto` merges as
+/// `Policy::Ripple` here.
+fn merge(
+    store: Store,
+    range: KeyRange,
+    policy: Policy,
+) -> Result<(Store, MergeReport), (Store, Refusal)>
+    requires filled { range.low < range.high }
+    requires low { store.keys.low ≤ range.low }
+    requires high { range.high ≤ store.keys.high }
+    requires cracked { IsCracked store range }
+    ensures merged { IfOk result (λ r. Merges (read_by policy) store r.0 range) }
+    ensures near { IfOk result (λ r. LeavesNear (read_by policy) store r.0 range) }
+    ensures tallied { IfOk result (λ r. Tallies (read_by policy) store r.0) }
+    ensures stopped { IfErr result (λ e. Stops (read_by policy) store e.0 range) }
+    ensures err { IfErr result (λ e. e.1 ≡ Refusal.OutOfMemory) }
+{
+    match policy {
+        Policy::Complete => merge_complete(store, range),
+        Policy::Gradual => merge_gradual(store, range),
+        Policy::Ripple => merge_ripple(store, range),
+        Policy::Auto => merge_ripple(store, range),
+    }
+}
+
+/// Whether so many insertions are pending that merging all of them is expected to cost less than passing over them
+/// again and again. O(1).
+fn has_many_pending(store: &Store) -> bool
+    ensures { result ≡ has_many_pending store.now }
+{
+    let pieces = store.bounds() as u128 + 1;
+    (store.column_len() as u128).saturating_mul(pieces) <= store.pending_in() as u128 * 64
+}

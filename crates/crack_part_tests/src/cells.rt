@@ -1,0 +1,115 @@
+//! Cells that run out where upkeep is automatic: the doomed rows that wait are taken out for them.
+//!
+//! The tests `sweep_..` hold whichever one of their allocations is refused, so they may be run with each of them
+//! refused in turn.
+use crack_part::Partition;
+use crack_row::{
+    Command, GREATEST_LIMIT, Key, KeyNumber, KeyRange, Limits, Payload, PayloadNumber, Policy,
+    Refusal, Reply, Serial, Upkeep,
+};
+use std::process::Abort;
+
+/// An insert of a row whose payload is its key.
+fn insert(key: u16) -> Command {
+    Command::Insert {
+        key: Key::from_number(KeyNumber::from(key)),
+        payload: Payload::from_number(PayloadNumber::from(key)),
+    }
+}
+
+fn delete(serial: u64) -> Command {
+    Command::Delete {
+        serial: Serial(serial),
+    }
+}
+
+/// What worker 0 is answered. It promises nothing, so that no test carries all that a partition promises.
+fn ask(partition: &mut Partition, command: Command) -> Result<Reply, Refusal> {
+    let (reply, _receipt) = partition.apply(0, command, Policy::Ripple)?;
+    Ok(reply)
+}
+
+/// How many rows a partition has, how many of them wait beside the column, and how many doomed ones in it.
+fn counts(rt: &impl Abort, partition: &Partition) -> [u64; 3] {
+    let layout = match partition.layout() {
+        Ok(layout) => layout,
+        Err(_) => partition.layout().expect(rt, "a layout"),
+    };
+    [layout.rows, layout.pending_in, layout.pending_out]
+}
+
+/// Has a command answered. Where no memory is found at first, the history is as it was, and so are the rows, of which
+/// there are so many; then memory is found.
+fn answer(rt: &impl Abort, partition: &mut Partition, command: Command, rows: u64) -> Reply {
+    let kept = partition.history().len();
+    match ask(partition, command) {
+        Ok(reply) => reply,
+        Err(refusal) => {
+            assert_eq!(rt; refusal, Refusal::OutOfMemory);
+            assert_eq!(rt; partition.history().len(), kept);
+            assert_eq!(rt; counts(rt, partition)[0], rows);
+            ask(partition, command).expect(rt, "an answer")
+        }
+    }
+}
+
+/// Fills three cells with rows of the column, and dooms two of them.
+fn doom_two(rt: &impl Abort, partition: &mut Partition) {
+    let steps = [
+        (insert(1), 0),
+        (insert(2), 1),
+        (insert(3), 2),
+        (Command::Count(KeyRange::all()), 3),
+        (delete(0), 3),
+        (delete(2), 2),
+    ];
+    for (command, rows) in steps {
+        let reply = answer(rt, partition, command, rows);
+    }
+}
+
+/// Inserts rows until no cell is left: the first one has the doomed rows taken out.
+fn fill(rt: &impl Abort, partition: &mut Partition) {
+    let reply = answer(rt, partition, insert(4), 1);
+    assert!(rt; matches!(reply, Reply::Placed(Serial(3))));
+    assert_eq!(rt; counts(rt, partition), [2, 1, 0]);
+    let reply = answer(rt, partition, insert(5), 2);
+    assert!(rt; matches!(reply, Reply::Placed(Serial(4))));
+    let refused = ask(partition, insert(6)).err();
+    assert_eq!(rt; refused, Some(Refusal::NoCell));
+    let reply = answer(rt, partition, Command::Count(KeyRange::all()), 3);
+    assert!(rt; matches!(reply, Reply::Counted(3)));
+}
+
+/// The limits of a partition of at most three cells.
+fn of_three_cells(upkeep: Upkeep) -> Limits {
+    Limits {
+        cells: 3,
+        upkeep,
+        ..Limits::of_history(GREATEST_LIMIT)
+    }
+}
+
+#[test]
+fn sweep_partition_that_frees_cells(rt: HostRuntime) -> Result<(), Refusal> {
+    let limits = of_three_cells(Upkeep::Automatic);
+    let mut partition = Partition::open_with(rt.alloc(), KeyRange::all(), limits)?;
+    doom_two(&rt, &mut partition);
+    fill(&rt, &mut partition);
+    drop(partition);
+    Ok(())
+}
+
+/// Without upkeep the doomed rows wait for a range.
+#[test]
+fn partition_frees_no_cell_unasked(rt: HostRuntime) -> Result<(), Refusal> {
+    let limits = of_three_cells(Upkeep::OnRequest);
+    let mut partition = Partition::open_with(rt.alloc(), KeyRange::all(), limits)?;
+    doom_two(&rt, &mut partition);
+    let refused = ask(&mut partition, insert(4)).err();
+    let left = counts(&rt, &partition);
+    drop(partition);
+    assert_eq!(rt; refused, Some(Refusal::NoCell));
+    assert_eq!(rt; left, [1, 0, 2]);
+    Ok(())
+}
